@@ -1,0 +1,9 @@
+pub mod Atoms
+pub mod Differences
+pub mod FinMaps
+pub mod FinSets
+pub mod Lists
+pub mod Types
+pub mod Uuids
+pub mod Values
+pub mod Examples

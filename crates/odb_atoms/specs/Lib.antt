@@ -1,0 +1,11 @@
+pub mod Atom
+pub mod ColType
+pub mod Difference
+pub mod Error
+pub mod FinMap
+pub mod FinSet
+pub mod First
+pub mod Row
+pub mod Text
+pub mod Uuid
+pub mod Value

@@ -1,0 +1,2 @@
+//! Transactions (RFC 7047, 4.1.3): operations, settlement and versions.
+#![tactic(auto)]

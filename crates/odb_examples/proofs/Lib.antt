@@ -1,0 +1,11 @@
+pub mod Conditions
+pub mod Examples
+pub mod ExamplesOfLimits
+pub mod ExamplesOfOperations
+pub mod ExamplesOfSchemas
+pub mod ExamplesOfSettlement
+pub mod ExamplesOfValues
+pub mod Notations
+pub mod Rules
+pub mod Schemas
+pub mod Transactions

@@ -1,0 +1,2 @@
+//! Computed examples of the definitions, one a rule.
+#![tactic(auto)]

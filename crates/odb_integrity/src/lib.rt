@@ -1,0 +1,2 @@
+//! Settlement at the end of a transaction: garbage collection, references, constraints (RFC 7047, 3.2).
+#![tactic(auto)]

@@ -1,0 +1,57 @@
+-- The notation of conditions, `[column, function, value]` (RFC 7047, <condition>).
+use Rattle.std.specs.Prelude.{ℕ, Bool, true, false, cond, not, ◌&&◌, ◌||◌, List, codes, Option, Some, None}
+use Rattle.odb_atoms.specs.Atom.{integers, same_kind}
+use Rattle.odb_atoms.specs.ColType.{ColType, is_scalar}
+use Rattle.odb_atoms.specs.Error.{Error, syntax_error, unknown_column}
+use Rattle.odb_atoms.specs.First.{Ok, Result, demand, ok_or, ◌>>=◌, ◌>>◌}
+use Rattle.odb_atoms.specs.Text.{same_text}
+use Rattle.odb_cond.specs.Condition.{Clause, Function, equal, excludes, greater, greater_or_equal, includes, less, less_or_equal, not_equal}
+use Rattle.odb_json.specs.ColumnValue.{read_by_kind}
+use Rattle.odb_schema.specs.Json.{Data, array, as_str, item, no_items}
+use Rattle.odb_schema.specs.Notation.{Names}
+use Rattle.odb_schema.specs.Schema.{Column, selector, selector_type}
+
+abbrev pub function_named : List ℕ → Option Function
+function_named s =
+    cond (same_text s (codes "<")) (Some less)
+    (cond (same_text s (codes "<=")) (Some less_or_equal)
+    (cond (same_text s (codes "==")) (Some equal)
+    (cond (same_text s (codes "!=")) (Some not_equal)
+    (cond (same_text s (codes ">=")) (Some greater_or_equal)
+    (cond (same_text s (codes ">")) (Some greater)
+    (cond (same_text s (codes "includes")) (Some includes)
+    (cond (same_text s (codes "excludes")) (Some excludes) None)))))))
+
+-- the ordered functions want a scalar of integers
+abbrev pub is_ordered : Function → Bool
+is_ordered less = true
+is_ordered less_or_equal = true
+is_ordered equal = false
+is_ordered not_equal = false
+is_ordered greater_or_equal = true
+is_ordered greater = true
+is_ordered includes = false
+is_ordered excludes = false
+
+abbrev pub takes_function : ColType → Function → Bool
+takes_function t f = not (is_ordered f) || (is_scalar t && same_kind t.key.kind integers)
+
+-- `[a, b, c]`
+abbrev pub triple : Data → Option (Data × Data × Data)
+triple (array (item a (item b (item c no_items)))) = Some (a, b, c)
+triple d = None
+
+abbrev pub read_word : Data → Result (List ℕ) Error
+read_word d = ok_or (as_str d) syntax_error
+
+-- three members, then from the front the column, the function and the value
+abbrev pub read_clause : Option Names → List Column → Data → Result Clause Error
+read_clause names cs d = do
+  parts ← ok_or (triple d) syntax_error
+  name ← read_word parts.0
+  column ← ok_or (selector cs name) unknown_column
+  word ← read_word parts.1
+  function ← ok_or (function_named word) syntax_error
+  demand (takes_function (selector_type cs column) function) syntax_error
+  value ← read_by_kind names (selector_type cs column) parts.2
+  Ok (record { column = column; function = function; value = value })

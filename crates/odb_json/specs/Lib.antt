@@ -1,0 +1,4 @@
+pub mod ColumnValue
+pub mod ConditionNotation
+pub mod MutationNotation
+pub mod Operation

@@ -1,0 +1,2 @@
+//! Mutations of values (RFC 7047, 5.1).
+#![tactic(auto)]

@@ -1,0 +1,4 @@
+pub mod Json
+pub mod Notation
+pub mod Schema
+pub mod SchemaText

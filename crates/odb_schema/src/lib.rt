@@ -1,0 +1,2 @@
+//! Database schemas (RFC 7047, 3.2): read from JSON, and printed.
+#![tactic(auto)]

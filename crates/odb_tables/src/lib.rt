@@ -1,0 +1,2 @@
+//! Databases: tables of rows, and changes of them.
+#![tactic(auto)]
