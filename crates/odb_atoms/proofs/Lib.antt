@@ -7,3 +7,4 @@ pub mod Types
 pub mod Uuids
 pub mod Values
 pub mod Examples
+pub mod Equal

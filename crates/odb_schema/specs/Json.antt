@@ -1,6 +1,8 @@
 -- JSON as `serde_json`'s data, by lists.
-use Rattle.std.specs.Prelude.{ℕ, ℤ, List, [], ◌∷◌, Option, Some, None, option_and_then}
-use Rattle.serde_json.specs.Data.{put}
+use Rattle.std.specs.Prelude.{ℕ, ℤ, List, [], ◌∷◌, Option, Some, None, option_and_then, Bool, true, false, ◌&&◌, ◌==◌}
+use Rattle.std.specs.Ordering.{int_eq, bool_cmp, is_eq}
+use Rattle.odb_atoms.specs.Text.{same_text}
+use Rattle.serde_json.specs.Data.{Num, unsigned, negative, put}
 pub use Rattle.serde_json.specs.Data.{Data, null, boolean, number, string, array, object, Items, no_items, item, Members, no_members, member}
 pub use Rattle.serde_json.specs.Find.{get_member, as_bool, as_str, as_array, as_object}
 use Rattle.serde_json.specs.Find as find
@@ -59,3 +61,30 @@ given_or default read (Some d) = read d
 abbrev pub present : List ℕ → Option Data → List (List ℕ × Data)
 present k None = []
 present k (Some d) = (k, d) ∷ []
+
+-- ---- equality, of data without fractions
+
+abbrev pub same_number : Num → Num → Bool
+same_number (unsigned m) (unsigned n) = m == n
+same_number (negative y) (negative z) = int_eq y z
+same_number m n = false
+
+abbrev mutual
+  pub same_data : Data → Data → Bool
+  same_data null null = true
+  same_data (boolean b) (boolean c) = is_eq (bool_cmp b c)
+  same_data (number m) (number n) = same_number m n
+  same_data (string s) (string t) = same_text s t
+  same_data (array ds) (array es) = same_items ds es
+  same_data (object ms) (object ns) = same_members ms ns
+  same_data d e = false
+
+  pub same_items : Items → Items → Bool
+  same_items no_items no_items = true
+  same_items (item d ds) (item e es) = same_data d e && same_items ds es
+  same_items ds es = false
+
+  pub same_members : Members → Members → Bool
+  same_members no_members no_members = true
+  same_members (member k d ms) (member l e ns) = same_text k l && same_data d e && same_members ms ns
+  same_members ms ns = false

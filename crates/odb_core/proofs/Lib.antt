@@ -1,0 +1,10 @@
+pub mod Owed
+pub mod Reading
+pub mod Retried
+pub mod Runs
+pub mod SessionMaps
+pub mod Sessions
+pub mod Taking
+pub mod Updates
+pub mod Whole
+pub mod Worlds

@@ -1,0 +1,11 @@
+-- Legal histories: events that the service can take from a base state, with what they give each session and the state in which they end.
+use Rattle.std.specs.Prelude.{◌≡◌, ℕ, List, [], Some}
+use Rattle.odb_core.specs.Run.{Event, run}
+use Rattle.odb_core.specs.Service.{Service}
+use Rattle.odb_core.specs.Session.{Out}
+use Rattle.odb_core.specs.World.{World}
+
+module _ (h : Service) where
+  -- `given` is what each session was given since the last open of its identifier in the list, or since the base
+  abbrev pub IsHistory : World → List Event → World → (ℕ → List Out) → Type 0
+  IsHistory base events last given = run h events (record { world = base; given = λ s. [] }) ≡ Some (record { world = last; given = given })

@@ -1,0 +1,7 @@
+pub mod Client
+pub mod Headline
+pub mod History
+pub mod Run
+pub mod Service
+pub mod Session
+pub mod World

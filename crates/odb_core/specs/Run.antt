@@ -1,0 +1,99 @@
+-- Runs: lists of events from the state with empty tables, and what each session is given.
+use Rattle.std.specs.Prelude.{ℕ, ◌==◌, nat_lt, Bool, false, not, ◌&&◌, ◌||◌, if◌then◌else◌, List, [], ◌∷◌, ◌++◌, filter, Option, Some, None, is_some, option_map, option_and_then, replicate}
+use Rattle.serde_json.specs.Data.{Data}
+use Rattle.odb_atoms.specs.FinMap as map
+use Rattle.odb_atoms.specs.FinMap.{FinMap, get, insert, len}
+use Rattle.odb_core.specs.Service.{Service}
+use Rattle.odb_core.specs.Session.{Out, Session, take}
+use Rattle.odb_core.specs.World.{World, at_moment, close, handle, owed_replies, tick}
+use Rattle.odb_rpc.specs.Message.{call_of, has_reply}
+use Rattle.odb_atoms.specs.Uuid.{Uuid}
+
+pub data Event : Type 0 where
+  opened : ℕ → Event
+  submitted : (session : ℕ) → (message : Data) → (fresh : List Uuid) → (now : ℕ) → Event
+  ticked : ℕ → Event
+  closed : ℕ → Event
+  round : List ℕ → Event
+
+abbrev pub max_sessions : ℕ
+max_sessions = 4096
+
+abbrev pub max_owed : ℕ
+max_owed = 256
+
+-- an out for a session
+abbrev pub Sent : Type 0
+Sent = ℕ × Out
+
+-- each once, where it stands first
+abbrev pub once : List ℕ → List ℕ
+once [] = []
+once (s ∷ ss) = s ∷ filter (λ t. not (t == s)) (once ss)
+
+abbrev pub sent : ℕ → Option Out → List Sent
+sent s None = []
+sent s (Some o) = (s, o) ∷ []
+
+module _ (h : Service) where
+  -- one taking for a session, if it is open
+  abbrev pub take_of : ℕ → Option Session → World → World × List Sent
+  take_of s None w = (w, [])
+  take_of s (Some x) w = (record w { sessions = insert w.sessions s (take h w.db x).1 }, sent s (take h w.db x).0)
+
+  abbrev pub take_each : List ℕ → World → World × List Sent
+  take_each [] w = (w, [])
+  take_each (s ∷ ss) w =
+      let one = take_of s (get w.sessions s) w in
+      let rest = take_each ss one.0 in
+      (rest.0, one.1 ++ rest.1)
+
+  -- Busy where the request has a reply and the session is owed too many
+  abbrev pub submit : ℕ → Option Session → Data → List Uuid → ℕ → World → Option World
+  submit s None d fresh now w = None
+  submit s (Some x) d fresh now w =
+      let call = call_of h.db_name h.schema h.serves d in
+      if has_reply call && not (nat_lt (owed_replies h s x w) max_owed) then None else Some (handle h s fresh call (at_moment h now w))
+
+  -- the state after an event and what it sends, or none where the event is refused
+  abbrev pub step : Event → World → Option (World × List Sent)
+  step (opened s) w = if is_some (get w.sessions s) || not (nat_lt (len w.sessions) max_sessions) then None else Some (record w { sessions = insert w.sessions s (record { queue = []; monitors = [] }) }, [])
+  step (submitted s d fresh now) w = option_map (λ v. (v, [])) (submit s (get w.sessions s) d fresh now w)
+  step (ticked now) w = Some (tick h now w, [])
+  step (closed s) w = if is_some (get w.sessions s) then Some (close h s w, []) else None
+  step (round ss) w = Some (take_each (once ss) w)
+
+-- the world, and what each session was given since it was opened
+pub record State : Type 0 where
+  pub world : World
+  pub given : ℕ → List Out
+
+abbrev pub sent_to : ℕ → List Sent → List Out
+sent_to s [] = []
+sent_to s (o ∷ os) = if o.0 == s then o.1 ∷ sent_to s os else sent_to s os
+
+abbrev pub opens : Event → ℕ → Bool
+opens (opened t) s = t == s
+opens (submitted t d fresh now) s = false
+opens (ticked now) s = false
+opens (closed t) s = false
+opens (round ss) s = false
+
+abbrev pub given_after : Event → List Sent → (ℕ → List Out) → ℕ → List Out
+given_after e os f s = if opens e s then [] else f s ++ sent_to s os
+
+-- the state with empty tables and no session
+abbrev pub beginning : ℕ → State
+beginning tables = record {
+  world = record { db = replicate tables map.empty; commits = 0; now = 0; parked = []; locks = map.empty; sessions = map.empty };
+  given = λ s. [];
+}
+
+module _ (h : Service) where
+  abbrev pub next : Event → State → Option State
+  next e st = option_map (λ r. record { world = r.0; given = given_after e r.1 st.given }) (step h e st.world)
+
+  -- none where some event is refused: a refused step is no event of a run
+  abbrev pub run : List Event → State → Option State
+  run [] st = Some st
+  run (e ∷ es) st = option_and_then (run es) (next e st)

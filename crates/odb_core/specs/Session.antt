@@ -1,0 +1,192 @@
+-- A session: what is queued for it, its monitors as they were told, and what a taking gives.
+use Rattle.std.specs.Prelude.{ℕ, Bool, true, false, ◌&&◌, if◌then◌else◌, List, [], ◌∷◌, ◌++◌, map, find, Option, Some, None, option_and_then, option_to_list, filter_map, codes, bytes_eq}
+use Rattle.std.specs.List.{list_all}
+use Rattle.serde_json.specs.Data.{Data}
+use Rattle.odb_cond.specs.Filter.{Filter}
+use Rattle.odb_core.specs.Service.{Service}
+use Rattle.odb_monitor.specs.Update.{table_updates}
+use Rattle.odb_monitor.specs.View.{Delta, View, delta, is_none, nothing, query, shown}
+use Rattle.odb_request.specs.Request.{Notation, Request, Select, Shape, update, update2}
+use Rattle.odb_rpc.specs.Message.{notification, reply}
+use Rattle.odb_tables.specs.Database.{Db}
+
+-- what a monitor watches: its id, its notation, and its requests with their filters
+pub record Watch : Type 0 where
+  pub id : Data
+  pub notation : Notation
+  pub requests : List Request
+
+-- a monitor whose first reply was taken, as it was told, with the client's view
+pub record Monitor : Type 0 where
+  pub watch : Watch
+  pub view : View
+
+-- what a client knows of a monitor that it asked for
+pub record Terms : Type 0 where
+  pub id : Data
+  pub notation : Notation
+  pub shapes : List Shape
+  pub whole : Bool  -- no kind of change is switched off
+
+-- which request of its own a client is answered. A failure is `another`
+pub data Answers : Type 0 where
+  no_request : Answers
+  another : Answers
+  first_reply : Terms → Answers
+  renaming : Data → Data → Answers
+  cancelling : Data → Answers
+
+pub record Out : Type 0 where
+  pub answers : Answers
+  pub message : Data
+
+-- a finished text; the first reply of a monitor; the monitor of an id brought to now; the same under other filters
+pub data Item : Type 0 where
+  say : Answers → Data → Item
+  start : Data → Watch → Item
+  sync : Data → Item
+  shift : Data → List (List ℕ × Filter) → Item
+
+pub record Session : Type 0 where
+  pub queue : List Item
+  pub monitors : List Monitor
+
+abbrev pub shapes : List Request → List Shape
+shapes qs = map (λ q. q.shape) qs
+
+abbrev pub all_on : Select → Bool
+all_on s = s.initial && (s.insert && (s.delete && s.modify))
+
+abbrev pub terms : Watch → Terms
+terms k = record { id = k.id; notation = k.notation; shapes = shapes k.requests; whole = list_all (λ q. all_on q.select) k.requests }
+
+-- f at the first element that passes the test
+abbrev pub at_first : {A : Type 0} → (A → Bool) → (A → A) → List A → List A
+at_first p f [] = []
+at_first p f (x ∷ xs) = if p x then f x ∷ xs else x ∷ at_first p f xs
+
+-- without the first element that passes the test
+abbrev pub drop_first : {A : Type 0} → (A → Bool) → List A → List A
+drop_first p [] = []
+drop_first p (x ∷ xs) = if p x then xs else x ∷ drop_first p xs
+
+-- the filters of the tables that are named
+abbrev pub filter_of : List (List ℕ × Filter) → List ℕ → Filter → Filter
+filter_of [] name old = old
+filter_of (f ∷ fs) name old = if bytes_eq f.0 name then f.1 else filter_of fs name old
+
+abbrev pub refilter : List (List ℕ × Filter) → List Request → List Request
+refilter fs qs = map {A = Request} (λ q. record q { filter = filter_of fs q.shape.name q.filter }) qs
+
+-- the first answer where there is an out, else the rest
+abbrev pub stop_at : {A : Type 0} → Option Out → A → Option Out × A → Option Out × A
+stop_at None a rest = rest
+stop_at (Some o) a rest = (Some o, a)
+
+module _ (h : Service) where
+  -- two ids are equal where their printed texts are
+  abbrev pub same_id : Data → Data → Bool
+  same_id a b = bytes_eq (h.printed a) (h.printed b)
+
+  -- what a reply does to a list of monitors, seen by their ids
+  abbrev pub settle : {A : Type 0} → (A → Data) → (Data → A → A) → Answers → List A → List A
+  settle id rename no_request xs = xs
+  settle id rename another xs = xs
+  settle id rename (first_reply t) xs = xs
+  settle id rename (renaming old new) xs = at_first (λ x. same_id old (id x)) (rename new) xs
+  settle id rename (cancelling i) xs = drop_first (λ x. same_id i (id x)) xs
+
+  abbrev pub rename_watch : Data → Watch → Watch
+  rename_watch i k = record k { id = i }
+
+  abbrev pub rename_monitor : Data → Monitor → Monitor
+  rename_monitor i m = record m { watch = rename_watch i m.watch }
+
+  -- a notification of the difference, if anything of it is shown
+  abbrev pub method_of : Notation → List ℕ
+  method_of update = codes "update"
+  method_of update2 = codes "update2"
+
+  abbrev pub told_of : Notation → Data → List Request → Delta → Option Out
+  told_of n i qs D = if is_none D then None else Some (record { answers = no_request; message = notification (method_of n) (i ∷ table_updates n false (shapes qs) D ∷ []) })
+
+  -- brings a monitor to now, under these requests
+  abbrev pub brought : Db → List Request → Monitor → Monitor
+  brought db qs m = record { watch = record { id = m.watch.id; notation = m.watch.notation; requests = qs }; view = query db qs }
+
+  abbrev pub update_to : Db → List Request → Monitor → Option Out
+  update_to db qs m = told_of m.watch.notation m.watch.id qs (shown false qs (delta m.view (query db qs)))
+
+  abbrev pub begun : Db → Watch → Monitor
+  begun db k = record { watch = k; view = query db k.requests }
+
+  abbrev pub first_out : Db → Data → Watch → Out
+  first_out db id k = record {
+    answers = first_reply (terms k);
+    message = reply id (table_updates k.notation true (shapes k.requests) (shown true k.requests (delta (nothing k.requests) (query db k.requests))));
+  }
+
+  abbrev pub has_id : Data → Monitor → Bool
+  has_id i m = same_id i m.watch.id
+
+  -- what one item gives, and the monitors after it. An item of a monitor that is gone gives nothing
+  abbrev pub gives : Db → Item → List Monitor → Option Out
+  gives db (say a d) ms = Some (record { answers = a; message = d })
+  gives db (start id k) ms = Some (first_out db id k)
+  gives db (sync i) ms = option_and_then (λ m. update_to db m.watch.requests m) (find (has_id i) ms)
+  gives db (shift i fs) ms = option_and_then (λ m. update_to db (refilter fs m.watch.requests) m) (find (has_id i) ms)
+
+  abbrev pub leaves : Db → Item → List Monitor → List Monitor
+  leaves db (say a d) ms = settle (λ m. m.watch.id) rename_monitor a ms
+  leaves db (start id k) ms = ms ++ begun db k ∷ []
+  leaves db (sync i) ms = at_first (has_id i) (λ m. brought db m.watch.requests m) ms
+  leaves db (shift i fs) ms = at_first (has_id i) (λ m. brought db (refilter fs m.watch.requests) m) ms
+
+  -- with an empty queue the monitors are brought to now, in order of creation, until there is an out
+  abbrev pub take_rest : Db → List Monitor → Option Out × List Monitor
+  take_rest db [] = (None, [])
+  take_rest db (m ∷ ms) =
+      stop_at (update_to db m.watch.requests m) (brought db m.watch.requests m ∷ ms)
+      ((take_rest db ms).0, brought db m.watch.requests m ∷ (take_rest db ms).1)
+
+  -- from the front of the queue until there is an out
+  abbrev pub take_from : Db → List Item → List Monitor → Option Out × Session
+  take_from db [] ms = ((take_rest db ms).0, record { queue = []; monitors = (take_rest db ms).1 })
+  take_from db (i ∷ is) ms = stop_at (gives db i ms) (record { queue = is; monitors = leaves db i ms }) (take_from db is (leaves db i ms))
+
+  abbrev pub take : Db → Session → Option Out × Session
+  take db s = take_from db s.queue s.monitors
+
+  -- what further takings give until there is none: what each item gives, and then each monitor
+  abbrev pub owed_from : Db → List Item → List Monitor → List Out
+  owed_from db [] ms = filter_map (λ m. update_to db m.watch.requests m) ms
+  owed_from db (i ∷ is) ms = option_to_list (gives db i ms) ++ owed_from db is (leaves db i ms)
+
+  abbrev pub owed : Db → Session → List Out
+  owed db s = owed_from db s.queue s.monitors
+
+  -- the session when nothing more is owed
+  abbrev pub rested : Db → List Item → List Monitor → List Monitor
+  rested db [] ms = map (λ m. brought db m.watch.requests m) ms
+  rested db (i ∷ is) ms = rested db is (leaves db i ms)
+
+  abbrev pub dried : Db → Session → Session
+  dried db s = record { queue = []; monitors = rested db s.queue s.monitors }
+
+  -- what an item does to the monitors as asked
+  abbrev pub asks : Item → List Watch → List Watch
+  asks (say a d) ks = settle (λ k. k.id) rename_watch a ks
+  asks (start id k) ks = ks ++ k ∷ []
+  asks (sync i) ks = ks
+  asks (shift i fs) ks = at_first (λ k. same_id i k.id) (λ k. record k { requests = refilter fs k.requests }) ks
+
+  abbrev pub asked_after : List Item → List Watch → List Watch
+  asked_after [] ks = ks
+  asked_after (i ∷ is) ks = asked_after is (asks i ks)
+
+  abbrev pub told : Session → List Watch
+  told s = map (λ m. m.watch) s.monitors
+
+  -- the monitors as asked: as told, and then what is queued
+  abbrev pub asked : Session → List Watch
+  asked s = asked_after s.queue (told s)

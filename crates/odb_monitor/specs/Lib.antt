@@ -1,0 +1,5 @@
+pub mod View
+pub mod Update
+pub mod Names
+pub mod Reading
+pub mod Fold

@@ -1,0 +1,2 @@
+//! Calls and replies of JSON-RPC (RFC 7047, 4).
+#![tactic(auto)]

@@ -1,0 +1,2 @@
+//! The programs of the OVSDB server.
+#![tactic(auto)]
