@@ -5,3 +5,5 @@ pub mod Maps
 pub mod ReadBack
 pub mod Rows
 pub mod Views
+pub mod OnlyRows
+pub mod OnlyViews

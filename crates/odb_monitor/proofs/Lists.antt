@@ -3,15 +3,10 @@ use Rattle.std.proofs.Common.{◌≡◌, ℕ, true, cond, List, [], ◌∷◌, O
 use Rattle.std.specs.Prelude.{option_map, bytes_eq}
 use Rattle.std.specs.Cmp.Lexicographic.{nat_list_eq_equiv}
 use Rattle.serde_json.specs.Data.{Data}
+pub use Rattle.odb_monitor.specs.Law.{IsAsLong}
 use Rattle.odb_monitor.specs.Names.{IsApart, AreDistinct}
 use Rattle.odb_monitor.specs.Update.{members}
 use Rattle.odb_monitor.specs.Fold.{pairs, named}
-
-abbrev pub IsAsLong : {A B : Type 0} → List A → List B → Type 0
-IsAsLong [] [] = Unit {0}
-IsAsLong [] (y ∷ ys) = ⊥
-IsAsLong (x ∷ xs) [] = ⊥
-IsAsLong (x ∷ xs) (y ∷ ys) = IsAsLong xs ys
 
 pub bytes_eq-itself : (n : List ℕ) → bytes_eq n n ≡ true
 bytes_eq-itself n = nat_list_eq_equiv.refl n

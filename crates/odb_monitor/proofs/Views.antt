@@ -11,26 +11,13 @@ use Rattle.odb_monitor.specs.View.{Cells, Contents, View, Change, differs, chang
 use Rattle.odb_request.specs.Request.{Notation, column_names, table_names}
 use Rattle.odb_monitor.specs.Update.{table_update, table_parts, table_updates}
 use Rattle.odb_monitor.specs.Fold.{as_object, pairs, named, fold_table, fold_tables, fold}
+pub use Rattle.odb_monitor.specs.Law.{IsRowOf, IsTableOf, IsViewOf}
 use Rattle.odb_monitor.specs.Names.{AreDistinct, ColumnsDistinct, AreNamed}
 use Rattle.odb_monitor.proofs.Lists.{IsAsLong, named-members}
 use Rattle.odb_monitor.proofs.Maps.{same_map, get-combine}
 use Rattle.odb_monitor.proofs.Cells.{same_cells-is, names_long}
 use Rattle.odb_monitor.proofs.Rows.{before, after, IsFit}
 use Rattle.odb_monitor.proofs.Folded.{becomes, Folds, fold_rows-row_updates}
-
--- the row has a value for each column
-abbrev pub IsRowOf : List Column → Option Cells → Type 0
-IsRowOf cs None = Unit {0}
-IsRowOf cs (Some c) = IsAsLong cs c
-
-abbrev pub IsTableOf : List Column → Contents → Type 0
-IsTableOf cs t = (u : Uuid) → IsRowOf cs (get t u)
-
-abbrev pub IsViewOf : List Shape → View → Type 0
-IsViewOf [] [] = Unit {0}
-IsViewOf [] (t ∷ V) = ⊥
-IsViewOf (s ∷ ss) [] = ⊥
-IsViewOf (s ∷ ss) (t ∷ V) = IsTableOf s.columns t × IsViewOf ss V
 
 -- a first reply folds into an empty table
 abbrev pub Begins : Bool → Contents → Type 0
@@ -63,7 +50,7 @@ unchanged true old new s e = ap Some (same_cells-is old new s)
 unchanged false old new s e = absurd (true≢false (ap is_some e))
 
 -- where there is no change, the two are one
-no_change_is : (o p : Option Cells) → change o p ≡ None → o ≡ p
+pub no_change_is : (o p : Option Cells) → change o p ≡ None → o ≡ p
 no_change_is None None e = refl
 no_change_is None (Some new) e = absurd (true≢false (ap is_some e))
 no_change_is (Some old) None e = absurd (true≢false (ap is_some e))

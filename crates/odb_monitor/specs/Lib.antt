@@ -3,3 +3,4 @@ pub mod Update
 pub mod Names
 pub mod Reading
 pub mod Fold
+pub mod Law

@@ -1,4 +1,5 @@
 -- Examples of the notation of values.
+use Rattle.odb_examples.proofs.TestSchemas.{quoted}
 use Rattle.std.specs.Prelude.{◌≡◌, ℕ, List, codes, refl, None, Ok, Err, Result}
 use Rattle.serde_json.specs.Written.{compact_text}
 use Rattle.odb_atoms.specs.Atom.{uuids, Kind, integers, strings}
@@ -17,18 +18,18 @@ again k s = do
   v ← read_any None (set_type k) (parsed s)
   Ok (compact_text (write_value v))
 
-pub one_element_is_an_atom : again integers (codes "[\"set\",[7]]") ≡ Ok (codes "7")
+pub one_element_is_an_atom : again integers ((quoted (codes "['set',[7]]"))) ≡ Ok (codes "7")
 unfolding computes
 one_element_is_an_atom = refl
 
-pub elements_ascend : again strings (codes "[\"set\",[\"b\",\"a\"]]") ≡ Ok (codes "[\"set\",[\"a\",\"b\"]]")
+pub elements_ascend : again strings ((quoted (codes "['set',['b','a']]"))) ≡ Ok ((quoted (codes "['set',['a','b']]")))
 unfolding computes
 elements_ascend = refl
 
-pub no_element_twice : again integers (codes "[\"set\",[1,1]]") ≡ Err syntax_error
+pub no_element_twice : again integers ((quoted (codes "['set',[1,1]]"))) ≡ Err syntax_error
 unfolding computes
 no_element_twice = refl
 
-pub no_names_outside_a_transaction : read_any None (scalar uuids) (parsed (codes "[\"named-uuid\",\"a\"]")) ≡ Err syntax_error
+pub no_names_outside_a_transaction : read_any None (scalar uuids) (parsed ((quoted (codes "['named-uuid','a']")))) ≡ Err syntax_error
 unfolding computes
 no_names_outside_a_transaction = refl

@@ -1,4 +1,5 @@
 -- Examples of conditions and mutations.
+use Rattle.odb_examples.proofs.TestSchemas.{quoted}
 use Rattle.std.specs.Prelude.{◌≡◌, ℕ, pos, Bool, true, List, map as map_list, [], ◌∷◌, codes, refl, Some, None, Ok, Err, Result}
 use Rattle.serde_json.specs.Written.{compact_text}
 use Rattle.odb_atoms.specs.FinSet as set
@@ -36,23 +37,23 @@ asked s = do
   c ← read_clause None columns (parsed s)
   Ok (holds c zero_uuid row)
 
-pub includes_nothing : asked (codes "[\"s\",\"includes\",[\"set\",[]]]") ≡ Ok true
+pub includes_nothing : asked ((quoted (codes "['s','includes',['set',[]]]"))) ≡ Ok true
 unfolding computes
 includes_nothing = refl
 
-pub excludes_nothing : asked (codes "[\"s\",\"excludes\",[\"set\",[]]]") ≡ Ok true
+pub excludes_nothing : asked ((quoted (codes "['s','excludes',['set',[]]]"))) ≡ Ok true
 unfolding computes
 excludes_nothing = refl
 
-pub includes_an_element : asked (codes "[\"s\",\"includes\",1]") ≡ Ok true
+pub includes_an_element : asked ((quoted (codes "['s','includes',1]"))) ≡ Ok true
 unfolding computes
 includes_an_element = refl
 
-pub equals_in_any_order : asked (codes "[\"s\",\"==\",[\"set\",[2,1]]]") ≡ Ok true
+pub equals_in_any_order : asked ((quoted (codes "['s','==',['set',[2,1]]]"))) ≡ Ok true
 unfolding computes
 equals_in_any_order = refl
 
-pub no_order_on_sets : asked (codes "[\"s\",\"<\",3]") ≡ Err syntax_error
+pub no_order_on_sets : asked ((quoted (codes "['s','<',3]"))) ≡ Err syntax_error
 unfolding computes
 no_order_on_sets = refl
 
@@ -60,20 +61,20 @@ no_order_on_sets = refl
 abbrev each_asked : List (List ℕ) → List (Result Bool Error)
 each_asked = map_list asked
 
-pub ordered_functions : each_asked (codes "[\"n\",\"<\",9]" ∷ codes "[\"n\",\"<=\",9]" ∷ codes "[\"n\",\">=\",9]" ∷ codes "[\"n\",\">\",9]" ∷ codes "[\"n\",\"!=\",9]" ∷ codes "[\"n\",\"<\",10]" ∷ codes "[\"n\",\">\",8]" ∷ [])
+pub ordered_functions : each_asked ((quoted (codes "['n','<',9]")) ∷ (quoted (codes "['n','<=',9]")) ∷ (quoted (codes "['n','>=',9]")) ∷ (quoted (codes "['n','>',9]")) ∷ (quoted (codes "['n','!=',9]")) ∷ (quoted (codes "['n','<',10]")) ∷ (quoted (codes "['n','>',8]")) ∷ [])
     ≡ Ok Bool.false ∷ Ok true ∷ Ok true ∷ Ok Bool.false ∷ Ok Bool.false ∷ Ok true ∷ Ok true ∷ []
 unfolding computes
 ordered_functions = refl
 
-pub a_scalar_takes_one_element : each_asked (codes "[\"n\",\"==\",[\"set\",[9]]]" ∷ codes "[\"n\",\"==\",[\"set\",[]]]" ∷ codes "[\"n\",\"includes\",[\"set\",[8,9]]]" ∷ []) ≡ Ok true ∷ Err syntax_error ∷ Err syntax_error ∷ []
+pub a_scalar_takes_one_element : each_asked ((quoted (codes "['n','==',['set',[9]]]")) ∷ (quoted (codes "['n','==',['set',[]]]")) ∷ (quoted (codes "['n','includes',['set',[8,9]]]")) ∷ []) ≡ Ok true ∷ Err syntax_error ∷ Err syntax_error ∷ []
 unfolding computes
 a_scalar_takes_one_element = refl
 
-pub excludes_none_of_them : each_asked (codes "[\"s\",\"excludes\",[\"set\",[2,3]]]" ∷ codes "[\"s\",\"excludes\",[\"set\",[3,4]]]" ∷ codes "[\"s\",\"includes\",[\"set\",[2,3]]]" ∷ []) ≡ Ok Bool.false ∷ Ok true ∷ Ok Bool.false ∷ []
+pub excludes_none_of_them : each_asked ((quoted (codes "['s','excludes',['set',[2,3]]]")) ∷ (quoted (codes "['s','excludes',['set',[3,4]]]")) ∷ (quoted (codes "['s','includes',['set',[2,3]]]")) ∷ []) ≡ Ok Bool.false ∷ Ok true ∷ Ok Bool.false ∷ []
 unfolding computes
 excludes_none_of_them = refl
 
-pub the_form_of_a_condition : each_asked (codes "[\"x\"]" ∷ codes "[\"x\",\"==\",1]" ∷ codes "[\"n\",\"=\",1]" ∷ codes "[\"n\",\"==\",1.5]" ∷ []) ≡ Err syntax_error ∷ Err unknown_column ∷ Err syntax_error ∷ Err syntax_error ∷ []
+pub the_form_of_a_condition : each_asked ((quoted (codes "['x']")) ∷ (quoted (codes "['x','==',1]")) ∷ (quoted (codes "['n','=',1]")) ∷ (quoted (codes "['n','==',1.5]")) ∷ []) ≡ Err syntax_error ∷ Err unknown_column ∷ Err syntax_error ∷ Err syntax_error ∷ []
 unfolding computes
 the_form_of_a_condition = refl
 
@@ -88,42 +89,42 @@ mutated t old s = do
 abbrev map_type : ColType
 map_type = record { key = plain strings; value = Some (plain integers); min = 0; max = None }
 
-pub insert_keeps_present_keys : mutated map_type (codes "[\"map\",[[\"k\",1]]]") (codes "[\"o\",\"insert\",[\"map\",[[\"k\",2],[\"j\",3]]]]") ≡ Ok (codes "[\"map\",[[\"j\",3],[\"k\",1]]]")
+pub insert_keeps_present_keys : mutated map_type ((quoted (codes "['map',[['k',1]]]"))) ((quoted (codes "['o','insert',['map',[['k',2],['j',3]]]]"))) ≡ Ok ((quoted (codes "['map',[['j',3],['k',1]]]")))
 unfolding computes
 insert_keeps_present_keys = refl
 
-pub delete_wants_the_same_value : mutated map_type (codes "[\"map\",[[\"j\",3],[\"k\",1]]]") (codes "[\"o\",\"delete\",[\"map\",[[\"k\",2]]]]") ≡ Ok (codes "[\"map\",[[\"j\",3],[\"k\",1]]]")
+pub delete_wants_the_same_value : mutated map_type ((quoted (codes "['map',[['j',3],['k',1]]]"))) ((quoted (codes "['o','delete',['map',[['k',2]]]]"))) ≡ Ok ((quoted (codes "['map',[['j',3],['k',1]]]")))
 unfolding computes
 delete_wants_the_same_value = refl
 
-pub delete_by_key : mutated map_type (codes "[\"map\",[[\"j\",3],[\"k\",1]]]") (codes "[\"o\",\"delete\",\"k\"]") ≡ Ok (codes "[\"map\",[[\"j\",3]]]")
+pub delete_by_key : mutated map_type ((quoted (codes "['map',[['j',3],['k',1]]]"))) ((quoted (codes "['o','delete','k']"))) ≡ Ok ((quoted (codes "['map',[['j',3]]]")))
 unfolding computes
 delete_by_key = refl
 
-pub division_truncates : mutated (scalar integers) (codes "-7") (codes "[\"n\",\"/=\",2]") ≡ Ok (codes "-3")
+pub division_truncates : mutated (scalar integers) (codes "-7") ((quoted (codes "['n','/=',2]"))) ≡ Ok (codes "-3")
 unfolding computes
 division_truncates = refl
 
-pub remainder_of_the_dividend : mutated (scalar integers) (codes "-3") (codes "[\"n\",\"%=\",2]") ≡ Ok (codes "-1")
+pub remainder_of_the_dividend : mutated (scalar integers) (codes "-3") ((quoted (codes "['n','%=',2]"))) ≡ Ok (codes "-1")
 unfolding computes
 remainder_of_the_dividend = refl
 
-pub no_zero_divisor : mutated (scalar integers) (codes "-3") (codes "[\"n\",\"/=\",0]") ≡ Err domain_error
+pub no_zero_divisor : mutated (scalar integers) (codes "-3") ((quoted (codes "['n','/=',0]"))) ≡ Err domain_error
 unfolding computes
 no_zero_divisor = refl
 
-pub past_64_bits : mutated (scalar integers) (codes "9223372036854775807") (codes "[\"n\",\"+=\",1]") ≡ Err range_error
+pub past_64_bits : mutated (scalar integers) (codes "9223372036854775807") ((quoted (codes "['n','+=',1]"))) ≡ Err range_error
 unfolding computes
 past_64_bits = refl
 
-pub least_divided_by_minus_one : mutated (scalar integers) (codes "-9223372036854775808") (codes "[\"n\",\"/=\",-1]") ≡ Err range_error
+pub least_divided_by_minus_one : mutated (scalar integers) (codes "-9223372036854775808") ((quoted (codes "['n','/=',-1]"))) ≡ Err range_error
 unfolding computes
 least_divided_by_minus_one = refl
 
-pub remainder_of_least_by_minus_one : mutated (scalar integers) (codes "-9223372036854775808") (codes "[\"n\",\"%=\",-1]") ≡ Ok (codes "0")
+pub remainder_of_least_by_minus_one : mutated (scalar integers) (codes "-9223372036854775808") ((quoted (codes "['n','%=',-1]"))) ≡ Ok (codes "0")
 unfolding computes
 remainder_of_least_by_minus_one = refl
 
-pub elements_become_equal : mutated (record { key = plain integers; value = None; min = 0; max = None }) (codes "[\"set\",[1,2]]") (codes "[\"s\",\"*=\",0]") ≡ Err constraint_violation
+pub elements_become_equal : mutated (record { key = plain integers; value = None; min = 0; max = None }) ((quoted (codes "['set',[1,2]]"))) ((quoted (codes "['s','*=',0]"))) ≡ Err constraint_violation
 unfolding computes
 elements_become_equal = refl
