@@ -13,6 +13,9 @@ same_key q k e = maps.same_key nat_cmp-IsAntisymmetric q k e
 pub key-itself : (k : ℕ) → eq_by_cmp nat_cmp k k ≡ true
 key-itself k = ap is_eq (tied_itself nat_cmp_total k)
 
+pub session-itself : (k : ℕ) → eq_by_cmp nat_cmp k k ≡ true
+session-itself = key-itself
+
 module _ {X : Type 0} where
   pub get-empty : (q : ℕ) → get (empty {X = X} {R = nat_cmp}) q ≡ None
   get-empty q = maps.get-empty nat_cmp q

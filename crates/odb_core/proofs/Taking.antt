@@ -1,19 +1,21 @@
 -- A taking does to a client's pictures what it does to the monitors as told.
-use Rattle.std.proofs.Common.{◌≡◌, ℕ, Bool, true, false, cond, List, [], ◌∷◌, ◌++◌, map, Option, Some, None, refl, sym, ◌∙◌, ap, subst}
+use Rattle.std.proofs.Common.{◌≡◌, ℕ, Bool, true, false, cond, List, [], ◌∷◌, ◌++◌, map, Option, Some, None, is_some, refl, sym, ◌∙◌, ap, subst, true≢false}
 use Rattle.std.specs.Prelude.{bytes_eq, option_map, option_and_then, option_to_list, find, filter_map}
 use Rattle.std.specs.Cmp.Lexicographic.{nat_list_eq_equiv}
 use Rattle.std.specs.List.{cons_option}
 use Rattle.std.proofs.lemmas.Slice.Eq.{bytes_eq-Decides}
-use Rattle.serde_json.specs.Data.{Data}
+use Rattle.serde_json.specs.Data.{Data, null}
 use Rattle.odb_cond.specs.Filter.{Filter}
-use Rattle.odb_core.proofs.Sessions.{Each, IsKept, IsSound, IsWell, StayDistinct, each_append, each_at_first, each_drop_first, leaves-asks, map-append, seen, settle-seen, shapes-refilter, texts, whole-refilter}
+use Rattle.odb_core.proofs.Calls.{reply_heard}
+use Rattle.odb_core.proofs.Sessions.{Each, IsKept, IsSound, IsThere, IsWell, StayDistinct, each_append, each_at_first, each_drop_first, followed-refilter, leaves-asks, map-append, order_rest, seen, seen-new, shapes-refilter, texts, with_new}
 use Rattle.odb_core.proofs.Updates.{IsLike, begun_kept, brought-followed, brought-unseen, brought_kept, change_to, first_heard, message_of, update-heard}
-use Rattle.odb_core.specs.Client.{Picture, client_from, client_step, follow, try_first}
-use Rattle.odb_core.specs.Headline.{right_picture}
+use Rattle.odb_core.specs.Client.{Picture, client_from, client_step, follow, is_id_of, on_granted, refiltered, try_drop, try_first, with_changes}
 use Rattle.odb_core.specs.Service.{Service}
-use Rattle.odb_core.specs.Session.{Answers, Item, Monitor, Out, Session, another, asked_after, at_first, begun, brought, cancelling, first_reply, gives, has_id, leaves, method_of, no_request, owed_from, refilter, rename_monitor, renaming, same_id, say, settle, shapes, shift, start, stop_at, sync, take_from, take_rest, update_to}
+use Rattle.odb_core.specs.Session.{Item, Monitor, Out, Session, at_first, begun, brought, drop_first, gives, has_id, id_of, leaves, method_of, no_request, no_result, owed_from, refilter, renamed, rested, say, shapes, shift, start, stop_at, stopped, sync, take_from, take_rest, update_to}
+use Rattle.odb_core.specs.World.{watched}
 use Rattle.odb_monitor.proofs.Lists.{bytes_eq-itself}
-use Rattle.odb_monitor.specs.Names.{AreDistinct, IsApart}
+use Rattle.odb_monitor.proofs.Views.{IsViewOf}
+use Rattle.odb_monitor.specs.Names.{AreDistinct, AreNamed, IsApart}
 use Rattle.odb_monitor.specs.Update.{table_updates}
 use Rattle.odb_monitor.specs.View.{is_none}
 use Rattle.odb_request.specs.Request.{Notation, Request}
@@ -31,11 +33,11 @@ module _ (h : Service) where
   IsAway t (Some o) = (n : Notation) × (i : Data) × (d : Data) × (o ≡ record { answers = no_request; message = notification (method_of h n) (i ∷ d ∷ []) }) × (bytes_eq (h.printed i) t ≡ false)
 
   -- it passes a picture of another id by
-  heard-past : (p : Picture) (ps : List Picture) (o : Option Out) → IsAway (h.printed p.terms.id) o → heard o (p ∷ ps) ≡ option_map (λ qs. p ∷ qs) (heard o ps)
+  heard-past : (p : Picture) (ps : List Picture) (o : Option Out) → IsAway (h.printed p.id) o → heard o (p ∷ ps) ≡ option_map (λ qs. p ∷ qs) (heard o ps)
   heard-past p ps None a = refl
   heard-past p ps (Some o) a =
       ap (client_step h (p ∷ ps)) a.3 ∙ update-heard h a.0 a.1 a.2 (p ∷ ps)
-      ∙ ap (λ b. cond b (option_map (λ q. q ∷ ps) (follow h (method_of h a.0) a.2 p)) (option_map (λ qs. p ∷ qs) (try_first (λ q. same_id h a.1 q.terms.id) (follow h (method_of h a.0) a.2) ps))) a.4
+      ∙ ap (λ b. cond b (option_map (λ q. q ∷ ps) (follow h a.0 a.2 p)) (option_map (λ qs. p ∷ qs) (try_first (is_id_of h a.1) (follow h a.0 a.2) ps))) a.4
       ∙ ap (option_map (λ qs. p ∷ qs)) (sym (update-heard h a.0 a.1 a.2 ps) ∙ sym (ap (client_step h ps) a.3))
 
   abbrev out_if : Bool → Out → Option Out
@@ -51,7 +53,7 @@ module _ (h : Service) where
   out_heard db qs m ps kept like false e =
       let d : Data = table_updates m.watch.notation false (shapes qs) (change_to h db qs m) in
       update-heard h m.watch.notation m.watch.id d (seen m ∷ ps)
-      ∙ ap (λ b. cond b (option_map (λ q. q ∷ ps) (follow h (method_of h m.watch.notation) d (seen m))) (option_map (λ qs. seen m ∷ qs) (try_first (λ q. same_id h m.watch.id q.terms.id) (follow h (method_of h m.watch.notation) d) ps))) (bytes_eq-itself (h.printed m.watch.id))
+      ∙ ap (λ b. cond b (option_map (λ q. q ∷ ps) (follow h m.watch.notation d (seen m))) (option_map (λ qs. seen m ∷ qs) (try_first (is_id_of h m.watch.id) (follow h m.watch.notation d) ps))) (bytes_eq-itself (h.printed m.watch.id))
       ∙ ap (option_map (λ q. q ∷ ps)) (brought-followed h db qs m kept like e)
 
   pub one_heard : (db : Db) (qs : List Request) (m : Monitor) (ps : List Picture) → IsKept h m → IsLike h qs m.watch
@@ -88,30 +90,59 @@ module _ (h : Service) where
   itself_like m = (refl, refl)
 
   pub refilter_like : (fs : List (List ℕ × Filter)) (m : Monitor) → IsLike h (refilter fs m.watch.requests) m.watch
-  refilter_like fs m = (shapes-refilter fs m.watch.requests, whole-refilter fs m.watch.requests)
+  refilter_like fs m = (shapes-refilter fs m.watch.requests, followed-refilter fs m.watch.requests)
 
   seen_append : (ms : List Monitor) (m : Monitor) → map seen (ms ++ m ∷ []) ≡ map seen ms ++ seen m ∷ []
   seen_append ms m = map-append seen ms (m ∷ [])
 
-  -- one item
-  pub item_heard : (db : Db) (i : Item) (ms : List Monitor) → IsSound h i → Each (IsKept h) ms → heard (gives h db i ms) (map seen ms) ≡ Some (map seen (leaves h db i ms))
-  item_heard db (say a d) ms s k = s.0 (map seen ms) ∙ ap Some (sym (settle-seen h a ms))
-  item_heard db (start id w) ms s k = first_heard h db id w s (map seen ms) ∙ ap Some (sym (seen_append ms (begun h db w)))
-  item_heard db (sync i) ms s k = found_heard db (λ m. m.watch.requests) itself_like i ms k
-  item_heard db (shift i fs) ms s k = found_heard db (λ m. refilter fs m.watch.requests) (refilter_like fs) i ms k
+  -- the pictures after a reply that takes effect
+  try_new : (old new : Data) (fs : List (List ℕ × Filter)) (ms : List Monitor) → is_some (watched h old (map (λ m. m.watch) ms)) ≡ true
+      → try_first (is_id_of h old) (λ p. Some (with_changes h new fs p)) (map seen ms) ≡ Some (map seen (at_first (has_id h old) (with_new h new fs) ms))
+  try_new old new fs [] e = absurd (true≢false (sym e))
+  try_new old new fs (m ∷ ms) e =
+      elim (has_id h old m) as (λ b. is_some (cond b (Some m.watch) (watched h old (map (λ m. m.watch) ms))) ≡ true
+      → cond b (Some (with_changes h new fs (seen m) ∷ map seen ms)) (option_map (λ ps. seen m ∷ ps) (try_first (is_id_of h old) (λ p. Some (with_changes h new fs p)) (map seen ms)))
+      ≡ Some (map seen (cond b (with_new h new fs m ∷ ms) (m ∷ at_first (has_id h old) (with_new h new fs) ms)))) [
+        | true ↦ λ _. ap (λ p. Some (p ∷ map seen ms)) (seen-new h new fs m)
+        | false ↦ λ f. ap (option_map (λ ps. seen m ∷ ps)) (try_new old new fs ms f)
+      ] e
 
-  settle_kept : (a : Answers) (ms : List Monitor) → Each (IsKept h) ms → Each (IsKept h) (settle h (λ m. m.watch.id) (rename_monitor h) a ms)
-  settle_kept no_request ms k = k
-  settle_kept another ms k = k
-  settle_kept (first_reply t) ms k = k
-  settle_kept (renaming old new) ms k = each_at_first (IsKept h) (λ m. same_id h old m.watch.id) (rename_monitor h new) (λ m kept. kept) ms k
-  settle_kept (cancelling i) ms k = each_drop_first (IsKept h) (λ m. same_id h i m.watch.id) ms k
+  drop_seen : (i : Data) (ms : List Monitor) → is_some (watched h i (map (λ m. m.watch) ms)) ≡ true
+      → try_drop (is_id_of h i) (map seen ms) ≡ Some (map seen (drop_first (has_id h i) ms))
+  drop_seen i [] e = absurd (true≢false (sym e))
+  drop_seen i (m ∷ ms) e =
+      elim (has_id h i m) as (λ b. is_some (cond b (Some m.watch) (watched h i (map (λ m. m.watch) ms))) ≡ true
+      → cond b (Some (map seen ms)) (option_map (λ ps. seen m ∷ ps) (try_drop (is_id_of h i) (map seen ms))) ≡ Some (map seen (cond b ms (m ∷ drop_first (has_id h i) ms)))) [
+        | true ↦ λ _. refl
+        | false ↦ λ f. ap (option_map (λ ps. seen m ∷ ps)) (drop_seen i ms f)
+      ] e
+
+  -- one item
+  pub item_heard : (db : Db) (i : Item) (ms : List Monitor) → IsSound h i → IsThere h i (map (λ m. m.watch) ms) → Each (IsKept h) ms → heard (gives h db i ms) (map seen ms) ≡ Some (map seen (leaves h db i ms))
+  item_heard db (say a d) ms s there k = s.0 (map seen ms)
+  item_heard db (start d w) ms s there k = first_heard h db d w s (map seen ms) ∙ ap Some (sym (seen_append ms (begun h db w)))
+  item_heard db (sync i) ms s there k = found_heard db (λ m. m.watch.requests) itself_like i ms k
+  item_heard db (shift i fs) ms s there k = found_heard db (λ m. refilter fs m.watch.requests) (refilter_like fs) i ms k
+  item_heard db (renamed d old new fs) ms s there k =
+      reply_heard h d null (id_of d) no_result (map seen ms) (sym s.0)
+      ∙ ap (λ w. on_granted h w no_result (map seen ms)) s.1.1
+      ∙ ap (λ r. refiltered h old new r (map seen ms)) s.1.2
+      ∙ try_new old new fs ms there
+  item_heard db (stopped d i) ms s there k =
+      reply_heard h d null (id_of d) no_result (map seen ms) (sym s.0)
+      ∙ ap (λ w. on_granted h w no_result (map seen ms)) s.1
+      ∙ drop_seen i ms there
+
+  new_kept : (new : Data) (fs : List (List ℕ × Filter)) (m : Monitor) → IsKept h m → IsKept h (with_new h new fs m)
+  new_kept new fs m k = (subst AreNamed (sym (shapes-refilter fs m.watch.requests)) k.0, subst (λ ss. IsViewOf ss m.view) (sym (shapes-refilter fs m.watch.requests)) k.1)
 
   pub item_kept : (db : Db) (i : Item) (ms : List Monitor) → IsSound h i → Each (IsKept h) ms → Each (IsKept h) (leaves h db i ms)
-  item_kept db (say a d) ms s k = settle_kept a ms k
-  item_kept db (start id w) ms s k = each_append (IsKept h) ms (begun h db w ∷ []) k (begun_kept h db w s, tt)
+  item_kept db (say a d) ms s k = k
+  item_kept db (start d w) ms s k = each_append (IsKept h) ms (begun h db w ∷ []) k (begun_kept h db w s.0, tt)
   item_kept db (sync i) ms s k = each_at_first (IsKept h) (has_id h i) (λ m. brought h db m.watch.requests m) (λ m kept. brought_kept h db m.watch.requests m kept (itself_like m)) ms k
   item_kept db (shift i fs) ms s k = each_at_first (IsKept h) (has_id h i) (λ m. brought h db (refilter fs m.watch.requests) m) (λ m kept. brought_kept h db (refilter fs m.watch.requests) m kept (refilter_like fs m)) ms k
+  item_kept db (renamed d old new fs) ms s k = each_at_first (IsKept h) (has_id h old) (with_new h new fs) (new_kept new fs) ms k
+  item_kept db (stopped d i) ms s k = each_drop_first (IsKept h) (has_id h i) ms k
 
   -- ---- the monitors in order, each by its own id
 
@@ -172,17 +203,18 @@ module _ (h : Service) where
   next_well db i is ms k = record {
     items = k.items.1;
     kept = item_kept db i ms k.items.0 k.kept;
-    distinct = subst (StayDistinct h is) (sym (leaves-asks h db i ms)) k.distinct.1;
+    distinct = subst (StayDistinct h is) (sym (leaves-asks h db i ms)) k.distinct.2;
+    order = order_rest i is k.order;
   }
 
   pub from_heard : (db : Db) (q : List Item) (ms : List Monitor) → IsWell h (record { queue = q; monitors = ms }) → heard (take_from h db q ms).0 (map seen ms) ≡ Some (map seen (take_from h db q ms).1.monitors)
   from_heard db [] ms k = rest_heard db ms k.kept k.distinct
   from_heard db (i ∷ is) ms k =
       stop_item (gives h db i ms) (map seen ms) (record { queue = is; monitors = leaves h db i ms }) (take_from h db is (leaves h db i ms))
-      (item_heard db i ms k.items.0 k.kept) (from_heard db is (leaves h db i ms) (next_well db i is ms k))
+      (item_heard db i ms k.items.0 k.distinct.1 k.kept) (from_heard db is (leaves h db i ms) (next_well db i is ms k))
 
   pub from_well : (db : Db) (q : List Item) (ms : List Monitor) → IsWell h (record { queue = q; monitors = ms }) → IsWell h (take_from h db q ms).1
-  from_well db [] ms k = record { items = tt; kept = rest_kept db ms k.kept; distinct = subst (λ ks. AreDistinct (texts h ks)) (sym (rest_watch db ms)) k.distinct }
+  from_well db [] ms k = record { items = tt; kept = rest_kept db ms k.kept; distinct = subst (λ ks. AreDistinct (texts h ks)) (sym (rest_watch db ms)) k.distinct; order = tt }
   from_well db (i ∷ is) ms k =
       stop_well (gives h db i ms) (record { queue = is; monitors = leaves h db i ms }) (take_from h db is (leaves h db i ms)) (next_well db i is ms k) (from_well db is (leaves h db i ms) (next_well db i is ms k))
 
@@ -197,7 +229,7 @@ module _ (h : Service) where
   past_rest p os ih None = refl
   past_rest p os ih (Some qs) = ih qs
 
-  client_from-past : (p : Picture) (os : List Out) → Each (λ o. IsAway (h.printed p.terms.id) (Some o)) os → (ps : List Picture) → client_from h (p ∷ ps) os ≡ option_map (λ qs. p ∷ qs) (client_from h ps os)
+  client_from-past : (p : Picture) (os : List Out) → Each (λ o. IsAway (h.printed p.id) (Some o)) os → (ps : List Picture) → client_from h (p ∷ ps) os ≡ option_map (λ qs. p ∷ qs) (client_from h ps os)
   client_from-past p [] a ps = refl
   client_from-past p (o ∷ os) a ps =
       ap (option_and_then (λ qs. client_from h qs os)) (heard-past p ps (Some o) a.0) ∙ past_rest p os (client_from-past p os a.1) (client_step h ps o)
@@ -217,7 +249,7 @@ module _ (h : Service) where
   client_from-cons ps (Some o) os = refl
 
   monitors_owed : (db : Db) (ms : List Monitor) → Each (IsKept h) ms → AreDistinct (texts h (map (λ m. m.watch) ms))
-      → client_from h (map seen ms) (filter_map (λ m. update_to h db m.watch.requests m) ms) ≡ Some (map (right_picture h db) (map (λ m. m.watch) ms))
+      → client_from h (map seen ms) (filter_map (λ m. update_to h db m.watch.requests m) ms) ≡ Some (map seen (map (λ m. brought h db m.watch.requests m) ms))
   monitors_owed db [] k d = refl
   monitors_owed db (m ∷ ms) k d =
       let os : List Out = filter_map (λ m. update_to h db m.watch.requests m) ms in
@@ -227,12 +259,11 @@ module _ (h : Service) where
       ∙ client_from-past (seen b) os (all_away (h.printed m.watch.id) db ms d.0) (map seen ms)
       ∙ ap (option_map (λ qs. seen b ∷ qs)) (monitors_owed db ms k.1 d.1)
 
-  -- taking what is owed brings each monitor, as asked, to now
+  -- what is owed brings a client to the monitors of the session when it rests
   pub owed_heard : (db : Db) (q : List Item) (ms : List Monitor) → IsWell h (record { queue = q; monitors = ms })
-      → client_from h (map seen ms) (owed_from h db q ms) ≡ Some (map (right_picture h db) (asked_after h q (map (λ m. m.watch) ms)))
+      → client_from h (map seen ms) (owed_from h db q ms) ≡ Some (map seen (rested h db q ms))
   owed_heard db [] ms k = monitors_owed db ms k.kept k.distinct
   owed_heard db (i ∷ is) ms k =
       client_from-option (map seen ms) (gives h db i ms) (owed_from h db is (leaves h db i ms))
-      ∙ ap (option_and_then (λ qs. client_from h qs (owed_from h db is (leaves h db i ms)))) (item_heard db i ms k.items.0 k.kept)
+      ∙ ap (option_and_then (λ qs. client_from h qs (owed_from h db is (leaves h db i ms)))) (item_heard db i ms k.items.0 k.distinct.1 k.kept)
       ∙ owed_heard db is (leaves h db i ms) (next_well db i is ms k)
-      ∙ ap (λ ks. Some (map (right_picture h db) (asked_after h is ks))) (leaves-asks h db i ms)

@@ -1,6 +1,6 @@
--- Whatever a request, a moment or a close does, each session stays well, and its client's pictures are those of its monitors.
-use Rattle.std.proofs.Common.{◌≡◌, ℕ, zero, suc, ◌+◌, ◌*◌, Bool, true, false, cond, List, [], ◌∷◌, ◌++◌, map, length, Option, Some, None, Result, Ok, Err, refl, sym, ◌∙◌, ap, subst, not, ◌&&◌, is_some, true≢false, codes}
-use Rattle.std.specs.Prelude.{bytes_eq, option_to_list}
+-- Whatever a request, a moment or a close does, each session stays well, its client's pictures are those of its monitors, and the requests that wait aren't about monitors.
+use Rattle.std.proofs.Common.{◌≡◌, ℕ, zero, suc, ◌+◌, ◌*◌, Bool, true, false, cond, List, [], ◌∷◌, ◌++◌, map, length, Option, Some, None, Result, Ok, Err, ◌==◌, refl, sym, ◌∙◌, ap, subst, not, ◌&&◌, is_some, true≢false, codes}
+use Rattle.std.specs.Prelude.{bytes_eq, filter, option_to_list}
 use Rattle.std.specs.Ordering.{nat_cmp, eq_by_cmp}
 use Rattle.std.specs.Cmp.Lexicographic.{nat_list_eq_equiv}
 use Rattle.std.proofs.lemmas.Slice.Eq.{bytes_eq-Decides}
@@ -8,13 +8,15 @@ use Rattle.serde_json.specs.Data.{Data, string}
 use Rattle.odb_rpc.specs.Message as message
 use Rattle.odb_atoms.specs.FinMap.{FinMap, get, insert, remove}
 use Rattle.odb_cond.specs.Filter.{Filter}
+use Rattle.odb_core.proofs.Calls.{Asks, IsHarmless, IsPlain, Reads, failure_harmless, plain_reply}
 use Rattle.odb_core.proofs.SessionMaps.{get-insert, get-remove, same_key}
-use Rattle.odb_core.proofs.Sessions.{Each, IsSound, IsWell, StayDistinct, at_first-map, at_first-unseen, drop_first-map, each_append, map-append, seen, texts}
-use Rattle.odb_core.specs.Client.{Picture, client, client_step}
-use Rattle.odb_core.specs.Headline.{ReadsNamed, about}
+use Rattle.odb_core.proofs.Sessions.{Begins, Each, InOrder, IsSound, IsWell, StayDistinct, at_first-map, drop_first-map, each_append, map-append, order_append, seen, texts}
+use Rattle.odb_core.proofs.Splits.{Split, split_parts}
+use Rattle.odb_core.specs.Client.{Picture, adds, answer_id, changes, client, client_step, drops}
+use Rattle.odb_core.specs.Headline.{ReadsNamed, WasLast, about}
 use Rattle.odb_core.specs.Service.{Outcome, Service, ended, waits}
-use Rattle.odb_core.specs.Session.{Item, Out, Session, Watch, another, asked, asked_after, asks, at_first, cancelling, drop_first, no_request, refilter, rename_watch, renaming, same_id, say, shift, start, sync, told}
-use Rattle.odb_core.specs.World.{Parked, World, answer, are_monitored, asked_of, at_moment, attempt, cancel_one, change_of, close, end_transaction, fail, handle, is_conditional, is_due, is_of, locked, no_result, notice_of, on_cancel_monitor, on_lock, on_monitor, on_outcome, post, post_notices, post_to, push, retry, retry_all, run_transaction, shift_with, split_first, start_with, tick, try_due, try_one, untried, watched, with_parked}
+use Rattle.odb_core.specs.Session.{Item, Out, Session, Watch, asked, asked_after, asks, at_first, changed, drop_first, id_of, no_request, no_result, renamed, same_id, say, shift, start, stopped, sync, to, told}
+use Rattle.odb_core.specs.World.{Parked, World, answer, are_monitored, asked_of, at_moment, attempt, cancel_one, change_of, close, end_transaction, fail, handle, is_conditional, is_due, is_of, is_untried, locked, notice_of, on_cancel_monitor, on_lock, on_monitor, on_outcome, post, post_notices, post_to, push, retry, retry_all, run_transaction, shift_with, split_first, start_with, succeed, tick, try_due, try_one, untried, watched, with_parked}
 use Rattle.odb_locks.specs.Locks.{Answered, Notice, drop_session, lock, steal, unlock}
 use Rattle.odb_monitor.proofs.Views.{some_is}
 use Rattle.odb_monitor.specs.Names.{AreDistinct, IsApart}
@@ -26,27 +28,62 @@ use Rattle.odb_atoms.specs.Uuid.{Uuid}
 use Rattle.odb_atoms.specs.Error.{Error, syntax_error}
 use Rattle.odb_rpc.specs.Message.{Failure, failed, unknown_monitor, canceled}
 
+pub each_filter : {A : Type 0} (P : A → Type 0) (p : A → Bool) (xs : List A) → Each P xs → Each P (filter p xs)
+each_filter P p [] k = tt
+each_filter P p (x ∷ xs) k = elim (p x) as (λ b. Each P (cond b (x ∷ filter p xs) (filter p xs))) [ true ↦ (k.0, each_filter P p xs k.1) | false ↦ each_filter P p xs k.1 ]
+
+pub each_before : {A : Type 0} (P : A → Type 0) (xs ys : List A) → Each P (xs ++ ys) → Each P xs
+each_before P [] ys k = tt
+each_before P (x ∷ xs) ys k = (k.0, each_before P xs ys k.1)
+
+pub each_behind : {A : Type 0} (P : A → Type 0) (xs ys : List A) → Each P (xs ++ ys) → Each P ys
+each_behind P [] ys k = k
+each_behind P (x ∷ xs) ys k = each_behind P xs ys k.1
+
 module _ (h : Service) where
-  abbrev pub IsHeld : FinMap nat_cmp Session → (ℕ → List Out) → Type 0
-  IsHeld ss f = (s : ℕ) (x : Session) → get ss s ≡ Some x → IsWell h x × (client h (f s) ≡ Some (map seen x.monitors))
+  -- where the reply to a cancel is next, the message before it was the monitor's update
+  abbrev pub IsAfter : Item → List Out → Type 0
+  IsAfter (say a d) os = Unit {0}
+  IsAfter (start d k) os = Unit {0}
+  IsAfter (sync i) os = Unit {0}
+  IsAfter (shift i fs) os = Unit {0}
+  IsAfter (renamed d old new fs) os = Unit {0}
+  IsAfter (stopped d i) os = WasLast h i os
+
+  abbrev pub StandsAfter : List Item → List Out → Type 0
+  StandsAfter [] os = Unit {0}
+  StandsAfter (i ∷ is) os = IsAfter i os
+
+  -- what holds of a session at what it was given
+  abbrev pub Holds : Session → List Out → Type 0
+  Holds x os = IsWell h x × (client h os ≡ Some (map seen x.monitors)) × StandsAfter x.queue os
+
+  abbrev pub AreHeld : FinMap nat_cmp Session → (ℕ → List Out) → Type 0
+  AreHeld ss f = (s : ℕ) (x : Session) → get ss s ≡ Some x → Holds x (f s)
+
+  abbrev pub WaitsPlainly : Parked → Type 0
+  WaitsPlainly p = IsPlain h p.request
+
+  abbrev pub IsHeld : World → (ℕ → List Out) → Type 0
+  IsHeld w f = AreHeld w.sessions f × Each WaitsPlainly w.parked
 
   -- it holds after, where it held before, and no session was given anything
   abbrev pub Keeps : World → World → Type 0
-  Keeps w v = (f : ℕ → List Out) → IsHeld w.sessions f → IsHeld v.sessions f
+  Keeps w v = (f : ℕ → List Out) → IsHeld w f → IsHeld v f
 
   -- items that may go to the end of the queue
   abbrev pub MayQueue : Session → List Item → Type 0
-  MayQueue x is = Each (IsSound h) is × StayDistinct h is (asked h x)
+  MayQueue x is = Each (IsSound h) is × StayDistinct h is (asked h x) × Begins is × InOrder is
 
   -- ---- ids
 
   stay_append : (q is : List Item) (ks : List Watch) → StayDistinct h q ks → StayDistinct h is (asked_after h q ks) → StayDistinct h (q ++ is) ks
   stay_append [] is ks d e = e
-  stay_append (i ∷ q) is ks d e = (d.0, stay_append q is (asks h i ks) d.1 e)
+  stay_append (i ∷ q) is ks d e = (d.0, d.1, stay_append q is (asks h i ks) d.2 e)
 
   last_distinct : (q : List Item) (ks : List Watch) → StayDistinct h q ks → AreDistinct (texts h (asked_after h q ks))
   last_distinct [] ks d = d
-  last_distinct (i ∷ q) ks d = last_distinct q (asks h i ks) d.1
+  last_distinct (i ∷ q) ks d = last_distinct q (asks h i ks) d.2
 
   pub asked_distinct : (x : Session) → IsWell h x → AreDistinct (texts h (asked h x))
   asked_distinct x k = last_distinct x.queue (told h x) k.distinct
@@ -103,30 +140,50 @@ module _ (h : Service) where
     items = each_append (IsSound h) x.queue is k.items m.0;
     kept = k.kept;
     distinct = stay_append x.queue is (told h x) k.distinct m.1;
+    order = order_append x.queue is k.order m.2 m.3;
   }
 
-  put_held : (ss : FinMap nat_cmp Session) (f : ℕ → List Out) (s : ℕ) (y : Session) → IsHeld ss f → IsWell h y × (client h (f s) ≡ Some (map seen y.monitors)) → IsHeld (insert ss s y) f
+  free_after : (is : List Item) (os : List Out) → Begins is → StandsAfter is os
+  free_after [] os b = tt
+  free_after (say a d ∷ is) os b = tt
+  free_after (start d k ∷ is) os b = tt
+  free_after (sync i ∷ is) os b = tt
+  free_after (shift i fs ∷ is) os b = tt
+  free_after (renamed d old new fs ∷ is) os b = tt
+  free_after (stopped d i ∷ is) os b = absurd b
+
+  push_after : (q is : List Item) (os : List Out) → StandsAfter q os → Begins is → StandsAfter (q ++ is) os
+  push_after [] is os a b = free_after is os b
+  push_after (i ∷ q) is os a b = a
+
+  pub put_held : (ss : FinMap nat_cmp Session) (f : ℕ → List Out) (s : ℕ) (y : Session) → AreHeld ss f → Holds y (f s) → AreHeld (insert ss s y) f
   put_held ss f s y k here t z found =
-      elim (eq_by_cmp nat_cmp t s) as (λ b. eq_by_cmp nat_cmp t s ≡ b → cond b (Some y) (get ss t) ≡ Some z → IsWell h z × (client h (f t) ≡ Some (map seen z.monitors))) [
-        | true ↦ λ tie e. subst (λ (u : ℕ). IsWell h z × (client h (f u) ≡ Some (map seen z.monitors))) (sym (same_key t s tie)) (subst (λ (v : Session). IsWell h v × (client h (f s) ≡ Some (map seen v.monitors))) (some_is y z e) here)
+      elim (eq_by_cmp nat_cmp t s) as (λ b. eq_by_cmp nat_cmp t s ≡ b → cond b (Some y) (get ss t) ≡ Some z → Holds z (f t)) [
+        | true ↦ λ tie e. subst (λ (u : ℕ). Holds z (f u)) (sym (same_key t s tie)) (subst (λ (v : Session). Holds v (f s)) (some_is y z e) here)
         | false ↦ λ _ e. k t z e
       ] refl (sym (get-insert ss s y t) ∙ found)
 
   post_to_keeps : (s : ℕ) (is : List Item) (w : World) (o : Option Session) → get w.sessions s ≡ o → ((x : Session) → o ≡ Some x → IsWell h x → MayQueue x is) → Keeps w (post_to s is o w)
   post_to_keeps s is w None e may f k = k
-  post_to_keeps s is w (Some x) e may f k = put_held w.sessions f s (push is x) k (push_well x is (k s x e).0 (may x refl (k s x e).0), (k s x e).1)
+  post_to_keeps s is w (Some x) e may f k =
+      let here : Holds x (f s) = k.0 s x e in
+      let m : MayQueue x is = may x refl here.0 in
+      (put_held w.sessions f s (push is x) k.0 (push_well x is here.0 m, here.1, push_after x.queue is (f s) here.2 m.2), k.1)
 
   pub post_keeps : (s : ℕ) (is : List Item) (w : World) → ((x : Session) → get w.sessions s ≡ Some x → IsWell h x → MayQueue x is) → Keeps w (post s is w)
   post_keeps s is w may = post_to_keeps s is w (get w.sessions s) refl may
 
-  answer_keeps : (s : ℕ) (d : Data) (w : World) → Keeps w (answer s d w)
-  answer_keeps s d w = post_keeps s (say another d ∷ []) w (λ x e k. ((((λ ps. refl), refl), tt), (asked_distinct x k, asked_distinct x k)))
+  say_keeps : (s : ℕ) (i : Item) (w : World) → IsSound h i → Begins (i ∷ []) → InOrder (i ∷ []) → ((ks : List Watch) → AreDistinct (texts h ks) → StayDistinct h (i ∷ []) ks) → Keeps w (post s (i ∷ []) w)
+  say_keeps s i w sound free order stay = post_keeps s (i ∷ []) w (λ x e k. ((sound, tt), stay (asked h x) (asked_distinct x k), free, order))
+
+  answer_keeps : (s : ℕ) (d m : Data) (w : World) → IsHarmless h d m → Keeps w (answer s d m w)
+  answer_keeps s d m w harmless = say_keeps s (say (to d) m) w harmless tt tt (λ ks a. (a, tt, a))
 
   notice_sound : (b : Bool) (name : List ℕ) (ps : List Picture) → client_step h ps (record { answers = no_request; message = notification (cond b (codes "stolen") (codes "locked")) (string name ∷ []) }) ≡ Some ps
   notice_sound true name ps = refl
   notice_sound false name ps = refl
 
-  notice_about : (b : Bool) (name : List ℕ) → about h no_request (notification (cond b (codes "stolen") (codes "locked")) (string name ∷ [])) ≡ None
+  notice_about : (b : Bool) (name : List ℕ) → about (record { answers = no_request; message = notification (cond b (codes "stolen") (codes "locked")) (string name ∷ []) }) ≡ None
   notice_about true name = refl
   notice_about false name = refl
 
@@ -134,95 +191,127 @@ module _ (h : Service) where
   notices_keep [] w f k = k
   notices_keep (n ∷ ns) w f k =
       notices_keep ns (post n.session (say no_request (notice_of n) ∷ []) w) f
-      (post_keeps n.session (say no_request (notice_of n) ∷ []) w (λ x e k. (((notice_sound n.stolen n.name, notice_about n.stolen n.name), tt), (asked_distinct x k, asked_distinct x k))) f k)
+      (say_keeps n.session (say no_request (notice_of n)) w (notice_sound n.stolen n.name, notice_about n.stolen n.name) tt tt (λ ks a. (a, tt, a)) f k)
 
   -- ---- transactions
 
-  syncs_stay : (ks all : List Watch) (d : Data) → AreDistinct (texts h ks) → StayDistinct h (map (λ k. sync k.id) all ++ say another d ∷ []) ks
-  syncs_stay ks [] d a = (a, a)
-  syncs_stay ks (k ∷ all) d a = (a, syncs_stay ks all d a)
+  abbrev syncs : List Watch → Item → List Item
+  syncs all i = map (λ k. sync k.id) all ++ i ∷ []
 
-  syncs_sound : (all : List Watch) (d : Data) → Each (IsSound h) (map (λ k. sync k.id) all ++ say another d ∷ [])
-  syncs_sound [] d = (((λ ps. refl), refl), tt)
-  syncs_sound (k ∷ all) d = (tt, syncs_sound all d)
+  syncs_stay : (ks all : List Watch) (d m : Data) → AreDistinct (texts h ks) → StayDistinct h (syncs all (say (to d) m)) ks
+  syncs_stay ks [] d m a = (a, tt, a)
+  syncs_stay ks (k ∷ all) d m a = (a, tt, syncs_stay ks all d m a)
 
-  end_keeps : (s : ℕ) (id results : Data) (changed : Option Db) (w : World) → Keeps w (end_transaction h s id results changed w)
-  end_keeps s id results None w = answer_keeps s (reply id results) w
-  end_keeps s id results (Some db) w =
+  syncs_sound : (all : List Watch) (d m : Data) → IsHarmless h d m → Each (IsSound h) (syncs all (say (to d) m))
+  syncs_sound [] d m s = (s, tt)
+  syncs_sound (k ∷ all) d m s = (tt, syncs_sound all d m s)
+
+  syncs_begin : (all : List Watch) (d m : Data) → Begins (syncs all (say (to d) m))
+  syncs_begin [] d m = tt
+  syncs_begin (k ∷ all) d m = tt
+
+  syncs_order : (all : List Watch) (d m : Data) → InOrder (syncs all (say (to d) m))
+  syncs_order [] d m = tt
+  syncs_order (k ∷ []) d m = (tt, tt)
+  syncs_order (k ∷ j ∷ all) d m = (tt, syncs_order (j ∷ all) d m)
+
+  succeed_keeps : (s : ℕ) (d r : Data) (w : World) → IsPlain h d → Keeps w (succeed s d r w)
+  succeed_keeps s d r w plain = answer_keeps s d (reply (id_of d) r) w (plain_reply h d r plain)
+
+  end_keeps : (s : ℕ) (d results : Data) (o : Option Db) (w : World) → IsPlain h d → Keeps w (end_transaction h s d results o w)
+  end_keeps s d results None w plain = succeed_keeps s d results w plain
+  end_keeps s d results (Some db) w plain =
       let all : List Watch = asked_of h (get w.sessions s) in
-      post_keeps s (map (λ k. sync k.id) all ++ say another (reply id results) ∷ []) (record w { db = db; commits = w.commits + 1 })
-      (λ x e k. (syncs_sound all (reply id results), syncs_stay (asked h x) all (reply id results) (asked_distinct x k)))
+      post_keeps s (syncs all (say (to d) (reply (id_of d) results))) (record w { db = db; commits = w.commits + 1 })
+      (λ x e k. (
+        syncs_sound all d (reply (id_of d) results) (plain_reply h d results plain),
+        syncs_stay (asked h x) all d (reply (id_of d) results) (asked_distinct x k),
+        syncs_begin all d (reply (id_of d) results),
+        syncs_order all d (reply (id_of d) results),
+      ))
 
-  outcome_keeps : (p : Parked) (o : Outcome) (w : World) → Keeps w (on_outcome h p o w).0
-  outcome_keeps p (ended results changed) w f k = end_keeps p.session p.id results changed w f k
-  outcome_keeps p (waits deadline) w f k = k
+  outcome_keeps : (p : Parked) (o : Outcome) (w : World) → WaitsPlainly p → Keeps w (on_outcome h p o w).0 × Each WaitsPlainly (option_to_list (on_outcome h p o w).1)
+  outcome_keeps p (ended results changed) w plain = (end_keeps p.session p.request results changed w plain, tt)
+  outcome_keeps p (waits deadline) w plain = (λ f k. k, (plain, tt))
 
-  attempt_keeps : (p : Parked) (w : World) → Keeps w (attempt h p w).0
-  attempt_keeps p w = outcome_keeps p _ w
+  attempt_keeps : (p : Parked) (w : World) → WaitsPlainly p → Keeps w (attempt h p w).0 × Each WaitsPlainly (option_to_list (attempt h p w).1)
+  attempt_keeps p w plain = outcome_keeps p _ w plain
 
-  try_one_keeps : (t : List Parked × Parked × List Parked) (w : World) → Keeps w (try_one h t w)
-  try_one_keeps t w f k = attempt_keeps t.1 w f k
+  try_one_keeps : (t : Split Parked) (w : World) → w.parked ≡ t.0 ++ t.1 ∷ t.2 → Keeps w (try_one h t w)
+  try_one_keeps t w is f k =
+      let all : Each WaitsPlainly (t.0 ++ t.1 ∷ t.2) = subst (Each WaitsPlainly) is k.1 in
+      let rest : Each WaitsPlainly (t.1 ∷ t.2) = each_behind WaitsPlainly t.0 (t.1 ∷ t.2) all in
+      let a : Keeps w (attempt h t.1 w).0 × Each WaitsPlainly (option_to_list (attempt h t.1 w).1) = attempt_keeps t.1 w rest.0 in (
+        (a.0 f k).0,
+        each_append WaitsPlainly (t.0 ++ option_to_list (attempt h t.1 w).1) t.2 (each_append WaitsPlainly t.0 (option_to_list (attempt h t.1 w).1) (each_before WaitsPlainly t.0 (t.1 ∷ t.2) all) a.1) rest.1,
+      )
 
   retry_keeps : (n : ℕ) (w : World) → Keeps w (retry h n w)
   retry_keeps zero w = λ f k. k
   retry_keeps (suc n) w =
-      elim (untried h w) as (λ o. Keeps w (elim o [ None ↦ w | Some t ↦ retry h n (try_one h t w) ])) [
-        | None ↦ λ f k. k
-        | Some t ↦ λ f k. retry_keeps n (try_one h t w) f (try_one_keeps t w f k)
-      ]
+      elim (untried h w) as (λ o. untried h w ≡ o → Keeps w (elim o as (λ _. World) [ None ↦ w | Some t ↦ retry h n (try_one h t w) ])) [
+        | None ↦ λ _ f k. k
+        | Some t ↦ λ e f k. retry_keeps n (try_one h t w) f (try_one_keeps t w (split_parts (is_untried w.commits) w.parked t e).0 f k)
+      ] refl
 
   retry_all_keeps : (w : World) → Keeps w (retry_all h w)
   retry_all_keeps w = retry_keeps ((length w.parked + 1) * (length w.parked + 1)) w
 
-  run_keeps : (p : Parked) (w : World) → Keeps w (run_transaction h p w)
-  run_keeps p w f k = retry_all_keeps (with_parked h (λ ps o. ps ++ option_to_list o) w.parked (attempt h p w)) f (attempt_keeps p w f k)
+  parks_behind : (p : Parked) (w : World) → WaitsPlainly p → Keeps w (with_parked h (λ ps o. ps ++ option_to_list o) w.parked (attempt h p w))
+  parks_behind p w plain f k =
+      let a : Keeps w (attempt h p w).0 × Each WaitsPlainly (option_to_list (attempt h p w).1) = attempt_keeps p w plain in
+      ((a.0 f k).0, each_append WaitsPlainly w.parked (option_to_list (attempt h p w).1) k.1 a.1)
 
-  due_keeps : (ps : List Parked) (w : World) → Keeps w (try_due h ps w)
-  due_keeps [] w = λ f k. k
-  due_keeps (p ∷ ps) w =
+  run_keeps : (p : Parked) (w : World) → WaitsPlainly p → Keeps w (run_transaction h p w)
+  run_keeps p w plain f k = retry_all_keeps (with_parked h (λ ps o. ps ++ option_to_list o) w.parked (attempt h p w)) f (parks_behind p w plain f k)
+
+  due_keeps : (ps : List Parked) (w : World) → Each WaitsPlainly ps → Keeps w (try_due h ps w)
+  due_keeps [] w plain = λ f k. k
+  due_keeps (p ∷ ps) w plain =
       elim (is_due h w.now p.deadline) as (λ b. Keeps w (try_due h ps (cond b (with_parked h (λ ps o. ps ++ option_to_list o) w.parked (attempt h p w)) (record w { parked = w.parked ++ p ∷ [] })))) [
-        | true ↦ λ f k. due_keeps ps (with_parked h (λ ps o. ps ++ option_to_list o) w.parked (attempt h p w)) f (attempt_keeps p w f k)
-        | false ↦ λ f k. due_keeps ps (record w { parked = w.parked ++ p ∷ [] }) f k
+        | true ↦ λ f k. due_keeps ps (with_parked h (λ ps o. ps ++ option_to_list o) w.parked (attempt h p w)) plain.1 f (parks_behind p w plain.0 f k)
+        | false ↦ λ f k. due_keeps ps (record w { parked = w.parked ++ p ∷ [] }) plain.1 f (k.0, each_append WaitsPlainly w.parked (p ∷ []) k.1 (plain.0, tt))
       ]
 
   pub tick_keeps : (now : ℕ) (w : World) → Keeps w (tick h now w)
   tick_keeps now w f k =
-      retry_all_keeps (try_due h w.parked (record (at_moment h now w) { parked = [] })) f (due_keeps w.parked (record (at_moment h now w) { parked = [] }) f k)
+      retry_all_keeps (try_due h w.parked (record (at_moment h now w) { parked = [] })) f (due_keeps w.parked (record (at_moment h now w) { parked = [] }) k.1 f (k.0, tt))
 
-  cancel_keeps : (s : ℕ) (id : Data) (o : Option (List Parked × Parked × List Parked)) (w : World) → Keeps w (cancel_one h s id o w)
-  cancel_keeps s id None w f k = k
-  cancel_keeps s id (Some t) w f k = answer_keeps s (failure id canceled) (record w { parked = t.0 ++ t.2 }) f k
+  fail_keeps : (s : ℕ) (d : Data) (name : Failure) (w : World) → answer_id d ≡ id_of d → Keeps w (fail s d name w)
+  fail_keeps s d name w own = answer_keeps s d (failure (id_of d) name) w (failure_harmless h d (id_of d) name (sym own))
+
+  cancel_keeps : (s : ℕ) (id : Data) (o : Option (Split Parked)) (w : World) → split_first (is_of h s id) w.parked ≡ o → Keeps w (cancel_one h s o w)
+  cancel_keeps s id None w e f k = k
+  cancel_keeps s id (Some t) w e f k =
+      let all : Each WaitsPlainly (t.0 ++ t.1 ∷ t.2) = subst (Each WaitsPlainly) (split_parts (is_of h s id) w.parked t e).0 k.1 in
+      let rest : Each WaitsPlainly (t.1 ∷ t.2) = each_behind WaitsPlainly t.0 (t.1 ∷ t.2) all in
+      fail_keeps s t.1.request canceled (record w { parked = t.0 ++ t.2 }) rest.0.1 f (k.0, each_append WaitsPlainly t.0 t.2 (each_before WaitsPlainly t.0 (t.1 ∷ t.2) all) rest.1)
 
   -- ---- monitors
 
-  fail_keeps : (s : ℕ) (id : Data) (name : Failure) (w : World) → Keeps w (fail s id name w)
-  fail_keeps s id name w = answer_keeps s (failure id name) w
-
   -- the ids, with one more that is new
-  start_stays : (ks : List Watch) (id : Data) (k : Watch) → AreDistinct (texts h ks) → is_some (watched h k.id ks) ≡ false → StayDistinct h (start id k ∷ []) ks
-  start_stays ks id k d e = (d, subst AreDistinct (sym (map-append (λ k. h.printed k.id) ks (k ∷ []))) (distinct_append (texts h ks) (h.printed k.id) d (is_free k.id ks e)))
+  start_stays : (ks : List Watch) (d : Data) (k : Watch) → AreDistinct (texts h ks) → is_some (watched h k.id ks) ≡ false → StayDistinct h (start d k ∷ []) ks
+  start_stays ks d k a e = (a, tt, subst AreDistinct (sym (map-append (λ k. h.printed k.id) ks (k ∷ []))) (distinct_append (texts h ks) (h.printed k.id) a (is_free k.id ks e)))
 
-  start_keeps : ReadsNamed h → (s : ℕ) (id : Data) (n : Notation) (i d : Data) (r : Result (List Request) Error) → h.read_requests n d ≡ r → (w : World) → is_some (watched h i (asked_of h (get w.sessions s))) ≡ false → Keeps w (start_with h s id n i r w)
-  start_keeps reads s id n i d (Err e) is w free f k = fail_keeps s id (failed e) w f k
-  start_keeps reads s id n i d (Ok qs) is w free f k =
-      post_keeps s (start id (record { id = i; notation = n; requests = qs }) ∷ []) w
-      (λ x e k. ((reads.named n d qs is, tt), start_stays (asked h x) id (record { id = i; notation = n; requests = qs }) (asked_distinct x k) (ap (λ o. is_some (watched h i (asked_of h o))) (sym e) ∙ free))) f k
+  start_keeps : ReadsNamed h → (s : ℕ) (d : Data) (n : Notation) (i requests : Data) → Asks h d (adds n i requests) → (r : Result (List Request) Error) → h.read_requests n requests ≡ r → (w : World) → is_some (watched h i (asked_of h (get w.sessions s))) ≡ false → Keeps w (start_with h s d n i r w)
+  start_keeps reads s d n i requests a (Err e) is w free = fail_keeps s d (failed e) w a.1
+  start_keeps reads s d n i requests a (Ok qs) is w free =
+      let k : Watch = record { id = i; notation = n; requests = qs } in
+      post_keeps s (start d k ∷ []) w
+      (λ x e well. (((reads.named n requests qs is, a.1, (requests, a.0, is)), tt), start_stays (asked h x) d k (asked_distinct x well) (ap (λ o. is_some (watched h i (asked_of h o))) (sym e) ∙ free), tt, tt))
 
-  monitor_keeps : ReadsNamed h → (s : ℕ) (id : Data) (n : Notation) (i d : Data) (w : World) → Keeps w (on_monitor h s id n i d w)
-  monitor_keeps reads s id n i d w =
-      elim (is_some (watched h i (asked_of h (get w.sessions s)))) as (λ b. is_some (watched h i (asked_of h (get w.sessions s))) ≡ b → Keeps w (cond b (fail s id (failed syntax_error) w) (start_with h s id n i (h.read_requests n d) w))) [
-        | true ↦ λ _. fail_keeps s id (failed syntax_error) w
-        | false ↦ λ free. start_keeps reads s id n i d (h.read_requests n d) refl w free
+  monitor_keeps : ReadsNamed h → (s : ℕ) (d : Data) (n : Notation) (i requests : Data) (w : World) → Asks h d (adds n i requests) → Keeps w (on_monitor h s d n i requests w)
+  monitor_keeps reads s d n i requests w a =
+      elim (is_some (watched h i (asked_of h (get w.sessions s)))) as (λ b. is_some (watched h i (asked_of h (get w.sessions s))) ≡ b → Keeps w (cond b (fail s d (failed syntax_error) w) (start_with h s d n i (h.read_requests n requests) w))) [
+        | true ↦ λ _. fail_keeps s d (failed syntax_error) w a.1
+        | false ↦ λ free. start_keeps reads s d n i requests a (h.read_requests n requests) refl w free
       ] refl
 
-  texts-shift : (old : Data) (fs : List (List ℕ × Filter)) (ks : List Watch) → texts h (asks h (shift old fs) ks) ≡ texts h ks
-  texts-shift old fs ks = at_first-unseen (λ k. h.printed k.id) (λ k. same_id h old k.id) (λ k. record k { requests = refilter fs k.requests }) (λ k. refl) ks
+  texts-rename : (d old new : Data) (fs : List (List ℕ × Filter)) (ks : List Watch) → texts h (asks h (renamed d old new fs) ks) ≡ at_first (bytes_eq (h.printed old)) (λ t. h.printed new) (texts h ks)
+  texts-rename d old new fs ks = at_first-map (λ k. h.printed k.id) (bytes_eq (h.printed old)) (changed h new fs) (λ t. h.printed new) (λ k. refl) ks
 
-  texts-rename : (old new : Data) (d : Data) (ks : List Watch) → texts h (asks h (say (renaming old new) d) ks) ≡ at_first (bytes_eq (h.printed old)) (λ t. h.printed new) (texts h ks)
-  texts-rename old new d ks = at_first-map (λ k. h.printed k.id) (bytes_eq (h.printed old)) (rename_watch h new) (λ t. h.printed new) (λ k. refl) ks
-
-  texts-cancel : (i : Data) (d : Data) (ks : List Watch) → texts h (asks h (say (cancelling i) d) ks) ≡ drop_first (bytes_eq (h.printed i)) (texts h ks)
-  texts-cancel i d ks = drop_first-map (λ k. h.printed k.id) (bytes_eq (h.printed i)) ks
+  texts-stop : (d i : Data) (ks : List Watch) → texts h (asks h (stopped d i) ks) ≡ drop_first (bytes_eq (h.printed i)) (texts h ks)
+  texts-stop d i ks = drop_first-map (λ k. h.printed k.id) (bytes_eq (h.printed i)) ks
 
   -- the new id is the old one, or no monitor has it
   renamed_distinct : (old new : Data) (ks : List Watch) → AreDistinct (texts h ks) → (not (same_id h old new) && is_some (watched h new ks)) ≡ false → AreDistinct (at_first (bytes_eq (h.printed old)) (λ t. h.printed new) (texts h ks))
@@ -232,67 +321,78 @@ module _ (h : Service) where
         | false ↦ λ _ f. distinct_replace (h.printed old) (h.printed new) (texts h ks) d (is_free new ks f)
       ] refl e
 
-  shift_stays : (old new : Data) (fs : List (List ℕ × Filter)) (d : Data) (ks : List Watch) → AreDistinct (texts h ks) → (not (same_id h old new) && is_some (watched h new ks)) ≡ false → StayDistinct h (shift old fs ∷ say (renaming old new) d ∷ []) ks
-  shift_stays old new fs d ks a e = (
-    a,
-    (
-      subst AreDistinct (sym (texts-shift old fs ks)) a,
-      subst AreDistinct (sym (texts-rename old new d (asks h (shift old fs) ks) ∙ ap (at_first (bytes_eq (h.printed old)) (λ t. h.printed new)) (texts-shift old fs ks))) (renamed_distinct old new ks a e),
-    ),
-  )
+  shift_stays : (d old new : Data) (fs : List (List ℕ × Filter)) (ks : List Watch) → AreDistinct (texts h ks) → is_some (watched h old ks) ≡ true → (not (same_id h old new) && is_some (watched h new ks)) ≡ false → StayDistinct h (shift old fs ∷ renamed d old new fs ∷ []) ks
+  shift_stays d old new fs ks a there e = (a, tt, (a, there, subst AreDistinct (sym (texts-rename d old new fs ks)) (renamed_distinct old new ks a e)))
 
-  shift_keeps : (s : ℕ) (id old new : Data) (k : Watch) (r : Result (List (List ℕ × Filter)) Error) (w : World) → (not (same_id h old new) && is_some (watched h new (asked_of h (get w.sessions s)))) ≡ false → Keeps w (shift_with h s id old new k r w)
-  shift_keeps s id old new k (Err e) w free = fail_keeps s id (failed e) w
-  shift_keeps s id old new k (Ok fs) w free =
-      elim (are_monitored h fs k.requests) as (λ b. Keeps w (cond b (post s (shift old fs ∷ say (renaming old new) (reply id no_result) ∷ []) w) (fail s id (failed syntax_error) w))) [
-        | true ↦ post_keeps s (shift old fs ∷ say (renaming old new) (reply id no_result) ∷ []) w
-            (λ x e k. ((tt, (((λ ps. refl), refl), tt)), shift_stays old new fs (reply id no_result) (asked h x) (asked_distinct x k) (ap (λ o. not (same_id h old new) && is_some (watched h new (asked_of h o))) (sym e) ∙ free)))
-        | false ↦ fail_keeps s id (failed syntax_error) w
+  shift_keeps : (s : ℕ) (d old new filters : Data) (k : Watch) → Asks h d (changes old new filters) → (r : Result (List (List ℕ × Filter)) Error) → h.read_filters filters ≡ r → (w : World)
+      → is_some (watched h old (asked_of h (get w.sessions s))) ≡ true → (not (same_id h old new) && is_some (watched h new (asked_of h (get w.sessions s)))) ≡ false → Keeps w (shift_with h s d old new k r w)
+  shift_keeps s d old new filters k a (Err e) is w there free = fail_keeps s d (failed e) w a.1
+  shift_keeps s d old new filters k a (Ok fs) is w there free =
+      elim (are_monitored h fs k.requests) as (λ b. Keeps w (cond b (post s (shift old fs ∷ renamed d old new fs ∷ []) w) (fail s d (failed syntax_error) w))) [
+        | true ↦ post_keeps s (shift old fs ∷ renamed d old new fs ∷ []) w
+            (λ x e well. (
+              (tt, ((a.1, (filters, a.0, is)), tt)),
+              shift_stays d old new fs (asked h x) (asked_distinct x well) (ap (λ o. is_some (watched h old (asked_of h o))) (sym e) ∙ there) (ap (λ o. not (same_id h old new) && is_some (watched h new (asked_of h o))) (sym e) ∙ free),
+              tt,
+              ((refl, refl), tt),
+            ))
+        | false ↦ fail_keeps s d (failed syntax_error) w a.1
       ]
 
-  change_keeps : (s : ℕ) (id old new filters : Data) (o : Option Watch) (w : World) → Keeps w (change_of h s id old new filters o w)
-  change_keeps s id old new filters None w = fail_keeps s id unknown_monitor w
-  change_keeps s id old new filters (Some k) w =
-      elim (not (is_conditional h k.notation)) as (λ b. Keeps w (cond b (fail s id unknown_monitor w) (cond (not (same_id h old new) && is_some (watched h new (asked_of h (get w.sessions s)))) (fail s id (failed syntax_error) w) (shift_with h s id old new k (h.read_filters filters) w)))) [
-        | true ↦ fail_keeps s id unknown_monitor w
-        | false ↦ elim (not (same_id h old new) && is_some (watched h new (asked_of h (get w.sessions s)))) as (λ b. (not (same_id h old new) && is_some (watched h new (asked_of h (get w.sessions s)))) ≡ b → Keeps w (cond b (fail s id (failed syntax_error) w) (shift_with h s id old new k (h.read_filters filters) w))) [
-          | true ↦ λ _. fail_keeps s id (failed syntax_error) w
-          | false ↦ λ free. shift_keeps s id old new k (h.read_filters filters) w free
+  change_keeps : (s : ℕ) (d old new filters : Data) (o : Option Watch) (w : World) → Asks h d (changes old new filters) → watched h old (asked_of h (get w.sessions s)) ≡ o → Keeps w (change_of h s d old new filters o w)
+  change_keeps s d old new filters None w a is = fail_keeps s d unknown_monitor w a.1
+  change_keeps s d old new filters (Some k) w a is =
+      elim (not (is_conditional h k.notation)) as (λ b. Keeps w (cond b (fail s d unknown_monitor w) (cond (not (same_id h old new) && is_some (watched h new (asked_of h (get w.sessions s)))) (fail s d (failed syntax_error) w) (shift_with h s d old new k (h.read_filters filters) w)))) [
+        | true ↦ fail_keeps s d unknown_monitor w a.1
+        | false ↦ elim (not (same_id h old new) && is_some (watched h new (asked_of h (get w.sessions s)))) as (λ b. (not (same_id h old new) && is_some (watched h new (asked_of h (get w.sessions s)))) ≡ b → Keeps w (cond b (fail s d (failed syntax_error) w) (shift_with h s d old new k (h.read_filters filters) w))) [
+          | true ↦ λ _. fail_keeps s d (failed syntax_error) w a.1
+          | false ↦ λ free. shift_keeps s d old new filters k a (h.read_filters filters) refl w (ap is_some is) free
         ] refl
       ]
 
-  stop_stays : (i : Data) (d : Data) (ks : List Watch) → AreDistinct (texts h ks) → StayDistinct h (sync i ∷ say (cancelling i) d ∷ []) ks
-  stop_stays i d ks a = (a, (a, subst AreDistinct (sym (texts-cancel i d ks)) (distinct_drop (h.printed i) (texts h ks) a)))
+  stop_stays : (d i : Data) (ks : List Watch) → AreDistinct (texts h ks) → is_some (watched h i ks) ≡ true → StayDistinct h (sync i ∷ stopped d i ∷ []) ks
+  stop_stays d i ks a there = (a, tt, (a, there, subst AreDistinct (sym (texts-stop d i ks)) (distinct_drop (h.printed i) (texts h ks) a)))
 
-  stop_keeps : (s : ℕ) (id i : Data) (o : Option Watch) (w : World) → Keeps w (on_cancel_monitor h s id i o w)
-  stop_keeps s id i None w = fail_keeps s id unknown_monitor w
-  stop_keeps s id i (Some k) w =
-      post_keeps s (sync i ∷ say (cancelling i) (reply id no_result) ∷ []) w (λ x e k. ((tt, (((λ ps. refl), refl), tt)), stop_stays i (reply id no_result) (asked h x) (asked_distinct x k)))
+  stop_keeps : (s : ℕ) (d i : Data) (o : Option Watch) (w : World) → Asks h d (drops i) → watched h i (asked_of h (get w.sessions s)) ≡ o → Keeps w (on_cancel_monitor h s d i o w)
+  stop_keeps s d i None w a is = fail_keeps s d unknown_monitor w a.1
+  stop_keeps s d i (Some k) w a is =
+      post_keeps s (sync i ∷ stopped d i ∷ []) w
+      (λ x e well. ((tt, ((a.1, a.0), tt)), stop_stays d i (asked h x) (asked_distinct x well) (ap (λ o. is_some (watched h i (asked_of h o))) (sym e) ∙ ap is_some is), tt, (refl, tt)))
 
   -- ---- locks, requests, close
 
-  lock_keeps : (s : ℕ) (id : Data) (result : Bool → Data) (a : Answered) (w : World) → Keeps w (on_lock h s id result a w)
-  lock_keeps s id result (Err e) w f k = fail_keeps s id (failed (lock_error h e)) w f k
-  lock_keeps s id result (Ok l) w f k = answer_keeps s (reply id (result l.2)) (post_notices l.1 (record w { locks = l.0 })) f (notices_keep l.1 (record w { locks = l.0 }) f k)
+  lock_keeps : (s : ℕ) (d : Data) (result : Bool → Data) (a : Answered) (w : World) → IsPlain h d → Keeps w (on_lock h s d result a w)
+  lock_keeps s d result (Err e) w plain f k = fail_keeps s d (failed (lock_error e)) w plain.1 f k
+  lock_keeps s d result (Ok l) w plain f k = succeed_keeps s d (result l.2) (post_notices l.1 (record w { locks = l.0 })) plain f (notices_keep l.1 (record w { locks = l.0 }) f k)
 
-  pub handle_keeps : ReadsNamed h → (s : ℕ) (fresh : List Uuid) (c : Call) (w : World) → Keeps w (handle h s fresh c w)
-  handle_keeps reads s fresh (message.answered d) w = answer_keeps s d w
-  handle_keeps reads s fresh (message.transact id ops) w = run_keeps (record { session = s; id = id; operations = ops; fresh = fresh; arrival = w.now; deadline = None; tried = w.commits }) w
-  handle_keeps reads s fresh (message.monitor id n i requests) w = monitor_keeps reads s id n i requests w
-  handle_keeps reads s fresh (message.change_filters id old new filters) w = change_keeps s id old new filters (watched h old (asked_of h (get w.sessions s))) w
-  handle_keeps reads s fresh (message.cancel_monitor id i) w = stop_keeps s id i (watched h i (asked_of h (get w.sessions s))) w
-  handle_keeps reads s fresh (message.lock id name) w = lock_keeps s id (locked h) (lock w.locks s name) w
-  handle_keeps reads s fresh (message.steal id name) w = lock_keeps s id (locked h) (steal w.locks s name) w
-  handle_keeps reads s fresh (message.unlock id name) w = lock_keeps s id (λ b. no_result) (unlock w.locks s name) w
-  handle_keeps reads s fresh (message.cancel id) w = cancel_keeps s id (split_first (is_of h s id) w.parked) w
-  handle_keeps reads s fresh message.passed_over w = λ f k. k
+  pub handle_keeps : ReadsNamed h → (s : ℕ) (d : Data) (fresh : List Uuid) (c : Call) (b : Bool) → Reads h b d c → (w : World) → Keeps w (handle h s d fresh c w)
+  handle_keeps reads s d fresh (message.answered m) true r w = answer_keeps s d m w r
+  handle_keeps reads s d fresh (message.transact id ops) true r w = run_keeps (record { session = s; request = d; operations = ops; fresh = fresh; arrival = w.now; deadline = None; tried = w.commits }) w r
+  handle_keeps reads s d fresh (message.monitor id n i requests) true r w = monitor_keeps reads s d n i requests w r
+  handle_keeps reads s d fresh (message.change_filters id old new filters) true r w = change_keeps s d old new filters (watched h old (asked_of h (get w.sessions s))) w r refl
+  handle_keeps reads s d fresh (message.cancel_monitor id i) true r w = stop_keeps s d i (watched h i (asked_of h (get w.sessions s))) w r refl
+  handle_keeps reads s d fresh (message.lock id name) true r w = lock_keeps s d (locked h) (lock w.locks s name) w r
+  handle_keeps reads s d fresh (message.steal id name) true r w = lock_keeps s d (locked h) (steal w.locks s name) w r
+  handle_keeps reads s d fresh (message.unlock id name) true r w = lock_keeps s d (λ b. no_result) (unlock w.locks s name) w r
+  handle_keeps reads s d fresh (message.cancel id) true r w = absurd r
+  handle_keeps reads s d fresh message.passed_over true r w = absurd r
+  handle_keeps reads s d fresh (message.answered m) false r w = absurd r
+  handle_keeps reads s d fresh (message.transact id ops) false r w = absurd r
+  handle_keeps reads s d fresh (message.monitor id n i requests) false r w = absurd r
+  handle_keeps reads s d fresh (message.change_filters id old new filters) false r w = absurd r
+  handle_keeps reads s d fresh (message.cancel_monitor id i) false r w = absurd r
+  handle_keeps reads s d fresh (message.lock id name) false r w = absurd r
+  handle_keeps reads s d fresh (message.steal id name) false r w = absurd r
+  handle_keeps reads s d fresh (message.unlock id name) false r w = absurd r
+  handle_keeps reads s d fresh (message.cancel id) false r w = cancel_keeps s id (split_first (is_of h s id) w.parked) w refl
+  handle_keeps reads s d fresh message.passed_over false r w = λ f k. k
 
-  removed_held : (ss : FinMap nat_cmp Session) (f : ℕ → List Out) (s : ℕ) → IsHeld ss f → IsHeld (remove ss s) f
+  removed_held : (ss : FinMap nat_cmp Session) (f : ℕ → List Out) (s : ℕ) → AreHeld ss f → AreHeld (remove ss s) f
   removed_held ss f s k t z found =
-      elim (eq_by_cmp nat_cmp t s) as (λ b. cond b None (get ss t) ≡ Some z → IsWell h z × (client h (f t) ≡ Some (map seen z.monitors))) [
+      elim (eq_by_cmp nat_cmp t s) as (λ b. cond b None (get ss t) ≡ Some z → Holds z (f t)) [
         | true ↦ λ e. absurd (true≢false (sym (ap is_some e)))
         | false ↦ λ e. k t z e
       ] (sym (get-remove ss s t) ∙ found)
 
   pub close_keeps : (s : ℕ) (w : World) → Keeps w (close h s w)
-  close_keeps s w f k = notices_keep (drop_session w.locks s).1 _ f (removed_held w.sessions f s k)
+  close_keeps s w f k = notices_keep (drop_session w.locks s).1 _ f (removed_held w.sessions f s k.0, each_filter WaitsPlainly (λ p. not (p.session == s)) w.parked k.1)

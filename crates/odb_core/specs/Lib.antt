@@ -1,6 +1,7 @@
 pub mod Client
 pub mod Headline
 pub mod History
+pub mod Law
 pub mod Run
 pub mod Service
 pub mod Session

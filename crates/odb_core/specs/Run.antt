@@ -1,12 +1,15 @@
 -- Runs: lists of events from the state with empty tables, and what each session is given.
-use Rattle.std.specs.Prelude.{ℕ, ◌==◌, nat_lt, Bool, false, not, ◌&&◌, ◌||◌, if◌then◌else◌, List, [], ◌∷◌, ◌++◌, filter, Option, Some, None, is_some, option_map, option_and_then, replicate}
+use Rattle.std.specs.Prelude.{ℕ, ◌==◌, nat_lt, Bool, false, not, ◌&&◌, if◌then◌else◌, List, [], ◌∷◌, ◌++◌, filter, Option, Some, None, is_some, replicate, Result, Ok, Err, codes}
 use Rattle.serde_json.specs.Data.{Data}
 use Rattle.odb_atoms.specs.FinMap as map
 use Rattle.odb_atoms.specs.FinMap.{FinMap, get, insert, len}
 use Rattle.odb_core.specs.Service.{Service}
 use Rattle.odb_core.specs.Session.{Out, Session, take}
 use Rattle.odb_core.specs.World.{World, at_moment, close, handle, owed_replies, tick}
+use Rattle.odb_monitor.specs.Fold.{is_null}
 use Rattle.odb_rpc.specs.Message.{call_of, has_reply}
+use Rattle.odb_schema.specs.Json.{as_str}
+use Rattle.odb_wire.specs.Message.{at_key}
 use Rattle.odb_atoms.specs.Uuid.{Uuid}
 
 pub data Event : Type 0 where
@@ -21,6 +24,14 @@ max_sessions = 4096
 
 abbrev pub max_owed : ℕ
 max_owed = 256
+
+-- why an event is refused. `in_use` is of no caller: a server opens under an identifier that no open session has
+pub data Refusal : Type 0 where
+  too_many gone busy in_use : Refusal
+
+abbrev pub if_ok : {A B E : Type 0} → (A → Result B E) → Result A E → Result B E
+if_ok f (Ok x) = f x
+if_ok f (Err e) = Err e
 
 -- an out for a session
 abbrev pub Sent : Type 0
@@ -48,25 +59,29 @@ module _ (h : Service) where
       let rest = take_each ss one.0 in
       (rest.0, one.1 ++ rest.1)
 
-  -- Busy where the request has a reply and the session is owed too many
-  abbrev pub submit : ℕ → Option Session → Data → List Uuid → ℕ → World → Option World
-  submit s None d fresh now w = None
+  -- busy where the request has a reply and the session is owed too many
+  abbrev pub submit : ℕ → Option Session → Data → List Uuid → ℕ → World → Result World Refusal
+  submit s None d fresh now w = Err gone
   submit s (Some x) d fresh now w =
       let call = call_of h.db_name h.schema h.serves d in
-      if has_reply call && not (nat_lt (owed_replies h s x w) max_owed) then None else Some (handle h s fresh call (at_moment h now w))
+      if has_reply call && not (nat_lt (owed_replies h s x w) max_owed) then Err busy else Ok (handle h s d fresh call (at_moment h now w))
 
-  -- the state after an event and what it sends, or none where the event is refused
-  abbrev pub step : Event → World → Option (World × List Sent)
-  step (opened s) w = if is_some (get w.sessions s) || not (nat_lt (len w.sessions) max_sessions) then None else Some (record w { sessions = insert w.sessions s (record { queue = []; monitors = [] }) }, [])
-  step (submitted s d fresh now) w = option_map (λ v. (v, [])) (submit s (get w.sessions s) d fresh now w)
-  step (ticked now) w = Some (tick h now w, [])
-  step (closed s) w = if is_some (get w.sessions s) then Some (close h s w, []) else None
-  step (round ss) w = Some (take_each (once ss) w)
+  -- the state after an event and what it sends, or why it is refused
+  abbrev pub step : Event → World → Result (World × List Sent) Refusal
+  step (opened s) w =
+      if not (nat_lt (len w.sessions) max_sessions) then Err too_many
+      else (if is_some (get w.sessions s) then Err in_use
+      else Ok (record w { sessions = insert w.sessions s (record { queue = []; monitors = [] }) }, []))
+  step (submitted s d fresh now) w = if_ok (λ v. Ok (v, [])) (submit s (get w.sessions s) d fresh now w)
+  step (ticked now) w = Ok (tick h now w, [])
+  step (closed s) w = if is_some (get w.sessions s) then Ok (close h s w, []) else Err gone
+  step (round ss) w = Ok (take_each (once ss) w)
 
--- the world, and what each session was given since it was opened
+-- the world; and, for each session since it was opened, what it was given and the requests that it submitted
 pub record State : Type 0 where
   pub world : World
   pub given : ℕ → List Out
+  pub requests : ℕ → List Data
 
 abbrev pub sent_to : ℕ → List Sent → List Out
 sent_to s [] = []
@@ -82,18 +97,33 @@ opens (round ss) s = false
 abbrev pub given_after : Event → List Sent → (ℕ → List Out) → ℕ → List Out
 given_after e os f s = if opens e s then [] else f s ++ sent_to s os
 
+-- a message that has a reply: it has a method, and an id
+abbrev pub is_request : Data → Bool
+is_request d = is_some (as_str (at_key (codes "method") d)) && not (is_null (at_key (codes "id") d))
+
+abbrev pub requests_after : Event → (ℕ → List Data) → ℕ → List Data
+requests_after (opened t) f s = if t == s then [] else f s
+requests_after (submitted t d fresh now) f s = if (t == s) && is_request d then f s ++ d ∷ [] else f s
+requests_after (ticked now) f s = f s
+requests_after (closed t) f s = f s
+requests_after (round ss) f s = f s
+
 -- the state with empty tables and no session
 abbrev pub beginning : ℕ → State
 beginning tables = record {
   world = record { db = replicate tables map.empty; commits = 0; now = 0; parked = []; locks = map.empty; sessions = map.empty };
   given = λ s. [];
+  requests = λ s. [];
 }
 
 module _ (h : Service) where
-  abbrev pub next : Event → State → Option State
-  next e st = option_map (λ r. record { world = r.0; given = given_after e r.1 st.given }) (step h e st.world)
+  abbrev pub after : Event → State → World × List Sent → State
+  after e st r = record { world = r.0; given = given_after e r.1 st.given; requests = requests_after e st.requests }
 
-  -- none where some event is refused: a refused step is no event of a run
-  abbrev pub run : List Event → State → Option State
-  run [] st = Some st
-  run (e ∷ es) st = option_and_then (run es) (next e st)
+  abbrev pub next : Event → State → Result State Refusal
+  next e st = if_ok (λ r. Ok (after e st r)) (step h e st.world)
+
+  -- a run ends where an event is refused: a refused step is no event
+  abbrev pub run : List Event → State → Result State Refusal
+  run [] st = Ok st
+  run (e ∷ es) st = if_ok (run es) (next e st)

@@ -1,14 +1,14 @@
 -- A session: what is queued for it, its monitors as they were told, and what a taking gives.
-use Rattle.std.specs.Prelude.{ℕ, Bool, true, false, ◌&&◌, if◌then◌else◌, List, [], ◌∷◌, ◌++◌, map, find, Option, Some, None, option_and_then, option_to_list, filter_map, codes, bytes_eq}
-use Rattle.std.specs.List.{list_all}
-use Rattle.serde_json.specs.Data.{Data}
+use Rattle.std.specs.Prelude.{ℕ, Bool, true, false, if◌then◌else◌, List, [], ◌∷◌, ◌++◌, map, find, Option, Some, None, option_and_then, option_to_list, filter_map, codes, bytes_eq}
+use Rattle.serde_json.specs.Data.{Data, object, no_members}
 use Rattle.odb_cond.specs.Filter.{Filter}
 use Rattle.odb_core.specs.Service.{Service}
 use Rattle.odb_monitor.specs.Update.{table_updates}
 use Rattle.odb_monitor.specs.View.{Delta, View, delta, is_none, nothing, query, shown}
-use Rattle.odb_request.specs.Request.{Notation, Request, Select, Shape, update, update2}
+use Rattle.odb_request.specs.Request.{Notation, Request, Shape, update, update2}
 use Rattle.odb_rpc.specs.Message.{notification, reply}
 use Rattle.odb_tables.specs.Database.{Db}
+use Rattle.odb_wire.specs.Message.{at_key}
 
 -- what a monitor watches: its id, its notation, and its requests with their filters
 pub record Watch : Type 0 where
@@ -21,31 +21,24 @@ pub record Monitor : Type 0 where
   pub watch : Watch
   pub view : View
 
--- what a client knows of a monitor that it asked for
-pub record Terms : Type 0 where
-  pub id : Data
-  pub notation : Notation
-  pub shapes : List Shape
-  pub whole : Bool  -- no kind of change is switched off
-
--- which request of its own a client is answered. A failure is `another`
+-- which request a message answers: the request itself, as it was submitted
 pub data Answers : Type 0 where
   no_request : Answers
-  another : Answers
-  first_reply : Terms → Answers
-  renaming : Data → Data → Answers
-  cancelling : Data → Answers
+  to : Data → Answers
 
 pub record Out : Type 0 where
   pub answers : Answers
   pub message : Data
 
--- a finished text; the first reply of a monitor; the monitor of an id brought to now; the same under other filters
+-- A finished text; the first reply of a monitor; the monitor of an id brought to now; the same towards other filters; the replies to a change of filters and to a cancel.
+-- A change stands in the queue as `shift` and `renamed`, a cancel as `sync` and `stopped`, side by side. The id and the filters change, or the monitor goes, when the reply is taken: no other taking of the session comes between, so each message is the same as if they did before it.
 pub data Item : Type 0 where
   say : Answers → Data → Item
   start : Data → Watch → Item
   sync : Data → Item
   shift : Data → List (List ℕ × Filter) → Item
+  renamed : Data → Data → Data → List (List ℕ × Filter) → Item
+  stopped : Data → Data → Item
 
 pub record Session : Type 0 where
   pub queue : List Item
@@ -54,11 +47,20 @@ pub record Session : Type 0 where
 abbrev pub shapes : List Request → List Shape
 shapes qs = map (λ q. q.shape) qs
 
-abbrev pub all_on : Select → Bool
-all_on s = s.initial && (s.insert && (s.delete && s.modify))
+abbrev pub id_of : Data → Data
+id_of d = at_key (codes "id") d
 
-abbrev pub terms : Watch → Terms
-terms k = record { id = k.id; notation = k.notation; shapes = shapes k.requests; whole = list_all (λ q. all_on q.select) k.requests }
+abbrev pub no_result : Data
+no_result = object no_members
+
+-- the request that an item's message answers
+abbrev pub label : Item → Answers
+label (say a d) = a
+label (start d k) = to d
+label (sync i) = no_request
+label (shift i fs) = no_request
+label (renamed d old new fs) = to d
+label (stopped d i) = to d
 
 -- f at the first element that passes the test
 abbrev pub at_first : {A : Type 0} → (A → Bool) → (A → A) → List A → List A
@@ -88,19 +90,9 @@ module _ (h : Service) where
   abbrev pub same_id : Data → Data → Bool
   same_id a b = bytes_eq (h.printed a) (h.printed b)
 
-  -- what a reply does to a list of monitors, seen by their ids
-  abbrev pub settle : {A : Type 0} → (A → Data) → (Data → A → A) → Answers → List A → List A
-  settle id rename no_request xs = xs
-  settle id rename another xs = xs
-  settle id rename (first_reply t) xs = xs
-  settle id rename (renaming old new) xs = at_first (λ x. same_id old (id x)) (rename new) xs
-  settle id rename (cancelling i) xs = drop_first (λ x. same_id i (id x)) xs
-
-  abbrev pub rename_watch : Data → Watch → Watch
-  rename_watch i k = record k { id = i }
-
-  abbrev pub rename_monitor : Data → Monitor → Monitor
-  rename_monitor i m = record m { watch = rename_watch i m.watch }
+  -- a watch under its new id and filters
+  abbrev pub changed : Data → List (List ℕ × Filter) → Watch → Watch
+  changed new fs k = record { id = new; notation = k.notation; requests = refilter fs k.requests }
 
   -- a notification of the difference, if anything of it is shown
   abbrev pub method_of : Notation → List ℕ
@@ -110,9 +102,9 @@ module _ (h : Service) where
   abbrev pub told_of : Notation → Data → List Request → Delta → Option Out
   told_of n i qs D = if is_none D then None else Some (record { answers = no_request; message = notification (method_of n) (i ∷ table_updates n false (shapes qs) D ∷ []) })
 
-  -- brings a monitor to now, under these requests
+  -- a monitor whose client has what these requests select now
   abbrev pub brought : Db → List Request → Monitor → Monitor
-  brought db qs m = record { watch = record { id = m.watch.id; notation = m.watch.notation; requests = qs }; view = query db qs }
+  brought db qs m = record m { view = query db qs }
 
   abbrev pub update_to : Db → List Request → Monitor → Option Out
   update_to db qs m = told_of m.watch.notation m.watch.id qs (shown false qs (delta m.view (query db qs)))
@@ -121,10 +113,13 @@ module _ (h : Service) where
   begun db k = record { watch = k; view = query db k.requests }
 
   abbrev pub first_out : Db → Data → Watch → Out
-  first_out db id k = record {
-    answers = first_reply (terms k);
-    message = reply id (table_updates k.notation true (shapes k.requests) (shown true k.requests (delta (nothing k.requests) (query db k.requests))));
+  first_out db d k = record {
+    answers = to d;
+    message = reply (id_of d) (table_updates k.notation true (shapes k.requests) (shown true k.requests (delta (nothing k.requests) (query db k.requests))));
   }
+
+  abbrev pub granted : Data → Out
+  granted d = record { answers = to d; message = reply (id_of d) no_result }
 
   abbrev pub has_id : Data → Monitor → Bool
   has_id i m = same_id i m.watch.id
@@ -132,15 +127,19 @@ module _ (h : Service) where
   -- what one item gives, and the monitors after it. An item of a monitor that is gone gives nothing
   abbrev pub gives : Db → Item → List Monitor → Option Out
   gives db (say a d) ms = Some (record { answers = a; message = d })
-  gives db (start id k) ms = Some (first_out db id k)
+  gives db (start d k) ms = Some (first_out db d k)
   gives db (sync i) ms = option_and_then (λ m. update_to db m.watch.requests m) (find (has_id i) ms)
   gives db (shift i fs) ms = option_and_then (λ m. update_to db (refilter fs m.watch.requests) m) (find (has_id i) ms)
+  gives db (renamed d old new fs) ms = Some (granted d)
+  gives db (stopped d i) ms = Some (granted d)
 
   abbrev pub leaves : Db → Item → List Monitor → List Monitor
-  leaves db (say a d) ms = settle (λ m. m.watch.id) rename_monitor a ms
-  leaves db (start id k) ms = ms ++ begun db k ∷ []
+  leaves db (say a d) ms = ms
+  leaves db (start d k) ms = ms ++ begun db k ∷ []
   leaves db (sync i) ms = at_first (has_id i) (λ m. brought db m.watch.requests m) ms
   leaves db (shift i fs) ms = at_first (has_id i) (λ m. brought db (refilter fs m.watch.requests) m) ms
+  leaves db (renamed d old new fs) ms = at_first (has_id old) (λ m. record m { watch = changed new fs m.watch }) ms
+  leaves db (stopped d i) ms = drop_first (has_id i) ms
 
   -- with an empty queue the monitors are brought to now, in order of creation, until there is an out
   abbrev pub take_rest : Db → List Monitor → Option Out × List Monitor
@@ -175,10 +174,12 @@ module _ (h : Service) where
 
   -- what an item does to the monitors as asked
   abbrev pub asks : Item → List Watch → List Watch
-  asks (say a d) ks = settle (λ k. k.id) rename_watch a ks
-  asks (start id k) ks = ks ++ k ∷ []
+  asks (say a d) ks = ks
+  asks (start d k) ks = ks ++ k ∷ []
   asks (sync i) ks = ks
-  asks (shift i fs) ks = at_first (λ k. same_id i k.id) (λ k. record k { requests = refilter fs k.requests }) ks
+  asks (shift i fs) ks = ks
+  asks (renamed d old new fs) ks = at_first (λ k. same_id old k.id) (changed new fs) ks
+  asks (stopped d i) ks = drop_first (λ k. same_id i k.id) ks
 
   abbrev pub asked_after : List Item → List Watch → List Watch
   asked_after [] ks = ks

@@ -2,12 +2,12 @@
 use Rattle.std.specs.Prelude.{ℕ, zero, suc, ◌+◌, ◌*◌, ◌==◌, max, nat_le, length, Bool, true, false, not, ◌&&◌, if◌then◌else◌, List, [], ◌∷◌, ◌++◌, map, filter, find, count_by, Option, Some, None, is_some, option_map, option_to_list, Result, Ok, Err, codes, bytes_eq}
 use Rattle.std.specs.List.{list_any, list_all}
 use Rattle.std.specs.Ordering.{nat_cmp}
-use Rattle.serde_json.specs.Data.{Data, string, object, boolean, no_members}
+use Rattle.serde_json.specs.Data.{Data, string, boolean}
 use Rattle.odb_rpc.specs.Message as message
 use Rattle.odb_atoms.specs.FinMap.{FinMap, get, insert, remove}
 use Rattle.odb_cond.specs.Filter.{Filter}
 use Rattle.odb_core.specs.Service.{Outcome, Service, ended, waits}
-use Rattle.odb_core.specs.Session.{Answers, Item, Session, Watch, another, asked, cancelling, no_request, renaming, same_id, say, shift, start, sync}
+use Rattle.odb_core.specs.Session.{Answers, Item, Session, Watch, asked, id_of, label, no_request, no_result, renamed, same_id, say, shift, start, stopped, sync, to}
 use Rattle.odb_locks.specs.Locks.{Answered, Locks, Notice, drop_session, lock, owns, steal, unlock}
 use Rattle.odb_monitor.specs.Update.{one}
 use Rattle.odb_request.specs.Request.{Notation, Request, update, update2}
@@ -18,10 +18,10 @@ use Rattle.odb_atoms.specs.Error.{Error, syntax_error, resources_exhausted}
 use Rattle.odb_rpc.specs.Message.{Failure, failed, unknown_monitor, canceled}
 use Rattle.odb_locks.specs.Locks.{LockFault, out_of_turn, too_many_names}
 
--- a transaction that waits; `tried` is the number of commits when it was tried last
+-- a transaction that waits: its request, and the number of commits when it was tried last
 pub record Parked : Type 0 where
   pub session : ℕ
-  pub id : Data
+  pub request : Data
   pub operations : List Data
   pub fresh : List Uuid
   pub arrival : ℕ
@@ -54,14 +54,15 @@ abbrev pub post_notices : List Notice → World → World
 post_notices [] w = w
 post_notices (n ∷ ns) w = post_notices ns (post n.session (say no_request (notice_of n) ∷ []) w)
 
-abbrev pub answer : ℕ → Data → World → World
-answer s d w = post s (say another d ∷ []) w
+-- a finished answer to a request
+abbrev pub answer : ℕ → Data → Data → World → World
+answer s d text w = post s (say (to d) text ∷ []) w
+
+abbrev pub succeed : ℕ → Data → Data → World → World
+succeed s d result w = answer s d (reply (id_of d) result) w
 
 abbrev pub fail : ℕ → Data → Failure → World → World
-fail s id name w = answer s (failure id name) w
-
-abbrev pub no_result : Data
-no_result = object no_members
+fail s d name w = answer s d (failure (id_of d) name) w
 
 -- the first element that passes the test, with what stands before it and behind it
 abbrev pub split_first : {A : Type 0} → (A → Bool) → List A → Option (List A × A × List A)
@@ -70,6 +71,11 @@ split_first p (x ∷ xs) = if p x then Some ([], x, xs) else option_map (λ t. (
 
 abbrev pub is_untried : ℕ → Parked → Bool
 is_untried commits p = not (p.tried == commits)
+
+-- what a refused lock is answered
+abbrev pub lock_error : LockFault → Error
+lock_error out_of_turn = syntax_error
+lock_error too_many_names = resources_exhausted
 
 module _ (h : Service) where
   abbrev pub asked_of : Option Session → List Watch
@@ -83,12 +89,12 @@ module _ (h : Service) where
 
   -- the reply, behind one Sync for each monitor of the session where the database changed
   abbrev pub end_transaction : ℕ → Data → Data → Option Db → World → World
-  end_transaction s id results None w = answer s (reply id results) w
-  end_transaction s id results (Some db) w =
-      post s (map (λ k. sync k.id) (asked_of (get w.sessions s)) ++ say another (reply id results) ∷ []) (record w { db = db; commits = w.commits + 1 })
+  end_transaction s d results None w = succeed s d results w
+  end_transaction s d results (Some db) w =
+      post s (map (λ k. sync k.id) (asked_of (get w.sessions s)) ++ say (to d) (reply (id_of d) results) ∷ []) (record w { db = db; commits = w.commits + 1 })
 
   abbrev pub on_outcome : Parked → Outcome → World → World × Option Parked
-  on_outcome p (ended results changed) w = (end_transaction p.session p.id results changed w, None)
+  on_outcome p (ended results changed) w = (end_transaction p.session p.request results changed w, None)
   on_outcome p (waits deadline) w = (w, Some (record p { deadline = deadline; tried = w.commits }))
 
   -- tries a transaction, which ends or waits
@@ -137,77 +143,74 @@ module _ (h : Service) where
 
   -- the earliest waiting transaction of the session with that id
   abbrev pub is_of : ℕ → Data → Parked → Bool
-  is_of s id p = (p.session == s) && same_id h id p.id
+  is_of s id p = (p.session == s) && same_id h id (id_of p.request)
 
-  abbrev pub cancel_one : ℕ → Data → Option (List Parked × Parked × List Parked) → World → World
-  cancel_one s id None w = w
-  cancel_one s id (Some t) w = fail s id canceled (record w { parked = t.0 ++ t.2 })
+  abbrev pub cancel_one : ℕ → Option (List Parked × Parked × List Parked) → World → World
+  cancel_one s None w = w
+  cancel_one s (Some t) w = fail s t.1.request canceled (record w { parked = t.0 ++ t.2 })
 
   abbrev pub cancel : ℕ → Data → World → World
-  cancel s id w = cancel_one s id (split_first (is_of s id) w.parked) w
+  cancel s id w = cancel_one s (split_first (is_of s id) w.parked) w
 
   -- ---- monitors
 
   abbrev pub start_with : ℕ → Data → Notation → Data → Result (List Request) Error → World → World
-  start_with s id n i (Err e) w = fail s id (failed e) w
-  start_with s id n i (Ok qs) w = post s (start id (record { id = i; notation = n; requests = qs }) ∷ []) w
+  start_with s d n i (Err e) w = fail s d (failed e) w
+  start_with s d n i (Ok qs) w = post s (start d (record { id = i; notation = n; requests = qs }) ∷ []) w
 
   abbrev pub on_monitor : ℕ → Data → Notation → Data → Data → World → World
-  on_monitor s id n i requests w =
-      if is_some (watched i (asked_of (get w.sessions s))) then fail s id (failed syntax_error) w
-      else start_with s id n i (h.read_requests n requests) w
+  on_monitor s d n i requests w =
+      if is_some (watched i (asked_of (get w.sessions s))) then fail s d (failed syntax_error) w
+      else start_with s d n i (h.read_requests n requests) w
 
   -- every table that is named is one of the monitor's
   abbrev pub are_monitored : List (List ℕ × Filter) → List Request → Bool
   are_monitored fs qs = list_all (λ f. list_any (λ q. bytes_eq f.0 q.shape.name) qs) fs
 
   abbrev pub shift_with : ℕ → Data → Data → Data → Watch → Result (List (List ℕ × Filter)) Error → World → World
-  shift_with s id old new k (Err e) w = fail s id (failed e) w
-  shift_with s id old new k (Ok fs) w =
-      if are_monitored fs k.requests then post s (shift old fs ∷ say (renaming old new) (reply id no_result) ∷ []) w
-      else fail s id (failed syntax_error) w
+  shift_with s d old new k (Err e) w = fail s d (failed e) w
+  shift_with s d old new k (Ok fs) w =
+      if are_monitored fs k.requests then post s (shift old fs ∷ renamed d old new fs ∷ []) w
+      else fail s d (failed syntax_error) w
 
   abbrev pub is_conditional : Notation → Bool
   is_conditional update = false
   is_conditional update2 = true
 
   abbrev pub change_of : ℕ → Data → Data → Data → Data → Option Watch → World → World
-  change_of s id old new filters None w = fail s id unknown_monitor w
-  change_of s id old new filters (Some k) w =
-      if not (is_conditional k.notation) then fail s id unknown_monitor w
-      else (if not (same_id h old new) && is_some (watched new (asked_of (get w.sessions s))) then fail s id (failed syntax_error) w
-      else shift_with s id old new k (h.read_filters filters) w)
+  change_of s d old new filters None w = fail s d unknown_monitor w
+  change_of s d old new filters (Some k) w =
+      if not (is_conditional k.notation) then fail s d unknown_monitor w
+      else (if not (same_id h old new) && is_some (watched new (asked_of (get w.sessions s))) then fail s d (failed syntax_error) w
+      else shift_with s d old new k (h.read_filters filters) w)
 
   abbrev pub on_cancel_monitor : ℕ → Data → Data → Option Watch → World → World
-  on_cancel_monitor s id i None w = fail s id unknown_monitor w
-  on_cancel_monitor s id i (Some k) w = post s (sync i ∷ say (cancelling i) (reply id no_result) ∷ []) w
+  on_cancel_monitor s d i None w = fail s d unknown_monitor w
+  on_cancel_monitor s d i (Some k) w = post s (sync i ∷ stopped d i ∷ []) w
 
   -- ---- locks
 
-  abbrev pub lock_error : LockFault → Error
-  lock_error out_of_turn = syntax_error
-  lock_error too_many_names = resources_exhausted
-
   abbrev pub on_lock : ℕ → Data → (Bool → Data) → Answered → World → World
-  on_lock s id result (Err e) w = fail s id (failed (lock_error e)) w
-  on_lock s id result (Ok l) w = answer s (reply id (result l.2)) (post_notices l.1 (record w { locks = l.0 }))
+  on_lock s d result (Err e) w = fail s d (failed (lock_error e)) w
+  on_lock s d result (Ok l) w = succeed s d (result l.2) (post_notices l.1 (record w { locks = l.0 }))
 
   abbrev pub locked : Bool → Data
   locked b = one (codes "locked") (boolean b)
 
   -- ---- requests
 
-  abbrev pub handle : ℕ → List Uuid → Call → World → World
-  handle s fresh (message.answered d) w = answer s d w
-  handle s fresh (message.transact id ops) w = run_transaction (record { session = s; id = id; operations = ops; fresh = fresh; arrival = w.now; deadline = None; tried = w.commits }) w
-  handle s fresh (message.monitor id n i requests) w = on_monitor s id n i requests w
-  handle s fresh (message.change_filters id old new filters) w = change_of s id old new filters (watched old (asked_of (get w.sessions s))) w
-  handle s fresh (message.cancel_monitor id i) w = on_cancel_monitor s id i (watched i (asked_of (get w.sessions s))) w
-  handle s fresh (message.lock id name) w = on_lock s id locked (lock w.locks s name) w
-  handle s fresh (message.steal id name) w = on_lock s id locked (steal w.locks s name) w
-  handle s fresh (message.unlock id name) w = on_lock s id (λ b. no_result) (unlock w.locks s name) w
-  handle s fresh (message.cancel id) w = cancel s id w
-  handle s fresh message.passed_over w = w
+  -- the call is what the request d asks
+  abbrev pub handle : ℕ → Data → List Uuid → Call → World → World
+  handle s d fresh (message.answered text) w = answer s d text w
+  handle s d fresh (message.transact id ops) w = run_transaction (record { session = s; request = d; operations = ops; fresh = fresh; arrival = w.now; deadline = None; tried = w.commits }) w
+  handle s d fresh (message.monitor id n i requests) w = on_monitor s d n i requests w
+  handle s d fresh (message.change_filters id old new filters) w = change_of s d old new filters (watched old (asked_of (get w.sessions s))) w
+  handle s d fresh (message.cancel_monitor id i) w = on_cancel_monitor s d i (watched i (asked_of (get w.sessions s))) w
+  handle s d fresh (message.lock id name) w = on_lock s d locked (lock w.locks s name) w
+  handle s d fresh (message.steal id name) w = on_lock s d locked (steal w.locks s name) w
+  handle s d fresh (message.unlock id name) w = on_lock s d (λ b. no_result) (unlock w.locks s name) w
+  handle s d fresh (message.cancel id) w = cancel s id w
+  handle s d fresh message.passed_over w = w
 
   -- a session's claims are released, and its monitors, waiting transactions and queue are gone
   abbrev pub close : ℕ → World → World
@@ -216,15 +219,9 @@ module _ (h : Service) where
       post_notices l.1 (record w { locks = l.0; sessions = remove w.sessions s; parked = filter (λ p. not (p.session == s)) w.parked })
 
   -- replies that are queued or wait
-  abbrev pub is_asked : Answers → Bool
-  is_asked no_request = false
-  is_asked _ = true
-
-  abbrev pub is_reply : Item → Bool
-  is_reply (say a d) = is_asked a
-  is_reply (start id k) = true
-  is_reply (sync i) = false
-  is_reply (shift i fs) = false
+  abbrev pub is_answer : Answers → Bool
+  is_answer no_request = false
+  is_answer (to d) = true
 
   abbrev pub owed_replies : ℕ → Session → World → ℕ
-  owed_replies s x w = count_by is_reply x.queue + count_by (λ p. p.session == s) w.parked
+  owed_replies s x w = count_by (λ i. is_answer (label i)) x.queue + count_by (λ p. p.session == s) w.parked

@@ -1,21 +1,37 @@
-//! The service of an OVSDB server, by definitions: what monitors see, what clients fold, and the headline law over every run.
+//! The OVSDB server as a machine over events: what each session is sent, and the monitor law over every run.
 #![tactic(auto)]
 
 ghost use Rattle.std.specs.Prelude.{Bool, List, ℕ};
+ghost use Rattle.odb_monitor.specs.Law.{NoOtherLeads};
 ghost use Rattle.odb_schema.specs.Schema.{Schema};
-ghost use Rattle.odb_core.specs.Headline.{AllAreTried, BringsWhole, HoldsAlways, IsBroughtToNow, IsMinimal, OwedIsTaken};
+ghost use Rattle.odb_core.specs.Headline.{BringsWhole, HoldsAlways, IsBroughtToNow, IsDroppedWhole, IsKnown, IsMinimal};
+ghost use Rattle.odb_core.specs.Law.{AllAreTried, IsAnsweredOnce, IsCounted, OwedIsTaken, RoundsTake, TakesEvents};
 ghost use Rattle.odb_core.specs.Service.{service_of};
 
-/// The headline, for every schema and over every run of the service.
+/// The monitor law, for every schema, whichever methods are served, and over every run of the service machine. The call does nothing.
 pub fn law()
     // A client that takes what it is owed has just what its newest filters select from the database now.
     ensures brought_to_now { (serves : List ℕ → Bool) (s : Schema) → HoldsAlways (service_of serves s) (IsBroughtToNow (service_of serves s)) }
-    // What is owed is what takings give, one after another, until one gives nothing.
-    ensures owed { (serves : List ℕ → Bool) (s : Schema) → OwedIsTaken (service_of serves s) }
-    // Each message brings the monitor that it is about whole to the moment of its taking.
+    // The monitors that it then has are those that the service counts as asked for.
+    ensures known { (serves : List ℕ → Bool) (s : Schema) → HoldsAlways (service_of serves s) (IsKnown (service_of serves s)) }
+    // A monitor goes when its client has what the filters select.
+    ensures dropped_whole { (serves : List ℕ → Bool) (s : Schema) → HoldsAlways (service_of serves s) (IsDroppedWhole (service_of serves s)) }
+    // Messages come by rounds alone, one at most, and each brings the monitor that it is about whole to its taking.
     ensures brings_whole { (serves : List ℕ → Bool) (s : Schema) → BringsWhole (service_of serves s) }
     // A strict client refuses no message: each is non-empty and names only what differs.
     ensures minimal { (serves : List ℕ → Bool) (s : Schema) → HoldsAlways (service_of serves s) (IsMinimal (service_of serves s)) }
-    // After any retrying each waiting transaction was tried since the newest commit.
-    ensures retried { (serves : List ℕ → Bool) (s : Schema) → AllAreTried (service_of serves s) }
+    // No other message leads a strict client from the one view to the other.
+    ensures only { NoOtherLeads }
+    // Events are refused for the reasons that are named, and sessions open and close by their events alone.
+    ensures takes_events { (serves : List ℕ → Bool) (s : Schema) → TakesEvents (service_of serves s) }
+    // A round is one taking for each session that it lists, and changes nothing else.
+    ensures rounds_take { (serves : List ℕ → Bool) (s : Schema) → RoundsTake (service_of serves s) }
+    // What is owed is what rounds give, until they give nothing.
+    ensures owed_is_taken { (serves : List ℕ → Bool) (s : Schema) → OwedIsTaken (service_of serves s) }
+    // Each request is answered once, is owed its answer, or waits.
+    ensures answered_once { (serves : List ℕ → Bool) (s : Schema) → HoldsAlways (service_of serves s) (IsAnsweredOnce (service_of serves s)) }
+    // Replies that are owed are counted, and never more than 256.
+    ensures counted { (serves : List ℕ → Bool) (s : Schema) → HoldsAlways (service_of serves s) (IsCounted (service_of serves s)) }
+    // Each waiting transaction was tried on the database as it is now, and had to wait.
+    ensures tried { (serves : List ℕ → Bool) (s : Schema) → AllAreTried (service_of serves s) }
 {}

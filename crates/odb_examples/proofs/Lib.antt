@@ -3,6 +3,7 @@ pub mod OfBusy
 pub mod OfCommands
 pub mod OfConditions
 pub mod OfContexts
+pub mod OfLargeLimits
 pub mod OfLimits
 pub mod OfLocks
 pub mod OfMonitorRequests

@@ -15,8 +15,7 @@ use Rattle.odb_atoms.specs.Uuid.{Uuid, uuid_from, uuid_text}
 use Rattle.odb_schema.specs.Schema.{Schema}
 use Rattle.odb_schema.specs.SchemaText.{schema_of_text}
 use Rattle.odb_core.specs.Service.{service}
-use Rattle.odb_core.specs.Run.{beginning}
-use Rattle.ovsdbd.specs.Script.{Script, Command, command_of, perform, script_uuid}
+use Rattle.ovsdbd.specs.Script.{Script, Command, command_of, fresh_script, perform, script_uuid}
 use Rattle.odb_examples.proofs.Examples.{computes}
 
 -- what an example opens
@@ -127,8 +126,7 @@ full db (c ∷ cs) = elim (c == 62) as (λ _. List ℕ) [ true ↦ command db (w
 -- a fresh script with A, B and C open
 abbrev opened : Schema → Script
 opened s =
-    let fresh : Script = record { world = (beginning (length s.tables)).world; sessions = []; opened_so_far = 0; inserts = 0; moment = 0 } in
-    let a = (played s fresh (command_of (codes "!open A"))).0 in
+    let a = (played s (fresh_script s) (command_of (codes "!open A"))).0 in
     let b = (played s a (command_of (codes "!open B"))).0 in
     (played s b (command_of (codes "!open C"))).0
 

@@ -1,10 +1,11 @@
 -- Scripts: lines of commands for named sessions, and the text that they print.
-use Rattle.std.specs.Prelude.{ℕ, zero, suc, ◌+◌, ◌-◌, ◌*◌, ◌%◌, ◌^◌, ◌==◌, nat_lt, nat_le, length, Bool, true, false, not, ◌&&◌, ◌||◌, if◌then◌else◌, List, [], ◌∷◌, ◌++◌, map, filter, find, flat_map, drop, Option, Some, None, is_some, option_map, codes, bytes_eq}
+use Rattle.std.specs.Prelude.{ℕ, zero, suc, ◌+◌, ◌-◌, ◌*◌, ◌%◌, ◌^◌, ◌==◌, nat_lt, nat_le, length, Bool, true, false, not, ◌&&◌, ◌||◌, if◌then◌else◌, List, [], ◌∷◌, ◌++◌, map, filter, find, flat_map, drop, Option, Some, None, is_some, Result, Ok, Err, codes, bytes_eq}
 use Rattle.std.specs.List.{list_all}
 use Rattle.serde_json.specs.Data.{Data}
 use Rattle.odb_atoms.specs.FinMap as finmap
-use Rattle.odb_core.specs.Run.{Event, closed, opened, step, submitted, ticked}
-use Rattle.odb_core.specs.Service.{Service}
+use Rattle.odb_core.specs.Run.{Event, Refusal, busy, closed, gone, if_ok, in_use, opened, step, beginning, submitted, ticked, too_many}
+use Rattle.odb_core.specs.Service.{Service, service}
+use Rattle.odb_schema.specs.Schema.{Schema}
 use Rattle.odb_core.specs.Session.{Session, dried, owed}
 use Rattle.odb_core.specs.World.{World}
 use Rattle.odb_wire.specs.Stream.{Ending, fault_bad, fault_too_long, goes_on, messages}
@@ -109,17 +110,24 @@ module _ (h : Service) where
   abbrev pub dry_all : Script × List ℕ → Script × List ℕ
   dry_all r = let d = dry_each r.0.sessions r.0 in (d.0, r.1 ++ d.1)
 
-  abbrev pub in_world : Option World → Script → Script
-  in_world None p = p
-  in_world (Some w) p = record p { world = w }
+  abbrev pub in_world : Result World Refusal → Script → Script
+  in_world (Err e) p = p
+  in_world (Ok w) p = record p { world = w }
 
-  abbrev pub world_after : Event → Script → Option World
-  world_after e p = option_map (λ r. r.0) (step h e p.world)
+  abbrev pub world_after : Event → Script → Result World Refusal
+  world_after e p = if_ok (λ r. Ok r.0) (step h e p.world)
 
-  -- a message goes in, or is refused as Busy; a response does nothing
-  abbrev pub submit_result : Named → Option World → Script → Script × List ℕ
-  submit_result x None p = (p, line_of x.name (codes "!busy"))
-  submit_result x (Some w) p = (record p { world = w }, [])
+  -- how a refusal is printed
+  abbrev pub refusal_text : Refusal → List ℕ
+  refusal_text too_many = codes "!toomany"
+  refusal_text gone = codes "!gone"
+  refusal_text busy = codes "!busy"
+  refusal_text in_use = codes "!open"
+
+  -- a message goes in, or is refused; a response does nothing
+  abbrev pub submit_result : Named → Result World Refusal → Script → Script × List ℕ
+  submit_result x (Err e) p = (p, line_of x.name (refusal_text e))
+  submit_result x (Ok w) p = (record p { world = w }, [])
 
   abbrev pub hand_on : Named → Data → Script → Script × List ℕ
   hand_on x d p =
@@ -157,9 +165,9 @@ module _ (h : Service) where
   abbrev pub when_open : List ℕ → (Named → Script → Script × List ℕ) → Script → Script × List ℕ
   when_open n f p = elim (named n p) [ None ↦ (p, line_of n (codes "!gone")) | Some x ↦ f x p ]
 
-  abbrev pub open_as : List ℕ → Option World → Script → Script × List ℕ
-  open_as n None p = (p, line_of n (codes "!toomany"))
-  open_as n (Some w) p =
+  abbrev pub open_as : List ℕ → Result World Refusal → Script → Script × List ℕ
+  open_as n (Err e) p = (p, line_of n (refusal_text e))
+  open_as n (Ok w) p =
       (record { world = w; sessions = p.sessions ++ record { name = n; session = p.opened_so_far; bytes = []; handed = 0; held = false } ∷ []; opened_so_far = p.opened_so_far + 1; inserts = p.inserts; moment = p.moment }, [])
 
   abbrev pub set_held : Bool → List ℕ → Script → Script
@@ -193,5 +201,10 @@ module _ (h : Service) where
       joined c [] = (c ∷ []) ∷ []
       joined c (l ∷ ls) = (c ∷ l) ∷ ls
 
-  abbrev pub script_text : World → List ℕ → List ℕ × Option ℕ
-  script_text start text = perform_lines 1 (lines_of text) (record { world = start; sessions = []; opened_so_far = 0; inserts = 0; moment = 0 })
+-- a server of the schema with empty tables and no session
+abbrev pub fresh_script : Schema → Script
+fresh_script s = record { world = (beginning (length s.tables)).world; sessions = []; opened_so_far = 0; inserts = 0; moment = 0 }
+
+-- what a script on it prints, and the number of the first line that is no command
+abbrev pub script_of : Schema → List ℕ → List ℕ × Option ℕ
+script_of s text = perform_lines (service s) 1 (lines_of (service s) text) (fresh_script s)

@@ -1,17 +1,24 @@
--- The law holds of any service that reads requests of distinct tables and columns; those of a schema do.
+-- The headline holds of any service whose rules are; those of the base crate are.
 use Rattle.odb_core.specs.Service.{service_of}
 use Rattle.odb_core.proofs.Reading.{reads_named}
 use Rattle.odb_core.proofs.Runs as runs
+use Rattle.odb_core.proofs.Dropped as dropped
+use Rattle.odb_core.proofs.Opened as events
 use Rattle.odb_core.proofs.Owed as owed
 use Rattle.odb_core.proofs.Whole as whole
-use Rattle.odb_core.proofs.Retried as retried
+use Rattle.odb_core.proofs.Busy as busy
+use Rattle.odb_core.proofs.Waiting as waiting
+use Rattle.odb_monitor.proofs.OnlyViews.{fold-only}
 use Rattle.odb_core.proofs.law.Goals as goal
 
 pub returns-clause-brought_to_now : goal.returns-clause-brought_to_now
 returns-clause-brought_to_now c = λ serves s. runs.brought_to_now (service_of serves s) (reads_named serves s)
 
-pub returns-clause-owed : goal.returns-clause-owed
-returns-clause-owed c = λ serves s. owed.owed_is_taken (service_of serves s)
+pub returns-clause-known : goal.returns-clause-known
+returns-clause-known c = λ serves s. runs.known (service_of serves s) (reads_named serves s)
+
+pub returns-clause-dropped_whole : goal.returns-clause-dropped_whole
+returns-clause-dropped_whole c = λ serves s. dropped.dropped_whole (service_of serves s) (reads_named serves s)
 
 pub returns-clause-brings_whole : goal.returns-clause-brings_whole
 returns-clause-brings_whole c = λ serves s. whole.brings_whole (service_of serves s) (reads_named serves s)
@@ -19,5 +26,23 @@ returns-clause-brings_whole c = λ serves s. whole.brings_whole (service_of serv
 pub returns-clause-minimal : goal.returns-clause-minimal
 returns-clause-minimal c = λ serves s. runs.minimal (service_of serves s) (reads_named serves s)
 
-pub returns-clause-retried : goal.returns-clause-retried
-returns-clause-retried c = λ serves s. retried.all_tried (service_of serves s)
+pub returns-clause-takes_events : goal.returns-clause-takes_events
+returns-clause-takes_events c = λ serves s. events.takes_events (service_of serves s)
+
+pub returns-clause-rounds_take : goal.returns-clause-rounds_take
+returns-clause-rounds_take c = λ serves s. owed.rounds_take (service_of serves s)
+
+pub returns-clause-owed_is_taken : goal.returns-clause-owed_is_taken
+returns-clause-owed_is_taken c = λ serves s. owed.owed_is_taken (service_of serves s)
+
+pub returns-clause-answered_once : goal.returns-clause-answered_once
+returns-clause-answered_once c = λ serves s. busy.answered_once (service_of serves s)
+
+pub returns-clause-counted : goal.returns-clause-counted
+returns-clause-counted c = λ serves s. busy.counted (service_of serves s)
+
+pub returns-clause-tried : goal.returns-clause-tried
+returns-clause-tried c = λ serves s. waiting.all_are_tried (service_of serves s)
+
+pub returns-clause-only : goal.returns-clause-only
+returns-clause-only c = fold-only

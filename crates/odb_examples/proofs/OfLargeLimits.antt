@@ -1,0 +1,48 @@
+-- The limits that are too large to compute, each by a lemma that names its number: lock names, messages, schema files.
+use Rattle.std.specs.Prelude.{◌≡◌, ℕ, ◌==◌, List, [], ◌∷◌, length, take, true, false, Some, None, Ok, Err}
+use mathlib.Core.Path.{refl}
+use Rattle.odb_atoms.specs.FinMap.{get, len, insert}
+use Rattle.odb_locks.specs.Locks.{Locks, lock, steal, too_many_names}
+use Rattle.odb_wire.specs.Stream.{front_of, closed_at, outside, waiting, too_long, max_message}
+use Rattle.odb_schema.specs.SchemaText.{schema_of_text, too_large, max_file}
+
+-- ---- a lock's name, with 65,536 names claimed, and with one fewer
+
+pub lock_of_the_last_name : (l : Locks) (s : ℕ) (name : List ℕ) → get l name ≡ None → len l ≡ 65535
+    → lock l s name ≡ Ok (insert l name (record { claims = record { session = s; stolen = false } ∷ []; robbed = [] }), [], true)
+lock_of_the_last_name l s name none many = rw (none, many) refl
+
+pub lock_of_one_name_more : (l : Locks) (s : ℕ) (name : List ℕ) → get l name ≡ None → len l ≡ 65536 → lock l s name ≡ Err too_many_names
+lock_of_one_name_more l s name none many = rw (none, many) refl
+
+pub steal_of_the_last_name : (l : Locks) (s : ℕ) (name : List ℕ) → get l name ≡ None → len l ≡ 65535
+    → steal l s name ≡ Ok (insert l name (record { claims = record { session = s; stolen = true } ∷ []; robbed = [] }), [], true)
+steal_of_the_last_name l s name none many = rw (none, many) refl
+
+pub steal_of_one_name_more : (l : Locks) (s : ℕ) (name : List ℕ) → get l name ≡ None → len l ≡ 65536 → steal l s name ≡ Err too_many_names
+steal_of_one_name_more l s name none many = rw (none, many) refl
+
+-- a name that has a claim is no name more
+pub lock_of_a_claimed_name : (l : Locks) (s t : ℕ) (name : List ℕ) → get l name ≡ Some (record { claims = record { session = t; stolen = false } ∷ []; robbed = [] }) → (t == s) ≡ false → len l ≡ 65536
+    → lock l s name ≡ Ok (insert l name (record { claims = record { session = t; stolen = false } ∷ record { session = s; stolen = false } ∷ []; robbed = [] }), [], false)
+lock_of_a_claimed_name l s t name some apart many = rw (some, apart) refl
+
+-- ---- an object of so many bytes
+
+pub message_too_long : (cs : List ℕ) → closed_at outside 0 (take max_message (123 ∷ cs)) ≡ None → length (123 ∷ cs) ≡ 16777216 → front_of (123 ∷ cs) ≡ too_long
+message_too_long cs unclosed long = rw (unclosed, long) refl
+
+pub message_not_yet_too_long : (cs : List ℕ) → closed_at outside 0 (take max_message (123 ∷ cs)) ≡ None → length (123 ∷ cs) ≡ 16777215 → front_of (123 ∷ cs) ≡ waiting
+message_not_yet_too_long cs unclosed long = rw (unclosed, long) refl
+
+-- only so many bytes are looked at
+pub message_limit : max_message ≡ 16777216
+message_limit = refl
+
+-- ---- a schema's file
+
+pub file_too_large : (text : List ℕ) → length text ≡ 16777217 → schema_of_text text ≡ Err too_large
+file_too_large text long = rw long refl
+
+pub file_limit : max_file ≡ 16777216
+file_limit = refl
