@@ -11,9 +11,10 @@ use Rattle.odb_rpc.specs.Message as message
 use Rattle.odb_atoms.specs.Text.{is_id}
 use Rattle.odb_core.specs.Client.{Picture, Wish, adds, answer_id, changes, client_step, drops, nothing_else, on_granted, params_of, wish, wish_of}
 use Rattle.odb_core.specs.Headline.{about, begun_by}
-use Rattle.odb_core.specs.Run.{is_request}
+use Rattle.odb_wire.specs.Message.{is_request}
 use Rattle.odb_core.specs.Service.{Service}
-use Rattle.odb_core.specs.Session.{id_of, to}
+use Rattle.odb_core.specs.Session.{to}
+use Rattle.odb_wire.specs.Message.{id_of}
 use Rattle.odb_monitor.proofs.Lists.{bytes_eq-itself}
 use Rattle.odb_monitor.specs.Fold.{is_null}
 use Rattle.odb_request.specs.Request.{update, update2}

@@ -19,9 +19,11 @@ use Rattle.odb_core.proofs.Updates.{change_to, message_of}
 use Rattle.odb_core.proofs.Waiting.{IsSettled, answers, begins_settled, cancels, changes, fails, locks, monitors, notes, open_of, rest, step_settles}
 use Rattle.odb_core.specs.Headline.{IsReached}
 use Rattle.odb_core.specs.Law.{answers_one}
-use Rattle.odb_core.specs.Run.{Event, Sent, State, after, beginning, closed, given_after, is_request, once, opened, requests_after, round, sent, sent_to, submitted, take_each, take_of, ticked}
+use Rattle.odb_core.specs.Run.{Event, Sent, State, after, beginning, closed, given_after, once, opened, requests_after, round, sent, sent_to, submitted, take_each, take_of, ticked}
+use Rattle.odb_wire.specs.Message.{is_request}
 use Rattle.odb_core.specs.Service.{Outcome, Service, ended, waits}
-use Rattle.odb_core.specs.Session.{Answers, Item, Monitor, Out, Session, Watch, gives, has_id, id_of, label, leaves, no_request, no_result, owed_from, refilter, renamed, same_id, say, shift, start, stop_at, stopped, sync, take, take_from, take_rest, to, update_to}
+use Rattle.odb_core.specs.Session.{Answers, Item, Monitor, Out, Session, Watch, gives, has_id, label, leaves, no_request, no_result, owed_from, refilter, renamed, same_id, say, shift, start, stop_at, stopped, sync, take, take_from, take_rest, to, update_to}
+use Rattle.odb_wire.specs.Message.{id_of}
 use Rattle.odb_core.specs.World.{Parked, World, answer, are_monitored, asked_of, at_moment, attempt, cancel_one, change_of, close, end_transaction, fail, handle, is_conditional, is_due, is_of, is_untried, locked, notice_of, on_cancel_monitor, on_lock, on_monitor, on_outcome, post, post_notices, post_to, push, retry, retry_all, run_transaction, shift_with, split_first, start_with, succeed, tick, try_due, try_one, untried, watched, with_parked}
 use Rattle.odb_locks.specs.Locks.{Answered, Notice, drop_session, lock, steal, unlock}
 use Rattle.odb_monitor.proofs.Views.{some_is}

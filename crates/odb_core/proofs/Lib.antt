@@ -1,7 +1,10 @@
 pub mod Busy
 pub mod Calls
+pub mod Committed
 pub mod Counted
 pub mod Dropped
+pub mod Granted
+pub mod Last
 pub mod Opened
 pub mod Owed
 pub mod Pictures

@@ -14,9 +14,11 @@ use Rattle.odb_core.proofs.Splits.{Split}
 use Rattle.odb_core.proofs.Steps.{Stepped, next_is, opened_world}
 use Rattle.odb_core.proofs.Waiting.{Rest, answers, cancels, changes, fails, locks, monitors, notes, posts, rest, takes_each}
 use Rattle.odb_core.specs.Law.{TakesEvents, open_after, refusal}
-use Rattle.odb_core.specs.Run.{Event, Refusal, Sent, State, after, busy, closed, gone, if_ok, in_use, is_request, max_owed, max_sessions, once, opened, round, step, submit, submitted, ticked, too_many}
+use Rattle.odb_core.specs.Run.{Event, Refusal, Sent, State, after, busy, closed, gone, if_ok, in_use, max_owed, max_sessions, once, opened, round, step, submit, submitted, ticked, too_many}
+use Rattle.odb_wire.specs.Message.{is_request}
 use Rattle.odb_core.specs.Service.{Outcome, Service, ended, waits}
-use Rattle.odb_core.specs.Session.{Session, id_of, no_result, say, sync, to}
+use Rattle.odb_core.specs.Session.{Session, no_result, say, sync, to}
+use Rattle.odb_wire.specs.Message.{id_of}
 use Rattle.odb_core.specs.World.{Parked, World, asked_of, at_moment, attempt, cancel_one, close, end_transaction, handle, is_due, is_of, locked, on_outcome, owed_replies, retry, retry_all, split_first, tick, try_due, try_one, untried, watched, with_parked}
 use Rattle.odb_locks.specs.Locks.{drop_session, lock, steal, unlock}
 use Rattle.odb_rpc.specs.Message.{Call, call_of, failure, has_reply, reply}

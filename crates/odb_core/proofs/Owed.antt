@@ -83,7 +83,7 @@ module _ (h : Service) where
   owes_nothing db m =
       ap (λ b. cond b None (Some (message_of h db m.watch.requests (now db m)))) (shown_none false m.watch.requests (delta (query db m.watch.requests) (query db m.watch.requests)) (delta-itself (query db m.watch.requests)))
 
-  all_owe_nothing : (db : Db) (ms : List Monitor) → filter_map (owes db) (map (now db) ms) ≡ []
+  pub all_owe_nothing : (db : Db) (ms : List Monitor) → filter_map (owes db) (map (now db) ms) ≡ []
   all_owe_nothing db [] = refl
   all_owe_nothing db (m ∷ ms) = ap (λ o. cons_option o (filter_map (owes db) (map (now db) ms))) (owes_nothing db m) ∙ all_owe_nothing db ms
 

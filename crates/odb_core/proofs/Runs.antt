@@ -13,7 +13,8 @@ use Rattle.odb_core.proofs.Told.{from_tells, stands_after}
 use Rattle.odb_core.proofs.Worlds.{AreHeld, Holds, IsHeld, close_keeps, handle_keeps, tick_keeps}
 use Rattle.odb_core.specs.Client.{Picture, can_follow, client, client_from, client_step}
 use Rattle.odb_core.specs.Headline.{AllNow, AllSent, HoldsAlways, IsBroughtToNow, IsKnown, IsMinimal, IsReached, ReadsNamed}
-use Rattle.odb_core.specs.Run.{Event, Sent, State, after, beginning, closed, given_after, is_request, once, opened, round, sent, sent_to, submitted, take_each, take_of, ticked}
+use Rattle.odb_core.specs.Run.{Event, Sent, State, after, beginning, closed, given_after, once, opened, round, sent, sent_to, submitted, take_each, take_of, ticked}
+use Rattle.odb_wire.specs.Message.{is_request}
 use Rattle.odb_core.specs.Service.{Service}
 use Rattle.odb_core.specs.Session.{Item, Monitor, Out, Session, Watch, asked_after, brought, leaves, owed, rested, take}
 use Rattle.odb_core.specs.World.{World, at_moment, close, handle, tick}

@@ -6,7 +6,8 @@ use Rattle.odb_cond.specs.Filter.{Filter}
 use Rattle.odb_core.specs.Client.{Picture, adds, answer_id, can_follow, changes, client_step, drops, new_filter, new_filters, wish_of, with_changes}
 use Rattle.odb_core.specs.Headline.{about}
 use Rattle.odb_core.specs.Service.{Service}
-use Rattle.odb_core.specs.Session.{Item, Monitor, Session, Watch, asks, at_first, begun, brought, changed, drop_first, filter_of, has_id, id_of, leaves, refilter, renamed, same_id, say, shapes, shift, start, stopped, sync, told}
+use Rattle.odb_core.specs.Session.{Item, Monitor, Session, Watch, asks, at_first, begun, brought, changed, drop_first, filter_of, has_id, leaves, refilter, renamed, same_id, say, shapes, shift, start, stopped, sync, told}
+use Rattle.odb_wire.specs.Message.{id_of}
 use Rattle.odb_core.specs.World.{watched}
 use Rattle.odb_monitor.proofs.Views.{IsViewOf}
 use Rattle.odb_monitor.specs.Names.{AreDistinct, AreNamed}

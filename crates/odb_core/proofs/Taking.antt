@@ -11,7 +11,8 @@ use Rattle.odb_core.proofs.Sessions.{Each, IsKept, IsSound, IsThere, IsWell, Sta
 use Rattle.odb_core.proofs.Updates.{IsLike, begun_kept, brought-followed, brought-unseen, brought_kept, change_to, first_heard, message_of, update-heard}
 use Rattle.odb_core.specs.Client.{Picture, client_from, client_step, follow, is_id_of, on_granted, refiltered, try_drop, try_first, with_changes}
 use Rattle.odb_core.specs.Service.{Service}
-use Rattle.odb_core.specs.Session.{Item, Monitor, Out, Session, at_first, begun, brought, drop_first, gives, has_id, id_of, leaves, method_of, no_request, no_result, owed_from, refilter, renamed, rested, say, shapes, shift, start, stop_at, stopped, sync, take_from, take_rest, update_to}
+use Rattle.odb_core.specs.Session.{Item, Monitor, Out, Session, at_first, begun, brought, drop_first, gives, has_id, leaves, method_of, no_request, no_result, owed_from, refilter, renamed, rested, say, shapes, shift, start, stop_at, stopped, sync, take_from, take_rest, update_to}
+use Rattle.odb_wire.specs.Message.{id_of}
 use Rattle.odb_core.specs.World.{watched}
 use Rattle.odb_monitor.proofs.Lists.{bytes_eq-itself}
 use Rattle.odb_monitor.proofs.Views.{IsViewOf}

@@ -9,7 +9,8 @@ use Rattle.odb_core.proofs.Calls.{reply_heard}
 use Rattle.odb_core.proofs.Sessions.{IsKept, IsSound, picture, seen, with_view}
 use Rattle.odb_core.specs.Client.{Picture, added, can_follow, client_step, follow, followed, is_id_of, is_of_notation, on_granted, try_first}
 use Rattle.odb_core.specs.Service.{Service}
-use Rattle.odb_core.specs.Session.{Monitor, Out, Watch, begun, brought, first_out, id_of, method_of, no_request, shapes, start}
+use Rattle.odb_core.specs.Session.{Monitor, Out, Watch, begun, brought, first_out, method_of, no_request, shapes, start}
+use Rattle.odb_wire.specs.Message.{id_of}
 use Rattle.odb_monitor.proofs.Lists.{IsAsLong}
 use Rattle.odb_monitor.proofs.Maps.{get-empty, get-map_entries, same_map}
 use Rattle.odb_monitor.proofs.Views.{AllBegin, IsRowOf, IsViewOf, delta-none, fold-first, fold-later}

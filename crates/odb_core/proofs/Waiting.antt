@@ -19,7 +19,8 @@ use Rattle.odb_core.specs.Headline.{IsReached}
 use Rattle.odb_core.specs.Law.{AllAreTried, AllHadToWait}
 use Rattle.odb_core.specs.Run.{Event, Sent, State, after, beginning, closed, once, opened, round, submitted, take_each, take_of, ticked}
 use Rattle.odb_core.specs.Service.{Outcome, Service, ended, waits}
-use Rattle.odb_core.specs.Session.{Item, Session, Watch, id_of, no_request, no_result, renamed, same_id, say, shift, start, stopped, sync, take, to}
+use Rattle.odb_core.specs.Session.{Item, Session, Watch, no_request, no_result, renamed, same_id, say, shift, start, stopped, sync, take, to}
+use Rattle.odb_wire.specs.Message.{id_of}
 use Rattle.odb_core.specs.World.{Parked, World, answer, are_monitored, asked_of, at_moment, attempt, cancel_one, change_of, close, end_transaction, fail, handle, is_conditional, is_due, is_of, is_untried, locked, notice_of, on_cancel_monitor, on_lock, on_monitor, on_outcome, post, post_notices, post_to, push, retry, retry_all, shift_with, split_first, start_with, tick, try_due, try_one, untried, watched, with_parked}
 use Rattle.odb_locks.specs.Locks.{Answered, Notice, drop_session, lock, owns, steal, unlock}
 use Rattle.odb_request.specs.Request.{Notation, Request}

@@ -92,7 +92,7 @@ module _ (h : Service) where
       ap (λ t. cond t (Some m) (find (has_id h b.watch.id) (ms ++ b ∷ []))) (nat_list_eq_equiv.symm (h.printed b.watch.id) (h.printed m.watch.id) ∙ apart_last (h.printed m.watch.id) (map (λ m. m.watch) ms) b.watch d.0)
       ∙ find_last b ms d.1
 
-  stay_now : (q : List Item) (ks : List Watch) → StayDistinct h q ks → AreDistinct (texts h ks)
+  pub stay_now : (q : List Item) (ks : List Watch) → StayDistinct h q ks → AreDistinct (texts h ks)
   stay_now [] ks d = d
   stay_now (i ∷ q) ks d = d.0
 

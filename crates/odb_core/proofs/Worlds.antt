@@ -15,7 +15,8 @@ use Rattle.odb_core.proofs.Splits.{Split, split_parts}
 use Rattle.odb_core.specs.Client.{Picture, adds, answer_id, changes, client, client_step, drops}
 use Rattle.odb_core.specs.Headline.{ReadsNamed, WasLast, about}
 use Rattle.odb_core.specs.Service.{Outcome, Service, ended, waits}
-use Rattle.odb_core.specs.Session.{Item, Out, Session, Watch, asked, asked_after, asks, at_first, changed, drop_first, id_of, no_request, no_result, renamed, same_id, say, shift, start, stopped, sync, to, told}
+use Rattle.odb_core.specs.Session.{Item, Out, Session, Watch, asked, asked_after, asks, at_first, changed, drop_first, no_request, no_result, renamed, same_id, say, shift, start, stopped, sync, to, told}
+use Rattle.odb_wire.specs.Message.{id_of}
 use Rattle.odb_core.specs.World.{Parked, World, answer, are_monitored, asked_of, at_moment, attempt, cancel_one, change_of, close, end_transaction, fail, handle, is_conditional, is_due, is_of, is_untried, locked, notice_of, on_cancel_monitor, on_lock, on_monitor, on_outcome, post, post_notices, post_to, push, retry, retry_all, run_transaction, shift_with, split_first, start_with, succeed, tick, try_due, try_one, untried, watched, with_parked}
 use Rattle.odb_locks.specs.Locks.{Answered, Notice, drop_session, lock, steal, unlock}
 use Rattle.odb_monitor.proofs.Views.{some_is}
@@ -41,13 +42,13 @@ each_behind P [] ys k = k
 each_behind P (x ∷ xs) ys k = each_behind P xs ys k.1
 
 module _ (h : Service) where
-  -- where the reply to a cancel is next, the message before it was the monitor's update
+  -- where the reply to a change or a cancel is next, the message before it was the monitor's update
   abbrev pub IsAfter : Item → List Out → Type 0
   IsAfter (say a d) os = Unit {0}
   IsAfter (start d k) os = Unit {0}
   IsAfter (sync i) os = Unit {0}
   IsAfter (shift i fs) os = Unit {0}
-  IsAfter (renamed d old new fs) os = Unit {0}
+  IsAfter (renamed d old new fs) os = WasLast h old os
   IsAfter (stopped d i) os = WasLast h i os
 
   abbrev pub StandsAfter : List Item → List Out → Type 0
@@ -149,7 +150,7 @@ module _ (h : Service) where
   free_after (start d k ∷ is) os b = tt
   free_after (sync i ∷ is) os b = tt
   free_after (shift i fs ∷ is) os b = tt
-  free_after (renamed d old new fs ∷ is) os b = tt
+  free_after (renamed d old new fs ∷ is) os b = absurd b
   free_after (stopped d i ∷ is) os b = absurd b
 
   push_after : (q is : List Item) (os : List Out) → StandsAfter q os → Begins is → StandsAfter (q ++ is) os

@@ -1,5 +1,5 @@
 -- The headline: what a client folds from the messages that it is given is what its monitors select.
--- Of a monitor with a kind of change switched off nothing is claimed but that its client refuses no message.
+-- Of the view of a monitor with a kind of change switched off nothing is claimed.
 use Rattle.std.specs.Prelude.{◌≡◌, ◌||◌, ◌==◌, ◌⊎◌, Bool, true, false, if◌then◌else◌, bytes_eq, codes, ℕ, List, [], ◌∷◌, ◌++◌, map, find, Option, Some, None, is_some, IsTrue, option_map, option_and_then, Ok}
 use Rattle.std.specs.List.{list_any}
 use Rattle.serde_json.specs.Data.{Data}
@@ -108,6 +108,12 @@ module _ (h : Service) where
   IsDroppedWhole st s x =
       (a : List Out) (o : Out) (b : List Out) (d i : Data) → owed h st.world.db x ≡ a ++ o ∷ b → o.answers ≡ to d → is_granted o.message ≡ true → wish_of d ≡ drops i
       → (p : Picture) × (pictured i (st.given s ++ a) ≡ Some p) × (IsNow st.world.db p.requests p.view ⊎ ((a ≡ []) × WasLast i (st.given s)))
+
+  -- A change of filters is answered when the client has just what the new filters select: now, or, where its turn came to the message before the reply already, as it was then.
+  abbrev pub IsChangedWhole : State → ℕ → Session → Type 0
+  IsChangedWhole st s x =
+      (a : List Out) (o : Out) (b : List Out) (d old new filters : Data) → owed h st.world.db x ≡ a ++ o ∷ b → o.answers ≡ to d → is_granted o.message ≡ true → wish_of d ≡ changes old new filters
+      → (p : Picture) × (pictured new (st.given s ++ a ++ o ∷ []) ≡ Some p) × (IsNow st.world.db p.requests p.view ⊎ ((a ≡ []) × WasLast old (st.given s)))
 
   -- A change of filters is on its way: its reply is owed next. With that the monitor has its new id and filters, and the view stays.
   pub record IsChanging (st : State) (s : ℕ) (x : Session) (p : Picture) : Type 0 where

@@ -6,3 +6,4 @@ pub mod Run
 pub mod Service
 pub mod Session
 pub mod World
+pub mod WorldCode

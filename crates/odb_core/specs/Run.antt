@@ -1,15 +1,13 @@
 -- Runs: lists of events from the state with empty tables, and what each session is given.
-use Rattle.std.specs.Prelude.{ℕ, ◌==◌, nat_lt, Bool, false, not, ◌&&◌, if◌then◌else◌, List, [], ◌∷◌, ◌++◌, filter, Option, Some, None, is_some, replicate, Result, Ok, Err, codes}
+use Rattle.odb_wire.specs.Message.{is_request}
+use Rattle.std.specs.Prelude.{ℕ, ◌==◌, nat_lt, Bool, false, not, ◌&&◌, if◌then◌else◌, List, [], ◌∷◌, ◌++◌, filter, Option, Some, None, is_some, replicate, Result, Ok, Err}
 use Rattle.serde_json.specs.Data.{Data}
 use Rattle.odb_atoms.specs.FinMap as map
 use Rattle.odb_atoms.specs.FinMap.{FinMap, get, insert, len}
 use Rattle.odb_core.specs.Service.{Service}
 use Rattle.odb_core.specs.Session.{Out, Session, take}
 use Rattle.odb_core.specs.World.{World, at_moment, close, handle, owed_replies, tick}
-use Rattle.odb_monitor.specs.Fold.{is_null}
 use Rattle.odb_rpc.specs.Message.{call_of, has_reply}
-use Rattle.odb_schema.specs.Json.{as_str}
-use Rattle.odb_wire.specs.Message.{at_key}
 use Rattle.odb_atoms.specs.Uuid.{Uuid}
 
 pub data Event : Type 0 where
@@ -96,10 +94,6 @@ opens (round ss) s = false
 
 abbrev pub given_after : Event → List Sent → (ℕ → List Out) → ℕ → List Out
 given_after e os f s = if opens e s then [] else f s ++ sent_to s os
-
--- a message that has a reply: it has a method, and an id
-abbrev pub is_request : Data → Bool
-is_request d = is_some (as_str (at_key (codes "method") d)) && not (is_null (at_key (codes "id") d))
 
 abbrev pub requests_after : Event → (ℕ → List Data) → ℕ → List Data
 requests_after (opened t) f s = if t == s then [] else f s

@@ -1,4 +1,5 @@
 -- A session: what is queued for it, its monitors as they were told, and what a taking gives.
+use Rattle.odb_wire.specs.Message.{id_of}
 use Rattle.std.specs.Prelude.{ℕ, Bool, true, false, if◌then◌else◌, List, [], ◌∷◌, ◌++◌, map, find, Option, Some, None, option_and_then, option_to_list, filter_map, codes, bytes_eq}
 use Rattle.serde_json.specs.Data.{Data, object, no_members}
 use Rattle.odb_cond.specs.Filter.{Filter}
@@ -8,7 +9,6 @@ use Rattle.odb_monitor.specs.View.{Delta, View, delta, is_none, nothing, query, 
 use Rattle.odb_request.specs.Request.{Notation, Request, Shape, update, update2}
 use Rattle.odb_rpc.specs.Message.{notification, reply}
 use Rattle.odb_tables.specs.Database.{Db}
-use Rattle.odb_wire.specs.Message.{at_key}
 
 -- what a monitor watches: its id, its notation, and its requests with their filters
 pub record Watch : Type 0 where
@@ -46,9 +46,6 @@ pub record Session : Type 0 where
 
 abbrev pub shapes : List Request → List Shape
 shapes qs = map (λ q. q.shape) qs
-
-abbrev pub id_of : Data → Data
-id_of d = at_key (codes "id") d
 
 abbrev pub no_result : Data
 no_result = object no_members

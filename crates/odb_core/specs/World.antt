@@ -7,7 +7,8 @@ use Rattle.odb_rpc.specs.Message as message
 use Rattle.odb_atoms.specs.FinMap.{FinMap, get, insert, remove}
 use Rattle.odb_cond.specs.Filter.{Filter}
 use Rattle.odb_core.specs.Service.{Outcome, Service, ended, waits}
-use Rattle.odb_core.specs.Session.{Answers, Item, Session, Watch, asked, id_of, label, no_request, no_result, renamed, same_id, say, shift, start, stopped, sync, to}
+use Rattle.odb_core.specs.Session.{Answers, Item, Session, Watch, asked, label, no_request, no_result, renamed, same_id, say, shift, start, stopped, sync, to}
+use Rattle.odb_wire.specs.Message.{id_of}
 use Rattle.odb_locks.specs.Locks.{Answered, Locks, Notice, drop_session, lock, owns, steal, unlock}
 use Rattle.odb_monitor.specs.Update.{one}
 use Rattle.odb_request.specs.Request.{Notation, Request, update, update2}

@@ -4,8 +4,8 @@
 ghost use Rattle.std.specs.Prelude.{Bool, List, ℕ};
 ghost use Rattle.odb_monitor.specs.Law.{NoOtherLeads};
 ghost use Rattle.odb_schema.specs.Schema.{Schema};
-ghost use Rattle.odb_core.specs.Headline.{BringsWhole, HoldsAlways, IsBroughtToNow, IsDroppedWhole, IsKnown, IsMinimal};
-ghost use Rattle.odb_core.specs.Law.{AllAreTried, IsAnsweredOnce, IsCounted, OwedIsTaken, RoundsTake, TakesEvents};
+ghost use Rattle.odb_core.specs.Headline.{BringsWhole, HoldsAlways, IsBroughtToNow, IsChangedWhole, IsDroppedWhole, IsKnown, IsMinimal};
+ghost use Rattle.odb_core.specs.Law.{AllAreTried, IsAnsweredOnce, IsCommitted, IsCounted, IsGranted, IsToldBefore, OwedIsTaken, RoundsTake, TakesEvents};
 ghost use Rattle.odb_core.specs.Service.{service_of};
 
 /// The monitor law, for every schema, whichever methods are served, and over every run of the service machine. The call does nothing.
@@ -16,6 +16,8 @@ pub fn law()
     ensures known { (serves : List ℕ → Bool) (s : Schema) → HoldsAlways (service_of serves s) (IsKnown (service_of serves s)) }
     // A monitor goes when its client has what the filters select.
     ensures dropped_whole { (serves : List ℕ → Bool) (s : Schema) → HoldsAlways (service_of serves s) (IsDroppedWhole (service_of serves s)) }
+    // New filters hold when its client has what they select.
+    ensures changed_whole { (serves : List ℕ → Bool) (s : Schema) → HoldsAlways (service_of serves s) (IsChangedWhole (service_of serves s)) }
     // Messages come by rounds alone, one at most, and each brings the monitor that it is about whole to its taking.
     ensures brings_whole { (serves : List ℕ → Bool) (s : Schema) → BringsWhole (service_of serves s) }
     // A strict client refuses no message: each is non-empty and names only what differs.
@@ -28,6 +30,12 @@ pub fn law()
     ensures rounds_take { (serves : List ℕ → Bool) (s : Schema) → RoundsTake (service_of serves s) }
     // What is owed is what rounds give, until they give nothing.
     ensures owed_is_taken { (serves : List ℕ → Bool) (s : Schema) → OwedIsTaken (service_of serves s) }
+    // The monitors that a session asked for change by its own requests alone, and by each that nothing stands against.
+    ensures granted { (serves : List ℕ → Bool) (s : Schema) → IsGranted (service_of serves s) }
+    // Where no transaction waits, one that is submitted is run at once, and nothing else changes the database.
+    ensures committed { (serves : List ℕ → Bool) (s : Schema) → IsCommitted (service_of serves s) }
+    // What a transaction changed is told before its reply, which has its results.
+    ensures told_before { (serves : List ℕ → Bool) (s : Schema) → IsToldBefore (service_of serves s) }
     // Each request is answered once, is owed its answer, or waits.
     ensures answered_once { (serves : List ℕ → Bool) (s : Schema) → HoldsAlways (service_of serves s) (IsAnsweredOnce (service_of serves s)) }
     // Replies that are owed are counted, and never more than 256.

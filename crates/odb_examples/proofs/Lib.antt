@@ -1,9 +1,11 @@
 pub mod Examples
 pub mod OfBusy
+pub mod OfClients
 pub mod OfCommands
 pub mod OfConditions
 pub mod OfContexts
 pub mod OfLargeLimits
+pub mod OfLaw
 pub mod OfLimits
 pub mod OfLocks
 pub mod OfMonitorRequests
@@ -13,6 +15,7 @@ pub mod OfOperations
 pub mod OfRequests
 pub mod OfResults
 pub mod OfRules
+pub mod OfRuns
 pub mod OfSchemaFaults
 pub mod OfSchemaReplies
 pub mod OfSchemas

@@ -22,3 +22,19 @@ pub owed_256_replies : Plays net (
     ∷ [])
 unfolding shows
 owed_256_replies = refl
+
+abbrev waiting : ℕ → List ℕ
+waiting k = codes "{'method':'transact','params':['net',{'op':'wait','table':'Bridge','where':[],'columns':['name'],'until':'!=','rows':[]}],'id':" ++ decimal k ++ codes "}"
+
+-- a transaction that waits is owed its reply, and a cancel makes room
+pub owed_256_waiting : Plays net (
+    (codes "> A " ++ flat_map waiting (range_with_len 1 256))
+    ∷ codes "> A echo 257 []"
+    ∷ codes "< A !busy"
+    ∷ codes "> A {'method':'cancel','params':[1],'id':null}"
+    ∷ codes "< A error 1 canceled"
+    ∷ codes "> A echo 257 []"
+    ∷ codes "< A reply 257 []"
+    ∷ [])
+unfolding shows
+owed_256_waiting = refl

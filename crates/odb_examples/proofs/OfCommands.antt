@@ -1,6 +1,8 @@
--- Which lines are commands of a script.
+-- Which lines are commands of a script, and the identifiers that it hands in.
 use Rattle.std.specs.Prelude.{◌≡◌, true, false, is_some, codes, refl}
-use Rattle.ovsdbd.specs.Script.{command_of}
+use Rattle.odb_atoms.specs.Uuid.{uuid_text}
+use Rattle.odb_examples.proofs.Examples.{computes}
+use Rattle.ovsdbd.specs.Script.{command_of, script_uuid}
 
 pub a_name_of_16 : is_some (command_of (codes "!open ABCDEFGHabcdef09")) ≡ true
 a_name_of_16 = refl
@@ -67,3 +69,18 @@ a_piece_for_a_name_of_17 = refl
 
 pub a_capital_in_a_command : is_some (command_of (codes "!Open A")) ≡ false
 a_capital_in_a_command = refl
+
+-- ---- the identifiers of a script's inserts
+
+pub the_first_identifier : uuid_text (script_uuid 1) ≡ codes "00000000-0000-4000-8000-000000000001"
+unfolding computes
+the_first_identifier = refl
+
+-- the number goes to 2^48, in lower case
+pub the_last_identifier : uuid_text (script_uuid 281474976710655) ≡ codes "00000000-0000-4000-8000-ffffffffffff"
+unfolding computes
+the_last_identifier = refl
+
+pub identifiers_begin_again : uuid_text (script_uuid 281474976710657) ≡ codes "00000000-0000-4000-8000-000000000001"
+unfolding computes
+identifiers_begin_again = refl

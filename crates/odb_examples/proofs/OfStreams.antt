@@ -1,5 +1,5 @@
 -- Transcripts of streams of messages.
-use Rattle.std.specs.Prelude.{[], ◌∷◌, codes, refl}
+use Rattle.std.specs.Prelude.{◌++◌, [], ◌∷◌, codes, refl}
 use Rattle.odb_examples.proofs.TestSchemas.{net}
 use Rattle.odb_examples.proofs.Transcripts.{Plays, shows}
 
@@ -115,3 +115,21 @@ pub utf8_echo : Plays net (
     ∷ [])
 unfolding shows
 utf8_echo = refl
+
+-- between objects the four blanks alone may stand
+pub no_comma_between_objects : Plays net (
+    codes "> A {'method':'echo','params':[],'id':1} \t\r{'method':'echo','params':[],'id':2},{'method':'echo','params':[],'id':3}"
+    ∷ codes "< A reply 1 []"
+    ∷ codes "< A reply 2 []"
+    ∷ codes "< A !fault 3"
+    ∷ [])
+unfolding shows
+no_comma_between_objects = refl
+
+pub no_form_feed_between_objects : Plays net (
+    (codes "> A {'method':'echo','params':[],'id':1}" ++ 12 ∷ codes "{'method':'echo','params':[],'id':2}")
+    ∷ codes "< A reply 1 []"
+    ∷ codes "< A !fault 3"
+    ∷ [])
+unfolding shows
+no_form_feed_between_objects = refl

@@ -210,3 +210,13 @@ pub equal_ids_of_waits : Plays net (
     ∷ [])
 unfolding shows
 equal_ids_of_waits = refl
+
+-- an id with a number that is left out is nobody's
+pub a_cancel_of_a_number_left_out : Plays net (
+    codes "> A transact [] {'op':'wait','table':'Bridge','where':[],'columns':['name'],'until':'!=','rows':[]}"
+    ∷ codes "> A {'method':'cancel','params':[[1.5]],'id':null}"
+    ∷ codes "> A {'method':'cancel','params':[[]],'id':null}"
+    ∷ codes "< A error [] canceled"
+    ∷ [])
+unfolding shows
+a_cancel_of_a_number_left_out = refl

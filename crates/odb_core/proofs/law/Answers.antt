@@ -1,9 +1,12 @@
--- The headline holds of any service whose rules are; those of the base crate are.
+-- The law holds of any service whose requests name each table and column once; those of a schema do.
 use Rattle.odb_core.specs.Service.{service_of}
 use Rattle.odb_core.proofs.Reading.{reads_named}
 use Rattle.odb_core.proofs.Runs as runs
 use Rattle.odb_core.proofs.Dropped as dropped
 use Rattle.odb_core.proofs.Opened as events
+use Rattle.odb_core.proofs.Committed as committed
+use Rattle.odb_core.proofs.Last as last
+use Rattle.odb_core.proofs.Granted as granted
 use Rattle.odb_core.proofs.Owed as owed
 use Rattle.odb_core.proofs.Whole as whole
 use Rattle.odb_core.proofs.Busy as busy
@@ -20,6 +23,9 @@ returns-clause-known c = λ serves s. runs.known (service_of serves s) (reads_na
 pub returns-clause-dropped_whole : goal.returns-clause-dropped_whole
 returns-clause-dropped_whole c = λ serves s. dropped.dropped_whole (service_of serves s) (reads_named serves s)
 
+pub returns-clause-changed_whole : goal.returns-clause-changed_whole
+returns-clause-changed_whole c = λ serves s. dropped.changed_whole (service_of serves s) (reads_named serves s)
+
 pub returns-clause-brings_whole : goal.returns-clause-brings_whole
 returns-clause-brings_whole c = λ serves s. whole.brings_whole (service_of serves s) (reads_named serves s)
 
@@ -34,6 +40,15 @@ returns-clause-rounds_take c = λ serves s. owed.rounds_take (service_of serves 
 
 pub returns-clause-owed_is_taken : goal.returns-clause-owed_is_taken
 returns-clause-owed_is_taken c = λ serves s. owed.owed_is_taken (service_of serves s)
+
+pub returns-clause-granted : goal.returns-clause-granted
+returns-clause-granted c = λ serves s. granted.is_granted (service_of serves s)
+
+pub returns-clause-committed : goal.returns-clause-committed
+returns-clause-committed c = λ serves s. committed.is_committed (service_of serves s)
+
+pub returns-clause-told_before : goal.returns-clause-told_before
+returns-clause-told_before c = λ serves s. last.told_before (service_of serves s) (reads_named serves s)
 
 pub returns-clause-answered_once : goal.returns-clause-answered_once
 returns-clause-answered_once c = λ serves s. busy.answered_once (service_of serves s)
