@@ -1,10 +1,14 @@
 pub mod Atoms
 pub mod Differences
+pub mod Equal
+pub mod Examples
 pub mod FinMaps
 pub mod FinSets
 pub mod Lists
+pub mod Merges
+pub mod Represented
+pub mod Rising
+pub mod Sorts
 pub mod Types
 pub mod Uuids
 pub mod Values
-pub mod Examples
-pub mod Equal

@@ -5,6 +5,8 @@ pub mod Error
 pub mod FinMap
 pub mod FinSet
 pub mod First
+pub mod Members
+pub mod Represented
 pub mod Row
 pub mod Text
 pub mod Uuid

@@ -13,11 +13,11 @@ use Rattle.odb_schema.specs.Schema.{Schema}
 use Rattle.odb_tables.specs.Database.{Db, Table}
 
 -- the row with the number, unless the old table has it with the same columns
-abbrev stamped_row : Uuid → Option Row → Row → Row
+abbrev pub stamped_row : Uuid → Option Row → Row → Row
 stamped_row number None r = record r { version = number }
 stamped_row number (Some old) r = cond (same_values old.columns r.columns) old (record r { version = number })
 
-abbrev stamped_table : Uuid → Table × Table → Table
+abbrev pub stamped_table : Uuid → Table × Table → Table
 stamped_table number e = map.map_entries (λ u r. Some (stamped_row number (map.get e.0 u) r)) e.1
 
 -- the number of the commit as `_version` of each row that is new or has another value in a column
@@ -29,11 +29,11 @@ pub data Outcome : Type 0 where
   refused : List Data → Outcome
   parked : Option ℕ → Outcome
 
-abbrev settled : ℕ → Db → List Data → Result Db Error → Outcome
+abbrev pub settled : ℕ → Db → List Data → Result Db Error → Outcome
 settled number old results (Ok new) = done results (stamped number old new)
 settled number old results (Err e) = refused (results ++ error_result e ∷ [])
 
-abbrev outcome : Schema → ℕ → ℕ → Db → Ran → Outcome
+abbrev pub outcome : Schema → ℕ → ℕ → Db → Ran → Outcome
 outcome s max_rows number old (finished d results) = settled number old results (settle s max_rows d.db)
 outcome s max_rows number old (failed results) = refused results
 outcome s max_rows number old (must_wait moment) = parked moment

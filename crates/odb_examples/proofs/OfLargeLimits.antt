@@ -1,8 +1,11 @@
--- The limits that are too large to compute, each by a lemma that names its number: lock names, messages, schema files.
+-- The limits that are too large to compute, each by a lemma that names its number: lock names, sessions, messages, schema files.
 use Rattle.std.specs.Prelude.{◌≡◌, ℕ, ◌==◌, List, [], ◌∷◌, length, take, true, false, Some, None, Ok, Err}
 use mathlib.Core.Path.{refl}
 use Rattle.odb_atoms.specs.FinMap.{get, len, insert}
 use Rattle.odb_locks.specs.Locks.{Locks, lock, steal, too_many_names}
+use Rattle.odb_core.specs.Run.{opened, step, too_many}
+use Rattle.odb_core.specs.Service.{Service}
+use Rattle.odb_core.specs.World.{World}
 use Rattle.odb_wire.specs.Stream.{front_of, closed_at, outside, waiting, too_long, max_message}
 use Rattle.odb_schema.specs.SchemaText.{schema_of_text, too_large, max_file}
 
@@ -46,3 +49,12 @@ file_too_large text long = rw long refl
 
 pub file_limit : max_file ≡ 16777216
 file_limit = refl
+
+-- ---- a session, with 4,096 open, and with one fewer
+
+pub open_of_the_last_session : (h : Service) (w : World) (s : ℕ) → len w.sessions ≡ 4095 → get w.sessions s ≡ None
+    → step h (opened s) w ≡ Ok (record w { sessions = insert w.sessions s (record { queue = []; monitors = [] }) }, [])
+open_of_the_last_session h w s many none = rw (many, none) refl
+
+pub open_of_one_session_more : (h : Service) (w : World) (s : ℕ) → len w.sessions ≡ 4096 → step h (opened s) w ≡ Err too_many
+open_of_one_session_more h w s many = rw many refl

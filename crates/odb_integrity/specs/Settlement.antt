@@ -20,10 +20,10 @@ RowId = ℕ × Uuid
 abbrev pub same_row : RowId → RowId → Bool
 same_row x y = (x.0 == y.0) && same_uuid x.1 y.1
 
-abbrev row_of : Db → RowId → Option Row
+abbrev pub row_of : Db → RowId → Option Row
 row_of db x = map.get (table_at db x.0) x.1
 
-abbrev is_there : Db → RowId → Bool
+abbrev pub is_there : Db → RowId → Bool
 is_there db x = is_some (row_of db x)
 
 -- the row ids of a database
@@ -48,7 +48,7 @@ abbrev strong_referent : Schema → Base → Atom → Option RowId
 strong_referent s b a = cond (is_weak b) None (referent s b a)
 
 -- the rows to which a value of this type has strong references
-abbrev strong_of_value : Schema → ColType → Value → List RowId
+abbrev pub strong_of_value : Schema → ColType → Value → List RowId
 strong_of_value s t (set_of v) = filter_map (strong_referent s t.key) (set.items v)
 strong_of_value s t (map_of m) = filter_map (strong_referent s t.key) (map.keys m) ++ filter_map (strong_referent s (value_base t)) (map.values m)
 
@@ -56,7 +56,7 @@ strong_of_value s t (map_of m) = filter_map (strong_referent s t.key) (map.keys 
 abbrev typed_cells : Schema → RowId → Row → List (Column × Value)
 typed_cells s x r = zip (columns_at s x.0) r.columns
 
-abbrev strong_of_row : Schema → RowId → Row → List RowId
+abbrev pub strong_of_row : Schema → RowId → Row → List RowId
 strong_of_row s x r = flat_map (λ e. strong_of_value s e.0.type e.1) (typed_cells s x r)
 
 -- x has a strong reference to y
@@ -89,7 +89,7 @@ IsSupported s db p =
 abbrev each_row : (RowId → Row → Option Row) → Db → Db
 each_row f db = map_list (λ e. map.map_entries (λ u r. f (e.0, u) r) e.1) (enumerate_from 0 db)
 
-abbrev kept : Schema → Db → Db
+abbrev pub kept : Schema → Db → Db
 kept s db = each_row (λ x r. cond (is_kept s db x) (Some r) None) db
 
 -- ---- the other steps
@@ -98,7 +98,7 @@ abbrev any_row : (RowId → Row → Bool) → Db → Bool
 any_row p db = list_any (λ e. list_any (λ f. p (e.0, f.0) f.1) (map.entries_of e.1)) (enumerate_from 0 db)
 
 -- a strong reference to a row that isn't there
-abbrev has_dangling : Schema → Db → Bool
+abbrev pub has_dangling : Schema → Db → Bool
 has_dangling s db = any_row (λ x r. list_any (λ y. not (is_there db y)) (strong_of_row s x r)) db
 
 -- a weak reference to a row that isn't there
@@ -106,18 +106,18 @@ abbrev is_stale : Schema → Db → Base → Atom → Bool
 is_stale s db b a = is_weak b && unwrap_or (option_map (λ x. not (is_there db x)) (referent s b a)) false
 
 -- without such references; a pair whose key or value is one goes out whole
-abbrev pruned_value : Schema → Db → ColType → Value → Value
+abbrev pub pruned_value : Schema → Db → ColType → Value → Value
 pruned_value s db t (set_of v) = set_of (set.retain v (λ a. not (is_stale s db t.key a)))
 pruned_value s db t (map_of m) = map_of (map.map_entries (λ k v. cond (is_stale s db t.key k || is_stale s db (value_base t) v) None (Some v)) m)
 
-abbrev pruned_row : Schema → Db → RowId → Row → Row
+abbrev pub pruned_row : Schema → Db → RowId → Row → Row
 pruned_row s db x r = record r { columns = map_list (λ e. pruned_value s db e.0.type e.1) (typed_cells s x r) }
 
-abbrev pruned : Schema → Db → Db
+abbrev pub pruned : Schema → Db → Db
 pruned s db = each_row (λ x r. Some (pruned_row s db x r)) db
 
 -- a column with fewer elements than its `min`
-abbrev has_too_few : Schema → RowId → Row → Bool
+abbrev pub has_too_few : Schema → RowId → Row → Bool
 has_too_few s x r = list_any (λ e. nat_lt (size e.1) e.0.type.min) (typed_cells s x r)
 
 -- the rows of a table
@@ -125,14 +125,14 @@ abbrev rows_of : Table → List Row
 rows_of table = map.values table
 
 -- the rows agree in all columns of the index
-abbrev agree : List Column → List (List ℕ) → Row → Row → Bool
+abbrev pub agree : List Column → List (List ℕ) → Row → Row → Bool
 agree cs index p q = list_all (λ i. same_value (cell zero_uuid p (declared i)) (cell zero_uuid q (declared i))) (filter_map (column_place cs) index)
 
 abbrev has_twins : {A : Type 0} → (A → A → Bool) → List A → Bool
 has_twins same [] = false
 has_twins same (x ∷ xs) = list_any (same x) xs || has_twins same xs
 
-abbrev has_duplicates : TableSchema × Table → Bool
+abbrev pub has_duplicates : TableSchema × Table → Bool
 has_duplicates e = list_any (λ index. has_twins (agree e.0.columns index) (rows_of e.1)) e.0.indexes
 
 abbrev pub row_count : Db → ℕ

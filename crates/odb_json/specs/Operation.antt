@@ -64,37 +64,37 @@ read_table s ms = do
   name ← read_text d
   ok_or (table_place s name) unknown_table
 
-abbrev read_where : Names → List Column → Members → Result (List Clause) Error
+abbrev pub read_where : Names → List Column → Members → Result (List Clause) Error
 read_where names cs ms = do
   d ← needed syntax_error (codes "where") ms
   read_list (read_clause (Some names) cs) d
 
 -- the columns that `insert` may name: all that are declared
-abbrev insertable : List Column → List ℕ → Result ℕ Error
+abbrev pub insertable : List Column → List ℕ → Result ℕ Error
 insertable cs name = do
   column ← ok_or (selector cs name) unknown_column
   ok_or (place_of column) constraint_violation
 
 -- a row whose values its columns admit
-abbrev read_row : Names → List Column → (List ℕ → Result ℕ Error) → Data → Result (List (ℕ × Value)) Error
+abbrev pub read_row : Names → List Column → (List ℕ → Result ℕ Error) → Data → Result (List (ℕ × Value)) Error
 read_row names cs place = read_object (λ name d. do
   i ← place name
   v ← read_value (Some names) (column_type cs i) d
   Ok (i, v))
 
 -- a row of `wait`, whose values are of the columns' kinds
-abbrev read_expected : Names → List Column → Data → Result (List (Selector × Value)) Error
+abbrev pub read_expected : Names → List Column → Data → Result (List (Selector × Value)) Error
 read_expected names cs = read_object (λ name d. do
   column ← ok_or (selector cs name) unknown_column
   v ← read_by_kind (Some names) (selector_type cs column) d
   Ok (column, v))
 
 -- `_uuid`, `_version` and each declared column
-abbrev all_columns : List Column → List Selector
+abbrev pub all_columns : List Column → List Selector
 all_columns cs = own_uuid ∷ own_version ∷ map_list declared (range_with_len 0 (length cs))
 
 -- the named columns from the front, none twice; `seen` are those in front of these
-abbrev distinct_columns : List Column → List Selector → List Data → Result (List Selector) Error
+abbrev pub distinct_columns : List Column → List Selector → List Data → Result (List Selector) Error
 distinct_columns cs seen [] = Ok []
 distinct_columns cs seen (d ∷ ds) = do
   name ← read_text d

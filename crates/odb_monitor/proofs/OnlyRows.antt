@@ -16,7 +16,7 @@ use Rattle.odb_monitor.proofs.Lists.{IsAsLong}
 use Rattle.odb_monitor.proofs.ReadBack.{write_value-value_read}
 use Rattle.odb_monitor.proofs.Rows.{read_row}
 use Rattle.odb_monitor.proofs.Views.{IsRowOf}
-use Rattle.odb_monitor.specs.Fold.{as_object, is_null, pairs, named, read_cells, cells_of, all_given, all_filled, all_modified, all_replaced, filled, modified, replaced, names_some, enters, leaves, deleted, modifies, replaces, step_one, step_two, step_row}
+use Rattle.odb_monitor.specs.Fold.{as_object, is_null, pairs, named, read_cells, cells_of, all_given, all_filled, all_modified, all_replaced, filled, modified, replaced, names_some, comes, goes, deleted, modifies, replaces, step_one, step_two, step_row}
 use Rattle.odb_monitor.specs.Reading.{value_read}
 use Rattle.odb_monitor.specs.Update.{members, one, all_cells, set_cells, old_cells, differences, row_object, row_update}
 use Rattle.odb_monitor.specs.View.{Cells, Change, comes_in, goes_out, differs, change}
@@ -249,20 +249,20 @@ filled_is cs d w e =
     let v = all_filled-is cs h.0 w g.1 h.2 in
     (g.0 ∙ ap (row_object cs) v.0, v.1)
 
-entering : (n : Notation) (first : Bool) (cs : List Column) (held o : Option Cells) (k : List ℕ) (x : Data) (new : Option Cells) (name : List ℕ) (named_of : Cells → Data)
+coming : (n : Notation) (first : Bool) (cs : List Column) (held o : Option Cells) (k : List ℕ) (x : Data) (new : Option Cells) (name : List ℕ) (named_of : Cells → Data)
     → ((w : Cells) → row_update n first cs (comes_in w) ≡ one name (named_of w)) → k ≡ name → ((w : Cells) → o ≡ Some w → (x ≡ named_of w) × IsAsLong cs w)
-    → enters held o ≡ Some new → IsOnlyPairs n first cs held ((k, x) ∷ []) new
-entering n first cs None o k x new name named_of prints k_is is e =
+    → comes held o ≡ Some new → IsOnlyPairs n first cs held ((k, x) ∷ []) new
+coming n first cs None o k x new name named_of prints k_is is e =
     let h = map_is (λ w. let r : Option Cells = Some w in r) o new e in
     let g = is h.0 h.1 in
     subst (IsOnlyPairs n first cs None ((k, x) ∷ [])) h.2 (only_one n first cs None k x (Some h.0) (comes_in h.0) refl name (named_of h.0) (prints h.0) k_is g.0 g.1)
-entering n first cs (Some old) o k x new name named_of prints k_is is e = absurd (none-some new e)
+coming n first cs (Some old) o k x new name named_of prints k_is is e = absurd (none-some new e)
 
-leaving : (cs : List Column) (held told : Option Cells) (k : List ℕ) (x : Data) (new : Option Cells) (first : Bool) → k ≡ codes "old" → ((w : Cells) → told ≡ Some w → (x ≡ row_object cs (all_cells w)) × IsAsLong cs w)
-    → leaves held told ≡ Some new → IsOnlyPairs update first cs held ((k, x) ∷ []) new
-leaving cs None told k x new first k_is is e = absurd (none-some new e)
-leaving cs (Some old) None k x new first k_is is e = absurd (none-some new e)
-leaving cs (Some old) (Some told) k x new first k_is is e =
+going : (cs : List Column) (held told : Option Cells) (k : List ℕ) (x : Data) (new : Option Cells) (first : Bool) → k ≡ codes "old" → ((w : Cells) → told ≡ Some w → (x ≡ row_object cs (all_cells w)) × IsAsLong cs w)
+    → goes held told ≡ Some new → IsOnlyPairs update first cs held ((k, x) ∷ []) new
+going cs None told k x new first k_is is e = absurd (none-some new e)
+going cs (Some old) None k x new first k_is is e = absurd (none-some new e)
+going cs (Some old) (Some told) k x new first k_is is e =
     let h = then_is (same_values old told) (Some None) new e in
     let same : old ≡ told = same_values-equal old told h.0 in
     subst (IsOnlyPairs update first cs (Some old) ((k, x) ∷ [])) (same_Some None new h.1)
@@ -317,24 +317,24 @@ one-update : (first : Bool) (cs : List Column) (held : Option Cells) (k : List �
 one-update first cs held k x new e = by (bytes_eq k (codes "new")) refl (bytes_eq k (codes "old") && not first) refl e
   where
     by : (b : Bool) → bytes_eq k (codes "new") ≡ b → (c : Bool) → (bytes_eq k (codes "old") && not first) ≡ c
-        → cond b (enters held (option_and_then all_given (cells_of cs x))) (cond c (leaves held (option_and_then all_given (cells_of cs x))) None) ≡ Some new → IsOnlyPairs update first cs held ((k, x) ∷ []) new
-    by true b c is e = entering update first cs held (option_and_then all_given (cells_of cs x)) k x new (codes "new") (λ w. row_object cs (all_cells w)) (λ w. refl) (key_is k (codes "new") b) (given_is cs x) e
-    by false b true c e = leaving cs held (option_and_then all_given (cells_of cs x)) k x new first (key_is k (codes "old") (both (bytes_eq k (codes "old")) (not first) c).0) (given_is cs x) e
+        → cond b (comes held (option_and_then all_given (cells_of cs x))) (cond c (goes held (option_and_then all_given (cells_of cs x))) None) ≡ Some new → IsOnlyPairs update first cs held ((k, x) ∷ []) new
+    by true b c is e = coming update first cs held (option_and_then all_given (cells_of cs x)) k x new (codes "new") (λ w. row_object cs (all_cells w)) (λ w. refl) (key_is k (codes "new") b) (given_is cs x) e
+    by false b true c e = going cs held (option_and_then all_given (cells_of cs x)) k x new first (key_is k (codes "old") (both (bytes_eq k (codes "old")) (not first) c).0) (given_is cs x) e
     by false b false c e = absurd (none-some new e)
 
 one-first : (cs : List Column) (held : Option Cells) (k : List ℕ) (x : Data) (new : Option Cells) → step_one update2 true cs held k x ≡ Some new → IsOnlyPairs update2 true cs held ((k, x) ∷ []) new
 one-first cs held k x new e = by (bytes_eq k (codes "initial")) refl e
   where
-    by : (b : Bool) → bytes_eq k (codes "initial") ≡ b → cond b (enters held (option_and_then (all_filled cs) (cells_of cs x))) None ≡ Some new → IsOnlyPairs update2 true cs held ((k, x) ∷ []) new
-    by true b e = entering update2 true cs held (option_and_then (all_filled cs) (cells_of cs x)) k x new (codes "initial") (λ w. row_object cs (set_cells cs w)) (λ w. refl) (key_is k (codes "initial") b) (filled_is cs x) e
+    by : (b : Bool) → bytes_eq k (codes "initial") ≡ b → cond b (comes held (option_and_then (all_filled cs) (cells_of cs x))) None ≡ Some new → IsOnlyPairs update2 true cs held ((k, x) ∷ []) new
+    by true b e = coming update2 true cs held (option_and_then (all_filled cs) (cells_of cs x)) k x new (codes "initial") (λ w. row_object cs (set_cells cs w)) (λ w. refl) (key_is k (codes "initial") b) (filled_is cs x) e
     by false b e = absurd (none-some new e)
 
 one-update2 : (cs : List Column) (held : Option Cells) (k : List ℕ) (x : Data) (new : Option Cells) → IsRowOf cs held → step_one update2 false cs held k x ≡ Some new → IsOnlyPairs update2 false cs held ((k, x) ∷ []) new
 one-update2 cs held k x new l e = by (bytes_eq k (codes "insert")) refl (bytes_eq k (codes "delete")) refl (bytes_eq k (codes "modify")) refl e
   where
     by : (b : Bool) → bytes_eq k (codes "insert") ≡ b → (c : Bool) → bytes_eq k (codes "delete") ≡ c → (d : Bool) → bytes_eq k (codes "modify") ≡ d
-        → cond b (enters held (option_and_then (all_filled cs) (cells_of cs x))) (cond c (deleted held (is_null x)) (cond d (option_and_then (modifies cs held) (cells_of cs x)) None)) ≡ Some new → IsOnlyPairs update2 false cs held ((k, x) ∷ []) new
-    by true b c ci d di e = entering update2 false cs held (option_and_then (all_filled cs) (cells_of cs x)) k x new (codes "insert") (λ w. row_object cs (set_cells cs w)) (λ w. refl) (key_is k (codes "insert") b) (filled_is cs x) e
+        → cond b (comes held (option_and_then (all_filled cs) (cells_of cs x))) (cond c (deleted held (is_null x)) (cond d (option_and_then (modifies cs held) (cells_of cs x)) None)) ≡ Some new → IsOnlyPairs update2 false cs held ((k, x) ∷ []) new
+    by true b c ci d di e = coming update2 false cs held (option_and_then (all_filled cs) (cells_of cs x)) k x new (codes "insert") (λ w. row_object cs (set_cells cs w)) (λ w. refl) (key_is k (codes "insert") b) (filled_is cs x) e
     by false b true ci d di e = deleting cs held k x new (key_is k (codes "delete") ci) e
     by false b false ci true di e =
         let h = and_then_is (modifies cs held) (cells_of cs x) new e in

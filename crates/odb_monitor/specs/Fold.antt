@@ -94,15 +94,15 @@ abbrev pub names_some : List (Option Value) → Bool
 names_some vs = list_any is_some vs
 
 -- a row that comes in, and wasn't there
-abbrev pub enters : Option Cells → Option Cells → Option (Option Cells)
-enters None new = option_map Some new
-enters (Some old) new = None
+abbrev pub comes : Option Cells → Option Cells → Option (Option Cells)
+comes None new = option_map Some new
+comes (Some old) new = None
 
 -- a row that goes out, and was there as it is told
-abbrev pub leaves : Option Cells → Option Cells → Option (Option Cells)
-leaves None told = None
-leaves (Some old) None = None
-leaves (Some old) (Some told) = if same_values old told then Some None else None
+abbrev pub goes : Option Cells → Option Cells → Option (Option Cells)
+goes None told = None
+goes (Some old) None = None
+goes (Some old) (Some told) = if same_values old told then Some None else None
 
 abbrev pub deleted : Option Cells → Bool → Option (Option Cells)
 deleted None b = None
@@ -119,10 +119,10 @@ replaces (Some held) news olds = if names_some olds then option_map Some (all_re
 -- one member of a row's update
 abbrev pub step_one : Notation → Bool → List Column → Option Cells → List ℕ → Data → Option (Option Cells)
 step_one update first cs held k d =
-    if bytes_eq k (codes "new") then enters held (option_and_then all_given (cells_of cs d))
-    else (if bytes_eq k (codes "old") && not first then leaves held (option_and_then all_given (cells_of cs d)) else None)
+    if bytes_eq k (codes "new") then comes held (option_and_then all_given (cells_of cs d))
+    else (if bytes_eq k (codes "old") && not first then goes held (option_and_then all_given (cells_of cs d)) else None)
 step_one update2 first cs held k d =
-    if bytes_eq k (if first then codes "initial" else codes "insert") then enters held (option_and_then (all_filled cs) (cells_of cs d))
+    if bytes_eq k (if first then codes "initial" else codes "insert") then comes held (option_and_then (all_filled cs) (cells_of cs d))
     else (if first then None
     else (if bytes_eq k (codes "delete") then deleted held (is_null d)
     else (if bytes_eq k (codes "modify") then option_and_then (modifies cs held) (cells_of cs d) else None)))

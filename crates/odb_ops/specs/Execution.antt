@@ -55,11 +55,11 @@ deleted_at d t = unwrap_or (slice_get d.deleted t) set.empty
 abbrev pub matching : List Clause → Table → Table
 matching clauses table = map.map_entries (λ u r. cond (holds_all clauses u r) (Some r) None) table
 
-abbrev found : Draft → ℕ → List Clause → Table
+abbrev pub found : Draft → ℕ → List Clause → Table
 found d t clauses = matching clauses (table_of d t)
 
 -- f of the rows of which every condition holds, and the others as they are
-abbrev on_matching : List Clause → (Row → Row) → Table → Table
+abbrev pub on_matching : List Clause → (Row → Row) → Table → Table
 on_matching clauses f table = map.map_entries (λ u r. Some (cond (holds_all clauses u r) (f r) r)) table
 
 -- the number of these rows
@@ -72,7 +72,7 @@ abbrev value_for : List (ℕ × Value) → ℕ × Column → Value
 value_for given c = unwrap_or (option_map (λ e. e.1) (find (λ e. e.0 == c.0) given)) (default_of c.1.type)
 
 -- the values given, and the default for each other column
-abbrev new_row : List Column → List (ℕ × Value) → Row
+abbrev pub new_row : List Column → List (ℕ × Value) → Row
 new_row cs given = record { version = zero_uuid; columns = map_list (value_for given) (enumerate_from 0 cs) }
 
 abbrev all_admit : List Column → List Value → Bool
@@ -89,7 +89,7 @@ abbrev name_list : Option (List ℕ) → List (List ℕ)
 name_list None = []
 name_list (Some name) = name ∷ []
 
-abbrev inserted : Schema → Draft → Uuid → ℕ → List (ℕ × Value) → Option (List ℕ) → Result (Draft × Data) Error
+abbrev pub inserted : Schema → Draft → Uuid → ℕ → List (ℕ × Value) → Option (List ℕ) → Result (Draft × Data) Error
 inserted s d u t given name =
     let row = new_row (columns_at s t) given in
     do
@@ -100,7 +100,7 @@ inserted s d u t given name =
 
 -- ---- select and wait
 
-abbrev project : List Selector → Uuid → Row → List Value
+abbrev pub project : List Selector → Uuid → Row → List Value
 project columns u r = map_list (cell u r) columns
 
 -- the first of each that are the same
@@ -109,7 +109,7 @@ distinct [] = []
 distinct (r ∷ rs) = r ∷ filter (λ q. not (same_values r q)) (distinct rs)
 
 -- the selected columns of the rows, in the order of their UUIDs
-abbrev selected : List Selector → Table → List (List Value)
+abbrev pub selected : List Selector → Table → List (List Value)
 selected columns table = map_list (λ e. project columns e.0 e.1) (map.entries_of table)
 
 abbrev write_cells : List Column → List Selector → List Value → Data
@@ -119,14 +119,14 @@ abbrev rows_result : List Column → List Selector → List (List Value) → Dat
 rows_result cs columns rows = object_of ((codes "rows", array_of (map_list (write_cells cs columns) rows)) ∷ [])
 
 -- the selected columns of a row of `rows`, with defaults for those that it doesn't name
-abbrev expected : List Column → List Selector → List (Selector × Value) → List Value
+abbrev pub expected : List Column → List Selector → List (Selector × Value) → List Value
 expected cs columns given = map_list (λ c. unwrap_or (option_map (λ e. e.1) (find (λ e. same_selector e.0 c) given)) (default_of (selector_type cs c))) columns
 
 abbrev each_in : List (List Value) → List (List Value) → Bool
 each_in rows others = list_all (λ r. list_any (same_values r) others) rows
 
 -- the same as sets of rows
-abbrev same_rows : List (List Value) → List (List Value) → Bool
+abbrev pub same_rows : List (List Value) → List (List Value) → Bool
 same_rows rows others = each_in rows others && each_in others rows
 
 abbrev is_reached : Until → Bool → Bool
@@ -134,11 +134,11 @@ is_reached until_equal same = same
 is_reached until_not_equal same = not same
 
 -- a moment past 2^64-1 is never reached
-abbrev deadline : Context → Option ℕ → Option ℕ
+abbrev pub deadline : Context → Option ℕ → Option ℕ
 deadline c None = None
 deadline c (Some timeout) = cond (nat_lt (c.arrival + timeout) (2 ^ 64)) (Some (c.arrival + timeout)) None
 
-abbrev has_passed : Context → Option ℕ → Bool
+abbrev pub has_passed : Context → Option ℕ → Bool
 has_passed c None = false
 has_passed c (Some moment) = nat_le moment c.now
 
@@ -149,7 +149,7 @@ replaced [] r = r
 replaced (e ∷ es) r = let q : Row = replaced es r in record q { columns = slice_set q.columns e.0 e.1 }
 
 -- the mutations in order, or the first fault
-abbrev mutated : List Column → List Mutation → Row → Result Row Error
+abbrev pub mutated : List Column → List Mutation → Row → Result Row Error
 mutated cs [] r = Ok r
 mutated cs (m ∷ ms) r = do
   v ← mutate m.mutator m.value (column_type cs m.column) (cell zero_uuid r (Selector.declared m.column))
@@ -162,7 +162,7 @@ abbrev same_error : Error → Error → Bool
 same_error e f = same_text (error_name e) (error_name f)
 
 -- of the rows' faults, the first in this order
-abbrev first_fault : List Error → Option Error
+abbrev pub first_fault : List Error → Option Error
 first_fault es = find (λ e. list_any (same_error e) es) (domain_error ∷ range_error ∷ resources_exhausted ∷ constraint_violation ∷ [])
 
 abbrev faults : List Column → List Mutation → Table → List Error
@@ -244,17 +244,17 @@ with_result result (failed results) = failed (result ∷ results)
 with_result result (must_wait moment) = must_wait moment
 
 -- the later operations have null for their results
-abbrev stopped : Stop → ℕ → Ran
+abbrev pub stopped : Stop → ℕ → Ran
 stopped (fails e) later = failed (error_result e ∷ replicate later null)
 stopped (waits moment) later = must_wait moment
 
 -- an operation is read whole, then carried out
-abbrev read_and_perform : Schema → Context → Names → Uuid → Draft → Data → Result (Draft × Data) Stop
+abbrev pub read_and_perform : Schema → Context → Names → Uuid → Draft → Data → Result (Draft × Data) Stop
 read_and_perform s c names u d op = do
   o ← or_stop (read_op s names op)
   perform s c u d o
 
-abbrev run_from : Schema → Context → Names → List Uuid → Draft → List Data → Ran
+abbrev pub run_from : Schema → Context → Names → List Uuid → Draft → List Data → Ran
 run_from s c names fresh d [] = finished d []
 run_from s c names fresh d (op ∷ ops) =
     elim (read_and_perform s c names (first_fresh fresh) d op) as (λ _. Ran) [

@@ -47,24 +47,24 @@ read_between low high d = do
     within (negsuc n) = Err bad_type
 
 -- a name of a database, a table or a column: an id that doesn't begin with `_`
-abbrev is_name : List ℕ → Bool
+abbrev pub is_name : List ℕ → Bool
 is_name s = is_id s && not (slice_index s 0 == 95)
 
 -- three decimal numbers joined by dots
-abbrev is_version : List ℕ → Bool
+abbrev pub is_version : List ℕ → Bool
 is_version s =
     let parts = slice_split (λ c. c == 46) s in
     (length parts == 3) && list_all (λ part. nat_lt 0 (length part) && list_all is_digit part) parts
 
 -- ---- types
 
-abbrev kind_name : Kind → List ℕ
+abbrev pub kind_name : Kind → List ℕ
 kind_name integers = codes "integer"
 kind_name booleans = codes "boolean"
 kind_name strings = codes "string"
 kind_name uuids = codes "uuid"
 
-abbrev read_kind : List ℕ → Result Kind SchemaFault
+abbrev pub read_kind : List ℕ → Result Kind SchemaFault
 read_kind s = ok_or (find (λ k. same_text (kind_name k) s) (integers ∷ booleans ∷ strings ∷ uuids ∷ [])) bad_type
 
 abbrev bad_as : {A : Type 0} → Result A Error → Result A SchemaFault
@@ -81,7 +81,7 @@ is_value_json (json.array ds) = true
 is_value_json (json.object ms) = false
 
 -- at least one atom of the kind
-abbrev read_enum : Kind → Data → Result Atoms SchemaFault
+abbrev pub read_enum : Kind → Data → Result Atoms SchemaFault
 read_enum k d = do
   demand (is_value_json d) syntax
   s ← bad_as (read_set None k d)
@@ -132,7 +132,7 @@ read_constraints tables ms = do
   weak ← given_or false (read_with (is_some table) read_ref_type) (get_member (codes "refType") ms)
   Ok (record { kind = kind; enum = enum; min_integer = min_integer; max_integer = max_integer; min_length = min_length; max_length = max_length; reference = option_map (λ t. record { table = t; weak = weak }) table })
 
-abbrev read_base : List (List ℕ) → Data → Result Base SchemaFault
+abbrev pub read_base : List (List ℕ) → Data → Result Base SchemaFault
 read_base tables (string s) = do
   k ← read_kind s
   Ok (plain k)
@@ -149,7 +149,7 @@ read_max d = do
   n ← read_between 1 (Some 4294967295) d
   Ok (Some n)
 
-abbrev read_type : List (List ℕ) → Data → Result ColType SchemaFault
+abbrev pub read_type : List (List ℕ) → Data → Result ColType SchemaFault
 read_type tables (string s) = do
   k ← read_kind s
   Ok (scalar k)
@@ -164,7 +164,7 @@ read_type tables d = do
 
 -- ---- tables
 
-abbrev read_column : List (List ℕ) → List ℕ × Data → Result Column SchemaFault
+abbrev pub read_column : List (List ℕ) → List ℕ × Data → Result Column SchemaFault
 read_column tables m = do
   demand (is_name m.0) bad_id
   ms ← read_object m.1
@@ -175,7 +175,7 @@ read_column tables m = do
   Ok (record { name = m.0; type = type; ephemeral = ephemeral; mutable = mutable })
 
 -- a declared column that isn't ephemeral
-abbrev is_indexable : List Column → List ℕ → Bool
+abbrev pub is_indexable : List Column → List ℕ → Bool
 is_indexable cs name = list_any (λ c. same_text c.name name && not c.ephemeral) cs
 
 -- the names of an index from the front; `seen` are those in front of these
@@ -187,14 +187,14 @@ distinct_names cs seen (d ∷ ds) = do
   names ← distinct_names cs (name ∷ seen) ds
   Ok (name ∷ names)
 
-abbrev read_index : List Column → Data → Result (List (List ℕ)) SchemaFault
+abbrev pub read_index : List Column → Data → Result (List (List ℕ)) SchemaFault
 read_index cs d = do
   items ← ok_or (json.as_array d) syntax
   names ← distinct_names cs [] (items_list items)
   demand (nat_lt 0 (length names)) bad_index
   Ok names
 
-abbrev read_table : List (List ℕ) → List ℕ × Data → Result TableSchema SchemaFault
+abbrev pub read_table : List (List ℕ) → List ℕ × Data → Result TableSchema SchemaFault
 read_table tables m = do
   demand (is_name m.0) bad_id
   ms ← read_object m.1
@@ -219,7 +219,7 @@ abbrev max_columns : ℕ
 max_columns = 256
 
 -- more than 256 tables, or more than 256 columns in one
-abbrev is_too_large : Data → Bool
+abbrev pub is_too_large : Data → Bool
 is_too_large d =
     nat_lt max_tables (length (members_at (codes "tables") d))
     || list_any (λ m. nat_lt max_columns (length (members_at (codes "columns") m.1))) (members_at (codes "tables") d)
@@ -268,7 +268,7 @@ abbrev write_reference : Reference → List (List ℕ × Data)
 write_reference r = (codes "refTable", string r.table) ∷ unless (not r.weak) (codes "refType") (string (codes "weak"))
 
 -- a base type without constraints is its name
-abbrev write_base : Base → Data
+abbrev pub write_base : Base → Data
 write_base b =
     cond (is_plain b) (string (kind_name b.kind))
     (object_of (
@@ -285,19 +285,19 @@ write_max None = (codes "max", string (codes "unlimited")) ∷ []
 write_max (Some n) = unless (n == 1) (codes "max") (of_natural n)
 
 -- a scalar without constraints is its name
-abbrev write_type : ColType → Data
+abbrev pub write_type : ColType → Data
 write_type t =
     cond (is_scalar t && is_plain t.key) (string (kind_name t.key.kind))
     (object_of ((codes "key", write_base t.key) ∷ present (codes "value") (option_map write_base t.value) ++ unless (t.min == 1) (codes "min") (of_natural t.min) ++ write_max t.max))
 
-abbrev write_column : Column → Data
+abbrev pub write_column : Column → Data
 write_column c =
     object_of ((codes "type", write_type c.type) ∷ unless (not c.ephemeral) (codes "ephemeral") (boolean true) ++ unless c.mutable (codes "mutable") (boolean false))
 
 abbrev write_index : List (List ℕ) → Data
 write_index names = array_of (map_list string names)
 
-abbrev write_table : TableSchema → Data
+abbrev pub write_table : TableSchema → Data
 write_table t =
     object_of (
     (codes "columns", object_of (map_list (λ c. (c.name, write_column c)) t.columns))

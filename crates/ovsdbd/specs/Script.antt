@@ -159,11 +159,11 @@ module _ (h : Service) where
       let q = record p { sessions = at_name x.name (λ y. record { name = y.name; session = y.session; bytes = all; handed = length ms.0; held = y.held }) p.sessions } in
       at_ending x ms.1 (hand_each x (drop x.handed ms.0) q)
 
-  abbrev pub named : List ℕ → Script → Option Named
-  named n p = find (λ x. bytes_eq x.name n) p.sessions
+  abbrev pub session_named : List ℕ → Script → Option Named
+  session_named n p = find (λ x. bytes_eq x.name n) p.sessions
 
   abbrev pub when_open : List ℕ → (Named → Script → Script × List ℕ) → Script → Script × List ℕ
-  when_open n f p = elim (named n p) [ None ↦ (p, line_of n (codes "!gone")) | Some x ↦ f x p ]
+  when_open n f p = elim (session_named n p) [ None ↦ (p, line_of n (codes "!gone")) | Some x ↦ f x p ]
 
   abbrev pub open_as : List ℕ → Result World Refusal → Script → Script × List ℕ
   open_as n (Err e) p = (p, line_of n (refusal_text e))
@@ -176,7 +176,7 @@ module _ (h : Service) where
   abbrev pub perform : Command → Script → Script × List ℕ
   perform (piece n bytes) p = when_open n (λ x q. take_in x bytes q) p
   perform (open_session n) p =
-      dry_all (elim (named n p) [ None ↦ open_as n (world_after (opened p.opened_so_far) p) p | Some x ↦ (p, line_of n (codes "!open")) ])
+      dry_all (elim (session_named n p) [ None ↦ open_as n (world_after (opened p.opened_so_far) p) p | Some x ↦ (p, line_of n (codes "!open")) ])
   perform (close_session n) p = dry_all (when_open n (λ x q. (shut x q, [])) p)
   perform (hold n) p = dry_all (when_open n (λ x q. (set_held true n q, [])) p)
   perform (take_dry n) p = dry_all (when_open n (λ x q. let d = dry_one x (finmap.get q.world.sessions x.session) q in (set_held false n d.0, d.1)) p)

@@ -1,0 +1,16 @@
+use Rattle.std.proofs.Common.{◌≡◌, map, not, ◌+◌, length}
+use Rattle.std.specs.List.{list_all}
+use Rattle.odb_atoms.specs.Represented.Entry.{has_entry, IsRising}
+use Rattle.odb_atoms.proofs.entry.excludes.Given as goal
+
+abbrev pub invariant-loop-entries_left : goal.invariant-loop-entries_left
+invariant-loop-entries_left g l =
+    let entries = map g.E.Entry.entry in
+    record {
+      rising : IsRising (entries l.entries_left);
+      unwanted_rising : IsRising (entries l.unwanted_left);
+      same_answer : list_all (λ e. not (has_entry (entries l.entries_left) e)) (entries l.unwanted_left) ≡ list_all (λ e. not (has_entry (entries l.fn.entries) e)) (entries l.fn.unwanted);
+    }
+
+abbrev pub decreases-loop-entries_left : goal.decreases-loop-entries_left
+decreases-loop-entries_left g l = length l.entries_left + length l.unwanted_left

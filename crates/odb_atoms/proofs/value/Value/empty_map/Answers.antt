@@ -1,0 +1,5 @@
+use Rattle.odb_atoms.proofs.Represented.Values.{none_in_map}
+use Rattle.odb_atoms.proofs.value.Value.empty_map.Goals as goal
+
+pub returns : goal.returns
+returns c = rw c.new.ensures.items none_in_map

@@ -1,0 +1,44 @@
+-- The entries of a value: the elements of a set, which have no value, and the pairs of a map.
+use Rattle.std.specs.Prelude.{◌≡◌, Bool, true, false, cond, T, List, map, Option, Some, None}
+use Rattle.std.specs.FinMap.Entries.{find, is_sorted}
+use Rattle.odb_atoms.specs.Atom.{Atom, atom_cmp, same_atom}
+
+-- a key, and the value that a map has there
+abbrev pub Entry : Type 0
+Entry = Atom × Option Atom
+
+-- the keys strictly rise
+abbrev pub IsRising : List Entry → Type 0
+IsRising es = T (is_sorted atom_cmp es)
+
+-- what stands at a key, if there is an entry
+abbrev pub entry_at : List Entry → Atom → Option (Option Atom)
+entry_at es k = find atom_cmp k es
+
+-- the same value, or none
+abbrev pub alike : Option Atom → Option Atom → Bool
+alike None None = true
+alike None (Some b) = false
+alike (Some a) None = false
+alike (Some a) (Some b) = same_atom a b
+
+abbrev pub is_alike : Option (Option Atom) → Option Atom → Bool
+is_alike None v = false
+is_alike (Some u) v = alike u v
+
+-- the entry is among them
+abbrev pub has_entry : List Entry → Entry → Bool
+has_entry es e = is_alike (entry_at es e.0) e.1
+
+-- of what two lists have at a key: what one alone has; nothing where both have the same; and where they differ the second's
+abbrev pub changed_value : Option (Option Atom) → Option (Option Atom) → Option (Option Atom)
+changed_value None y = y
+changed_value (Some a) None = Some a
+changed_value (Some a) (Some b) = cond (alike a b) None (Some b)
+
+-- at each key stands what the two make of it
+abbrev pub IsChange : List Entry → List Entry → List Entry → Type 0
+IsChange old new change = (k : Atom) → entry_at change k ≡ changed_value (entry_at old k) (entry_at new k)
+
+abbrev pub keys_of : List Entry → List Atom
+keys_of = map (λ e. e.0)

@@ -1,0 +1,133 @@
+//! Atoms, the scalars of RFC 7047 (section 5.1, `<atom>`), and their kinds.
+
+ghost use Rattle.std.specs.Prelude.{◌≡◌, refl, IfOk, Some};
+ghost use Rattle.odb_atoms.specs.Atom.{kind_of, atom_cmp, same_atom, zero_atom};
+ghost use Rattle.odb_atoms.specs.ColType.{is_a};
+ghost use Rattle.odb_atoms.specs.Represented.Atom.{atom_of, kind_in};
+ghost use Rattle.odb_atoms.specs.Represented.AtomOrder.{atoms_equivalent, atoms_partial};
+ghost use Rattle.odb_atoms.specs.Represented.AtomOrder.{atoms_partially_equivalent, atoms_total};
+
+use std::alloc::{AllocError, Global};
+use std::cmp::Ordering;
+use uuid::Uuid;
+
+/// A scalar (RFC 7047, section 5.1, `<atom>`), of one of the kinds that this server has: all of the
+/// RFC but reals.
+///
+/// Atoms are ordered by kind, in the order of the variants; integers by size, `false` before
+/// `true`, texts by their bytes and identifiers as numbers of 128 bits. Two atoms are equal where
+/// neither is before the other.
+#[derive(Debug, Drop)]
+pub enum Atom {
+    /// An integer from -2^63 to 2^63 - 1.
+    Integer(i64),
+    /// A boolean.
+    Boolean(bool),
+    /// A string.
+    Text(String),
+    /// An identifier of 128 bits.
+    Uuid(Uuid),
+}
+
+/// An atomic type (RFC 7047, section 3.2, `<atomic-type>`).
+#[derive(Clone, Copy, Debug, PartialEq, Eq, PartialOrd, Ord, Hash)]
+pub enum Kind {
+    /// `integer`.
+    Integer,
+    /// `boolean`.
+    Boolean,
+    /// `string`.
+    Text,
+    /// `uuid`.
+    Uuid,
+}
+
+impl Atom {
+    /// What a column of the kind has by default (RFC 7047, section 5.2.1): 0, `false`, the empty
+    /// string or the zero UUID. O(1); it takes no memory, but an empty string keeps the allocator.
+    pub fn zero(alloc: Global, kind: Kind) -> Atom
+        ensures { atom_of result ≡ zero_atom (kind_in kind) }
+    {
+        match kind {
+            Kind::Integer => Atom::Integer(0),
+            Kind::Boolean => Atom::Boolean(false),
+            Kind::Text => Atom::Text(String::new(alloc)),
+            Kind::Uuid => Atom::Uuid(Uuid::nil()),
+        }
+    }
+
+    /// The atomic type that the atom is of.
+    pub fn kind(&self) -> Kind
+        ensures { kind_in result ≡ kind_of (atom_of self.now) }
+    {
+        match self {
+            Atom::Integer(_) => Kind::Integer,
+            Atom::Boolean(_) => Kind::Boolean,
+            Atom::Text(_) => Kind::Text,
+            Atom::Uuid(_) => Kind::Uuid,
+        }
+    }
+
+    /// Whether the atom is of the kind.
+    pub fn is_a(&self, kind: Kind) -> bool
+        ensures { result ≡ is_a (kind_in kind) (atom_of self.now) }
+    {
+        self.kind() == kind
+    }
+
+    /// An equal atom. Only a text takes memory, O(its length); an error says that there was none.
+    pub fn try_copy(&self, alloc: Global) -> Result<Atom, AllocError>
+        ensures { IfOk result (λ copy. atom_of copy ≡ atom_of self.now) }
+    {
+        Ok(match self {
+            Atom::Integer(integer) => Atom::Integer(*integer),
+            Atom::Boolean(boolean) => Atom::Boolean(*boolean),
+            Atom::Text(text) => Atom::Text(String::from_str(alloc, text.as_str())?),
+            Atom::Uuid(uuid) => Atom::Uuid(*uuid),
+        })
+    }
+}
+
+impl Ord for Atom {
+    ghost cmp = { λ a b. atom_cmp (atom_of a) (atom_of b) };
+
+    ghost total = { atoms_total };
+
+    ghost matches_partial_cmp = { λ _ _. refl };
+
+    ghost matches_eq = { λ _ _. refl };
+
+    fn cmp(&self, other: &Atom) -> Ordering {
+        match (self, other) {
+            (Atom::Integer(x), Atom::Integer(y)) => x.cmp(y),
+            (Atom::Boolean(x), Atom::Boolean(y)) => x.cmp(y),
+            (Atom::Text(x), Atom::Text(y)) => x.as_str().cmp(y.as_str()),
+            (Atom::Uuid(x), Atom::Uuid(y)) => x.as_u128().cmp(&y.as_u128()),
+            _ => self.kind().cmp(&other.kind()),
+        }
+    }
+}
+
+impl PartialOrd for Atom {
+    ghost partial_cmp = { λ a b. Some (atom_cmp (atom_of a) (atom_of b)) };
+
+    ghost laws = { atoms_partial };
+
+    fn partial_cmp(&self, other: &Atom) -> Option<Ordering> {
+        Some(self.cmp(other))
+    }
+}
+
+impl PartialEq for Atom {
+    ghost eq = { λ a b. same_atom (atom_of a) (atom_of b) };
+
+    ghost laws = { atoms_partially_equivalent };
+
+    fn eq(&self, other: &Atom) -> bool {
+        self.cmp(other) == Ordering::Equal
+    }
+}
+
+impl Eq for Atom {
+    ghost laws = { atoms_equivalent };
+}

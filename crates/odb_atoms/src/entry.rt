@@ -1,0 +1,197 @@
+//! What sets and maps have in common: entries in the order of their keys, searched and merged.
+
+ghost use Rattle.std.specs.Prelude.{◌≡◌, Bool, not, map, ◌++◌, option_map, Option, Some, None};
+ghost use Rattle.std.specs.Prelude.{IfOk, OnOk, IsTrue, IsPermutation};
+ghost use Rattle.std.specs.List.{list_all};
+ghost use Rattle.odb_atoms.specs.Atom as model;
+ghost use Rattle.odb_atoms.specs.Members.{repeats};
+ghost use Rattle.odb_atoms.specs.Represented.Atom.{atom_of};
+ghost use Rattle.odb_atoms.specs.Represented.Entry.{alike, entry_at, has_entry, keys_of};
+ghost use Rattle.odb_atoms.specs.Represented.Entry.{IsChange, IsRising};
+
+use crate::atom::Atom;
+use std::alloc::{AllocError, Global};
+use std::cmp::Ordering;
+
+/// An entry of a value: an element of a set, which is its own key, or a pair of a map.
+pub trait Entry: Drop {
+    ghost entry: { Self → model.Atom × Option model.Atom };
+
+    /// What the entries of a value are ordered by.
+    fn key(&self) -> &Atom
+        ensures { atom_of result.now ≡ (entry self.now).0 };
+
+    /// Whether an entry with this key has the same value, too.
+    fn is_alike(&self, other: &Self) -> bool
+        ensures { result ≡ alike (entry self.now).1 (entry other.now).1 };
+
+    /// An equal entry.
+    fn try_copy(&self, alloc: Global) -> Result<Self, AllocError>
+        ensures { IfOk result (λ copy. entry copy ≡ entry self.now) };
+}
+
+impl Entry for Atom {
+    ghost entry = { λ a. (atom_of a, None) };
+
+    fn key(&self) -> &Atom {
+        self
+    }
+
+    fn is_alike(&self, _other: &Atom) -> bool {
+        true
+    }
+
+    fn try_copy(&self, alloc: Global) -> Result<Atom, AllocError> {
+        Atom::try_copy(self, alloc)
+    }
+}
+
+impl Entry for (Atom, Atom) {
+    ghost entry = { λ p. (atom_of p.0, Some (atom_of p.1)) };
+
+    fn key(&self) -> &Atom {
+        &self.0
+    }
+
+    fn is_alike(&self, other: &(Atom, Atom)) -> bool {
+        self.1 == other.1
+    }
+
+    fn try_copy(&self, alloc: Global) -> Result<(Atom, Atom), AllocError> {
+        Ok((self.0.try_copy(alloc)?, self.1.try_copy(alloc)?))
+    }
+}
+
+/// Puts the entries in the order of their keys, in place, and says whether no key stands twice.
+/// O(n log n) comparisons.
+pub fn sort<E: Entry>(entries: &mut Vec<E>) -> bool
+    ensures permutation { IsPermutation entries.old.items entries.new.items }
+    ensures distinct { result ≡ not (repeats (keys_of (map E.entry entries.old.items))) }
+    ensures rising { IsTrue result → IsRising (map E.entry entries.new.items) }
+{
+    entries.sort_unstable_by(|x, y| x.key().cmp(y.key()));
+    entries.is_sorted_by(|x, y| x.key().cmp(y.key()).is_lt())
+}
+
+/// The entry at the key, by binary search.
+pub fn find<'a, E: Entry>(entries: &'a [E], key: &Atom) -> Option<&'a E>
+    requires { IsRising (map E.entry entries.now) }
+    ensures { option_map (λ found. (E.entry found.now).1) result
+        ≡ entry_at (map E.entry entries.now) (atom_of key.now) }
+{
+    match entries.binary_search_by(|entry| entry.key().cmp(key)) {
+        Ok(place) => Some(&entries[place]),
+        Err(_) => None,
+    }
+}
+
+/// Whether each of `wanted` is among `entries`. One pass over both.
+pub fn includes<E: Entry>(entries: &[E], wanted: &[E]) -> bool
+    requires rising { IsRising (map E.entry entries.now) }
+    requires wanted_rising { IsRising (map E.entry wanted.now) }
+    ensures { result ≡ list_all (has_entry (map E.entry entries.now)) (map E.entry wanted.now) }
+{
+    let mut entries_left = entries;
+    let mut wanted_left = wanted;
+    while let [next, later @ ..] = wanted_left {
+        let [first, rest @ ..] = entries_left else {
+            return false;
+        };
+        match first.key().cmp(next.key()) {
+            Ordering::Less => {}
+            Ordering::Equal if first.is_alike(next) => wanted_left = later,
+            _ => return false,
+        }
+        entries_left = rest;
+    }
+    true
+}
+
+/// Whether none of `unwanted` is among `entries`. One pass over both.
+pub fn excludes<E: Entry>(entries: &[E], unwanted: &[E]) -> bool
+    requires rising { IsRising (map E.entry entries.now) }
+    requires unwanted_rising { IsRising (map E.entry unwanted.now) }
+    ensures { result
+        ≡ list_all (λ e. not (has_entry (map E.entry entries.now) e)) (map E.entry unwanted.now) }
+{
+    let mut entries_left = entries;
+    let mut unwanted_left = unwanted;
+    while let [first, rest @ ..] = entries_left {
+        let [next, later @ ..] = unwanted_left else {
+            return true;
+        };
+        match first.key().cmp(next.key()) {
+            Ordering::Less => entries_left = rest,
+            Ordering::Greater => unwanted_left = later,
+            Ordering::Equal if first.is_alike(next) => return false,
+            Ordering::Equal => {
+                entries_left = rest;
+                unwanted_left = later;
+            }
+        }
+    }
+    true
+}
+
+/// The entries by which two lists differ: those whose key one alone has, and where both have the
+/// key with other values, those of `new`. One pass over both.
+pub fn changed<E: Entry>(alloc: Global, old: &[E], new: &[E]) -> Result<Vec<E>, AllocError>
+    requires old_rising { IsRising (map E.entry old.now) }
+    requires new_rising { IsRising (map E.entry new.now) }
+    ensures rising { IfOk result (λ v. IsRising (map E.entry v.items)) }
+    ensures changed { IfOk result (λ v.
+        IsChange (map E.entry old.now) (map E.entry new.now) (map E.entry v.items)) }
+{
+    let mut change = Vec::new(alloc);
+    let mut old_left = old;
+    let mut new_left = new;
+    while let [first, rest @ ..] = old_left {
+        let [next, later @ ..] = new_left else {
+            break;
+        };
+        match first.key().cmp(next.key()) {
+            Ordering::Less => {
+                change.push(first.try_copy(alloc)?)?;
+                old_left = rest;
+            }
+            Ordering::Greater => {
+                change.push(next.try_copy(alloc)?)?;
+                new_left = later;
+            }
+            Ordering::Equal => {
+                if !first.is_alike(next) {
+                    change.push(next.try_copy(alloc)?)?;
+                }
+                old_left = rest;
+                new_left = later;
+            }
+        }
+    }
+    append_copies(alloc, old_left, &mut change)?;
+    append_copies(alloc, new_left, &mut change)?;
+    Ok(change)
+}
+
+/// Equal entries, in the same order.
+pub fn copies<E: Entry>(alloc: Global, entries: &[E]) -> Result<Vec<E>, AllocError>
+    ensures { IfOk result (λ v. map E.entry v.items ≡ map E.entry entries.now) }
+{
+    let mut copies = Vec::with_capacity(alloc, entries.len())?;
+    append_copies(alloc, entries, &mut copies)?;
+    Ok(copies)
+}
+
+fn append_copies<E: Entry>(
+    alloc: Global,
+    entries: &[E],
+    copies: &mut Vec<E>,
+) -> Result<(), AllocError>
+    ensures { OnOk result
+        (map E.entry copies.new.items
+        ≡ map E.entry copies.old.items ++ map E.entry entries.now) }
+{
+    for entry in entries {
+        copies.push(entry.try_copy(alloc)?)?;
+    }
+    Ok(())
+}

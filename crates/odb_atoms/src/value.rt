@@ -1,0 +1,388 @@
+//! Values of columns (RFC 7047, section 5.1, `<value>`): sets and maps of atoms.
+
+ghost use Rattle.std.specs.Prelude.{◌≡◌, ◌==◌, ◌∷◌, [], map, option_map, refl, Some};
+ghost use Rattle.std.specs.Prelude.{IfErr, IfOk, IsPermutation};
+ghost use Rattle.std.specs.Ordering.{eq_by_cmp};
+ghost use Rattle.odb_atoms.specs.FinSet as set;
+ghost use Rattle.odb_atoms.specs.FinMap as finite;
+ghost use Rattle.odb_atoms.specs.Members as members;
+ghost use Rattle.odb_atoms.specs.Members.{excludes_all, has, map_fault, set_fault};
+ghost use Rattle.odb_atoms.specs.Members.{value_at, value_cmp};
+ghost use Rattle.odb_atoms.specs.Value as model;
+ghost use Rattle.odb_atoms.specs.Value.{atoms, map_of, set_of, value_code};
+ghost use Rattle.odb_atoms.specs.ColType.{is_a};
+ghost use Rattle.odb_atoms.specs.Represented.Atom.{atom_of, kind_in};
+ghost use Rattle.odb_atoms.specs.Represented.Value.{AreAscending, AreInOrder, HaveAscendingKeys};
+ghost use Rattle.odb_atoms.specs.Represented.Value.{Lists, each_element, each_pair, map_in, pair_of};
+ghost use Rattle.odb_atoms.specs.Represented.Value.{set_in, value_in};
+ghost use Rattle.odb_atoms.specs.Represented.Refused.{refusal_of};
+ghost use Rattle.odb_atoms.specs.Represented.ValueOrder.{values_equivalent, values_partial};
+ghost use Rattle.odb_atoms.specs.Represented.ValueOrder.{values_partially_equivalent, values_total};
+
+use crate::atom::{Atom, Kind};
+use crate::entry;
+use std::alloc::{AllocError, Global};
+use std::cmp::Ordering;
+use std::marker::Model;
+use std::slice;
+use thiserror::Error;
+
+/// A value of a column (RFC 7047, section 5.1, `<value>`): a finite set of atoms, or a finite map
+/// from atoms to atoms. A scalar is a set of one atom.
+///
+/// A value of one atom takes no memory beside its text; any other keeps its entries in one
+/// allocation. A `Value` itself is 40 bytes.
+#[derive(Debug, Drop)]
+pub struct Value {
+    content: Content,
+}
+
+/// Why a list of atoms or pairs makes no value (RFC 7047, section 5.1, `<set>` and `<map>`).
+#[derive(Clone, Copy, Debug, PartialEq, Eq, Error)]
+pub enum ListFault {
+    /// The elements, the keys or the values are of several kinds.
+    #[error("atoms of several kinds")]
+    MixedKinds,
+    /// An element or a key stands twice.
+    #[error("a repeated element or key")]
+    Repeated,
+}
+
+/// A list that makes no value: the fault, and the list.
+#[derive(Debug, Drop)]
+pub struct Refused<T> {
+    /// Why it makes no value.
+    pub fault: ListFault,
+    /// What was given, in some order.
+    pub entries: T,
+}
+
+#[derive(Debug, Drop)]
+enum Content {
+    One(Atom),
+    Set(Vec<Atom>),
+    Map(Vec<(Atom, Atom)>),
+}
+
+/// The entries of a value in ascending order: the elements of a set, or the pairs of a map by their
+/// keys.
+#[derive(Clone, Copy, Debug)]
+pub enum Entries<'a> {
+    /// The elements of a set.
+    Set(&'a [Atom]),
+    /// The pairs of a map: the key, and its value.
+    Map(&'a [(Atom, Atom)]),
+}
+
+impl Model for Value {
+    ghost use Rattle.odb_atoms.specs.Value as model;
+    ghost use Rattle.odb_atoms.specs.Value.{value_code};
+
+    ghost Value = { model.Value };
+
+    ghost coded = { value_code };
+
+    ghost use Rattle.odb_atoms.specs.Represented.Value.{value_of, IsAscending};
+
+    ghost view = { value_of };
+
+    ghost invariant = { IsAscending };
+}
+
+impl Value {
+    /// The set of one atom, which is what a scalar is. O(1), without memory.
+    pub fn one(atom: Atom) -> Value
+        ensures { result ≡ set_of (atoms (atom_of atom ∷ [])) }
+    {
+        Value {
+            content: Content::One(atom),
+        }
+    }
+
+    /// The set without elements. O(1); it takes no memory, but keeps the allocator.
+    pub fn empty_set(alloc: Global) -> Value
+        ensures { result ≡ set_of set.empty }
+    {
+        Value {
+            content: Content::Set(Vec::new(alloc)),
+        }
+    }
+
+    /// The map without pairs. O(1); it takes no memory, but keeps the allocator.
+    pub fn empty_map(alloc: Global) -> Value
+        ensures { result ≡ map_of finite.empty }
+    {
+        Value {
+            content: Content::Map(Vec::new(alloc)),
+        }
+    }
+
+    /// The set of the elements, which may come in any order. O(n log n) for n elements; it takes no
+    /// memory.
+    ///
+    /// The elements have to be of one kind, and none may stand twice (RFC 7047, section 5.1,
+    /// `<set>`). Otherwise they are handed back, in some order, with the fault, of which
+    /// `MixedKinds` comes first.
+    pub fn set(mut elements: Vec<Atom>) -> Result<Value, Refused<Vec<Atom>>>
+        ensures value { IfOk result (λ v. v ≡ set_of (atoms (map atom_of elements.items))) }
+        ensures fault { refusal_of result ≡ set_fault (map atom_of elements.items) }
+        ensures handed_back { IfErr result (λ r. IsPermutation elements.items r.entries.items) }
+    {
+        if !are_of_one_kind(&elements) {
+            return Err(Refused {
+                fault: ListFault::MixedKinds,
+                entries: elements,
+            });
+        }
+        if !entry::sort(&mut elements) {
+            return Err(Refused {
+                fault: ListFault::Repeated,
+                entries: elements,
+            });
+        }
+        Ok(Value::of_elements(elements))
+    }
+
+    /// The map of the pairs, which may come in any order. O(n log n) for n pairs; it takes no
+    /// memory.
+    ///
+    /// The keys have to be of one kind and the values of one kind, and no key may stand twice (RFC
+    /// 7047, section 5.1, `<map>`). Otherwise the pairs are handed back, in some order, with the
+    /// fault, of which `MixedKinds` comes first.
+    pub fn map(mut pairs: Vec<(Atom, Atom)>) -> Result<Value, Refused<Vec<(Atom, Atom)>>>
+        ensures value { IfOk result (λ v. v ≡ map_of (finite.from_entries (map pair_of pairs.items))) }
+        ensures fault { refusal_of result ≡ map_fault (map pair_of pairs.items) }
+        ensures handed_back { IfErr result (λ r. IsPermutation pairs.items r.entries.items) }
+    {
+        if !have_one_kind_each(&pairs) {
+            return Err(Refused {
+                fault: ListFault::MixedKinds,
+                entries: pairs,
+            });
+        }
+        if !entry::sort(&mut pairs) {
+            return Err(Refused {
+                fault: ListFault::Repeated,
+                entries: pairs,
+            });
+        }
+        Ok(Value::of_pairs(pairs))
+    }
+
+    /// The map of one pair. O(1); an error says that there was no memory for it, and the atoms are
+    /// dropped.
+    pub(crate) fn one_pair(alloc: Global, key: Atom, value: Atom) -> Result<Value, AllocError>
+        ensures { IfOk result (λ v. v ≡ map_of (finite.from_entries ((atom_of key, atom_of value) ∷ []))) }
+    {
+        let mut pairs = Vec::with_capacity(alloc, 1)?;
+        pairs.push((key, value))?;
+        Ok(Value::of_pairs(pairs))
+    }
+
+    /// The set of ascending elements, of which a lone one moves inline.
+    pub(crate) fn of_elements(mut elements: Vec<Atom>) -> Value
+        requires { AreAscending elements.items }
+        ensures { result ≡ set_in elements.items }
+    {
+        if elements.len() == 1
+            && let Some(atom) = elements.pop()
+        {
+            return Value::one(atom);
+        }
+        Value {
+            content: Content::Set(elements),
+        }
+    }
+
+    /// The map of pairs whose keys ascend.
+    pub(crate) fn of_pairs(pairs: Vec<(Atom, Atom)>) -> Value
+        requires { HaveAscendingKeys pairs.items }
+        ensures { result ≡ map_in pairs.items }
+    {
+        Value {
+            content: Content::Map(pairs),
+        }
+    }
+
+    /// The elements or the pairs, in ascending order. O(1).
+    pub fn entries(&self) -> Entries<'_>
+        ensures listed { Lists result self.now }
+        ensures value { value_in result ≡ self.now }
+        ensures in_order { AreInOrder result }
+    {
+        match &self.content {
+            Content::One(atom) => Entries::Set(slice::from_ref(atom)),
+            Content::Set(elements) => Entries::Set(elements.as_slice()),
+            Content::Map(pairs) => Entries::Map(pairs.as_slice()),
+        }
+    }
+
+    /// The number of elements or pairs. O(1).
+    pub fn len(&self) -> usize
+        ensures { result ≡ model.size self.now }
+    {
+        match self.entries() {
+            Entries::Set(elements) => elements.len(),
+            Entries::Map(pairs) => pairs.len(),
+        }
+    }
+
+    /// Whether there is no element or pair. O(1).
+    pub fn is_empty(&self) -> bool
+        ensures { result ≡ (model.size self.now == 0) }
+    {
+        self.len() == 0
+    }
+
+    /// Whether it is a map, and not a set. O(1).
+    pub fn is_map(&self) -> bool
+        ensures { result ≡ model.is_map self.now }
+    {
+        match self.entries() {
+            Entries::Set(_) => false,
+            Entries::Map(_) => true,
+        }
+    }
+
+    /// Whether the atom is an element of the set, or a key of the map. O(log n) comparisons.
+    pub fn contains(&self, atom: &Atom) -> bool
+        ensures { result ≡ has self.now (atom_of atom.now) }
+    {
+        match self.entries() {
+            Entries::Set(elements) => entry::find(elements, atom).is_some(),
+            Entries::Map(pairs) => entry::find(pairs, atom).is_some(),
+        }
+    }
+
+    /// The value that a map has at the key; a set has none. O(log n) comparisons.
+    pub fn get(&self, key: &Atom) -> Option<&Atom>
+        ensures { option_map (λ value. atom_of value.now) result ≡ value_at self.now (atom_of key.now) }
+    {
+        match self.entries() {
+            Entries::Set(_) => None,
+            Entries::Map(pairs) => {
+                let pair = entry::find(pairs, key)?;
+                Some(&pair.1)
+            }
+        }
+    }
+
+    /// Whether each element or pair of `other` is in this value, which a set and a map never say of
+    /// each other (RFC 7047, section 5.1, `<condition>`: "includes"). O(m + n).
+    pub fn includes(&self, other: &Value) -> bool
+        ensures { result ≡ model.includes_all self.now other.now }
+    {
+        match (self.entries(), other.entries()) {
+            (Entries::Set(all), Entries::Set(wanted)) => entry::includes(all, wanted),
+            (Entries::Map(all), Entries::Map(wanted)) => entry::includes(all, wanted),
+            _ => false,
+        }
+    }
+
+    /// Whether no element or pair of `other` is in this value, which a set and a map never say of
+    /// each other (RFC 7047, section 5.1, `<condition>`: "excludes"). O(m + n).
+    pub fn excludes(&self, other: &Value) -> bool
+        ensures { result ≡ excludes_all self.now other.now }
+    {
+        match (self.entries(), other.entries()) {
+            (Entries::Set(all), Entries::Set(unwanted)) => entry::excludes(all, unwanted),
+            (Entries::Map(all), Entries::Map(unwanted)) => entry::excludes(all, unwanted),
+            _ => false,
+        }
+    }
+
+    /// An equal value. O(the bytes copied); an error says that there was no memory.
+    pub fn try_copy(&self, alloc: Global) -> Result<Value, AllocError>
+        ensures { IfOk result (λ copy. copy ≡ self.now) }
+    {
+        match &self.content {
+            Content::One(atom) => Ok(Value::one(atom.try_copy(alloc)?)),
+            Content::Set(elements) => Ok(Value::of_elements(entry::copies(alloc, elements)?)),
+            Content::Map(pairs) => Ok(Value::of_pairs(entry::copies(alloc, pairs)?)),
+        }
+    }
+}
+
+/// Sets come before maps; two sets are compared element by element from the lowest on, and two maps
+/// pair by pair, by the keys first.
+impl Ord for Value {
+    ghost cmp = { value_cmp };
+
+    ghost total = { values_total };
+
+    ghost matches_partial_cmp = { λ _ _. refl };
+
+    ghost matches_eq = { λ _ _. refl };
+
+    fn cmp(&self, other: &Value) -> Ordering {
+        match (self.entries(), other.entries()) {
+            (Entries::Set(left), Entries::Set(right)) => left.cmp(&right),
+            (Entries::Set(_), Entries::Map(_)) => Ordering::Less,
+            (Entries::Map(_), Entries::Set(_)) => Ordering::Greater,
+            (Entries::Map(left), Entries::Map(right)) => left.cmp(&right),
+        }
+    }
+}
+
+impl PartialOrd for Value {
+    ghost partial_cmp = { λ v w. Some (value_cmp v w) };
+
+    ghost laws = { values_partial };
+
+    fn partial_cmp(&self, other: &Value) -> Option<Ordering> {
+        Some(self.cmp(other))
+    }
+}
+
+impl PartialEq for Value {
+    ghost eq = { eq_by_cmp value_cmp };
+
+    ghost laws = { values_partially_equivalent };
+
+    fn eq(&self, other: &Value) -> bool
+        ensures value { result ≡ eq_by_cmp value_cmp self.now other.now }
+        ensures same { result ≡ model.same_value self.now other.now }
+    {
+        self.cmp(other) == Ordering::Equal
+    }
+}
+
+impl Eq for Value {
+    ghost laws = { values_equivalent };
+}
+
+/// Whether the elements are of the first one's kind.
+fn are_of_one_kind(elements: &[Atom]) -> bool
+    ensures { result ≡ members.are_of_one_kind (map atom_of elements.now) }
+{
+    match elements {
+        [] => true,
+        [first, rest @ ..] => are_all_a(rest, first.kind()),
+    }
+}
+
+/// Whether the keys are of the first one's kind, and the values too.
+fn have_one_kind_each(pairs: &[(Atom, Atom)]) -> bool
+    ensures { result ≡ members.have_one_kind_each (map pair_of pairs.now) }
+{
+    match pairs {
+        [] => true,
+        [first, rest @ ..] => are_all_pairs_of(rest, first.0.kind(), first.1.kind()),
+    }
+}
+
+/// Whether each element is of the kind.
+pub(crate) fn are_all_a(elements: &[Atom], kind: Kind) -> bool
+    ensures { result ≡ each_element (is_a (kind_in kind)) elements.now }
+{
+    elements.iter().all(|atom| atom.is_a(kind))
+}
+
+/// Whether each key and each value is of its kind.
+pub(crate) fn are_all_pairs_of(pairs: &[(Atom, Atom)], key: Kind, value: Kind) -> bool
+    ensures { result ≡ each_pair (is_a (kind_in key)) (is_a (kind_in value)) pairs.now }
+{
+    pairs
+        .iter()
+        .all(|pair| pair.0.is_a(key) && pair.1.is_a(value))
+}
