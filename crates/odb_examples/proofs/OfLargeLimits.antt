@@ -33,13 +33,16 @@ lock_of_a_claimed_name l s t name some apart many = rw (some, apart) refl
 -- ---- an object of so many bytes
 
 pub message_too_long : (cs : List ℕ) → closed_at outside 0 (take max_message (123 ∷ cs)) ≡ None → length (123 ∷ cs) ≡ 16777216 → front_of (123 ∷ cs) ≡ too_long
+unfolding max_message
 message_too_long cs unclosed long = rw (unclosed, long) refl
 
 pub message_not_yet_too_long : (cs : List ℕ) → closed_at outside 0 (take max_message (123 ∷ cs)) ≡ None → length (123 ∷ cs) ≡ 16777215 → front_of (123 ∷ cs) ≡ waiting
+unfolding max_message
 message_not_yet_too_long cs unclosed long = rw (unclosed, long) refl
 
 -- only so many bytes are looked at
 pub message_limit : max_message ≡ 16777216
+unfolding max_message
 message_limit = refl
 
 -- ---- a schema's file

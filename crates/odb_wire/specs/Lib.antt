@@ -1,2 +1,7 @@
 pub mod Message
 pub mod Stream
+pub mod Kind
+pub mod Shown
+pub mod Scanning
+pub mod Feeding
+pub mod Standing

@@ -30,7 +30,7 @@ closed_at p n [] = None
 closed_at p n (c ∷ cs) =
     if open_after p c n == 0 then Some (c ∷ []) else option_map (λ t. c ∷ t) (closed_at (place_after p c) (open_after p c n) cs)
 
-abbrev pub max_message : ℕ
+unfoldable pub max_message : ℕ
 max_message = 16777216
 
 -- what stands at the front of a stream: no whole message yet, a fault, or the text of an object

@@ -1,2 +1,20 @@
 //! Streams of JSON-RPC messages (RFC 7047, 4): framing, requests, notifications and responses.
+//!
+//! A stream is a row of JSON objects with blanks between them. `specs/Stream.antt` says which messages a list of bytes
+//! has and how it ends, and `specs/Message.antt` what a request, a notification and a response are. A `Framer` takes a
+//! stream in by pieces.
 #![tactic(auto)]
+
+mod fault;
+mod framer;
+mod history;
+mod left_out;
+mod message;
+mod scan;
+mod split;
+#[cfg(test)]
+mod tests;
+
+pub use fault::WireFault;
+pub use framer::{Framer, read_pieces};
+pub use message::{Message, Request, Response};

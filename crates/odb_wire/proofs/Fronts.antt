@@ -1,0 +1,134 @@
+-- What a scan says of the front of a stream.
+use Rattle.std.proofs.Common.{◌≡◌, ℕ, suc, ◌==◌, ◌+◌, ◌<◌, ◌≤◌, ◌++◌, Bool, true, false, not, nat_lt, if◌then◌else◌, List, [], ◌∷◌, Option, Some, None, option_map, refl, ap, subst, append_assoc, ◌∙◌, sym, length, get_or, take, drop, arith, add-one, min}
+use Rattle.std.proofs.lemmas.List.{length-take, take-take, take_all, append-nil, take-append-drop}
+use Rattle.std.proofs.lemmas.Bool.{ltb-true}
+use Rattle.odb_wire.specs.Stream.{Place, outside, closed_at, place_after, open_after, whole, too_long, bad, of_text, front_of, max_message}
+use Rattle.odb_wire.specs.Scanning.{GoesOn, IsEnd, place_of}
+use Rattle.odb_wire.specs.declared.scan.Scan.{Scan}
+use Rattle.odb_wire.specs.Standing.{IsWhole, IsUnfinished}
+use Rattle.odb_wire.proofs.Streams.{front_of-whole_more}
+
+-- the limit, as the code has it
+pub max_message-is : max_message ≡ 16777216
+unfolding max_message
+max_message-is = refl
+
+-- the text that ends ends there by itself too
+pub closed_at-text : (p : Place) (n : ℕ) (s t : List ℕ) → closed_at p n s ≡ Some t → closed_at p n t ≡ Some t
+closed_at-text p n [] t e = absurd (cc)
+closed_at-text p n (c ∷ cs) t e =
+    let P : Bool → Type 0 = λ b. (open_after p c n == 0) ≡ b → (if b then Some (c ∷ []) else option_map (λ u. c ∷ u) (closed_at (place_after p c) (open_after p c n) cs)) ≡ Some t
+    → closed_at p n t ≡ Some t in
+    elim (open_after p c n == 0) as P [
+      | true ↦ λ is same. let only : c ∷ [] ≡ t = cc in subst (λ (u : List ℕ). closed_at p n u ≡ Some u) only (ap (λ b. if b then Some (c ∷ []) else option_map (λ u. c ∷ u) (closed_at (place_after p c) (open_after p c n) [])) is)
+      | false ↦ λ isnt same. longer (closed_at (place_after p c) (open_after p c n) cs) isnt same (λ u at. closed_at-text (place_after p c) (open_after p c n) cs u at)
+    ] refl e
+  where
+    longer : (o : Option (List ℕ)) → (open_after p c n == 0) ≡ false → option_map (λ u. c ∷ u) o ≡ Some t
+        → ((u : List ℕ) → o ≡ Some u → closed_at (place_after p c) (open_after p c n) u ≡ Some u) → closed_at p n t ≡ Some t
+    longer None isnt same again = absurd (cc)
+    longer (Some u) isnt same again =
+        let all : c ∷ u ≡ t = cc in
+        subst (λ (v : List ℕ). closed_at p n v ≡ Some v) all
+        (ap (λ b. if b then Some (c ∷ []) else option_map (λ v. c ∷ v) (closed_at (place_after p c) (open_after p c n) u)) isnt ∙ ap (option_map (λ v. c ∷ v)) (again u refl))
+
+-- a scan of some bytes, and of those behind them
+pub goes_on-both : (p : Place) (n : ℕ) (first : List ℕ) (p' : Place) (n' : ℕ) (next : List ℕ) (p″ : Place) (n″ : ℕ) → GoesOn p n first p' n' → GoesOn p' n' next p″ n″ → GoesOn p n (first ++ next) p″ n″
+goes_on-both p n first p' n' next p″ n″ one two =
+    record { further = λ more. ap (closed_at p n) (append_assoc first next more) ∙ one.further (next ++ more) ∙ ap (option_map (λ t. first ++ t)) (two.further more) ∙ joined (closed_at p″ n″ more) }
+  where
+    joined : (o : Option (List ℕ)) → option_map (λ t. first ++ t) (option_map (λ t. next ++ t) o) ≡ option_map (λ t. (first ++ next) ++ t) o
+    joined None = refl
+    joined (Some t) = ap (λ u. Some u) (sym (append_assoc first next t))
+
+-- a scan that goes on has met no end
+pub goes_on-unclosed : (p : Place) (n : ℕ) (s : List ℕ) (p' : Place) (n' : ℕ) → GoesOn p n s p' n' → closed_at p n s ≡ None
+goes_on-unclosed p n s p' n' goes = ap (closed_at p n) (sym (append-nil s)) ∙ goes.further []
+
+-- the brace before a scan
+pub goes_on-brace : (s : List ℕ) (p : Place) (n : ℕ) → GoesOn outside 1 s p n → GoesOn outside 0 (123 ∷ s) p n
+goes_on-brace s p n goes = record { further = λ more. ap (option_map (λ t. 123 ∷ t)) (goes.further more) ∙ joined (closed_at p n more) }
+  where
+    joined : (o : Option (List ℕ)) → option_map (λ t. 123 ∷ t) (option_map (λ t. s ++ t) o) ≡ option_map (λ t. (123 ∷ s) ++ t) o
+    joined None = refl
+    joined (Some t) = refl
+
+-- with a brace at the front
+at_text : (c : ℕ) (cs : List ℕ) → (c == 123) ≡ true → front_of (c ∷ cs) ≡ of_text (closed_at outside 0 (take max_message (c ∷ cs))) (not (nat_lt (length (c ∷ cs)) max_message))
+at_text c cs is = ap (λ b. if b then of_text (closed_at outside 0 (take max_message (c ∷ cs))) (not (nat_lt (suc (length cs)) max_message)) else bad) is
+
+-- an object's text alone
+pub front_of-text : (s : List ℕ) → (get_or s 0 0 == 123) ≡ true → length s ≤ max_message → closed_at outside 0 s ≡ Some s → front_of s ≡ whole s
+front_of-text [] is short closed = absurd (cc)
+front_of-text (c ∷ cs) is short closed =
+    at_text c cs is ∙ ap (λ t. of_text (closed_at outside 0 t) (not (nat_lt (suc (length cs)) max_message))) (take_all max_message (c ∷ cs) short)
+    ∙ ap (λ o. of_text o (not (nat_lt (suc (length cs)) max_message))) closed
+
+-- no end in as many bytes as a message may have
+pub front_of-endless : (s : List ℕ) → (get_or s 0 0 == 123) ≡ true → max_message ≤ length s → closed_at outside 0 (take max_message s) ≡ None → front_of s ≡ too_long
+front_of-endless [] is long unclosed = absurd (cc)
+front_of-endless (c ∷ cs) is long unclosed =
+    at_text c cs is ∙ ap (λ o. of_text o (not (nat_lt (suc (length cs)) max_message))) unclosed ∙ ap (λ b. of_text None b) (full max_message (suc (length cs)) long)
+  where
+    full : (m k : ℕ) → m ≤ k → not (nat_lt k m) ≡ true
+    full m k h = grind (arith, ltb-true)
+
+-- any other byte
+pub front_of-other : (s : List ℕ) → 0 < length s → (get_or s 0 0 == 123) ≡ false → front_of s ≡ bad
+front_of-other [] h isnt = absurd (omega arith)
+front_of-other (c ∷ cs) h isnt = ap (λ b. if b then of_text (closed_at outside 0 (take max_message (c ∷ cs))) (not (nat_lt (suc (length cs)) max_message)) else bad) isnt
+
+-- ---- what a scan of the bytes behind a brace says: m of them are within the limit k + 1
+
+pub take_within : (m : ℕ) (s : List ℕ) (n : ℕ) → n ≤ length (take m s) → take n (take m s) ≡ take n s
+take_within m s n h =
+    let bound : length (take m s) ≡ min m (length s) = length-take m s in
+    take-take n m s (omega (arith, bound))
+
+-- the object ends among them
+pub is_whole-scanned : (k : ℕ) → max_message ≡ suc k → (s : List ℕ) (first : ℕ) (behind : List ℕ) (m n : ℕ) (p : Place) (d : ℕ) → s ≡ first ∷ behind → first ≡ 123 → m ≡ min (length behind) k
+    → p ≡ outside → d ≡ 1 → IsEnd p d (take m behind) n → IsWhole s (n + 1)
+is_whole-scanned k limit s first behind m n p d is_s is_first is_m is_p is_d end =
+    let bound : length (take m behind) ≡ min m (length behind) = length-take m behind in
+    let same : take n (take m behind) ≡ take n behind = take_within m behind n end.within in
+    let scanned : closed_at outside 1 (take m behind) ≡ Some (take n behind) = subst (λ (q : Place). closed_at q 1 (take m behind) ≡ Some (take n behind)) is_p (subst (λ (e : ℕ). closed_at p e (take m behind) ≡ Some (take n behind)) is_d (end.closed ∙ ap (λ t. Some t) same)) in
+    let alone : closed_at outside 1 (take n behind) ≡ Some (take n behind) = closed_at-text outside 1 (take m behind) (take n behind) scanned in
+    let closed : closed_at outside 0 (123 ∷ take n behind) ≡ Some (123 ∷ take n behind) = ap (option_map (λ t. 123 ∷ t)) alone in
+    let size : length (take n behind) ≡ min n (length behind) = length-take n behind in
+    let fits : length (123 ∷ take n behind) ≤ max_message = omega (arith, bound, size, limit, end.within, is_m) in
+    let text : front_of (123 ∷ take n behind) ≡ whole (123 ∷ take n behind) = front_of-text (123 ∷ take n behind) refl fits closed in
+    let further : front_of ((123 ∷ take n behind) ++ drop n behind) ≡ whole (123 ∷ take n behind) = front_of-whole_more (123 ∷ take n behind) (drop n behind) (123 ∷ take n behind) text in
+    let is : s ≡ 123 ∷ behind = is_s ∙ ap (λ c. c ∷ behind) is_first in
+    let joined : front_of (123 ∷ behind) ≡ whole (123 ∷ take n behind) = ap (λ t. front_of (123 ∷ t)) (sym (take-append-drop n behind)) ∙ further in
+    let text_is : take (n + 1) (123 ∷ behind) ≡ 123 ∷ take n behind = ap (λ j. take j (123 ∷ behind)) (add-one n) in
+    subst (λ (u : List ℕ). IsWhole u (n + 1)) (sym is)
+    (record { within = omega (arith, bound, end.within); text = joined ∙ ap whole (sym text_is) })
+
+-- it goes on behind all of the bytes
+pub is_unfinished-scanned : (k : ℕ) → max_message ≡ suc k → (s : List ℕ) (first : ℕ) (behind : List ℕ) (m : ℕ) (p : Place) (d : ℕ) (scan : Scan) → s ≡ first ∷ behind → first ≡ 123
+    → m ≡ min (length behind) k → p ≡ outside → d ≡ 1 → GoesOn p d (take m behind) (place_of scan.place) scan.depth → scan.depth ≤ d + length (take m behind) → length s < suc k → IsUnfinished s scan
+is_unfinished-scanned k limit s first behind m p d scan is_s is_first is_m is_p is_d goes bound short =
+    let is : s ≡ 123 ∷ behind = is_s ∙ ap (λ c. c ∷ behind) is_first in
+    let size : length s ≡ suc (length behind) = ap length is in
+    let all : take m behind ≡ behind = take_all m behind (omega (arith, size, is_m)) in
+    let scanned : GoesOn outside 1 behind (place_of scan.place) scan.depth =
+    subst (λ (q : Place). GoesOn q 1 behind (place_of scan.place) scan.depth) is_p (subst (λ (e : ℕ). GoesOn p e behind (place_of scan.place) scan.depth) is_d (subst (λ (u : List ℕ). GoesOn p d u (place_of scan.place) scan.depth) all goes)) in
+    record {
+      short = omega (arith, limit);
+      brace = ap (λ u. get_or u 0 0 == 123) is;
+      depth = omega (arith, size, ap length all, is_d);
+      further = subst (λ (u : List ℕ). GoesOn outside 0 u (place_of scan.place) scan.depth) (sym is) (goes_on-brace behind (place_of scan.place) scan.depth scanned);
+    }
+
+-- it goes on behind as many as a message may have
+pub front_of-scanned : (k : ℕ) → max_message ≡ suc k → (s : List ℕ) (first : ℕ) (behind : List ℕ) (m : ℕ) (p : Place) (d : ℕ) (p' : Place) (d' : ℕ) → s ≡ first ∷ behind → first ≡ 123
+    → m ≡ min (length behind) k → p ≡ outside → d ≡ 1 → GoesOn p d (take m behind) p' d' → suc k ≤ length s → front_of s ≡ too_long
+front_of-scanned k limit s first behind m p d p' d' is_s is_first is_m is_p is_d goes long =
+    let is : s ≡ 123 ∷ behind = is_s ∙ ap (λ c. c ∷ behind) is_first in
+    let size : length s ≡ suc (length behind) = ap length is in
+    let same : m ≡ k = omega (arith, size, is_m) in
+    let scanned : GoesOn outside 1 (take k behind) p' d' =
+    subst (λ (q : Place). GoesOn q 1 (take k behind) p' d') is_p (subst (λ (e : ℕ). GoesOn p e (take k behind) p' d') is_d (subst (λ (j : ℕ). GoesOn p d (take j behind) p' d') same goes)) in
+    let unclosed : closed_at outside 0 (take max_message s) ≡ None =
+    ap (λ j. closed_at outside 0 (take j s)) limit ∙ ap (λ u. closed_at outside 0 (take (suc k) u)) is ∙ goes_on-unclosed outside 0 (123 ∷ take k behind) p' d' (goes_on-brace (take k behind) p' d' scanned) in
+    front_of-endless s (ap (λ u. get_or u 0 0 == 123) is) (omega (arith, limit)) unclosed

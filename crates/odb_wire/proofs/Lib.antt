@@ -1,0 +1,9 @@
+pub mod Scans
+pub mod Inserts
+pub mod Reading
+pub mod Streams
+pub mod Fronts
+pub mod Steps
+pub mod Rests
+pub mod Feeds
+pub mod Pieces

@@ -1,0 +1,25 @@
+use Rattle.std.proofs.Common.{arith}
+use Rattle.odb_wire.specs.Standing.{IsUnfinished}
+use Rattle.odb_wire.proofs.Fronts.{max_message-is}
+use Rattle.odb_wire.proofs.Rests.{unfinished, front_of-completed, reads_too_long, reads_on}
+use Rattle.odb_wire.proofs.split.Rest.advance.Goals as goal
+
+pub overflow_sub-room : goal.overflow_sub-room
+overflow_sub-room c =
+    let begun : IsUnfinished c.args.self.text.items c.args.self.scan = unfinished _ _ _ c.requires (omega arith) c.if-is_empty.ensures in
+    omega (arith, begun.short, max_message-is)
+
+pub complete-requires : goal.complete-requires
+complete-requires c =
+    let begun : IsUnfinished c.args.self.text.items c.args.self.scan = unfinished _ _ _ c.requires (omega arith) c.if-is_empty.ensures in
+    front_of-completed 16777216 max_message-is _ _ _ _ _ _ begun (omega arith) c.in-Some.ensures.end c.split_at.ensures.front
+
+pub returns-then-piece-room-clause-ok : goal.returns-then-piece-room-clause-ok
+returns-then-piece-room-clause-ok c =
+    let begun : IsUnfinished c.args.self.text.items c.args.self.scan = unfinished _ _ _ c.requires (omega arith) c.if-is_empty.ensures in
+    reads_too_long 16777216 max_message-is _ _ _ _ _ _ _ begun (omega arith) (omega arith) c.in-None.ensures.on c.new-then-piece-room.ensures.items
+
+pub returns-in-Ok-extend_from_slice-clause-ok : goal.returns-in-Ok-extend_from_slice-clause-ok
+returns-in-Ok-extend_from_slice-clause-ok c =
+    let begun : IsUnfinished c.args.self.text.items c.args.self.scan = unfinished _ _ _ c.requires (omega arith) c.if-is_empty.ensures in
+    reads_on 16777216 max_message-is _ _ _ _ _ _ begun (omega arith) (omega arith) c.in-None.ensures.on c.in-None.ensures.bound c.in-Ok-extend_from_slice.ensures.items c.new-in-Ok-extend_from_slice.ensures.items

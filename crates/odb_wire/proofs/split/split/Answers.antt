@@ -1,0 +1,27 @@
+use Rattle.std.proofs.Common.{◌∙◌, ap}
+use Rattle.odb_wire.specs.Stream.{skip_blanks}
+use Rattle.odb_wire.proofs.Steps.{stopped-none, stopped-bad, so_far-start, so_far-read, kinds-push, left_shorter}
+use Rattle.odb_wire.proofs.split.split.Goals as goal
+
+pub loop-left-init : goal.loop-left-init
+loop-left-init c =
+    record { clean = c.skip_blanks-left.ensures.no_more; so_far = so_far-start _ _ _ c.skip_blanks-left.ensures.rest; kinds = λ all. all }
+
+pub returns-in-None-clause-ok : goal.returns-in-None-clause-ok
+returns-in-None-clause-ok c =
+    stopped-none _ _ _ _ _ _ _ c.loop-left.invariant.so_far c.in-Whole.ensures c.split_at.ensures.front c.in_ok-message-in-Whole.ensures.data c.in-None.is
+
+pub loop-left-smaller : goal.loop-left-smaller
+loop-left-smaller c = left_shorter _ _ _ c.in-Whole.ensures (c.skip_blanks-left-in-Whole.ensures.rest ∙ ap skip_blanks c.split_at.ensures.back)
+
+pub loop-left-preserved : goal.loop-left-preserved
+loop-left-preserved c =
+    record {
+      clean = c.skip_blanks-left-in-Whole.ensures.no_more;
+      so_far = so_far-read _ _ _ _ _ _ _ _ _ _ _ c.loop-left.invariant.so_far c.in-Whole.ensures c.split_at.ensures.front c.split_at.ensures.back c.in_ok-message-in-Whole.ensures.data
+          c.in-Some.is c.in_ok-push-in-Some.ensures.items c.skip_blanks-left-in-Whole.ensures.rest;
+      kinds = λ all. kinds-push _ _ _ _ (c.loop-left.invariant.kinds all) c.in_ok-message-in-Whole.ensures.kind c.in-Some.is c.in_ok-push-in-Some.ensures.items;
+    }
+
+pub returns-in-Bad-clause-ok : goal.returns-in-Bad-clause-ok
+returns-in-Bad-clause-ok c = stopped-bad _ _ _ _ c.loop-left.invariant.so_far c.loop-left.invariant.clean c.in-Bad.ensures

@@ -1,0 +1,30 @@
+//! The bytes that came so far, which proofs alone read. It takes no memory, and its calls do nothing at run time.
+ghost use Rattle.std.specs.Prelude.{◌≡◌, ℕ, List, [], ◌++◌};
+ghost use Rattle.std.specs.Borrow.{ftrue};
+
+use std::marker::Model;
+
+#[derive(Drop)]
+pub(crate) struct History {
+    pub(crate) ghost bytes: { List ℕ },
+}
+
+impl Model for History {
+    ghost also_owns = { λ _. ftrue };
+}
+
+// It owns nothing.
+unsafe impl Send for History {}
+
+impl History {
+    pub(crate) fn new() -> History
+        ensures { result.bytes ≡ [] }
+    {
+        History {}
+    }
+
+    /// Notes a piece.
+    pub(crate) fn add(&mut self, _piece: &[u8])
+        ensures { self.new.bytes ≡ self.old.bytes ++ _piece.now }
+    {}
+}

@@ -1,0 +1,271 @@
+//! The whole messages at the front of a stream, and what is left of it.
+ghost use Rattle.std.specs.Prelude.{◌≡◌, ℕ, List, ◌+◌, ◌<◌, ◌++◌, length, take, map, All, IfOk, IfErr, OnErr, vec_len, [], IsTrue, Some, None, if◌then◌else◌};
+ghost use Rattle.odb_wire.specs.Stream.{is_blank, skip_blanks, front_of, whole, messages};
+ghost use Rattle.odb_wire.specs.Feeding.{fault_of};
+ghost use Rattle.odb_wire.specs.Shown.{message_data, IsOfItsKind};
+ghost use Rattle.odb_wire.specs.Standing.{IsStanding, IsRest, IsFront, ReadsOn, TakesIn, IsAsBefore, ending_of, messages_after};
+
+use crate::fault::WireFault;
+use crate::message::Message;
+use crate::scan::Scan;
+use std::alloc::{AllocError, Global};
+
+/// The most bytes of one message.
+const MAX_MESSAGE: usize = 16_777_216;
+
+/// Why a stream can't go on.
+#[derive(Clone, Copy)]
+pub(crate) enum Stop {
+    TooLong,
+    BadStream,
+}
+
+impl Stop {
+    pub(crate) fn fault(self) -> WireFault
+        ensures { fault_of (ending_of self) ≡ Some result }
+    {
+        match self {
+            Stop::TooLong => WireFault::TooLong,
+            Stop::BadStream => WireFault::BadStream,
+        }
+    }
+}
+
+/// What stands between whole messages: the text of an object so far, or nothing.
+#[derive(Drop)]
+pub(crate) struct Rest {
+    text: Vec<u8>,
+    scan: Scan,
+}
+
+/// How a stream stands behind the messages that were answered.
+#[derive(Drop)]
+pub(crate) enum State {
+    Going(Rest),
+    Stopped(Stop),
+}
+
+/// The messages that became whole, and how the stream stands behind them.
+#[derive(Drop)]
+pub(crate) struct Step {
+    pub(crate) messages: Vec<Message>,
+    pub(crate) state: State,
+}
+
+/// What stands at the front of bytes that don't begin with a blank.
+enum Front {
+    Whole(usize),
+    Waiting(Scan),
+    TooLong,
+    Bad,
+}
+
+impl State {
+    /// Before the first byte, or between two messages.
+    pub(crate) fn between(alloc: Global) -> State
+        ensures stands { IsStanding result }
+        ensures fresh { (more : List ℕ) → messages_after result more ≡ messages more }
+    {
+        State::Going(Rest {
+            text: Vec::new(alloc),
+            scan: Scan::begun(),
+        })
+    }
+
+    /// The fault that the stream stands at.
+    pub(crate) fn fault(&self) -> Option<WireFault>
+        requires { IsStanding self.now }
+        ensures { result ≡ fault_of (messages_after self.now []).1 }
+    {
+        match self {
+            State::Stopped(stop) => Some(stop.fault()),
+            State::Going(_) => None,
+        }
+    }
+
+    /// Takes a piece in. For want of memory it gives back what it was.
+    pub(crate) fn advance(self, alloc: Global, piece: &[u8]) -> Result<Step, State>
+        requires { IsStanding self }
+        ensures ok { IfOk result (λ step. TakesIn self piece.now (map message_data step.messages.items) step.state) }
+        ensures kinds { IfOk result (λ step. All IsOfItsKind step.messages.items) }
+        ensures err { IfErr result (IsAsBefore self) }
+        ensures only_going { OnErr result (fault_of (messages_after self []).1 ≡ None) }
+    {
+        match self {
+            State::Stopped(stop) => Ok(Step {
+                messages: Vec::new(alloc),
+                state: State::Stopped(stop),
+            }),
+            State::Going(rest) => match rest.advance(alloc, piece) {
+                Ok(step) => Ok(step),
+                Err(rest) => Err(State::Going(rest)),
+            },
+        }
+    }
+}
+
+impl Rest {
+    fn advance(self, alloc: Global, piece: &[u8]) -> Result<Step, Rest>
+        requires { IsRest self.text.items self.scan }
+        ensures ok { IfOk result (λ step. ReadsOn [] (self.text.items ++ piece.now)
+            (map message_data step.messages.items) step.state) }
+        ensures kinds { IfOk result (λ step. All IsOfItsKind step.messages.items) }
+        ensures text { IfErr result (λ rest. rest.text.items ≡ self.text.items) }
+        ensures scan { IfErr result (λ rest. rest.scan ≡ self.scan) }
+    {
+        let Rest { mut text, scan } = self;
+        if text.is_empty() {
+            return match split(alloc, Vec::new(alloc), piece) {
+                Ok(step) => Ok(step),
+                Err(_) => Err(Rest { text, scan }),
+            };
+        }
+        let kept = text.len();
+        let room = MAX_MESSAGE - kept;
+        let mut further = scan;
+        match further.end_in(&piece[..piece.len().min(room)]) {
+            Some(end) => {
+                let (last, behind) = piece.split_at(end);
+                match complete(alloc, &mut text, last, behind) {
+                    Ok(step) => Ok(step),
+                    Err(_) => {
+                        text.truncate(kept);
+                        Err(Rest { text, scan })
+                    }
+                }
+            }
+            None => {
+                if piece.len() >= room {
+                    return Ok(Step {
+                        messages: Vec::new(alloc),
+                        state: State::Stopped(Stop::TooLong),
+                    });
+                }
+                match text.extend_from_slice(piece) {
+                    Ok(()) => Ok(Step {
+                        messages: Vec::new(alloc),
+                        state: State::Going(Rest {
+                            text,
+                            scan: further,
+                        }),
+                    }),
+                    Err(_) => Err(Rest { text, scan }),
+                }
+            }
+        }
+    }
+}
+
+/// The unfinished message with its last bytes, and the messages behind it.
+fn complete(
+    alloc: Global,
+    text: &mut Vec<u8>,
+    last: &[u8],
+    behind: &[u8],
+) -> Result<Step, AllocError>
+    requires { front_of (text.old.items ++ last.now) ≡ whole (text.old.items ++ last.now) }
+    ensures ok { IfOk result (λ step. ReadsOn [] ((text.old.items ++ last.now) ++ behind.now)
+        (map message_data step.messages.items) step.state) }
+    ensures kinds { IfOk result (λ step. All IsOfItsKind step.messages.items) }
+    ensures err { take (vec_len text.old) text.new.items ≡ text.old.items }
+{
+    text.extend_from_slice(last)?;
+    let mut messages = Vec::new(alloc);
+    match Message::read(alloc, text.as_slice())? {
+        Some(message) => {
+            messages.push(message)?;
+            split(alloc, messages, behind)
+        }
+        None => Ok(Step {
+            messages,
+            state: State::Stopped(Stop::BadStream),
+        }),
+    }
+}
+
+/// The messages given, with those at the front of the bytes, and how these stand behind them.
+fn split(alloc: Global, mut messages: Vec<Message>, bytes: &[u8]) -> Result<Step, AllocError>
+    ensures ok { IfOk result (λ step. ReadsOn (map message_data messages.items) bytes.now
+        (map message_data step.messages.items) step.state) }
+    ensures kinds { All IsOfItsKind messages.items
+        → IfOk result (λ step. All IsOfItsKind step.messages.items) }
+{
+    let mut left = skip_blanks(bytes);
+    while !left.is_empty() {
+        match front_at(left) {
+            Front::Whole(end) => {
+                let (text, behind) = left.split_at(end);
+                match Message::read(alloc, text)? {
+                    Some(message) => messages.push(message)?,
+                    None => {
+                        return Ok(Step {
+                            messages,
+                            state: State::Stopped(Stop::BadStream),
+                        });
+                    }
+                }
+                left = skip_blanks(behind);
+            }
+            Front::Waiting(scan) => {
+                let text = Vec::from_slice(alloc, left)?;
+                return Ok(Step {
+                    messages,
+                    state: State::Going(Rest { text, scan }),
+                });
+            }
+            Front::TooLong => {
+                return Ok(Step {
+                    messages,
+                    state: State::Stopped(Stop::TooLong),
+                });
+            }
+            Front::Bad => {
+                return Ok(Step {
+                    messages,
+                    state: State::Stopped(Stop::BadStream),
+                });
+            }
+        }
+    }
+    Ok(Step {
+        messages,
+        state: State::between(alloc),
+    })
+}
+
+/// The bytes from the first one on that is no blank.
+fn skip_blanks(bytes: &[u8]) -> &[u8]
+    ensures rest { result.now ≡ skip_blanks bytes.now }
+    ensures no_more { skip_blanks result.now ≡ result.now }
+{
+    for (i, byte) in bytes.iter().enumerate() {
+        if !is_blank(*byte) {
+            return &bytes[i..];
+        }
+    }
+    &[]
+}
+
+fn is_blank(byte: u8) -> bool
+    ensures { result ≡ is_blank byte }
+{
+    matches!(byte, b' ' | b'\t' | b'\n' | b'\r')
+}
+
+fn front_at(bytes: &[u8]) -> Front
+    requires { 0 < length bytes.now }
+    ensures { IsFront bytes.now result }
+{
+    let Some((b'{', behind)) = bytes.split_first() else {
+        return Front::Bad;
+    };
+    let mut scan = Scan::begun();
+    match scan.end_in(&behind[..behind.len().min(MAX_MESSAGE - 1)]) {
+        Some(end) => Front::Whole(end + 1),
+        None => if bytes.len() < MAX_MESSAGE {
+            Front::Waiting(scan)
+        } else {
+            Front::TooLong
+        },
+    }
+}
