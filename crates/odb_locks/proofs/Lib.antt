@@ -1,0 +1,5 @@
+pub mod Tables
+pub mod Outcomes
+pub mod Indexes
+pub mod Claims
+pub mod Release

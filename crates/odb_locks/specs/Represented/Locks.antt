@@ -1,0 +1,25 @@
+-- What the calls on the locks answer.
+use Rattle.std.specs.Prelude.{ℕ, Bool, true, false, List, fold}
+use Rattle.std.specs.List.{flat_map}
+use Rattle.odb_locks.specs.Locks.{Answered, Lock, Locks, Notice, lock, lock_of, put_lock, steal, without}
+use Rattle.odb_locks.specs.Represented.Lock.{next_of}
+use Rattle.odb_locks.specs.Represented.Notice.{notice_to}
+
+-- a claim by `steal`, or else by `lock`
+abbrev pub claim_by : Bool → Locks → ℕ → List ℕ → Answered
+claim_by true = steal
+claim_by false = lock
+
+-- the locks once a session's claim of a name is taken back, and who is told then
+abbrev pub released : ℕ → Locks → List ℕ → Locks
+released s l name = put_lock l name (without s (lock_of l name))
+
+abbrev pub told_of_release : ℕ → (List ℕ → Lock) → List ℕ → List Notice
+told_of_release s lock_at name = notice_to (next_of s (lock_at name).claims) false name
+
+-- the same for one name after another
+abbrev pub all_released : ℕ → Locks → List (List ℕ) → Locks
+all_released s l names = fold (released s) l names
+
+abbrev pub all_told : ℕ → (List ℕ → Lock) → List (List ℕ) → List Notice
+all_told s lock_at names = flat_map (told_of_release s lock_at) names

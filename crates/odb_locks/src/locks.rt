@@ -1,0 +1,220 @@
+//! The locks that sessions claim by `lock` and `steal`, and give back by `unlock`.
+
+ghost use Rattle.std.specs.Prelude.{◌≡◌, ◌↔◌, false, IfOk, OnErr, IsErrOf};
+ghost use Rattle.odb_atoms.specs.FinMap as map;
+ghost use Rattle.odb_locks.specs.Locks as model;
+ghost use Rattle.odb_locks.specs.Locks.{out_of_turn, too_many_names};
+ghost use Rattle.odb_locks.specs.declared.locks.LockFault.TheVariants.{Memory};
+ghost use Rattle.odb_locks.specs.Represented.Locks.{claim_by};
+ghost use Rattle.odb_locks.specs.Represented.Notice.{notices_of};
+
+use crate::index::Index;
+use crate::lock::Claim;
+use crate::notice::{Notice, tell};
+use crate::table::Table;
+use std::alloc::{AllocError, Global};
+use std::marker::Model;
+use thiserror::Error;
+
+/// A session of the server: a number that no other open session has.
+pub type SessionId = usize;
+
+/// How many names may be claimed at once.
+const MAX_NAMES: usize = 65_536;
+
+/// Why a call on locks did nothing: with each of these the locks are as they were.
+#[derive(Clone, Copy, Debug, PartialEq, Eq, Error)]
+pub enum LockFault {
+    /// A `lock` or `steal` by a session with a claim of the name that it hasn't unlocked, or an
+    /// `unlock` by one without (RFC 7047, 4.1.8). A session that was robbed has a claim until it
+    /// unlocks.
+    #[error("out of turn")]
+    OutOfTurn,
+    /// A `lock` or `steal` of a name that nobody claims, while 65,536 others are claimed.
+    #[error("too many lock names")]
+    TooMany,
+    /// Memory was refused.
+    #[error("out of memory")]
+    Memory,
+}
+
+impl From<AllocError> for LockFault {
+    ghost from_gives = { λ _ fault. fault ≡ Memory };
+
+    fn from(_refused: AllocError) -> LockFault {
+        LockFault::Memory
+    }
+}
+
+/// What a `lock` or a `steal` did: its result, and whom it concerns besides the caller.
+#[derive(Debug, Drop)]
+pub struct Taken {
+    /// Whether the caller owns the lock, the reply's `locked` (RFC 7047, 4.1.8).
+    pub owns: bool,
+    /// The notices to send, in this order: one to the owner that was robbed, or none.
+    pub notices: Vec<Notice>,
+}
+
+/// Named locks (RFC 7047, 4.1.8 to 4.1.10).
+///
+/// For each name there are the claims in order, by `lock` or by `steal`, of which the first owns,
+/// and the sessions that were robbed: that lost a stolen claim, and haven't unlocked. A name that
+/// nobody claims, and nobody was robbed of, takes no room.
+///
+/// In the costs below a name has `c` claims, and `n` names are claimed. A call that changes the
+/// locks makes its growths first, and changes nothing where memory is refused.
+#[derive(Debug, Drop)]
+pub struct Locks {
+    alloc: Global,
+    table: Table,
+    index: Index,
+}
+
+impl Model for Locks {
+    ghost use Rattle.odb_locks.specs.Locks as model;
+    ghost use Rattle.odb_locks.specs.Represented.Lock.{locks_code};
+    ghost use Rattle.odb_locks.specs.Represented.Index.{Indexes};
+
+    ghost Value = { model.Locks };
+
+    ghost coded = { locks_code };
+
+    ghost view = { λ a. a.table };
+
+    ghost invariant = { λ a. Indexes a.index a.table };
+}
+
+impl Locks {
+    /// No locks. O(1), without memory.
+    pub fn new(alloc: Global) -> Locks
+        ensures { result ≡ map.empty }
+    {
+        Locks {
+            alloc,
+            table: Table::new(alloc),
+            index: Index::new(alloc),
+        }
+    }
+
+    /// Whether the session owns the lock of the name: has its first claim. O(log n), without memory.
+    pub fn owns(&self, session: SessionId, name: &str) -> bool
+        ensures { result ≡ model.owns self.now session name.now }
+    {
+        self.table.owner(name) == Some(session)
+    }
+
+    /// `lock` (RFC 7047, 4.1.8): the session's claim joins the end, and owns if it's alone. It
+    /// notifies nobody. O(log n + c).
+    pub fn lock(&mut self, session: SessionId, name: &str) -> Result<Taken, LockFault>
+        ensures ok { IfOk result (λ taken. model.lock self.old session name.now
+            ≡ Ok (self.new, notices_of taken.notices.items, taken.owns)) }
+        ensures out_of_turn { IsErrOf result LockFault.OutOfTurn
+            ↔ (model.lock self.old session name.now ≡ Err out_of_turn) }
+        ensures too_many { IsErrOf result LockFault.TooMany
+            ↔ (model.lock self.old session name.now ≡ Err too_many_names) }
+        ensures err { OnErr result (self.new ≡ self.old) }
+    {
+        self.claim(session, name, false)
+    }
+
+    /// `steal` (RFC 7047, 4.1.8): the session's claim goes in front, and owns. The owner before is
+    /// told `stolen`. If its claim was by `lock` it stands behind the thief; if it was by `steal` it
+    /// leaves and was robbed: it won't own again by itself, yet has to unlock. O(log n + c).
+    pub fn steal(&mut self, session: SessionId, name: &str) -> Result<Taken, LockFault>
+        ensures ok { IfOk result (λ taken. model.steal self.old session name.now
+            ≡ Ok (self.new, notices_of taken.notices.items, taken.owns)) }
+        ensures out_of_turn { IsErrOf result LockFault.OutOfTurn
+            ↔ (model.steal self.old session name.now ≡ Err out_of_turn) }
+        ensures too_many { IsErrOf result LockFault.TooMany
+            ↔ (model.steal self.old session name.now ≡ Err too_many_names) }
+        ensures err { OnErr result (self.new ≡ self.old) }
+    {
+        self.claim(session, name, true)
+    }
+
+    fn claim(&mut self, session: SessionId, name: &str, stolen: bool) -> Result<Taken, LockFault>
+        ensures ok { IfOk result (λ taken. claim_by stolen self.old session name.now
+            ≡ Ok (self.new, notices_of taken.notices.items, taken.owns)) }
+        ensures out_of_turn { IsErrOf result LockFault.OutOfTurn
+            ↔ (claim_by stolen self.old session name.now ≡ Err out_of_turn) }
+        ensures too_many { IsErrOf result LockFault.TooMany
+            ↔ (claim_by stolen self.old session name.now ≡ Err too_many_names) }
+        ensures err { OnErr result (self.new ≡ self.old) }
+    {
+        if self.table.has_claim(name, session) {
+            return Err(LockFault::OutOfTurn);
+        }
+        if self.table.is_free(name) && self.table.len() >= MAX_NAMES {
+            return Err(LockFault::TooMany);
+        }
+        let owner = self.table.owner(name);
+        let mut notices = Vec::new(self.alloc);
+        if stolen {
+            tell(&mut notices, self.alloc, owner, true, name)?;
+        }
+        self.index.insert(self.alloc, session, name)?;
+        let claim = Claim::new(session, stolen);
+        match self.table.claim(self.alloc, name, claim) {
+            Ok(()) => Ok(Taken {
+                owns: stolen || owner.is_none(),
+                notices,
+            }),
+            // The index was first, and goes back.
+            Err(refused) => {
+                self.index.remove(session, name);
+                Err(LockFault::from(refused))
+            }
+        }
+    }
+
+    /// `unlock` (RFC 7047, 4.1.8): the session's claim goes, or its having been robbed. If it owned
+    /// and another claim is first now, that one's session is told `locked`. O(log n + c).
+    pub fn unlock(&mut self, session: SessionId, name: &str) -> Result<Vec<Notice>, LockFault>
+        ensures ok { IfOk result (λ notices. model.unlock self.old session name.now
+            ≡ Ok (self.new, notices_of notices.items, false)) }
+        ensures out_of_turn { IsErrOf result LockFault.OutOfTurn
+            ↔ (model.unlock self.old session name.now ≡ Err out_of_turn) }
+        ensures too_many { IsErrOf result LockFault.TooMany
+            ↔ (model.unlock self.old session name.now ≡ Err too_many_names) }
+        ensures err { OnErr result (self.new ≡ self.old) }
+    {
+        if !self.table.has_claim(name, session) {
+            return Err(LockFault::OutOfTurn);
+        }
+        let mut notices = Vec::new(self.alloc);
+        let next = self.table.next_owner(name, session);
+        tell(&mut notices, self.alloc, next, false, name)?;
+        self.index.remove(session, name);
+        self.table.release(name, session);
+        Ok(notices)
+    }
+
+    /// Takes back all of a session's claims, as its end does: an `unlock` of each name that it has a
+    /// claim of, by ascending name, with the notices of each. For each of these names O(log n + c),
+    /// whatever other names there are. Where memory is refused, nothing changes.
+    pub fn drop_session(&mut self, session: SessionId) -> Result<Vec<Notice>, AllocError>
+        ensures ok { IfOk result (λ notices. model.drop_session self.old session
+            ≡ (self.new, notices_of notices.items)) }
+        ensures err { OnErr result (self.new ≡ self.old) }
+    {
+        let Some(names) = self.index.names(session) else {
+            return Ok(Vec::new(self.alloc));
+        };
+        // The notices take memory, so all are made before the first claim goes.
+        let notices = self.table.notices_of_release(self.alloc, names, session)?;
+        self.table.release_all(names, session);
+        self.index.forget(session);
+        Ok(notices)
+    }
+
+    /// Equal locks. O(the bytes copied); an error says that memory was refused.
+    pub fn try_copy(&self, alloc: Global) -> Result<Locks, AllocError>
+        ensures { IfOk result (λ copy. copy ≡ self.now) }
+    {
+        Ok(Locks {
+            alloc,
+            table: self.table.try_copy()?,
+            index: self.index.try_copy()?,
+        })
+    }
+}
