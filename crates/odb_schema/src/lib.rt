@@ -1,2 +1,14 @@
 //! Database schemas (RFC 7047, 3.2): read from JSON, and printed.
 #![tactic(auto)]
+
+mod fault;
+mod read;
+mod schema;
+mod text;
+
+pub use fault::SchemaFault;
+pub use schema::{Column, ColumnId, Schema, TableId, TableSchema};
+pub use text::{is_id, is_name};
+
+#[cfg(test)]
+mod tests;
