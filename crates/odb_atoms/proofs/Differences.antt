@@ -6,7 +6,8 @@ use Rattle.std.specs.Ordering.{is_eq}
 use Rattle.std.specs.Cmp.{tied_itself}
 use Rattle.odb_atoms.specs.FinSet as set
 use Rattle.odb_atoms.specs.FinMap as map
-use Rattle.odb_atoms.proofs.Atoms.{atom_cmp-IsAntisymmetric, atom_cmp_total}
+use Rattle.odb_atoms.proofs.Atoms.{atom_cmp-IsAntisymmetric}
+use Rattle.odb_atoms.specs.Represented.AtomOrder.{atom_cmp_total}
 use Rattle.odb_atoms.proofs.FinMaps.{get-combine, same_key, same_map}
 use Rattle.odb_atoms.proofs.FinSets.{contains-symmetric_difference, same_set}
 use Rattle.odb_atoms.specs.Atom.{Atom, integer, same_atom, text}

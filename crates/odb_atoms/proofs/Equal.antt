@@ -10,7 +10,8 @@ use Rattle.std.specs.declared.cmp.Ordering.TheVariants.{Less, Equal, Greater}
 use Rattle.std.proofs.lemmas.Option.{none-some}
 use Rattle.std.specs.FinMap.Entries.{find, is_sorted, below_all}
 use Rattle.odb_atoms.specs.FinSet as set
-use Rattle.odb_atoms.proofs.Atoms.{atom_cmp-IsAntisymmetric, atom_cmp_total}
+use Rattle.odb_atoms.proofs.Atoms.{atom_cmp-IsAntisymmetric}
+use Rattle.odb_atoms.specs.Represented.AtomOrder.{atom_cmp_total}
 use Rattle.odb_atoms.proofs.Differences.{apply-difference}
 use Rattle.odb_atoms.proofs.FinMaps.{contains_key-keys, get-entries, same_key}
 use Rattle.odb_atoms.proofs.Lists.{Member, gives_all, gives_any, both}

@@ -10,7 +10,7 @@ use Rattle.std.specs.Cmp.{alike_right, tied_back}
 use Rattle.std.specs.FinMap.Entries.{below_all, by_order}
 use Rattle.odb_atoms.specs.Atom.{Atom, atom_cmp}
 use Rattle.odb_atoms.specs.Represented.Entry.{Entry, IsChange, IsRising, alike, changed_value, entry_at, has_entry, is_alike}
-use Rattle.odb_atoms.proofs.Atoms.{atom_cmp_total}
+use Rattle.odb_atoms.specs.Represented.AtomOrder.{atom_cmp_total}
 use Rattle.odb_atoms.proofs.Rising.{before_all, both, equal, find-below, first, is_less, less, second, tied_before_all, turned}
 
 -- ---- looking for each of a list

@@ -17,7 +17,8 @@ use Rattle.odb_atoms.specs.Atom.{Atom, atom_cmp}
 use Rattle.odb_atoms.specs.Members.{repeats}
 use Rattle.odb_atoms.specs.Represented.Entry.{Entry, keys_of}
 use Rattle.odb_atoms.specs.Value.{Atoms, atoms}
-use Rattle.odb_atoms.proofs.Atoms.{atom_cmp-IsAntisymmetric, atom_cmp_total}
+use Rattle.odb_atoms.proofs.Atoms.{atom_cmp-IsAntisymmetric}
+use Rattle.odb_atoms.specs.Represented.AtomOrder.{atom_cmp_total}
 use Rattle.odb_atoms.proofs.FinMaps.{entries-insert}
 use Rattle.odb_atoms.proofs.FinSets.{contains-from_list, same_set}
 use Rattle.odb_atoms.proofs.Rising.{before_all, both, first, is_less, is_true, less, second, turned}

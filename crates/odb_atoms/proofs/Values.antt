@@ -9,7 +9,8 @@ use Rattle.std.specs.FinMap.Entries.{find}
 use mathlib.Core.Logic.{inl, inr}
 use Rattle.odb_atoms.specs.FinMap as map
 use Rattle.odb_atoms.specs.FinSet as set
-use Rattle.odb_atoms.proofs.Atoms.{atom_cmp-IsAntisymmetric, atom_cmp_total}
+use Rattle.odb_atoms.proofs.Atoms.{atom_cmp-IsAntisymmetric}
+use Rattle.odb_atoms.specs.Represented.AtomOrder.{atom_cmp_total}
 use Rattle.odb_atoms.proofs.FinMaps.{contains_key-keys, get-entries, same_key, same_map}
 use Rattle.odb_atoms.proofs.FinSets.{same_set}
 use Rattle.odb_atoms.proofs.Lists.{Member, all_gives, any_gives, both}

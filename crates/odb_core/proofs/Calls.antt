@@ -226,79 +226,79 @@ module _ (h : Service) where
     plainly name none is ds e = (wished name ds is e ∙ none ds, own)
 
     -- the methods, from the last to the first
-    abbrev T11 : Option (List Data → Call)
-    T11 = if bytes_eq m (codes "echo") then Some (λ params. message.answered (reply (id_of d) (array (items_of params)))) else None
+    abbrev from_echo : Option (List Data → Call)
+    from_echo = if bytes_eq m (codes "echo") then Some (λ params. message.answered (reply (id_of d) (array (items_of params)))) else None
 
-    abbrev T10 : Option (List Data → Call)
-    T10 = if bytes_eq m (codes "unlock") then Some (of_one (id_of d) (of_lock (id_of d) (message.unlock (id_of d)))) else T11
+    abbrev from_unlock : Option (List Data → Call)
+    from_unlock = if bytes_eq m (codes "unlock") then Some (of_one (id_of d) (of_lock (id_of d) (message.unlock (id_of d)))) else from_echo
 
-    abbrev T9 : Option (List Data → Call)
-    T9 = if bytes_eq m (codes "steal") then Some (of_one (id_of d) (of_lock (id_of d) (message.steal (id_of d)))) else T10
+    abbrev from_steal : Option (List Data → Call)
+    from_steal = if bytes_eq m (codes "steal") then Some (of_one (id_of d) (of_lock (id_of d) (message.steal (id_of d)))) else from_unlock
 
-    abbrev T8 : Option (List Data → Call)
-    T8 = if bytes_eq m (codes "lock") then Some (of_one (id_of d) (of_lock (id_of d) (message.lock (id_of d)))) else T9
+    abbrev from_lock : Option (List Data → Call)
+    from_lock = if bytes_eq m (codes "lock") then Some (of_one (id_of d) (of_lock (id_of d) (message.lock (id_of d)))) else from_steal
 
-    abbrev T7 : Option (List Data → Call)
-    T7 = if bytes_eq m (codes "monitor_cancel") then Some (of_one (id_of d) (message.cancel_monitor (id_of d))) else T8
+    abbrev from_cancel : Option (List Data → Call)
+    from_cancel = if bytes_eq m (codes "monitor_cancel") then Some (of_one (id_of d) (message.cancel_monitor (id_of d))) else from_lock
 
-    abbrev T6 : Option (List Data → Call)
-    T6 = if bytes_eq m (codes "monitor_cond_change") then Some (of_change (id_of d)) else T7
+    abbrev from_change : Option (List Data → Call)
+    from_change = if bytes_eq m (codes "monitor_cond_change") then Some (of_change (id_of d)) else from_cancel
 
-    abbrev T5 : Option (List Data → Call)
-    T5 = if bytes_eq m (codes "monitor_cond") then Some (of_monitor h.db_name (id_of d) update2) else T6
+    abbrev from_monitor_cond : Option (List Data → Call)
+    from_monitor_cond = if bytes_eq m (codes "monitor_cond") then Some (of_monitor h.db_name (id_of d) update2) else from_change
 
-    abbrev T4 : Option (List Data → Call)
-    T4 = if bytes_eq m (codes "monitor") then Some (of_monitor h.db_name (id_of d) update) else T5
+    abbrev from_monitor : Option (List Data → Call)
+    from_monitor = if bytes_eq m (codes "monitor") then Some (of_monitor h.db_name (id_of d) update) else from_monitor_cond
 
-    abbrev T3 : Option (List Data → Call)
-    T3 = if bytes_eq m (codes "transact") then Some (of_transact h.db_name (id_of d)) else T4
+    abbrev from_transact : Option (List Data → Call)
+    from_transact = if bytes_eq m (codes "transact") then Some (of_transact h.db_name (id_of d)) else from_monitor
 
-    abbrev T2 : Option (List Data → Call)
-    T2 = if bytes_eq m (codes "get_schema") then Some (of_one (id_of d) (λ name. of_db h.db_name (id_of d) name (message.answered (reply (id_of d) h.schema)))) else T3
+    abbrev from_get_schema : Option (List Data → Call)
+    from_get_schema = if bytes_eq m (codes "get_schema") then Some (of_one (id_of d) (λ name. of_db h.db_name (id_of d) name (message.answered (reply (id_of d) h.schema)))) else from_transact
 
-    abbrev T1 : Option (List Data → Call)
-    T1 = if bytes_eq m (codes "list_dbs") then Some (of_none (id_of d) (message.answered (reply (id_of d) (array (item (string h.db_name) no_items))))) else T2
+    abbrev from_list_dbs : Option (List Data → Call)
+    from_list_dbs = if bytes_eq m (codes "list_dbs") then Some (of_none (id_of d) (message.answered (reply (id_of d) (array (item (string h.db_name) no_items))))) else from_get_schema
 
-    t11 : P T11
-    t11 = by_name m (codes "echo") (λ b. P (cond b (Some (λ params. message.answered (reply (id_of d) (array (items_of params))))) None))
+    holds_from_echo : P from_echo
+    holds_from_echo = by_name m (codes "echo") (λ b. P (cond b (Some (λ params. message.answered (reply (id_of d) (array (items_of params))))) None))
         (λ is. suited (λ params. message.answered (reply (id_of d) (array (items_of params)))) (λ ds e. plain_reply d (array (items_of ds)) (plainly (codes "echo") (λ ds. refl) is ds e)))
         (faulty unknown_method)
 
-    t10 : P T10
-    t10 = by_name m (codes "unlock") (λ b. P (cond b (Some (of_one (id_of d) (of_lock (id_of d) (message.unlock (id_of d))))) T11))
-        (λ is. suited _ (with_one (of_lock (id_of d) (message.unlock (id_of d))) (λ a e. locks (message.unlock (id_of d)) a (λ n. plainly (codes "unlock") (λ ds. refl) is (a ∷ []) e)))) t11
+    holds_from_unlock : P from_unlock
+    holds_from_unlock = by_name m (codes "unlock") (λ b. P (cond b (Some (of_one (id_of d) (of_lock (id_of d) (message.unlock (id_of d))))) from_echo))
+        (λ is. suited _ (with_one (of_lock (id_of d) (message.unlock (id_of d))) (λ a e. locks (message.unlock (id_of d)) a (λ n. plainly (codes "unlock") (λ ds. refl) is (a ∷ []) e)))) holds_from_echo
 
-    t9 : P T9
-    t9 = by_name m (codes "steal") (λ b. P (cond b (Some (of_one (id_of d) (of_lock (id_of d) (message.steal (id_of d))))) T10))
-        (λ is. suited _ (with_one (of_lock (id_of d) (message.steal (id_of d))) (λ a e. locks (message.steal (id_of d)) a (λ n. plainly (codes "steal") (λ ds. refl) is (a ∷ []) e)))) t10
+    holds_from_steal : P from_steal
+    holds_from_steal = by_name m (codes "steal") (λ b. P (cond b (Some (of_one (id_of d) (of_lock (id_of d) (message.steal (id_of d))))) from_unlock))
+        (λ is. suited _ (with_one (of_lock (id_of d) (message.steal (id_of d))) (λ a e. locks (message.steal (id_of d)) a (λ n. plainly (codes "steal") (λ ds. refl) is (a ∷ []) e)))) holds_from_unlock
 
-    t8 : P T8
-    t8 = by_name m (codes "lock") (λ b. P (cond b (Some (of_one (id_of d) (of_lock (id_of d) (message.lock (id_of d))))) T9))
-        (λ is. suited _ (with_one (of_lock (id_of d) (message.lock (id_of d))) (λ a e. locks (message.lock (id_of d)) a (λ n. plainly (codes "lock") (λ ds. refl) is (a ∷ []) e)))) t9
+    holds_from_lock : P from_lock
+    holds_from_lock = by_name m (codes "lock") (λ b. P (cond b (Some (of_one (id_of d) (of_lock (id_of d) (message.lock (id_of d))))) from_steal))
+        (λ is. suited _ (with_one (of_lock (id_of d) (message.lock (id_of d))) (λ a e. locks (message.lock (id_of d)) a (λ n. plainly (codes "lock") (λ ds. refl) is (a ∷ []) e)))) holds_from_steal
 
-    t7 : P T7
-    t7 = by_name m (codes "monitor_cancel") (λ b. P (cond b (Some (of_one (id_of d) (message.cancel_monitor (id_of d)))) T8))
-        (λ is. suited _ (with_one (message.cancel_monitor (id_of d)) (λ a e. (wished (codes "monitor_cancel") (a ∷ []) is e, own)))) t8
+    holds_from_cancel : P from_cancel
+    holds_from_cancel = by_name m (codes "monitor_cancel") (λ b. P (cond b (Some (of_one (id_of d) (message.cancel_monitor (id_of d)))) from_lock))
+        (λ is. suited _ (with_one (message.cancel_monitor (id_of d)) (λ a e. (wished (codes "monitor_cancel") (a ∷ []) is e, own)))) holds_from_lock
 
-    t6 : P T6
-    t6 = by_name m (codes "monitor_cond_change") (λ b. P (cond b (Some (of_change (id_of d))) T7)) (λ is. suited _ (changing is)) t7
+    holds_from_change : P from_change
+    holds_from_change = by_name m (codes "monitor_cond_change") (λ b. P (cond b (Some (of_change (id_of d))) from_cancel)) (λ is. suited _ (changing is)) holds_from_cancel
 
-    t5 : P T5
-    t5 = by_name m (codes "monitor_cond") (λ b. P (cond b (Some (of_monitor h.db_name (id_of d) update2)) T6)) (λ is. suited _ (conditional is)) t6
+    holds_from_monitor_cond : P from_monitor_cond
+    holds_from_monitor_cond = by_name m (codes "monitor_cond") (λ b. P (cond b (Some (of_monitor h.db_name (id_of d) update2)) from_change)) (λ is. suited _ (conditional is)) holds_from_change
 
-    t4 : P T4
-    t4 = by_name m (codes "monitor") (λ b. P (cond b (Some (of_monitor h.db_name (id_of d) update)) T5)) (λ is. suited _ (monitors is)) t5
+    holds_from_monitor : P from_monitor
+    holds_from_monitor = by_name m (codes "monitor") (λ b. P (cond b (Some (of_monitor h.db_name (id_of d) update)) from_monitor_cond)) (λ is. suited _ (monitors is)) holds_from_monitor_cond
 
-    t3 : P T3
-    t3 = by_name m (codes "transact") (λ b. P (cond b (Some (of_transact h.db_name (id_of d))) T4)) (λ is. suited _ (transacts is)) t4
+    holds_from_transact : P from_transact
+    holds_from_transact = by_name m (codes "transact") (λ b. P (cond b (Some (of_transact h.db_name (id_of d))) from_monitor)) (λ is. suited _ (transacts is)) holds_from_monitor
 
-    t2 : P T2
-    t2 = by_name m (codes "get_schema") (λ b. P (cond b (Some (of_one (id_of d) (λ name. of_db h.db_name (id_of d) name (message.answered (reply (id_of d) h.schema))))) T3))
-        (λ is. suited _ (with_one (λ name. of_db h.db_name (id_of d) name (message.answered (reply (id_of d) h.schema))) (λ a e. in_db a (message.answered (reply (id_of d) h.schema)) (plain_reply d h.schema (plainly (codes "get_schema") (λ ds. refl) is (a ∷ []) e))))) t3
+    holds_from_get_schema : P from_get_schema
+    holds_from_get_schema = by_name m (codes "get_schema") (λ b. P (cond b (Some (of_one (id_of d) (λ name. of_db h.db_name (id_of d) name (message.answered (reply (id_of d) h.schema))))) from_transact))
+        (λ is. suited _ (with_one (λ name. of_db h.db_name (id_of d) name (message.answered (reply (id_of d) h.schema))) (λ a e. in_db a (message.answered (reply (id_of d) h.schema)) (plain_reply d h.schema (plainly (codes "get_schema") (λ ds. refl) is (a ∷ []) e))))) holds_from_transact
 
-    known : P T1
-    known = by_name m (codes "list_dbs") (λ b. P (cond b (Some (of_none (id_of d) (message.answered (reply (id_of d) (array (item (string h.db_name) no_items)))))) T2))
-        (λ is. suited _ (λ ds e. with_none (message.answered (reply (id_of d) (array (item (string h.db_name) no_items)))) (plain_reply d (array (item (string h.db_name) no_items)) (plainly (codes "list_dbs") (λ ds. refl) is ds e)) ds e)) t2
+    known : P from_list_dbs
+    known = by_name m (codes "list_dbs") (λ b. P (cond b (Some (of_none (id_of d) (message.answered (reply (id_of d) (array (item (string h.db_name) no_items)))))) from_get_schema))
+        (λ is. suited _ (λ ds e. with_none (message.answered (reply (id_of d) (array (item (string h.db_name) no_items)))) (plain_reply d (array (item (string h.db_name) no_items)) (plainly (codes "list_dbs") (λ ds. refl) is ds e)) ds e)) holds_from_get_schema
 
   -- the id of an answer is the request's where no number is left out
   own_id : (d : Data) → has_left_out d ≡ false → answer_id d ≡ id_of d
@@ -306,7 +306,7 @@ module _ (h : Service) where
 
   -- a method that isn't served is unknown
   served : (d : Data) (m : List ℕ) (read : as_str (at_key (codes "method") d) ≡ Some m) (own : answer_id d ≡ id_of d) → IsAsked d (of_request h.db_name h.schema h.serves (id_of d) m (at_key (codes "params") d))
-  served d m read own = elim (h.serves m) as (λ b. P d m read own (cond b (T1 d m read own) None)) [ true ↦ known d m read own | false ↦ faulty d m read own unknown_method ]
+  served d m read own = elim (h.serves m) as (λ b. P d m read own (cond b (from_list_dbs d m read own) None)) [ true ↦ known d m read own | false ↦ faulty d m read own unknown_method ]
 
   requested : (d : Data) (m : List ℕ) → as_str (at_key (codes "method") d) ≡ Some m
       → IsAsked d (cond (has_left_out d) (fault (if has_left_out (id_of d) then null else id_of d) (failed syntax_error)) (of_request h.db_name h.schema h.serves (id_of d) m (at_key (codes "params") d)))

@@ -1,66 +1,28 @@
 -- A code of the machine's state, so that it can be what contracts see of a type. Not for reading aloud: that each code has its inverse is all that it says.
-use Rattle.std.specs.Prelude.{◌≡◌, ◌⊎◌, ℕ, zero, suc, ℤ, Bool, true, false, cond, ◌==◌, List, Option, Some, None, refl}
+use Rattle.std.specs.Prelude.{◌≡◌, ◌⊎◌, ℕ, zero, suc, Bool, true, false, cond, ◌==◌, List, Option, Some, None, refl}
 use Rattle.std.specs.Ordering.{nat_cmp}
 use mathlib.Core.Logic.{inl, inr}
-use Rattle.std.specs.Coded.{Coded, code_by, coded×, coded⊎, coded_ℕ, coded_ℤ, coded_bool, coded_list, coded_option}
+use Rattle.std.specs.Coded.{Coded, code_by, coded×, coded⊎, coded_ℕ, coded_bool, coded_list, coded_option}
 use Rattle.odb_atoms.specs.FinMap as map
-use Rattle.odb_atoms.specs.FinSet as set
-use Rattle.odb_atoms.specs.Atom.{Kind, integers, booleans, strings, uuids, atom_code}
-use Rattle.odb_atoms.specs.ColType.{ColType, Base, Reference}
+use Rattle.odb_atoms.specs.ColType.{ColType}
 use Rattle.odb_atoms.specs.Row.{Selector, own_uuid, own_version, declared}
 use Rattle.odb_atoms.specs.Uuid.{Uuid, uuid_code}
-use Rattle.odb_atoms.specs.Value.{Value, Atoms, value_code}
+use Rattle.odb_atoms.specs.Value.{Value, value_code}
 use Rattle.odb_cond.specs.Condition.{Function, less, less_or_equal, equal, not_equal, greater_or_equal, greater, includes, excludes, Clause}
 use Rattle.odb_cond.specs.Filter.{Filter, Member, always, when}
-use Rattle.odb_locks.specs.Locks.{Claim, Lock, Locks}
+use Rattle.odb_locks.specs.Locks.{Locks}
+use Rattle.odb_locks.specs.Represented.Lock.{locks_code}
 use Rattle.odb_monitor.specs.View.{View}
 use Rattle.odb_request.specs.Request.{Column, Shape, Select, Request, Notation, update, update2}
 use Rattle.odb_schema.specs.Json.{Data}
 use Rattle.odb_schema.specs.JsonCode.{data_code}
+use Rattle.odb_schema.specs.Represented.Codes.{text_code, type_code}
 use Rattle.odb_tables.specs.Database.{Db, db_code}
 use Rattle.odb_core.specs.Session.{Answers, no_request, to, Item, say, start, sync, shift, renamed, stopped, Monitor, Session, Watch}
 use Rattle.odb_core.specs.World.{Parked, World}
 
 abbrev Text : Type 0
 Text = List ℕ
-
-abbrev text_code : Coded Text
-text_code = coded_list coded_ℕ
-
--- ---- types
-
-abbrev kind_number : Kind → ℕ
-kind_number integers = 0
-kind_number booleans = 1
-kind_number strings = 2
-kind_number uuids = 3
-
-abbrev kind_at : ℕ → Kind
-kind_at n = cond (n == 0) integers (cond (n == 1) booleans (cond (n == 2) strings uuids))
-
-pub kind_at-kind_number : (k : Kind) → kind_at (kind_number k) ≡ k
-kind_at-kind_number integers = refl
-kind_at-kind_number booleans = refl
-kind_at-kind_number strings = refl
-kind_at-kind_number uuids = refl
-
-abbrev pub kind_code : Coded Kind
-kind_code = code_by ℕ coded_ℕ kind_number kind_at kind_at-kind_number
-
-abbrev pub reference_code : Coded Reference
-reference_code = code_by (Text × Bool) (coded× text_code coded_bool) (λ r. (r.table, r.weak)) (λ p. record { table = p.0; weak = p.1 }) (λ r. refl)
-
-abbrev pub base_code : Coded Base
-base_code =
-    code_by (Kind × (Option Atoms × (Option ℤ × (Option ℤ × (Option ℤ × (Option ℤ × Option Reference))))))
-    (coded× kind_code (coded× (coded_option (set.code atom_code)) (coded× (coded_option coded_ℤ) (coded× (coded_option coded_ℤ) (coded× (coded_option coded_ℤ) (coded× (coded_option coded_ℤ) (coded_option reference_code)))))))
-    (λ b. (b.kind, (b.enum, (b.min_integer, (b.max_integer, (b.min_length, (b.max_length, b.reference)))))))
-    (λ p. record { kind = p.0; enum = p.1.0; min_integer = p.1.1.0; max_integer = p.1.1.1.0; min_length = p.1.1.1.1.0; max_length = p.1.1.1.1.1.0; reference = p.1.1.1.1.1.1 }) (λ b. refl)
-
-abbrev pub type_code : Coded ColType
-type_code =
-    code_by (Base × (Option Base × (ℕ × Option ℕ))) (coded× base_code (coded× (coded_option base_code) (coded× coded_ℕ (coded_option coded_ℕ))))
-    (λ t. (t.key, (t.value, (t.min, t.max)))) (λ p. record { key = p.0; value = p.1.0; min = p.1.1.0; max = p.1.1.1 }) (λ t. refl)
 
 -- ---- filters
 
@@ -228,15 +190,6 @@ abbrev pub session_code : Coded Session
 session_code = code_by (List Item × List Monitor) (coded× (coded_list item_code) (coded_list monitor_code)) (λ s. (s.queue, s.monitors)) (λ p. record { queue = p.0; monitors = p.1 }) (λ s. refl)
 
 -- ---- the state
-
-abbrev pub claim_code : Coded Claim
-claim_code = code_by (ℕ × Bool) (coded× coded_ℕ coded_bool) (λ c. (c.session, c.stolen)) (λ p. record { session = p.0; stolen = p.1 }) (λ c. refl)
-
-abbrev pub lock_code : Coded Lock
-lock_code = code_by (List Claim × List ℕ) (coded× (coded_list claim_code) (coded_list coded_ℕ)) (λ k. (k.claims, k.robbed)) (λ p. record { claims = p.0; robbed = p.1 }) (λ k. refl)
-
-abbrev pub locks_code : Coded Locks
-locks_code = map.code text_code lock_code
 
 abbrev pub parked_code : Coded Parked
 parked_code =

@@ -5,7 +5,8 @@ use Rattle.std.specs.Ordering.{eq_by_cmp}
 use Rattle.std.specs.FinMap.Entries.{find}
 use Rattle.std.proofs.lemmas.Option.{none-some, same_Some}
 use Rattle.std.proofs.lemmas.Slice.Eq.{bytes_eq-Decides}
-use Rattle.odb_atoms.proofs.Atoms.{atom_cmp_total, atom_cmp-IsAntisymmetric}
+use Rattle.odb_atoms.proofs.Atoms.{atom_cmp-IsAntisymmetric}
+use Rattle.odb_atoms.specs.Represented.AtomOrder.{atom_cmp_total}
 use Rattle.odb_atoms.proofs.FinMaps.{get-empty, contains_key-keys, get-insert, same_map, get-entries}
 use Rattle.odb_atoms.proofs.FinSets.{contains-from_list, same_set}
 use Rattle.odb_atoms.proofs.Uuids.{uuid_of_text-uuid_text}

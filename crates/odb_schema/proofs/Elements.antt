@@ -16,7 +16,8 @@ use Rattle.odb_atoms.specs.Error.{Error, syntax_error}
 use Rattle.odb_atoms.specs.First.{demand, ◌>>=◌, ◌>>◌}
 use Rattle.odb_atoms.specs.Members.{ListFault, are_of_one_kind, mixed_kinds, repeated, repeats, set_fault}
 use Rattle.odb_atoms.specs.Value.{Atoms, atoms}
-use Rattle.odb_atoms.proofs.Atoms.{atom_cmp-IsAntisymmetric, atom_cmp_total}
+use Rattle.odb_atoms.proofs.Atoms.{atom_cmp-IsAntisymmetric}
+use Rattle.odb_atoms.specs.Represented.AtomOrder.{atom_cmp_total}
 use Rattle.odb_atoms.proofs.FinMaps.{entries-insert}
 use Rattle.odb_atoms.proofs.FinSets.{contains-from_list, contains-insert, same_set}
 use Rattle.odb_schema.specs.Json.{Data, Items, as_bool, as_integer, no_items, item}

@@ -10,7 +10,8 @@ use Rattle.std.specs.Option.{option_or}
 use Rattle.std.specs.Cmp.{IsTotalOrder}
 use Rattle.std.specs.FinMap.{IsAntisymmetric}
 use Rattle.std.specs.FinMap.Entries.{find, is_sorted, below_all}
-use Rattle.odb_atoms.proofs.Atoms.{atom_cmp-IsAntisymmetric, atom_cmp_total}
+use Rattle.odb_atoms.proofs.Atoms.{atom_cmp-IsAntisymmetric}
+use Rattle.odb_atoms.specs.Represented.AtomOrder.{atom_cmp_total}
 use Rattle.odb_atoms.proofs.FinMaps.{get-empty, get-entries, get-insert, same_map}
 use Rattle.odb_atoms.proofs.Uuids.{uuid_of_text-uuid_text}
 use Rattle.odb_atoms.specs.Atom.{Atom, Kind, atom_cmp, boolean, booleans, integer, integers, strings, text, uuid, uuids}

@@ -21,7 +21,8 @@ use Rattle.odb_atoms.specs.Represented.Atom.{atom_of}
 use Rattle.odb_atoms.specs.Represented.Entry.{Entry, IsChange, IsRising, changed_value, entry_at, has_entry, is_alike, keys_of}
 use Rattle.odb_atoms.specs.Represented.Value.{AreAscending, HaveAscendingKeys, key_of, map_in, pair_of, set_in}
 use Rattle.odb_atoms.specs.declared.atom.Atom.{Atom}
-use Rattle.odb_atoms.proofs.Atoms.{atom_cmp-IsAntisymmetric, atom_cmp_total}
+use Rattle.odb_atoms.proofs.Atoms.{atom_cmp-IsAntisymmetric}
+use Rattle.odb_atoms.specs.Represented.AtomOrder.{atom_cmp_total}
 use Rattle.odb_atoms.proofs.FinMaps.{contains_key-keys, entries-from_sorted, get-combine, get-empty, get-entries, get-insert, same_map}
 use Rattle.odb_atoms.proofs.FinSets.{contains-from_list, contains-symmetric_difference, same_set}
 use Rattle.std.proofs.lemmas.List.Folds.{list_all-map as all-map}

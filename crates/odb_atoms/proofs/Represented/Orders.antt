@@ -19,7 +19,8 @@ use Rattle.odb_atoms.specs.Value.{Atoms, Pairs, Value, has_pair, includes_all, i
 use Rattle.odb_atoms.specs.Represented.Atom.{atom_of}
 use Rattle.odb_atoms.specs.Represented.Value.{AreAscending, HaveAscendingKeys, map_in, pair_of, set_in}
 use Rattle.odb_atoms.specs.declared.atom.Atom.{Atom}
-use Rattle.odb_atoms.proofs.Atoms.{atom_cmp-IsAntisymmetric, atom_cmp_total}
+use Rattle.odb_atoms.proofs.Atoms.{atom_cmp-IsAntisymmetric}
+use Rattle.odb_atoms.specs.Represented.AtomOrder.{atom_cmp_total}
 use Rattle.odb_atoms.proofs.FinMaps.{contains_key-keys, get-entries}
 use Rattle.odb_atoms.proofs.FinSets.{same_set}
 use Rattle.odb_atoms.proofs.Lists.{Member, gives_all, gives_any}

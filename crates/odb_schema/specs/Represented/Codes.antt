@@ -16,13 +16,13 @@ kind_at-rank booleans = refl
 kind_at-rank strings = refl
 kind_at-rank uuids = refl
 
-abbrev kind_code : Coded Kind
+abbrev pub kind_code : Coded Kind
 kind_code = code_by ℕ coded_ℕ rank kind_at kind_at-rank
 
-abbrev text_code : Coded (List ℕ)
+abbrev pub text_code : Coded (List ℕ)
 text_code = coded_list coded_ℕ
 
-abbrev reference_code : Coded Reference
+abbrev pub reference_code : Coded Reference
 reference_code = code_by (List ℕ × Bool) (coded× text_code coded_bool) (λ r. (r.table, r.weak)) (λ p. record { table = p.0; weak = p.1 }) (λ _. refl)
 
 abbrev Bounds : Type 0
@@ -39,7 +39,7 @@ base_code =
     (λ p. record { kind = p.0; enum = p.1.0; min_integer = p.1.1.0.0; max_integer = p.1.1.0.1; min_length = p.1.1.1.0.0; max_length = p.1.1.1.0.1; reference = p.1.1.1.1 })
     (λ _. refl)
 
-abbrev type_code : Coded ColType
+abbrev pub type_code : Coded ColType
 type_code =
     code_by (Base × (Option Base × (ℕ × Option ℕ)))
     (coded× base_code (coded× (coded_option base_code) (coded× coded_ℕ (coded_option coded_ℕ))))

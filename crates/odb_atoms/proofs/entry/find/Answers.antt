@@ -3,7 +3,7 @@ use Rattle.std.proofs.Common.{rules, Some}
 use Rattle.std.proofs.lemmas.Fn.{always_returns_same}
 use Rattle.odb_atoms.specs.Atom.{atom_cmp}
 use Rattle.odb_atoms.specs.Represented.Atom.{atom_of}
-use Rattle.odb_atoms.proofs.Atoms.{atom_cmp_total}
+use Rattle.odb_atoms.specs.Represented.AtomOrder.{atom_cmp_total}
 use Rattle.odb_atoms.proofs.Rising.{find-missed, find-tied, searchable}
 use Rattle.odb_atoms.proofs.entry.find.Goals as goal
 

@@ -4,7 +4,7 @@ use Rattle.std.specs.List.{IsAllAdjacentAnswer}
 use Rattle.std.proofs.lemmas.Fn.{always_returns_same}
 use Rattle.std.proofs.lemmas.List.Sorted.{ranks_by, sorted_far}
 use Rattle.odb_atoms.specs.Atom.{atom_cmp}
-use Rattle.odb_atoms.proofs.Atoms.{atom_cmp_total}
+use Rattle.odb_atoms.specs.Represented.AtomOrder.{atom_cmp_total}
 use Rattle.odb_atoms.proofs.Sorts.{IsOrdered-sorted, rising-answer, rising-sorted}
 use Rattle.odb_atoms.proofs.entry.sort.Goals as goal
 
