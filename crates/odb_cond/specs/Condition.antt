@@ -5,9 +5,10 @@ use Rattle.std.specs.List.{list_all, list_any}
 use Rattle.std.specs.Ordering.{is_lt, is_le, is_gt, is_ge}
 use Rattle.odb_atoms.specs.FinSet as set
 use Rattle.odb_atoms.specs.Atom.{atom_cmp}
+use Rattle.odb_atoms.specs.Members.{excludes_all}
 use Rattle.odb_atoms.specs.Row.{Row, Selector, cell}
 use Rattle.odb_atoms.specs.Uuid.{Uuid}
-use Rattle.odb_atoms.specs.Value.{Value, has_pair, includes_all, map_of, same_value, set_of}
+use Rattle.odb_atoms.specs.Value.{Value, includes_all, same_value, set_of}
 
 pub data Function : Type 0 where
   less less_or_equal equal not_equal greater_or_equal greater includes excludes : Function
@@ -17,14 +18,8 @@ pub record Clause : Type 0 where
   pub function : Function
   pub value : Value
 
--- no element or pair of v is in c
-abbrev pub excludes_all : Value → Value → Bool
-excludes_all (set_of c) (set_of v) = list_all (λ a. not (set.contains c a)) (set.items v)
-excludes_all (map_of c) (map_of v) = list_all (λ e. not (has_pair c e)) v.entries
-excludes_all c v = false
-
 -- some atom of c stands so to some atom of v (a scalar has just one)
-abbrev compares : (Ordering → Bool) → Value → Value → Bool
+abbrev pub compares : (Ordering → Bool) → Value → Value → Bool
 compares test (set_of c) (set_of v) = list_any (λ a. list_any (λ b. test (atom_cmp a b)) (set.items v)) (set.items c)
 compares test c v = false
 

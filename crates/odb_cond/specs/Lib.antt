@@ -1,2 +1,4 @@
 pub mod Condition
 pub mod Filter
+pub mod Pinned
+pub mod Represented

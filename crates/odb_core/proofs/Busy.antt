@@ -16,8 +16,8 @@ use Rattle.odb_core.specs.Headline.{HoldsAlways}
 use Rattle.odb_core.specs.Law.{IsAnsweredOnce, IsCounted, answers_one}
 use Rattle.odb_core.specs.Run.{Event, Sent, State, after, beginning, closed, max_owed, once, opened, round, submitted, take_each, take_of, ticked}
 use Rattle.odb_core.specs.Service.{Service}
-use Rattle.odb_core.specs.Session.{Answers, Session, label, no_request, owed, take, to}
-use Rattle.odb_core.specs.World.{World, at_moment, close, handle, is_answer, owed_replies, tick}
+use Rattle.odb_core.specs.Session.{Answers, Session, label, no_request, owed, take, to, is_answer}
+use Rattle.odb_core.specs.World.{World, at_moment, close, handle, owed_replies, tick}
 use Rattle.odb_monitor.proofs.Views.{some_is}
 use Rattle.odb_rpc.specs.Message.{Call, call_of, has_reply}
 
@@ -45,14 +45,14 @@ module _ (h : Service) where
 
   -- ---- what a session is owed, counted
 
-  answer_label : (a : Answers) → in_label h any a ≡ is_answer h a
+  answer_label : (a : Answers) → in_label h any a ≡ is_answer a
   answer_label no_request = refl
   answer_label (to d) = refl
 
   load_is : (s : ℕ) (x : Session) (w : World) → load h any s x w ≡ owed_replies h s x w
   load_is s x w =
-      let a : queued h any x.queue ≡ count (λ i. is_answer h (label i)) x.queue = count-alike (λ i. in_label h any (label i)) (λ i. is_answer h (label i)) (λ i. answer_label (label i)) x.queue in
-      let b : count (λ i. is_answer h (label i)) x.queue ≡ count_by (λ i. is_answer h (label i)) x.queue = count-is (λ i. is_answer h (label i)) x.queue in
+      let a : queued h any x.queue ≡ count (λ i. is_answer (label i)) x.queue = count-alike (λ i. in_label h any (label i)) (λ i. is_answer (label i)) (λ i. answer_label (label i)) x.queue in
+      let b : count (λ i. is_answer (label i)) x.queue ≡ count_by (λ i. is_answer (label i)) x.queue = count-is (λ i. is_answer (label i)) x.queue in
       let c : waiting h any s w.parked ≡ count (λ p. p.session == s) w.parked = count-alike (λ p. (p.session == s) && true) (λ p. p.session == s) (λ p. and_true (p.session == s)) w.parked in
       let d : count (λ p. p.session == s) w.parked ≡ count_by (λ p. p.session == s) w.parked = count-is (λ p. p.session == s) w.parked in
       omega (arith, a, b, c, d)

@@ -5,10 +5,12 @@ pub mod Counted
 pub mod Dropped
 pub mod Granted
 pub mod Last
+pub mod Listed
 pub mod Opened
 pub mod Owed
 pub mod Pictures
 pub mod Reading
+pub mod Results
 pub mod Retried
 pub mod Rounds
 pub mod Runs
@@ -17,8 +19,11 @@ pub mod Sessions
 pub mod Splits
 pub mod Steps
 pub mod Taking
+pub mod Takings
 pub mod Told
 pub mod Updates
 pub mod Waiting
 pub mod Whole
 pub mod Worlds
+pub mod SessionsIn
+pub mod Serving

@@ -4,6 +4,7 @@ use Rattle.std.specs.List.{list_all}
 use Rattle.odb_atoms.specs.Error.{Error, syntax_error}
 use Rattle.odb_atoms.specs.First.{◌>>=◌}
 use Rattle.odb_atoms.specs.Text.{same_text}
+use Rattle.odb_core.proofs.Results.{err_ok}
 use Rattle.odb_core.specs.Headline.{ReadsNamed}
 use Rattle.odb_core.specs.Session.{shapes}
 use Rattle.odb_monitor.specs.Names.{AreDistinct, AreNamed, ColumnsDistinct, IsApart}
@@ -33,9 +34,6 @@ distinct (n ∷ ns) e =
     (apart n ns h.0, distinct ns h.1)
 
 -- ---- what follows from a reading that gave a value
-
-err_ok : {A E : Type 0} (e : E) (y : A) → Err e ≡ Ok y → ⊥
-err_ok e y p = cc
 
 ok_is : {A E : Type 0} (x y : A) → ◌≡◌ {A = Result A E} (Ok x) (Ok y) → x ≡ y
 ok_is x y e = cc

@@ -16,6 +16,9 @@ key-itself k = ap is_eq (tied_itself nat_cmp_total k)
 pub session-itself : (k : ℕ) → eq_by_cmp nat_cmp k k ≡ true
 session-itself = key-itself
 
+pub turned_about : (k q : ℕ) → eq_by_cmp nat_cmp k q ≡ eq_by_cmp nat_cmp q k
+turned_about k q = (eq_by_cmp_equiv nat_cmp_total).symm k q
+
 module _ {X : Type 0} where
   pub get-empty : (q : ℕ) → get (empty {X = X} {R = nat_cmp}) q ≡ None
   get-empty q = maps.get-empty nat_cmp q

@@ -3,6 +3,7 @@ use Rattle.std.proofs.Common.{◌≡◌, ℕ, Bool, true, false, cond, List, [],
 use Rattle.std.specs.Prelude.{nat_lt}
 use Rattle.serde_json.specs.Data.{Data}
 use Rattle.odb_atoms.specs.FinMap.{get, insert, len}
+use Rattle.odb_core.proofs.Results.{err_ok}
 use Rattle.odb_core.specs.Headline.{IsReached}
 use Rattle.odb_core.specs.Run.{Event, Sent, State, after, beginning, busy, closed, gone, if_ok, in_use, max_owed, max_sessions, next, once, opened, round, run, step, submit, submitted, take_each, ticked, too_many}
 use Rattle.odb_core.specs.Service.{Service}
@@ -13,9 +14,6 @@ use Rattle.odb_atoms.specs.Uuid.{Uuid}
 
 pub ok_is : {A E : Type 0} (x y : A) → (let a : Result A E = Ok x in a) ≡ Ok y → x ≡ y
 ok_is x y e = cc
-
-err_ok : {A E : Type 0} (e : E) (y : A) → Err e ≡ Ok y → ⊥
-err_ok e y p = cc
 
 -- what a result that is fine was made of
 pub if_ok_is : {A B E : Type 0} (f : A → Result B E) (r : Result A E) (y : B) → if_ok f r ≡ Ok y → (x : A) × (r ≡ Ok x) × (f x ≡ Ok y)

@@ -1,6 +1,6 @@
 -- A session: what is queued for it, its monitors as they were told, and what a taking gives.
 use Rattle.odb_wire.specs.Message.{id_of}
-use Rattle.std.specs.Prelude.{ℕ, Bool, true, false, if◌then◌else◌, List, [], ◌∷◌, ◌++◌, map, find, Option, Some, None, option_and_then, option_to_list, filter_map, codes, bytes_eq}
+use Rattle.std.specs.Prelude.{ℕ, Bool, true, false, if◌then◌else◌, List, [], ◌∷◌, ◌++◌, map, find, Option, Some, None, option_and_then, option_to_list, filter_map, codes, bytes_eq, count_by}
 use Rattle.serde_json.specs.Data.{Data, object, no_members}
 use Rattle.odb_cond.specs.Filter.{Filter}
 use Rattle.odb_core.specs.Service.{Service}
@@ -58,6 +58,14 @@ label (sync i) = no_request
 label (shift i fs) = no_request
 label (renamed d old new fs) = to d
 label (stopped d i) = to d
+
+-- how many of the items are replies
+abbrev pub is_answer : Answers → Bool
+is_answer no_request = false
+is_answer (to d) = true
+
+abbrev pub replies_in : List Item → ℕ
+replies_in is = count_by (λ i. is_answer (label i)) is
 
 -- f at the first element that passes the test
 abbrev pub at_first : {A : Type 0} → (A → Bool) → (A → A) → List A → List A

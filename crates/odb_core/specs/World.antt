@@ -7,7 +7,7 @@ use Rattle.odb_rpc.specs.Message as message
 use Rattle.odb_atoms.specs.FinMap.{FinMap, get, insert, remove}
 use Rattle.odb_cond.specs.Filter.{Filter}
 use Rattle.odb_core.specs.Service.{Outcome, Service, ended, waits}
-use Rattle.odb_core.specs.Session.{Answers, Item, Session, Watch, asked, label, no_request, no_result, renamed, same_id, say, shift, start, stopped, sync, to}
+use Rattle.odb_core.specs.Session.{Item, Session, Watch, asked, no_request, no_result, renamed, replies_in, same_id, say, shift, start, stopped, sync, to}
 use Rattle.odb_wire.specs.Message.{id_of}
 use Rattle.odb_locks.specs.Locks.{Answered, Locks, Notice, drop_session, lock, owns, steal, unlock}
 use Rattle.odb_monitor.specs.Update.{one}
@@ -220,9 +220,5 @@ module _ (h : Service) where
       post_notices l.1 (record w { locks = l.0; sessions = remove w.sessions s; parked = filter (λ p. not (p.session == s)) w.parked })
 
   -- replies that are queued or wait
-  abbrev pub is_answer : Answers → Bool
-  is_answer no_request = false
-  is_answer (to d) = true
-
   abbrev pub owed_replies : ℕ → Session → World → ℕ
-  owed_replies s x w = count_by (λ i. is_answer (label i)) x.queue + count_by (λ p. p.session == s) w.parked
+  owed_replies s x w = replies_in x.queue + count_by (λ p. p.session == s) w.parked

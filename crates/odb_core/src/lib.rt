@@ -1,12 +1,27 @@
 //! The OVSDB server as a machine over events: what each session is sent, and the monitor law over every run.
 #![tactic(auto)]
 
+mod answer;
+mod meaning;
+mod out;
+mod queue;
+mod refused;
+mod served_schema;
+mod server;
+mod session;
+#[cfg(test)]
+mod tests;
+
 ghost use Rattle.std.specs.Prelude.{Bool, List, ℕ};
 ghost use Rattle.odb_monitor.specs.Law.{NoOtherLeads};
 ghost use Rattle.odb_schema.specs.Schema.{Schema};
 ghost use Rattle.odb_core.specs.Headline.{BringsWhole, HoldsAlways, IsBroughtToNow, IsChangedWhole, IsDroppedWhole, IsKnown, IsMinimal};
 ghost use Rattle.odb_core.specs.Law.{AllAreTried, IsAnsweredOnce, IsCommitted, IsCounted, IsGranted, IsToldBefore, OwedIsTaken, RoundsTake, TakesEvents};
 ghost use Rattle.odb_core.specs.Service.{service_of};
+
+pub use out::Out;
+pub use refused::Refused;
+pub use server::{Core, SessionId};
 
 /// The monitor law, for every schema, whichever methods are served, and over every run of the service machine. The call does nothing.
 pub fn law()

@@ -2,7 +2,7 @@
 use Rattle.std.specs.Prelude.{◌≡◌, true, false, is_some, codes, refl}
 use Rattle.odb_atoms.specs.Uuid.{uuid_text}
 use Rattle.odb_examples.proofs.Examples.{computes}
-use Rattle.ovsdbd.specs.Script.{command_of, script_uuid}
+use Rattle.odb_script.specs.Script.{command_of, script_uuid}
 
 pub a_name_of_16 : is_some (command_of (codes "!open ABCDEFGHabcdef09")) ≡ true
 a_name_of_16 = refl

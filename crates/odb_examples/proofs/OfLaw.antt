@@ -20,7 +20,7 @@ use Rattle.odb_request.specs.Request.{Request}
 use Rattle.odb_schema.specs.SchemaText.{schema_of_text}
 use Rattle.odb_tables.specs.Database.{Db}
 use Rattle.odb_wire.specs.Stream.{messages}
-use Rattle.ovsdbd.specs.Script.{fresh_from}
+use Rattle.odb_script.specs.Script.{fresh_from}
 
 abbrev first_message : List ℕ → Data
 first_message t = elim ((messages t).0) [ [] ↦ null | d ∷ ds ↦ d ]

@@ -16,7 +16,7 @@ use Rattle.odb_schema.specs.Schema.{Schema}
 use Rattle.odb_schema.specs.SchemaText.{schema_of_text}
 use Rattle.odb_core.specs.Service.{service}
 use Rattle.odb_wire.specs.Stream.{max_message}
-use Rattle.ovsdbd.specs.Script.{Script, Command, command_of, fresh_script, perform, script_uuid}
+use Rattle.odb_script.specs.Script.{Script, Command, command_of, fresh_script, perform, script_uuid}
 use Rattle.odb_examples.proofs.Examples.{computes}
 
 -- what an example opens

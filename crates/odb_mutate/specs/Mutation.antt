@@ -19,7 +19,7 @@ pub record Mutation : Type 0 where
 abbrev pub fits_64_bits : ℤ → Bool
 fits_64_bits z = int_le (neg_ℤ (pos (2 ^ 63))) z && int_lt z (pos (2 ^ 63))
 
-abbrev in_range : ℤ → Result Atom Error
+abbrev pub in_range : ℤ → Result Atom Error
 in_range z = do
   demand (fits_64_bits z) range_error
   Ok (integer z)
@@ -38,36 +38,41 @@ calculate remainder x y = do
 calculate insert x y = Err syntax_error
 calculate delete x y = Err syntax_error
 
-abbrev calculate_atom : Mutator → Atom → Atom → Result Atom Error
+abbrev pub calculate_atom : Mutator → Atom → Atom → Result Atom Error
 calculate_atom m (integer x) (integer y) = calculate m x y
 calculate_atom m a b = Err syntax_error
 
--- each element with the one operand; elements that become equal are a fault
-abbrev calculate_each : Mutator → Atoms → List Atom → Result Value Error
-calculate_each m s (y ∷ []) = do
-  results ← each (λ x. calculate_atom m x y) (set.items s)
+-- results that have become equal are a fault
+abbrev pub set_of_results : List Atom → Result Value Error
+set_of_results results = do
   demand (set.len (atoms results) == length results) constraint_violation
   Ok (set_of (atoms results))
+
+-- each element with the one operand
+abbrev pub calculate_each : Mutator → Atoms → List Atom → Result Value Error
+calculate_each m s (y ∷ []) = do
+  results ← each (λ x. calculate_atom m x y) (set.items s)
+  set_of_results results
 calculate_each m s ys = Err syntax_error
 
+abbrev pub first_of : Option Atom → Option Atom → Option Atom
+first_of None y = y
+first_of (Some x) y = Some x
+
 -- the pairs whose key is absent are added
-abbrev insert_pairs : Pairs → Pairs → Pairs
-insert_pairs m n = map.combine first m n
-  where
-    first : Option Atom → Option Atom → Option Atom
-    first None y = y
-    first (Some x) y = Some x
+abbrev pub insert_pairs : Pairs → Pairs → Pairs
+insert_pairs m n = map.combine first_of m n
 
 -- the keys are taken out
-abbrev delete_keys : Pairs → Atoms → Pairs
+abbrev pub delete_keys : Pairs → Atoms → Pairs
 delete_keys m s = map.retain_keys m (λ k. not (set.contains s k))
 
 -- the keys are taken out where the value matches too
-abbrev delete_pairs : Pairs → Pairs → Pairs
+abbrev pub delete_pairs : Pairs → Pairs → Pairs
 delete_pairs m n = map.map_entries (λ k v. cond (has_pair n (k, v)) None (Some v)) m
 
 -- the new value, whether the type admits it or not
-abbrev result_of : Mutator → Value → Value → Result Value Error
+abbrev pub result_of : Mutator → Value → Value → Result Value Error
 result_of insert (set_of s) (set_of t) = Ok (set_of (set.union s t))
 result_of insert (map_of m) (map_of n) = Ok (map_of (insert_pairs m n))
 result_of delete (set_of s) (set_of t) = Ok (set_of (set.difference s t))
@@ -76,10 +81,15 @@ result_of delete (map_of m) (map_of n) = Ok (map_of (delete_pairs m n))
 result_of m (set_of s) (set_of t) = calculate_each m s (set.items t)
 result_of m v w = Err syntax_error
 
+-- a value within the limit that the type admits
+abbrev pub admitted : ColType → Value → Result Value Error
+admitted t new = do
+  demand (within_limit new) resources_exhausted
+  demand (admits t new) constraint_violation
+  Ok new
+
 -- what the mutation makes of a value of a column of type t
 abbrev pub mutate : Mutator → Value → ColType → Value → Result Value Error
 mutate m operand t old = do
   new ← result_of m old operand
-  demand (within_limit new) resources_exhausted
-  demand (admits t new) constraint_violation
-  Ok new
+  admitted t new

@@ -54,6 +54,10 @@ pub data Call : Type 0 where
   cancel : Data → Call
   passed_over : Call
 
+-- the id of a request's reply: null where the id itself holds a number that is left out
+abbrev pub reply_id : Data → Data
+reply_id id = if has_left_out id then null else id
+
 abbrev pub fault : Data → Failure → Call
 fault id f = answered (failure id f)
 
@@ -74,6 +78,9 @@ abbrev pub of_one : Data → (Data → Call) → List Data → Call
 of_one id call (d ∷ []) = call d
 of_one id call _ = fault id (failed syntax_error)
 
+abbrev pub with_params : Data → (List Data → Call) → Data → Call
+with_params id call params = elim (as_array params) [ None ↦ fault id (failed syntax_error) | Some ds ↦ call (items_list ds) ]
+
 -- the name of a lock is an id
 abbrev pub of_lock : Data → (List ℕ → Call) → Data → Call
 of_lock id call name = elim (as_str name) [ None ↦ fault id (failed syntax_error) | Some s ↦ (if is_id s then call s else fault id (failed syntax_error)) ]
@@ -83,15 +90,15 @@ of_change id (old ∷ new ∷ filters ∷ []) = if is_object filters then change
 of_change id _ = fault id (failed syntax_error)
 
 -- `cancel` with the id of a request, which has no number that is left out; every other notification is passed over
+abbrev pub of_cancel : List Data → Call
+of_cancel (id ∷ []) = if has_left_out id then passed_over else cancel id
+of_cancel _ = passed_over
+
 abbrev pub of_notification : List ℕ → Data → Call
 of_notification m params =
     if bytes_eq m (codes "cancel")
     then elim (as_array params) [ None ↦ passed_over | Some ds ↦ of_cancel (items_list ds) ]
     else passed_over
-  where
-    of_cancel : List Data → Call
-    of_cancel (id ∷ []) = if has_left_out id then passed_over else cancel id
-    of_cancel _ = passed_over
 
 -- for the database of this name
 module _ (db : List ℕ) where
@@ -129,7 +136,7 @@ module _ (db : List ℕ) (schema : Data) (serves : List ℕ → Bool) where
   of_request id m params =
       elim (if serves m then by_method db schema id m else None) [
         | None ↦ fault id unknown_method
-        | Some call ↦ elim (as_array params) [ None ↦ fault id (failed syntax_error) | Some ds ↦ call (items_list ds) ]
+        | Some call ↦ with_params id call params
       ]
 
   -- a message with a method: numbers left out by name are tested first, then the method, then `params`
@@ -139,7 +146,7 @@ module _ (db : List ℕ) (schema : Data) (serves : List ℕ → Bool) where
       elim (method_of d) [
         | None ↦ passed_over
         | Some m ↦ (if is_null id then of_notification m (params_of d)
-            else (if has_left_out d then fault (if has_left_out id then null else id) (failed syntax_error)
+            else (if has_left_out d then fault (reply_id id) (failed syntax_error)
             else of_request id m (params_of d)))
       ]
 

@@ -1,2 +1,14 @@
 //! Calls and replies of JSON-RPC (RFC 7047, 4).
 #![tactic(auto)]
+
+mod call;
+mod error;
+mod printable;
+#[cfg(test)]
+mod tests;
+mod text;
+
+pub use call::{Call, CallFault, has_reply, is_served, reply_id};
+pub use error::{Error, Failure};
+pub use printable::Printable;
+pub use text::{array_of_one, failure, notice, reply, reply_printed};

@@ -22,8 +22,8 @@ use Rattle.odb_atoms.proofs.FinMaps.{entries-insert}
 use Rattle.odb_atoms.proofs.FinSets.{contains-from_list, contains-insert, same_set}
 use Rattle.odb_schema.specs.Json.{Data, Items, as_bool, as_integer, no_items, item}
 use Rattle.odb_schema.specs.Notation.{read_atom, read_elements, read_string, read_uuid}
-use Rattle.odb_schema.specs.SchemaText.{SchemaFault, bad_type}
-use Rattle.odb_schema.specs.Represented.Parts.{atom_in, atoms_in, bad_as, elements_in}
+use Rattle.odb_schema.specs.SchemaText.{SchemaFault, bad_as, bad_type}
+use Rattle.odb_schema.specs.Represented.Parts.{atom_in, atoms_in, elements_in}
 
 -- none is in s, nor twice among them
 abbrev fresh : Atoms → List Atom → Bool

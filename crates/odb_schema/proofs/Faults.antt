@@ -7,7 +7,7 @@ use Rattle.serde_json.specs.View.{view, items_view}
 use Rattle.odb_atoms.specs.Atom.{Atom, Kind}
 use Rattle.odb_atoms.specs.First.{◌>>=◌}
 use Rattle.odb_schema.specs.SchemaText as model
-use Rattle.odb_schema.specs.Represented.Fault.{IsFaultOf}
+use Rattle.odb_schema.specs.Represented.Fault.{IsFault, IsFaultOf}
 use Rattle.odb_schema.specs.Represented.Parts.{atom_in, atoms_in}
 use Rattle.odb_schema.specs.declared.fault.SchemaFault.{SchemaFault}
 use Rattle.odb_schema.specs.declared.fault.SchemaFault.TheVariants.{Memory, Syntax, BadId, BadType, UnknownRefTable, BadIndex, TooLarge}
@@ -21,6 +21,16 @@ passed_on BadType r q h is = h model.bad_type is
 passed_on UnknownRefTable r q h is = h model.unknown_ref_table is
 passed_on BadIndex r q h is = h model.bad_index is
 passed_on TooLarge r q h is = h model.too_large is
+
+-- the same where no memory is taken
+pub given_on : {A B : Type 0} (e : SchemaFault) (r : Result A model.SchemaFault) (q : Result B model.SchemaFault) → ((f : model.SchemaFault) → r ≡ Err f → q ≡ Err f) → IsFault e r → IsFaultOf e q
+given_on Memory r q h is = tt
+given_on Syntax r q h is = h model.syntax is
+given_on BadId r q h is = h model.bad_id is
+given_on BadType r q h is = h model.bad_type is
+given_on UnknownRefTable r q h is = h model.unknown_ref_table is
+given_on BadIndex r q h is = h model.bad_index is
+given_on TooLarge r q h is = h model.too_large is
 
 abbrev next : {A B : Type 0} → Result A model.SchemaFault → (A → Result B model.SchemaFault) → Result B model.SchemaFault
 next = ◌>>=◌

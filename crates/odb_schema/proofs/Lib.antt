@@ -1,7 +1,11 @@
+pub mod Ascending
 pub mod Elements
+pub mod Eachs
 pub mod Faults
 pub mod Members
+pub mod Parts
 pub mod Places
 pub mod Written
 pub mod SameData
 pub mod Uuids
+pub mod Shapes

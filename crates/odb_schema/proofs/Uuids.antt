@@ -9,8 +9,8 @@ use Rattle.odb_atoms.specs.Uuid.{Uuid, uuid_of_text}
 use Rattle.odb_atoms.specs.Error.{syntax_error}
 use Rattle.odb_schema.specs.Json.{Data, Items, array, as_array, as_str, boolean, item, no_items, null, number, object, string}
 use Rattle.odb_schema.specs.Notation.{tagged}
-use Rattle.odb_schema.specs.SchemaText.{SchemaFault, bad_type}
-use Rattle.odb_schema.specs.Represented.Parts.{bad_as, uuid_in}
+use Rattle.odb_schema.specs.SchemaText.{SchemaFault, bad_as, bad_type}
+use Rattle.odb_schema.specs.Represented.Parts.{uuid_in}
 
 no_uuid : (o : Option (List ℕ)) (f : List ℕ → Uuid) → ((u : List ℕ) → o ≡ Some u → ⊥) → ok_or {E = SchemaFault} (option_map f o) bad_type ≡ Err bad_type
 no_uuid None f h = refl

@@ -23,7 +23,7 @@ items_of (d ∷ ds) = item d (items_of ds)
 abbrev pub array_of : List Data → Data
 array_of ds = array (items_of ds)
 
-abbrev members_of : List (List ℕ × Data) → Members
+abbrev pub members_of : List (List ℕ × Data) → Members
 members_of [] = no_members
 members_of (m ∷ ms) = put m.0 m.1 (members_of ms)
 

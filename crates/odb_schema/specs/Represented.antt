@@ -5,5 +5,5 @@ pub mod Column
 pub mod Table
 pub mod Schema
 pub mod Fault
-pub mod Letter
+pub mod Members
 pub mod Parts

@@ -1,6 +1,7 @@
 -- The JSON of schemas (RFC 7047, <database-schema>): reading, with the first fault where a text has one, and printing.
 use Rattle.std.specs.Prelude.{ℕ, ℤ, pos, negsuc, Bool, true, false, cond, not, ◌&&◌, ◌||◌, ◌==◌, List, [], ◌∷◌, ◌++◌, map as map_list, length, codes, nat_lt, nat_le, int_le, slice_index, is_some, is_none, unwrap_or, Option, Some, None, option_map, option_and_then, find}
 use Rattle.std.specs.List.{list_any, list_all, slice_split}
+use Rattle.std.specs.Str.{is_utf8}
 use Rattle.serde_json.specs.Read.{read}
 use Rattle.odb_atoms.specs.FinSet as set
 use Rattle.odb_schema.specs.Json as json
@@ -17,34 +18,35 @@ use Rattle.odb_schema.specs.Schema.{Column, Schema, TableSchema}
 pub data SchemaFault : Type 0 where
   syntax bad_id bad_type unknown_ref_table bad_index too_large : SchemaFault
 
-abbrev read_string : Data → Result (List ℕ) SchemaFault
+abbrev pub read_string : Data → Result (List ℕ) SchemaFault
 read_string d = ok_or (json.as_str d) syntax
 
-abbrev read_bool : Data → Result Bool SchemaFault
+abbrev pub read_bool : Data → Result Bool SchemaFault
 read_bool d = ok_or (json.as_bool d) syntax
 
-abbrev read_integer : Data → Result ℤ SchemaFault
+abbrev pub read_integer : Data → Result ℤ SchemaFault
 read_integer d = ok_or (json.as_integer d) syntax
 
-abbrev read_object : Data → Result Members SchemaFault
+abbrev pub read_object : Data → Result Members SchemaFault
 read_object d = ok_or (json.as_object d) syntax
 
-abbrev read_list : {A : Type 0} → (Data → Result A SchemaFault) → Data → Result (List A) SchemaFault
+abbrev pub read_list : {A : Type 0} → (Data → Result A SchemaFault) → Data → Result (List A) SchemaFault
 read_list read d = do
   items ← ok_or (json.as_array d) syntax
   each read (items_list items)
 
+-- n, if it is in the range from low to high
+abbrev pub within : ℕ → Option ℕ → ℤ → Result ℕ SchemaFault
+within low high (pos n) = do
+  demand (nat_le low n && unwrap_or (option_map (nat_le n) high) true) bad_type
+  Ok n
+within low high (negsuc n) = Err bad_type
+
 -- an integer in the range from low to high
-abbrev read_between : ℕ → Option ℕ → Data → Result ℕ SchemaFault
+abbrev pub read_between : ℕ → Option ℕ → Data → Result ℕ SchemaFault
 read_between low high d = do
   z ← read_integer d
-  within z
-  where
-    within : ℤ → Result ℕ SchemaFault
-    within (pos n) = do
-      demand (nat_le low n && unwrap_or (option_map (nat_le n) high) true) bad_type
-      Ok n
-    within (negsuc n) = Err bad_type
+  within low high z
 
 -- a name of a database, a table or a column: an id that doesn't begin with `_`
 abbrev pub is_name : List ℕ → Bool
@@ -67,12 +69,12 @@ kind_name uuids = codes "uuid"
 abbrev pub read_kind : List ℕ → Result Kind SchemaFault
 read_kind s = ok_or (find (λ k. same_text (kind_name k) s) (integers ∷ booleans ∷ strings ∷ uuids ∷ [])) bad_type
 
-abbrev bad_as : {A : Type 0} → Result A Error → Result A SchemaFault
+abbrev pub bad_as : {A : Type 0} → Result A Error → Result A SchemaFault
 bad_as (Ok x) = Ok x
 bad_as (Err e) = Err bad_type
 
 -- the JSON kinds that a value has
-abbrev is_value_json : Data → Bool
+abbrev pub is_value_json : Data → Bool
 is_value_json json.null = false
 is_value_json (boolean b) = true
 is_value_json (json.number n) = is_some (json.as_integer (json.number n))
@@ -89,19 +91,19 @@ read_enum k d = do
   Ok s
 
 -- a constraint that stands with one kind alone
-abbrev read_with : {A : Type 0} → Bool → (Data → Result A SchemaFault) → Data → Result A SchemaFault
+abbrev pub read_with : {A : Type 0} → Bool → (Data → Result A SchemaFault) → Data → Result A SchemaFault
 read_with stands read d = do
   x ← read d
   demand stands bad_type
   Ok x
 
 -- no lower bound is above its upper bound
-abbrev in_order : {A : Type 0} → (A → A → Bool) → Option A → Option A → Bool
+abbrev pub in_order : {A : Type 0} → (A → A → Bool) → Option A → Option A → Bool
 in_order le None high = true
 in_order le (Some l) None = true
 in_order le (Some l) (Some h) = le l h
 
-abbrev read_ref_table : List (List ℕ) → Kind → Data → Result (List ℕ) SchemaFault
+abbrev pub read_ref_table : List (List ℕ) → Kind → Data → Result (List ℕ) SchemaFault
 read_ref_table tables kind d = do
   name ← read_string d
   demand (same_kind kind uuids) bad_type
@@ -109,14 +111,14 @@ read_ref_table tables kind d = do
   Ok name
 
 -- whether the reference is weak
-abbrev read_ref_type : Data → Result Bool SchemaFault
+abbrev pub read_ref_type : Data → Result Bool SchemaFault
 read_ref_type d = do
   s ← read_string d
   demand (same_text s (codes "strong") || same_text s (codes "weak")) bad_type
   Ok (same_text s (codes "weak"))
 
 -- tables are the names of the schema's tables
-abbrev read_constraints : List (List ℕ) → Members → Result Base SchemaFault
+abbrev pub read_constraints : List (List ℕ) → Members → Result Base SchemaFault
 read_constraints tables ms = do
   t ← needed syntax (codes "type") ms
   name ← read_string t
@@ -141,7 +143,7 @@ read_base tables d = do
   read_constraints tables ms
 
 -- None where it is "unlimited"
-abbrev read_max : Data → Result (Option ℕ) SchemaFault
+abbrev pub read_max : Data → Result (Option ℕ) SchemaFault
 read_max (string s) = do
   demand (same_text s (codes "unlimited")) bad_type
   Ok None
@@ -179,7 +181,7 @@ abbrev pub is_indexable : List Column → List ℕ → Bool
 is_indexable cs name = list_any (λ c. same_text c.name name && not c.ephemeral) cs
 
 -- the names of an index from the front; `seen` are those in front of these
-abbrev distinct_names : List Column → List (List ℕ) → List Data → Result (List (List ℕ)) SchemaFault
+abbrev pub distinct_names : List Column → List (List ℕ) → List Data → Result (List (List ℕ)) SchemaFault
 distinct_names cs seen [] = Ok []
 distinct_names cs seen (d ∷ ds) = do
   name ← read_string d
@@ -209,13 +211,13 @@ read_table tables m = do
 -- ---- schemas
 
 -- the members of the object at k, if there is one
-abbrev members_at : List ℕ → Data → List (List ℕ × Data)
+abbrev pub members_at : List ℕ → Data → List (List ℕ × Data)
 members_at k d = unwrap_or (option_map members_list (option_and_then json.as_object (option_and_then (get_member k) (json.as_object d)))) []
 
-abbrev max_tables : ℕ
+abbrev pub max_tables : ℕ
 max_tables = 256
 
-abbrev max_columns : ℕ
+abbrev pub max_columns : ℕ
 max_columns = 256
 
 -- more than 256 tables, or more than 256 columns in one
@@ -251,20 +253,27 @@ schema_of_text text = do
   d ← ok_or (read text) syntax
   read_schema d
 
+-- the schema that a file's bytes are, which have to be UTF-8
+abbrev pub schema_of_file : List ℕ → Result Schema SchemaFault
+schema_of_file bytes = do
+  demand (nat_le (length bytes) max_file) too_large
+  demand (is_utf8 bytes) syntax
+  schema_of_text bytes
+
 -- ---- printing
 
-abbrev is_plain : Base → Bool
+abbrev pub is_plain : Base → Bool
 is_plain b = is_none b.enum && is_none b.min_integer && is_none b.max_integer && is_none b.min_length && is_none b.max_length && is_none b.reference
 
-abbrev of_natural : ℕ → Data
+abbrev pub of_natural : ℕ → Data
 of_natural n = json.of_integer (pos n)
 
 -- the member k, unless the test holds of its default
-abbrev unless : Bool → List ℕ → Data → List (List ℕ × Data)
+abbrev pub unless : Bool → List ℕ → Data → List (List ℕ × Data)
 unless true k d = []
 unless false k d = (k, d) ∷ []
 
-abbrev write_reference : Reference → List (List ℕ × Data)
+abbrev pub write_reference : Reference → List (List ℕ × Data)
 write_reference r = (codes "refTable", string r.table) ∷ unless (not r.weak) (codes "refType") (string (codes "weak"))
 
 -- a base type without constraints is its name
@@ -280,7 +289,7 @@ write_base b =
     ++ present (codes "maxLength") (option_map json.of_integer b.max_length)
     ++ unwrap_or (option_map write_reference b.reference) []))
 
-abbrev write_max : Option ℕ → List (List ℕ × Data)
+abbrev pub write_max : Option ℕ → List (List ℕ × Data)
 write_max None = (codes "max", string (codes "unlimited")) ∷ []
 write_max (Some n) = unless (n == 1) (codes "max") (of_natural n)
 
@@ -294,7 +303,7 @@ abbrev pub write_column : Column → Data
 write_column c =
     object_of ((codes "type", write_type c.type) ∷ unless (not c.ephemeral) (codes "ephemeral") (boolean true) ++ unless c.mutable (codes "mutable") (boolean false))
 
-abbrev write_index : List (List ℕ) → Data
+abbrev pub write_index : List (List ℕ) → Data
 write_index names = array_of (map_list string names)
 
 abbrev pub write_table : TableSchema → Data

@@ -10,22 +10,22 @@ use thiserror::Error;
 #[derive(Clone, Copy, Debug, PartialEq, Eq, Error)]
 pub enum SchemaFault {
     /// Memory was refused.
-    #[error("no memory")]
+    #[error("out of memory")]
     Memory,
     /// Not readable, a member absent, a wrong JSON kind, or a wrong `version`.
     #[error("not the syntax of a schema")]
     Syntax,
-    /// A name of the database, a table or a column that is no name.
-    #[error("a name that is none")]
+    /// What names the database, a table or a column is not a name.
+    #[error("not a name")]
     BadId,
     /// A number or a text of the right JSON kind that is not allowed where it stands.
-    #[error("a type that is none")]
+    #[error("not a type")]
     BadType,
     /// `refTable` names no table of the schema.
-    #[error("an unknown table in refTable")]
+    #[error("refTable names no table")]
     UnknownRefTable,
     /// An index is empty, repeats a column, or names an unknown or ephemeral one.
-    #[error("an index that is none")]
+    #[error("not an index")]
     BadIndex,
     /// More bytes, tables or columns than a schema may have.
     #[error("too large")]

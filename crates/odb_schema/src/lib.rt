@@ -5,6 +5,7 @@ mod fault;
 mod read;
 mod schema;
 mod text;
+mod write;
 
 pub use fault::SchemaFault;
 pub use schema::{Column, ColumnId, Schema, TableId, TableSchema};

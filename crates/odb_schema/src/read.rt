@@ -2,7 +2,14 @@
 //! answer.
 
 mod atom;
+mod base;
+mod column;
+mod column_type;
+mod database;
 mod enumeration;
+mod index;
 mod leaf;
 mod parts;
 mod reference;
+mod size;
+mod table;

@@ -44,7 +44,8 @@ pub struct TableSchema {
     indexes: Vec<Vec<String>>,
 }
 
-/// A schema (RFC 7047, section 3.2, `<database-schema>`), with its tables by ascending name.
+/// A schema (RFC 7047, section 3.2, `<database-schema>`), with its tables by ascending name. It is
+/// made by `Schema::read`, from a file's text.
 #[derive(Debug, Drop)]
 pub struct Schema {
     name: String,
@@ -282,7 +283,7 @@ impl TableSchema {
             .columns
             .binary_search_by(|column| column.name().cmp(name))
         {
-            Ok(place) => Some(ColumnId { place }),
+            Ok(place) => Some(ColumnId::at(place)),
             Err(_) => None,
         }
     }
@@ -350,7 +351,7 @@ impl Schema {
         ensures { result ≡ model.table_place self.now name.now }
     {
         match self.tables.binary_search_by(|table| table.name().cmp(name)) {
-            Ok(place) => Some(TableId { place }),
+            Ok(place) => Some(TableId::at(place)),
             Err(_) => None,
         }
     }

@@ -5,7 +5,6 @@ ghost use Rattle.std.specs.List.{list_all, slice_split};
 ghost use Rattle.odb_atoms.specs.Represented.Atom.{kind_in};
 ghost use Rattle.odb_atoms.specs.Text as model_text;
 ghost use Rattle.odb_schema.specs.SchemaText as model;
-ghost use Rattle.odb_schema.specs.Represented.Letter as letter;
 ghost use Rattle.odb_schema.specs.Represented.Fault.{Gives};
 
 use crate::fault::SchemaFault;
@@ -24,13 +23,13 @@ pub fn is_id(text: &str) -> bool
 
 fn are_letters_and_digits(bytes: &[u8]) -> bool
     ensures { result
-        ≡ list_all (λ c. letter.is_letter c || model_text.is_digit c) bytes.now }
+        ≡ list_all (λ c. model_text.is_letter c || model_text.is_digit c) bytes.now }
 {
     bytes.iter().all(|byte| is_letter(*byte) || is_digit(*byte))
 }
 
 fn is_letter(byte: u8) -> bool
-    ensures { result ≡ letter.is_letter byte }
+    ensures { result ≡ model_text.is_letter byte }
 {
     (b'A' <= byte && byte <= b'Z') || (b'a' <= byte && byte <= b'z') || byte == b'_'
 }

@@ -17,4 +17,5 @@ mod tests;
 
 pub use fault::WireFault;
 pub use framer::{Framer, read_pieces};
+pub use left_out::has_left_out_number;
 pub use message::{Message, Request, Response};

@@ -3,6 +3,7 @@ ghost use Rattle.std.specs.Prelude.{◌≡◌, ℕ, List, ◌+◌, ◌<◌, ◌+
 ghost use Rattle.odb_wire.specs.Stream.{is_blank, skip_blanks, front_of, whole, messages};
 ghost use Rattle.odb_wire.specs.Feeding.{fault_of};
 ghost use Rattle.odb_wire.specs.Shown.{message_data, IsOfItsKind};
+ghost use Rattle.odb_wire.specs.declared.split.State.TheVariants as state;
 ghost use Rattle.odb_wire.specs.Standing.{IsStanding, IsRest, IsFront, ReadsOn, TakesIn, IsAsBefore, ending_of, messages_after};
 
 use crate::fault::WireFault;
@@ -60,6 +61,26 @@ enum Front {
     Bad,
 }
 
+impl Step {
+    fn stopped(messages: Vec<Message>, stop: Stop) -> Step
+        ensures { result ≡ record { messages = messages; state = state.Stopped stop } }
+    {
+        Step {
+            messages,
+            state: State::Stopped(stop),
+        }
+    }
+
+    fn going(messages: Vec<Message>, rest: Rest) -> Step
+        ensures { result ≡ record { messages = messages; state = state.Going rest } }
+    {
+        Step {
+            messages,
+            state: State::Going(rest),
+        }
+    }
+}
+
 impl State {
     /// Before the first byte, or between two messages.
     pub(crate) fn between(alloc: Global) -> State
@@ -92,10 +113,7 @@ impl State {
         ensures only_going { OnErr result (fault_of (messages_after self []).1 ≡ None) }
     {
         match self {
-            State::Stopped(stop) => Ok(Step {
-                messages: Vec::new(alloc),
-                state: State::Stopped(stop),
-            }),
+            State::Stopped(stop) => Ok(Step::stopped(Vec::new(alloc), stop)),
             State::Going(rest) => match rest.advance(alloc, piece) {
                 Ok(step) => Ok(step),
                 Err(rest) => Err(State::Going(rest)),
@@ -136,21 +154,13 @@ impl Rest {
             }
             None => {
                 if piece.len() >= room {
-                    return Ok(Step {
-                        messages: Vec::new(alloc),
-                        state: State::Stopped(Stop::TooLong),
-                    });
+                    return Ok(Step::stopped(Vec::new(alloc), Stop::TooLong));
                 }
-                match text.extend_from_slice(piece) {
-                    Ok(()) => Ok(Step {
-                        messages: Vec::new(alloc),
-                        state: State::Going(Rest {
-                            text,
-                            scan: further,
-                        }),
-                    }),
-                    Err(_) => Err(Rest { text, scan }),
+                if text.extend_from_slice(piece).is_err() {
+                    return Err(Rest { text, scan });
                 }
+                let scan = further;
+                Ok(Step::going(Vec::new(alloc), Rest { text, scan }))
             }
         }
     }
@@ -176,10 +186,7 @@ fn complete(
             messages.push(message)?;
             split(alloc, messages, behind)
         }
-        None => Ok(Step {
-            messages,
-            state: State::Stopped(Stop::BadStream),
-        }),
+        None => Ok(Step::stopped(messages, Stop::BadStream)),
     }
 }
 
@@ -197,34 +204,16 @@ fn split(alloc: Global, mut messages: Vec<Message>, bytes: &[u8]) -> Result<Step
                 let (text, behind) = left.split_at(end);
                 match Message::read(alloc, text)? {
                     Some(message) => messages.push(message)?,
-                    None => {
-                        return Ok(Step {
-                            messages,
-                            state: State::Stopped(Stop::BadStream),
-                        });
-                    }
+                    None => return Ok(Step::stopped(messages, Stop::BadStream)),
                 }
                 left = skip_blanks(behind);
             }
             Front::Waiting(scan) => {
                 let text = Vec::from_slice(alloc, left)?;
-                return Ok(Step {
-                    messages,
-                    state: State::Going(Rest { text, scan }),
-                });
+                return Ok(Step::going(messages, Rest { text, scan }));
             }
-            Front::TooLong => {
-                return Ok(Step {
-                    messages,
-                    state: State::Stopped(Stop::TooLong),
-                });
-            }
-            Front::Bad => {
-                return Ok(Step {
-                    messages,
-                    state: State::Stopped(Stop::BadStream),
-                });
-            }
+            Front::TooLong => return Ok(Step::stopped(messages, Stop::TooLong)),
+            Front::Bad => return Ok(Step::stopped(messages, Stop::BadStream)),
         }
     }
     Ok(Step {

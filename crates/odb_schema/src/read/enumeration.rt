@@ -57,7 +57,7 @@ fn read_set(alloc: Global, kind: Kind, value: &Value) -> Result<odb_atoms::Value
 
 /// The JSON kinds that a value has: all but null, an object, and a number that is no integer.
 fn is_value_json(value: &Value) -> bool
-    ensures { result ≡ parts.is_value_json (view value.now) }
+    ensures { result ≡ model.is_value_json (view value.now) }
 {
     match value {
         Value::Null | Value::Object(_) => false,

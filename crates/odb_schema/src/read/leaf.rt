@@ -1,25 +1,24 @@
 //! Reading what JSON gives: texts, booleans, integers, and members of objects.
 
-ghost use Rattle.std.specs.Prelude.{◌≡◌, ok_or, option_map, Option, Some, None};
+ghost use Rattle.std.specs.Prelude.{◌≡◌, ok_or, option_map, nat_le, true, unwrap_or};
 ghost use Rattle.serde_json.specs.View.{items_view, members_view, view};
 ghost use Rattle.odb_schema.specs.Json as json;
 ghost use Rattle.odb_schema.specs.SchemaText as model;
 ghost use Rattle.odb_schema.specs.Represented.Fault.{Gives};
-ghost use Rattle.odb_schema.specs.Represented.Parts.{boolean_in, integer_between, integer_in};
 
 use crate::fault::SchemaFault;
 use serde_json::{Map, Value};
 
 /// The text that a string is.
 pub fn read_string(value: &Value) -> Result<&str, SchemaFault>
-    ensures { Gives (λ text. text.now) result (ok_or (json.as_str (view value.now)) model.syntax) }
+    ensures { Gives (λ text. text.now) result (model.read_string (view value.now)) }
 {
     value.as_str().ok_or(SchemaFault::Syntax)
 }
 
 /// The boolean that `true` or `false` is.
 pub fn read_bool(value: &Value) -> Result<bool, SchemaFault>
-    ensures { Gives (λ boolean. boolean) result (boolean_in (view value.now)) }
+    ensures { Gives (λ boolean. boolean) result (model.read_bool (view value.now)) }
 {
     value.as_bool().ok_or(SchemaFault::Syntax)
 }
@@ -27,7 +26,7 @@ pub fn read_bool(value: &Value) -> Result<bool, SchemaFault>
 /// The integer that a number without fraction and exponent is, if it fits 64 bits.
 pub fn read_integer(value: &Value) -> Result<i64, SchemaFault>
     ensures { Gives (λ integer. integer) result
-        (integer_in (view value.now)) }
+        (model.read_integer (view value.now)) }
 {
     value.as_i64().ok_or(SchemaFault::Syntax)
 }
@@ -35,7 +34,7 @@ pub fn read_integer(value: &Value) -> Result<i64, SchemaFault>
 /// The members of an object.
 pub fn read_object(value: &Value) -> Result<&Map<String, Value>, SchemaFault>
     ensures { Gives (λ members. members_view members.now.entries) result
-        (ok_or (json.as_object (view value.now)) model.syntax) }
+        (model.read_object (view value.now)) }
 {
     value.as_object().ok_or(SchemaFault::Syntax)
 }
@@ -67,13 +66,22 @@ pub fn member<'a>(key: &str, members: &'a Map<String, Value>) -> Option<&'a Valu
     members.get(key)
 }
 
-/// An integer from `low` to `high`, both of which are within.
-pub fn read_between(low: u64, high: u64, value: &Value) -> Result<u64, SchemaFault>
-    ensures { Gives (λ number. number) result (integer_between low (Some high) (view value.now)) }
+/// An integer from `low` to `high`, both of which are within; without `high` to 2^63-1.
+pub fn read_between(low: u64, high: Option<u64>, value: &Value) -> Result<u64, SchemaFault>
+    ensures { Gives (λ number. number) result (model.read_between low high (view value.now)) }
 {
     let integer = read_integer(value)?;
     match u64::try_from(integer) {
-        Ok(number) if low <= number && number <= high => Ok(number),
+        Ok(number) if low <= number && is_at_most(number, high) => Ok(number),
         _ => Err(SchemaFault::BadType),
+    }
+}
+
+fn is_at_most(number: u64, high: Option<u64>) -> bool
+    ensures { result ≡ unwrap_or (option_map (nat_le number) high) true }
+{
+    match high {
+        None => true,
+        Some(high) => number <= high,
     }
 }

@@ -1,9 +1,10 @@
 //! The members of types, columns and tables that are numbers and booleans.
 
-ghost use Rattle.std.specs.Prelude.{◌≡◌};
+ghost use Rattle.std.specs.Prelude.{◌≡◌, int_le};
 ghost use Rattle.serde_json.specs.View.{members_view, view};
 ghost use Rattle.odb_schema.specs.Represented.Fault.{Gives};
 ghost use Rattle.odb_schema.specs.Json as json;
+ghost use Rattle.odb_schema.specs.SchemaText as model;
 ghost use Rattle.odb_schema.specs.Represented.Parts as parts;
 
 use super::leaf::{member, read_between, read_bool, read_integer};
@@ -16,7 +17,7 @@ pub fn read_min(members: &Map<String, Value>) -> Result<u32, SchemaFault>
 {
     match member("min", members) {
         None => Ok(1),
-        Some(value) => Ok(read_between(0, 1, value)? as u32),
+        Some(value) => Ok(read_between(0, Some(1), value)? as u32),
     }
 }
 
@@ -30,13 +31,23 @@ pub fn read_max(members: &Map<String, Value>) -> Result<Option<u32>, SchemaFault
     }
 }
 
+/// `maxRows` of a table: at least 1, or `None` where it is not given.
+pub fn read_max_rows(members: &Map<String, Value>) -> Result<Option<u64>, SchemaFault>
+    ensures { Gives (λ max. max) result (parts.max_rows_of (members_view members.now.entries)) }
+{
+    match member("maxRows", members) {
+        None => Ok(None),
+        Some(value) => Ok(Some(read_between(1, None, value)?)),
+    }
+}
+
 fn max_in(value: &Value) -> Result<Option<u32>, SchemaFault>
-    ensures { Gives (λ max. max) result (parts.max_in (view value.now)) }
+    ensures { Gives (λ max. max) result (model.read_max (view value.now)) }
 {
     match value.as_str() {
         Some("unlimited") => Ok(None),
         Some(_) => Err(SchemaFault::BadType),
-        None => Ok(Some(read_between(1, 4_294_967_295, value)? as u32)),
+        None => Ok(Some(read_between(1, Some(4_294_967_295), value)? as u32)),
     }
 }
 
@@ -62,7 +73,7 @@ fn read_bound(
     members: &Map<String, Value>,
 ) -> Result<Option<i64>, SchemaFault>
     ensures { Gives (λ bound. bound) result
-        (json.if_given (parts.bound_in stands)
+        (json.if_given (model.read_with stands model.read_integer)
         (json.get_member key.now (members_view members.now.entries))) }
 {
     match member(key, members) {
@@ -72,7 +83,7 @@ fn read_bound(
 }
 
 fn bound_in(stands: bool, value: &Value) -> Result<i64, SchemaFault>
-    ensures { Gives (λ bound. bound) result (parts.bound_in stands (view value.now)) }
+    ensures { Gives (λ bound. bound) result (model.read_with stands model.read_integer (view value.now)) }
 {
     let bound = read_integer(value)?;
     if !stands {
@@ -100,7 +111,7 @@ pub fn read_bounds(
 }
 
 fn are_in_order(least: Option<i64>, largest: Option<i64>) -> bool
-    ensures { result ≡ parts.in_order least largest }
+    ensures { result ≡ model.in_order int_le least largest }
 {
     match (least, largest) {
         (Some(least), Some(largest)) => least <= largest,

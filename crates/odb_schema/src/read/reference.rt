@@ -8,6 +8,7 @@ ghost use Rattle.odb_atoms.specs.Represented.ColType.{reference_of};
 ghost use Rattle.odb_atoms.specs.Text.{same_text};
 ghost use Rattle.odb_schema.specs.Json as json;
 ghost use Rattle.odb_schema.specs.Represented.Fault.{Gives, Reads};
+ghost use Rattle.odb_schema.specs.SchemaText as model;
 ghost use Rattle.odb_schema.specs.Represented.Parts as parts;
 ghost use Rattle.odb_schema.specs.Represented.Parts.{names_in};
 ghost use Rattle.std.specs.Prelude.{codes};
@@ -31,7 +32,7 @@ fn ref_table_in<'a>(
     value: &'a Value,
 ) -> Result<&'a str, SchemaFault>
     ensures { Gives (λ name. name.now) result
-        (parts.ref_table_in (names_in (members_view tables.now.entries)) (kind_in kind)
+        (model.read_ref_table (names_in (members_view tables.now.entries)) (kind_in kind)
         (view value.now)) }
 {
     let name = read_string(value)?;
@@ -51,7 +52,7 @@ fn read_ref_table<'a>(
 ) -> Result<Option<&'a str>, SchemaFault>
     ensures { Gives (option_map (λ name. name.now)) result
         (json.if_given
-        (parts.ref_table_in (names_in (members_view tables.now.entries)) (kind_in kind))
+        (model.read_ref_table (names_in (members_view tables.now.entries)) (kind_in kind))
         (json.get_member (codes "refTable") (members_view members.now.entries))) }
 {
     match member("refTable", members) {
@@ -61,7 +62,7 @@ fn read_ref_table<'a>(
 }
 
 fn ref_type_in(value: &Value) -> Result<bool, SchemaFault>
-    ensures { Gives (λ weak. weak) result (parts.ref_type_in (view value.now)) }
+    ensures { Gives (λ weak. weak) result (model.read_ref_type (view value.now)) }
 {
     match read_string(value)? {
         "strong" => Ok(false),
@@ -71,7 +72,7 @@ fn ref_type_in(value: &Value) -> Result<bool, SchemaFault>
 }
 
 fn weak_in(stands: bool, value: &Value) -> Result<bool, SchemaFault>
-    ensures { Gives (λ weak. weak) result (parts.weak_in stands (view value.now)) }
+    ensures { Gives (λ weak. weak) result (model.read_with stands model.read_ref_type (view value.now)) }
 {
     let weak = ref_type_in(value)?;
     if !stands {
@@ -82,7 +83,7 @@ fn weak_in(stands: bool, value: &Value) -> Result<bool, SchemaFault>
 
 fn read_weak(stands: bool, members: &Map<String, Value>) -> Result<bool, SchemaFault>
     ensures { Gives (λ weak. weak) result
-        (json.given_or false (parts.weak_in stands)
+        (json.given_or false (model.read_with stands model.read_ref_type)
         (json.get_member (codes "refType") (members_view members.now.entries))) }
 {
     match member("refType", members) {

@@ -13,4 +13,4 @@ returns-in_ok-push-in-Some-clause-ok c =
 
 pub returns-in-None-clause-ok : goal.returns-in-None-clause-ok
 returns-in-None-clause-ok c =
-    reads_none (c.args.text.now.items ++ c.args.last.now) _ _ _ _ c.requires (c.as_slice.ensures.value ∙ c.in_ok-extend_from_slice.ensures.items) c.in_ok-message.ensures.data c.in-None.is c.new-messages.ensures.items
+    rw c.stopped.ensures (reads_none (c.args.text.now.items ++ c.args.last.now) _ _ _ _ c.requires (c.as_slice.ensures.value ∙ c.in_ok-extend_from_slice.ensures.items) c.in_ok-message.ensures.data c.in-None.is c.new-messages.ensures.items)

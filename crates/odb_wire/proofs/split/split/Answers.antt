@@ -9,7 +9,7 @@ loop-left-init c =
 
 pub returns-in-None-clause-ok : goal.returns-in-None-clause-ok
 returns-in-None-clause-ok c =
-    stopped-none _ _ _ _ _ _ _ c.loop-left.invariant.so_far c.in-Whole.ensures c.split_at.ensures.front c.in_ok-message-in-Whole.ensures.data c.in-None.is
+    rw c.stopped.ensures (stopped-none _ _ _ _ _ _ _ c.loop-left.invariant.so_far c.in-Whole.ensures c.split_at.ensures.front c.in_ok-message-in-Whole.ensures.data c.in-None.is)
 
 pub loop-left-smaller : goal.loop-left-smaller
 loop-left-smaller c = left_shorter _ _ _ c.in-Whole.ensures (c.skip_blanks-left-in-Whole.ensures.rest ∙ ap skip_blanks c.split_at.ensures.back)
@@ -24,4 +24,4 @@ loop-left-preserved c =
     }
 
 pub returns-in-Bad-clause-ok : goal.returns-in-Bad-clause-ok
-returns-in-Bad-clause-ok c = stopped-bad _ _ _ _ c.loop-left.invariant.so_far c.loop-left.invariant.clean c.in-Bad.ensures
+returns-in-Bad-clause-ok c = rw c.stopped-in-Bad.ensures (stopped-bad _ _ _ _ c.loop-left.invariant.so_far c.loop-left.invariant.clean c.in-Bad.ensures)

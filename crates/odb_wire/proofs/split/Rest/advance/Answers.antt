@@ -1,4 +1,4 @@
-use Rattle.std.proofs.Common.{arith}
+use Rattle.std.proofs.Common.{rules, ◌≡◌, ◌++◌, arith}
 use Rattle.odb_wire.specs.Standing.{IsUnfinished}
 use Rattle.odb_wire.proofs.Fronts.{max_message-is}
 use Rattle.odb_wire.proofs.Rests.{unfinished, front_of-completed, reads_too_long, reads_on}
@@ -17,9 +17,10 @@ complete-requires c =
 pub returns-then-piece-room-clause-ok : goal.returns-then-piece-room-clause-ok
 returns-then-piece-room-clause-ok c =
     let begun : IsUnfinished c.args.self.text.items c.args.self.scan = unfinished _ _ _ c.requires (omega arith) c.if-is_empty.ensures in
-    reads_too_long 16777216 max_message-is _ _ _ _ _ _ _ begun (omega arith) (omega arith) c.in-None.ensures.on c.new-then-piece-room.ensures.items
+    rw c.stopped.ensures (reads_too_long 16777216 max_message-is _ _ _ _ _ _ _ begun (omega arith) (omega arith) c.in-None.ensures.on c.new-then-piece-room.ensures.items)
 
-pub returns-in-Ok-extend_from_slice-clause-ok : goal.returns-in-Ok-extend_from_slice-clause-ok
-returns-in-Ok-extend_from_slice-clause-ok c =
+pub returns-else-is_err-clause-ok : goal.returns-else-is_err-clause-ok
+returns-else-is_err-clause-ok c =
     let begun : IsUnfinished c.args.self.text.items c.args.self.scan = unfinished _ _ _ c.requires (omega arith) c.if-is_empty.ensures in
-    reads_on 16777216 max_message-is _ _ _ _ _ _ begun (omega arith) (omega arith) c.in-None.ensures.on c.in-None.ensures.bound c.in-Ok-extend_from_slice.ensures.items c.new-in-Ok-extend_from_slice.ensures.items
+    let longer : c.extend_from_slice.new.self.items ≡ c.args.self.text.items ++ c.args.piece.now = search rules in
+    rw c.going.ensures (reads_on 16777216 max_message-is _ _ _ _ _ _ begun (omega arith) (omega arith) c.in-None.ensures.on c.in-None.ensures.bound longer c.new-in-None.ensures.items)

@@ -1,0 +1,66 @@
+//! The conditions of an operation, its `where` (RFC 7047, section 5.2).
+
+ghost use Rattle.std.specs.Prelude.{◌≡◌, option_map, IfSome, IsTrue};
+ghost use Rattle.odb_atoms.specs.Represented.Atom.{uuid_of};
+ghost use Rattle.odb_atoms.specs.Row as model_row;
+ghost use Rattle.odb_atoms.specs.Uuid as model_uuid;
+ghost use Rattle.odb_cond.specs.Condition.{holds_all};
+ghost use Rattle.odb_cond.specs.Pinned.{pinned};
+
+use crate::clause::Clause;
+use odb_atoms::Row;
+use std::marker::Model;
+use uuid::Uuid;
+
+/// The `where` of an operation (RFC 7047, section 5.2.2): conditions that all have to hold, so that
+/// none at all selects every row.
+#[derive(Debug, Drop)]
+pub struct Where {
+    clauses: Vec<Clause>,
+}
+
+impl Model for Where {
+    ghost use Rattle.std.specs.Prelude.{List};
+    ghost use Rattle.odb_cond.specs.Condition as model;
+
+    ghost Value = { List model.Clause };
+
+    ghost view = { λ a. a.clauses.items };
+}
+
+impl Where {
+    /// The `where` with these conditions. O(1), without memory.
+    pub fn new(clauses: Vec<Clause>) -> Where
+        ensures { result ≡ clauses.items }
+    {
+        Where { clauses }
+    }
+
+    /// Whether each condition holds of the row with the identifier (RFC 7047, section 5.2.2).
+    ///
+    /// O(the conditions, times the sizes of their columns and values), as `Clause::holds` says it;
+    /// it takes no memory.
+    pub fn holds(&self, uuid: Uuid, row: &Row) -> bool
+        ensures { result ≡ holds_all self.now (uuid_of uuid) row.now }
+    {
+        self.clauses.iter().all(|clause| clause.holds(uuid, row))
+    }
+
+    /// The identifier that the first condition on `_uuid` pins by `==` or `includes` of one
+    /// identifier, if there is such a condition: the rows that match are then this one or none.
+    ///
+    /// O(the conditions); it takes no memory.
+    pub fn pinned(&self) -> Option<Uuid>
+        ensures first { option_map uuid_of result ≡ pinned self.now }
+        ensures no_other_row_matches { IfSome result (λ uuid.
+            (u : model_uuid.Uuid) (r : model_row.Row)
+            → IsTrue (holds_all self.now u r) → u ≡ uuid_of uuid) }
+    {
+        for clause in &self.clauses {
+            if let Some(uuid) = clause.pinned() {
+                return Some(uuid);
+            }
+        }
+        None
+    }
+}

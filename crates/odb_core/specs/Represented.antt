@@ -1,0 +1,5 @@
+pub mod Answer
+pub mod Core
+pub mod Item
+pub mod Out
+pub mod Reason

@@ -1,0 +1,74 @@
+//! Answers that requests get at once.
+ghost use Rattle.std.specs.Prelude.{◌≡◌, Some, IsSome, IfOk, option_map};
+ghost use Rattle.serde_json.specs.Written.{compact_text};
+ghost use Rattle.odb_wire.specs.Shown.{request_data};
+ghost use Rattle.odb_core.specs.Represented.Answer.{at_once, call_at, said};
+ghost use Rattle.odb_core.specs.Represented.Item.{item_of};
+ghost use Rattle.odb_rpc.specs.Represented.Call.{called};
+ghost use Rattle.odb_rpc.specs.Represented.Printable.{printable_data};
+ghost use Rattle.odb_schema.specs.SchemaText.{write_schema};
+
+use crate::meaning::Meaning;
+use crate::queue::Finished;
+use crate::served_schema::ServedSchema;
+use odb_rpc::{Call, Failure, Printable, array_of_one, failure, reply, reply_id, reply_printed};
+use odb_wire::Request;
+use std::alloc::{AllocError, Global};
+
+/// The answer that a request gets at once, if it gets one. O(n) for an answer of n bytes, and a look
+/// at the whole request.
+pub(crate) fn finished(
+    alloc: Global,
+    served: &ServedSchema,
+    request: &Request,
+) -> Result<Option<Finished>, AllocError>
+    ensures item { IfOk result (λ item. option_map (option_map (said (request_data request.now))) (at_once (call_at served.now.schema (request_data request.now)))
+        ≡ Some (option_map item_of item)) }
+    ensures over { IsSome (at_once (call_at served.now.schema (request_data request.now))) }
+{
+    let Some(text) = answer_text(alloc, served, request)? else {
+        return Ok(None);
+    };
+    Ok(Some(Finished {
+        text,
+        is_reply: true,
+        meaning: Meaning::of_answer(request, &served.schema),
+    }))
+}
+
+fn answer_text(
+    alloc: Global,
+    served: &ServedSchema,
+    request: &Request,
+) -> Result<Option<Vec<u8>>, AllocError>
+    ensures text { IfOk result (λ text. option_map (option_map compact_text) (at_once (call_at served.now.schema (request_data request.now)))
+        ≡ Some (option_map (λ bytes. bytes.items) text)) }
+    ensures over { IsSome (at_once (call_at served.now.schema (request_data request.now))) }
+{
+    match Call::read(request, &served.schema) {
+        Ok(call) => called_text(alloc, served, reply_id(request), call),
+        Err(fault) => Ok(Some(failure(alloc, reply_id(request), Failure::from(fault))?)),
+    }
+}
+
+fn called_text(
+    alloc: Global,
+    served: &ServedSchema,
+    id: Printable<'_>,
+    call: Call<'_>,
+) -> Result<Option<Vec<u8>>, AllocError>
+    ensures { IfOk result (λ text. option_map (option_map compact_text)
+        (at_once (called served.now.schema.name (write_schema served.now.schema) (printable_data id.entry) call.entry))
+        ≡ Some (option_map (λ bytes. bytes.items) text)) }
+{
+    match call {
+        Call::ListDatabases => {
+            let names = array_of_one(alloc, served.schema.name())?;
+            Ok(Some(reply_printed(alloc, id, names.as_slice())?))
+        }
+        Call::GetSchema => Ok(Some(reply_printed(alloc, id, served.text.as_slice())?)),
+        Call::Echo(params) => Ok(Some(reply(alloc, id, params)?)),
+        Call::Cancel(_) => Ok(None),
+        Call::PassedOver => Ok(None),
+    }
+}

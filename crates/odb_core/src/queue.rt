@@ -1,0 +1,90 @@
+//! What is queued for a session.
+
+ghost use Rattle.std.specs.Prelude.{◌≡◌, ◌++◌, [], ◌∷◌, IfNone, OnOk, OnErr, option_map, option_to_list};
+ghost use Rattle.serde_json.specs.Written.{compact_text};
+ghost use Rattle.odb_core.specs.Session.{is_answer};
+
+use crate::meaning::Meaning;
+use std::alloc::{AllocError, Global};
+use std::collections::VecDeque;
+use std::marker::Model;
+
+/// A finished text, whether it is a reply, and what it means.
+#[derive(Drop)]
+pub(crate) struct Finished {
+    pub(crate) text: Vec<u8>,
+    pub(crate) is_reply: bool,
+    pub(crate) meaning: Meaning,
+    ghost printed: { text.items ≡ compact_text meaning.message },
+    ghost counted: { is_reply ≡ is_answer meaning.answers },
+}
+
+/// A session's items, the earliest first, with the count of replies among them.
+#[derive(Drop)]
+pub(crate) struct Queue {
+    items: VecDeque<Finished>,
+    replies: usize,
+}
+
+impl Model for Queue {
+    ghost use Rattle.std.specs.Prelude.{◌≡◌, List, map};
+    ghost use Rattle.std.specs.Coded.{coded_list};
+    ghost use Rattle.odb_core.specs.Session.{Item, replies_in};
+    ghost use Rattle.odb_core.specs.WorldCode.{item_code};
+    ghost use Rattle.odb_core.specs.Represented.Item.{item_of};
+
+    ghost Value = { List Item };
+
+    ghost coded = { coded_list item_code };
+
+    ghost view = { λ q. map item_of q.items.items };
+
+    ghost invariant = { λ q. q.replies ≡ replies_in (map item_of q.items.items) };
+}
+
+impl Queue {
+    ghost use Rattle.odb_core.specs.Session.{replies_in};
+    ghost use Rattle.odb_core.specs.Represented.Item.{item_of};
+
+    /// Nothing is queued. It takes no memory.
+    pub(crate) fn new(alloc: Global) -> Queue
+        ensures { result ≡ [] }
+    {
+        Queue {
+            items: VecDeque::new(alloc),
+            replies: 0,
+        }
+    }
+
+    /// How many replies are queued. O(1).
+    pub(crate) fn replies(&self) -> usize
+        ensures { result ≡ replies_in self.now }
+    {
+        self.replies
+    }
+
+    /// Puts an item at the end. Where memory is refused, nothing changes.
+    pub(crate) fn push(&mut self, item: Finished) -> Result<(), AllocError>
+        ensures ok { OnOk result (self.new ≡ self.old ++ item_of item ∷ []) }
+        ensures err { OnErr result (self.new ≡ self.old) }
+    {
+        let is_reply = item.is_reply;
+        self.items.push_back(item)?;
+        if is_reply {
+            self.replies += 1;
+        }
+        Ok(())
+    }
+
+    /// Takes the earliest item out, if there is one. O(1).
+    pub(crate) fn pop(&mut self) -> Option<Finished>
+        ensures first { self.old ≡ option_to_list (option_map item_of result) ++ self.new }
+        ensures none { IfNone result (self.old ≡ []) }
+    {
+        let item = self.items.pop_front()?;
+        if item.is_reply {
+            self.replies -= 1;
+        }
+        Some(item)
+    }
+}

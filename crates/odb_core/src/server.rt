@@ -1,0 +1,214 @@
+//! The server as a machine over events.
+
+ghost use Rattle.std.specs.Prelude.{◌≡◌, ◌≤◌, ◌↔◌, [], ◌∷◌, map, length, max, option_to_list, Ok, OnOk, OnErr, IfOk, IfErr, IsErrOf};
+ghost use Rattle.odb_atoms.specs.FinMap.{len};
+ghost use Rattle.odb_atoms.specs.Represented.Atom.{uuid_of};
+ghost use Rattle.odb_wire.specs.Message.{inserts_of};
+ghost use Rattle.odb_wire.specs.Shown.{request_data};
+ghost use Rattle.odb_core.specs.Run.{closed, max_sessions, once, opened, round, submitted, ticked};
+ghost use Rattle.odb_core.specs.declared.refused.Refused.TheVariants as refused;
+
+use crate::out::Out;
+use crate::refused::Refused;
+use crate::served_schema::ServedSchema;
+use crate::session::Session;
+use odb_schema::Schema;
+use odb_wire::Request;
+use std::alloc::{AllocError, Global};
+use std::collections::{BTreeMap, BTreeSet};
+use std::hash::RandomState;
+use std::marker::Model;
+use uuid::Uuid;
+
+/// A session of the server: a number that no other session has or had.
+pub type SessionId = usize;
+
+/// How many sessions may be open at once.
+const MAX_SESSIONS: usize = 4_096;
+
+/// The server of RFC 7047 as a machine over events: sessions open and close, submit requests, and are
+/// given messages by rounds. Contracts see it as the state of the service machine
+/// (`specs/World.antt`), and each call is that machine's step. A call that is refused changes nothing.
+#[derive(Drop)]
+pub struct Core {
+    alloc: Global,
+    served: ServedSchema,
+    hashing: RandomState,
+    now: u64,
+    opened: usize,
+    sessions: BTreeMap<SessionId, Session>,
+}
+
+impl Model for Core {
+    ghost use Rattle.odb_core.specs.Server.{Server, server_code};
+    ghost use Rattle.odb_core.specs.Represented.Core.{AreUnused, sessions_in, world_of};
+
+    ghost Value = { Server };
+
+    ghost coded = { server_code };
+
+    ghost view = { λ c. record { schema = c.served.schema; world = world_of c.served.schema c.now (sessions_in c.sessions); opened = c.opened } };
+
+    ghost invariant = { λ c. AreUnused c.sessions c.opened };
+}
+
+impl Core {
+    ghost use Rattle.odb_core.specs.Server.{serve};
+    ghost use Rattle.odb_core.specs.Represented.Core.{new_server, takes};
+    ghost use Rattle.odb_core.specs.Represented.Out.{sent_in};
+    ghost use Rattle.odb_core.specs.Represented.Reason.{IsReason};
+
+    /// A server of the schema with empty tables and no session, whose tables will hash by `hashing`.
+    /// Where memory is refused it hands back what was moved in.
+    pub fn new(
+        alloc: Global,
+        schema: Schema,
+        hashing: RandomState,
+    ) -> Result<Core, (Schema, RandomState, AllocError)>
+        ensures ok { IfOk result (λ core. core ≡ new_server schema) }
+        ensures err { IfErr result (λ back. (back.0 ≡ schema) × (back.1 ≡ hashing)) }
+    {
+        match ServedSchema::new(alloc, schema) {
+            Ok(served) => Ok(Core {
+                alloc,
+                served,
+                hashing,
+                now: 0,
+                opened: 0,
+                sessions: BTreeMap::new(alloc),
+            }),
+            Err((schema, refused)) => Err((schema, hashing, refused)),
+        }
+    }
+
+    /// Opens a session, and answers its number, which no session had before: they are numbered from 0
+    /// in order of opening. It is refused with `TooMany` where 4,096 sessions are open, and with
+    /// `Memory`, also where 2^64-1 sessions were opened and no number is left. O(log n) for n open
+    /// sessions.
+    pub fn open(&mut self) -> Result<SessionId, Refused>
+        ensures number { IfOk result (λ session. session ≡ self.old.opened) }
+        ensures ok { IfOk result (λ session. serve (opened session) self.old ≡ Ok (self.new, [])) }
+        ensures too_many { IsErrOf result refused.TooMany ↔ (max_sessions ≤ len self.old.world.sessions) }
+        ensures err { OnErr result (self.new ≡ self.old) }
+    {
+        if self.sessions.len() >= MAX_SESSIONS {
+            return Err(Refused::TooMany);
+        }
+        let number = self.opened;
+        if number == usize::MAX {
+            return Err(Refused::Memory);
+        }
+        drop(self.sessions.insert(number, Session::new(self.alloc))?);
+        self.opened += 1;
+        Ok(number)
+    }
+
+    /// Ends a session: its queue is dropped. It is refused with `Gone` where no such session is open,
+    /// and with `Memory`.
+    pub fn close(&mut self, session: SessionId) -> Result<(), Refused>
+        ensures ok { OnOk result (serve (closed session) self.old ≡ Ok (self.new, [])) }
+        ensures why { IfErr result (λ why. IsReason why (serve (closed session) self.old)) }
+        ensures err { OnErr result (self.new ≡ self.old) }
+    {
+        if self.sessions.remove(&session).is_none() {
+            return Err(Refused::Gone);
+        }
+        Ok(())
+    }
+
+    /// Takes a message of a session in: a request or a notification. `fresh` are identifiers that are
+    /// used nowhere yet, at least as many as `request.inserts()`; `now` is the moment in
+    /// milliseconds, and one before an earlier one counts as that. It is refused with `Gone` where no
+    /// such session is open, with `Busy` where the request has a reply and the session is owed 256, and
+    /// with `Memory`; the request is handed back then.
+    pub fn submit(
+        &mut self,
+        session: SessionId,
+        request: Request,
+        fresh: &[Uuid],
+        now: u64,
+    ) -> Result<(), (Request, Refused)>
+        requires { inserts_of (request_data request) ≤ length fresh.now }
+        ensures ok { OnOk result (serve (submitted session (request_data request) (map uuid_of fresh.now) now) self.old
+            ≡ Ok (self.new, [])) }
+        ensures why { IfErr result (λ back. IsReason back.1
+            (serve (submitted session (request_data request) (map uuid_of fresh.now) now) self.old)) }
+        ensures err { OnErr result (self.new ≡ self.old) }
+        ensures request_back { IfErr result (λ back. back.0 ≡ request) }
+    {
+        let Some(asking) = self.sessions.get_mut(&session) else {
+            return Err((request, Refused::Gone));
+        };
+        if asking.is_busy(&request) {
+            return Err((request, Refused::Busy));
+        }
+        match asking.answer(self.alloc, &self.served, &request) {
+            Ok(()) => {
+                drop(request);
+                self.now = later(self.now, now);
+                Ok(())
+            }
+            Err(_) => Err((request, Refused::Memory)),
+        }
+    }
+
+    /// The moment is `now` in milliseconds, or stays where an earlier call named a later one. O(1).
+    pub fn tick(&mut self, now: u64) -> Result<(), AllocError>
+        ensures ok { OnOk result (serve (ticked now) self.old ≡ Ok (self.new, [])) }
+        ensures err { OnErr result (self.new ≡ self.old) }
+    {
+        self.now = later(self.now, now);
+        Ok(())
+    }
+
+    /// Gives each session of the list that is open its next message, if it has one: one message at
+    /// most for a session, in the order in which the list first names them. An error says that memory
+    /// was refused, and nothing was taken then. For a list of n sessions O(n log n).
+    pub fn round(&mut self, ready: &[SessionId]) -> Result<Vec<Out>, AllocError>
+        ensures ok { IfOk result (λ outs. serve (round ready.now) self.old
+            ≡ Ok (self.new, map sent_in outs.items)) }
+        ensures err { OnErr result (self.new ≡ self.old) }
+    {
+        let listed = once(self.alloc, ready)?;
+        let mut outs = Vec::with_capacity(self.alloc, listed.len())?;
+        for session in &listed {
+            if let Some(out) = self.take(*session) {
+                outs.push_reserved(out);
+            }
+        }
+        Ok(outs)
+    }
+
+    /// The next message of a session, if it is open and has one. O(1), without memory.
+    fn take(&mut self, session: SessionId) -> Option<Out>
+        ensures { takes (session ∷ []) self.old ≡ (self.new, map sent_in (option_to_list result)) }
+    {
+        let text = self.sessions.get_mut(&session)?.take()?;
+        Some(Out {
+            session,
+            before: text,
+            body: None,
+            after: Vec::new(self.alloc),
+        })
+    }
+}
+
+/// Each session of a list once, where it stands first. O(n log n).
+fn once(alloc: Global, ready: &[SessionId]) -> Result<Vec<SessionId>, AllocError>
+    ensures { IfOk result (λ listed. listed.items ≡ once ready.now) }
+{
+    let mut seen = BTreeSet::new(alloc);
+    let mut listed = Vec::new(alloc);
+    for session in ready {
+        if seen.insert(*session)? {
+            listed.push(*session)?;
+        }
+    }
+    Ok(listed)
+}
+
+fn later(one: u64, other: u64) -> u64
+    ensures { result ≡ max one other }
+{
+    one.max(other)
+}

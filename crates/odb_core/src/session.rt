@@ -1,0 +1,87 @@
+//! A session of the core.
+
+ghost use Rattle.std.specs.Prelude.{◌≡◌, ◌&&◌, not, nat_lt, [], Some, IsSome, OnOk, OnErr, option_map};
+ghost use Rattle.odb_wire.specs.Shown.{request_data};
+
+use crate::answer::finished;
+use crate::queue::Queue;
+use crate::served_schema::ServedSchema;
+use odb_rpc::has_reply;
+use odb_wire::Request;
+use std::alloc::{AllocError, Global};
+use std::marker::Model;
+
+/// How many replies a session may be owed.
+const MAX_OWED: usize = 256;
+
+/// A session: what is queued for it.
+#[derive(Drop)]
+pub(crate) struct Session {
+    queue: Queue,
+}
+
+impl Model for Session {
+    ghost use Rattle.std.specs.Prelude.{[]};
+    ghost use Rattle.odb_core.specs.Session as model;
+    ghost use Rattle.odb_core.specs.WorldCode.{session_code};
+
+    ghost Value = { model.Session };
+
+    ghost coded = { session_code };
+
+    ghost view = { λ s. record { queue = s.queue; monitors = [] } };
+}
+
+impl Session {
+    ghost use Rattle.odb_core.specs.Represented.Item.{text_of};
+    ghost use Rattle.odb_core.specs.Service.{Service};
+    ghost use Rattle.odb_tables.specs.Database.{Db};
+    ghost use Rattle.odb_core.specs.Represented.Answer.{answered_with, at_once, call_at};
+    ghost use Rattle.odb_core.specs.Run.{max_owed};
+    ghost use Rattle.odb_rpc.specs.Message.{has_reply};
+    ghost use Rattle.odb_schema.specs.Schema.{Schema};
+    ghost use Rattle.odb_core.specs.Session.{replies_in, take};
+
+    /// Nothing is queued, and there are no monitors. It takes no memory.
+    pub(crate) fn new(alloc: Global) -> Session
+        ensures { result ≡ record { queue = []; monitors = [] } }
+    {
+        Session {
+            queue: Queue::new(alloc),
+        }
+    }
+
+    /// Whether the request has a reply while the session is owed as many as it may be. O(1).
+    pub(crate) fn is_busy(&self, request: &Request) -> bool
+        ensures { (schema : Schema) → result ≡ (has_reply (call_at schema (request_data request.now)) && not (nat_lt (replies_in self.now.queue) max_owed)) }
+    {
+        has_reply(request) && self.queue.replies() >= MAX_OWED
+    }
+
+    /// Queues the answer that a request gets at once, if it gets one. Where memory is refused, nothing
+    /// changes.
+    pub(crate) fn answer(
+        &mut self,
+        alloc: Global,
+        served: &ServedSchema,
+        request: &Request,
+    ) -> Result<(), AllocError>
+        ensures ok { OnOk result (answered_with served.now.schema (request_data request.now) self.old ≡ Some self.new) }
+        ensures over { IsSome (at_once (call_at served.now.schema (request_data request.now))) }
+        ensures err { OnErr result (self.new ≡ self.old) }
+    {
+        if let Some(item) = finished(alloc, served, request)? {
+            self.queue.push(item)?;
+        }
+        Ok(())
+    }
+
+    /// Takes the next message, if there is one. O(1), without memory.
+    pub(crate) fn take(&mut self) -> Option<Vec<u8>>
+        ensures message { (h : Service) (db : Db) → option_map (λ text. text.items) result ≡ option_map text_of (take h db self.old).0 }
+        ensures session { (h : Service) (db : Db) → self.new ≡ (take h db self.old).1 }
+    {
+        let item = self.queue.pop()?;
+        Some(item.text)
+    }
+}

@@ -1,0 +1,6 @@
+pub mod Distinct
+pub mod Each
+pub mod Listed
+pub mod Maps
+pub mod Results
+pub mod Sets

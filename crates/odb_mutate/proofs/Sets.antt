@@ -1,0 +1,60 @@
+-- The union and the difference of two sets, by lists of their elements.
+use Rattle.std.specs.Prelude.{◌≡◌, Bool, true, false, cond, not, ◌&&◌, ◌||◌, List, [], ◌∷◌, ◌++◌, filter}
+use Rattle.std.specs.List.{list_any}
+use mathlib.Core.Path.{refl, sym, ap, ◌∙◌}
+use Rattle.odb_atoms.specs.FinSet as set
+use Rattle.odb_atoms.specs.Atom.{Atom, same_atom}
+use Rattle.odb_atoms.specs.Value.{Atoms, atoms}
+use Rattle.odb_atoms.proofs.Atoms.{atom_cmp-IsAntisymmetric}
+use Rattle.odb_atoms.specs.Represented.AtomOrder.{atom_cmp_total}
+use Rattle.odb_atoms.proofs.FinMaps.{contains_key-keys, same_key}
+use Rattle.odb_atoms.proofs.FinSets.{contains-difference, contains-from_list, contains-union, same_set}
+
+any-++ : (q : Atom → Bool) (xs ys : List Atom) → list_any q (xs ++ ys) ≡ (list_any q xs || list_any q ys)
+any-++ q [] ys = refl
+any-++ q (x ∷ xs) ys = elim (q x) as (λ b. (b || list_any q (xs ++ ys)) ≡ ((b || list_any q xs) || list_any q ys)) [ true ↦ refl | false ↦ any-++ q xs ys ]
+
+any-filter : (p : Atom → Bool) (q : Atom) (xs : List Atom) → list_any (same_atom q) (filter p xs) ≡ (list_any (same_atom q) xs && p q)
+any-filter p q [] = refl
+any-filter p q (x ∷ xs) = by (same_atom q x) refl (p x) refl (any-filter p q xs)
+  where
+    none : (b : Bool) → (b && false) ≡ false
+    none true = refl
+    none false = refl
+
+    by : (t : Bool) → same_atom q x ≡ t → (b : Bool) → p x ≡ b → list_any (same_atom q) (filter p xs) ≡ (list_any (same_atom q) xs && p q) → list_any (same_atom q) (cond b (x ∷ filter p xs) (filter p xs)) ≡ ((t || list_any (same_atom q) xs) && p q)
+    by true t true e rest =
+        let here : p q ≡ true = ap p (same_key atom_cmp-IsAntisymmetric q x t) ∙ e in
+        ap (λ b. b || list_any (same_atom q) (filter p xs)) t ∙ sym here
+    by true t false e rest =
+        let here : p q ≡ false = ap p (same_key atom_cmp-IsAntisymmetric q x t) ∙ e in
+        rest ∙ ap (λ b. list_any (same_atom q) xs && b) here ∙ none (list_any (same_atom q) xs) ∙ sym here
+    by false t true e rest = ap (λ b. b || list_any (same_atom q) (filter p xs)) t ∙ rest
+    by false t false e rest = rest
+
+-- those that s doesn't have, and then those of s
+pub union-listed : (s t : Atoms) → atoms (filter (λ a. not (set.contains s a)) (set.items t) ++ set.items s) ≡ set.union s t
+union-listed s t =
+    let new = filter (λ a. not (set.contains s a)) (set.items t) in
+    same_set atom_cmp_total atom_cmp-IsAntisymmetric _ (set.union s t) (λ q.
+    contains-from_list atom_cmp_total (new ++ set.items s) q
+    ∙ any-++ (same_atom q) new (set.items s)
+    ∙ (λ i. any-filter (λ a. not (set.contains s a)) q (set.items t) i || sym (contains_key-keys s q) i)
+    ∙ ap (λ b. (b && not (set.contains s q)) || set.contains s q) (sym (contains_key-keys t q))
+    ∙ either (set.contains s q) (set.contains t q)
+    ∙ sym (contains-union atom_cmp_total s t q))
+  where
+    either : (a b : Bool) → ((b && not a) || a) ≡ (a || b)
+    either true true = refl
+    either true false = refl
+    either false true = refl
+    either false false = refl
+
+-- those of s that t doesn't have
+pub difference-listed : (s t : Atoms) → atoms (filter (λ a. not (set.contains t a)) (set.items s)) ≡ set.difference s t
+difference-listed s t =
+    same_set atom_cmp_total atom_cmp-IsAntisymmetric _ (set.difference s t) (λ q.
+    contains-from_list atom_cmp_total (filter (λ a. not (set.contains t a)) (set.items s)) q
+    ∙ any-filter (λ a. not (set.contains t a)) q (set.items s)
+    ∙ ap (λ b. b && not (set.contains t q)) (sym (contains_key-keys s q))
+    ∙ sym (contains-difference atom_cmp_total atom_cmp-IsAntisymmetric s t q))

@@ -1,0 +1,77 @@
+//! Lists of elements that become sets.
+
+ghost use Rattle.std.specs.Prelude.{◌≡◌, ◌++◌, ◌∷◌, [], false, map, filter, not, None, OnOk};
+ghost use Rattle.odb_atoms.specs.Members.{has, set_fault};
+ghost use Rattle.odb_atoms.specs.Represented.Atom.{atom_of};
+ghost use Rattle.odb_atoms.specs.Value as model;
+ghost use Rattle.odb_atoms.specs.Value.{atoms, is_map};
+ghost use Rattle.odb_mutate.specs.Represented.Kinds.{HasOneElement, elements_in};
+
+use odb_atoms::{Atom, Entries, Value};
+use std::alloc::{AllocError, Global};
+
+/// The elements of a set, in ascending order.
+pub fn of(value: &Value) -> &[Atom]
+    requires { is_map value.now ≡ false }
+    ensures { map atom_of result.now ≡ elements_in value.now }
+{
+    match value.entries() {
+        Entries::Set(elements) => elements,
+        Entries::Map(_) => unreachable!(),
+    }
+}
+
+/// The one element of a set.
+pub fn lone(value: &Value) -> &Atom
+    requires { HasOneElement value.now }
+    ensures { elements_in value.now ≡ atom_of result.now ∷ [] }
+{
+    match of(value) {
+        [element] => element,
+        _ => unreachable!(),
+    }
+}
+
+/// Adds copies of the elements to the list.
+pub fn append(alloc: Global, elements: &[Atom], list: &mut Vec<Atom>) -> Result<(), AllocError>
+    ensures { OnOk result
+        (map atom_of list.new.items
+        ≡ map atom_of list.old.items ++ map atom_of elements.now) }
+{
+    for element in elements {
+        list.push(element.try_copy(alloc)?)?;
+    }
+    Ok(())
+}
+
+/// Adds copies of the elements that the value doesn't have to the list. O(log n) comparisons for
+/// each of them, for a value of n elements or keys.
+pub fn append_others(
+    alloc: Global,
+    elements: &[Atom],
+    value: &Value,
+    list: &mut Vec<Atom>,
+) -> Result<(), AllocError>
+    ensures { OnOk result
+        (map atom_of list.new.items
+        ≡ map atom_of list.old.items
+        ++ map atom_of (filter (λ a. not (has value.now (atom_of a))) elements.now)) }
+{
+    for element in elements {
+        if !value.contains(element) {
+            list.push(element.try_copy(alloc)?)?;
+        }
+    }
+    Ok(())
+}
+
+/// The set of distinct elements of one kind.
+pub fn set_of(elements: Vec<Atom>) -> Value
+    requires { set_fault (map atom_of elements.items) ≡ None }
+    ensures { result ≡ model.set_of (atoms (map atom_of elements.items)) }
+{
+    match Value::set(elements) {
+        Ok(value) => value,
+        Err(_) => unreachable!(),
+    }
+}

@@ -1,0 +1,96 @@
+//! Lists of pairs that become maps.
+
+ghost use Rattle.std.specs.Prelude.{◌≡◌, ◌++◌, map, filter, not, None, IfOk, OnOk};
+ghost use Rattle.odb_atoms.specs.FinMap as finite;
+ghost use Rattle.odb_atoms.specs.Members.{has, map_fault};
+ghost use Rattle.odb_atoms.specs.Represented.Atom.{atom_of};
+ghost use Rattle.odb_atoms.specs.Represented.Value.{pair_of};
+ghost use Rattle.odb_atoms.specs.Value as model;
+ghost use Rattle.odb_mutate.specs.Represented.Kinds.{has_at};
+
+use odb_atoms::{Atom, Value};
+use std::alloc::{AllocError, Global};
+
+/// Adds copies of the pairs to the list.
+pub fn append(
+    alloc: Global,
+    pairs: &[(Atom, Atom)],
+    list: &mut Vec<(Atom, Atom)>,
+) -> Result<(), AllocError>
+    ensures { OnOk result
+        (map pair_of list.new.items ≡ map pair_of list.old.items ++ map pair_of pairs.now) }
+{
+    for pair in pairs {
+        list.push(copy_of(alloc, pair)?)?;
+    }
+    Ok(())
+}
+
+/// Adds copies of the pairs whose key the value doesn't have to the list. O(log n) comparisons for
+/// each of them, for a value of n elements or keys.
+pub fn append_others(
+    alloc: Global,
+    pairs: &[(Atom, Atom)],
+    value: &Value,
+    list: &mut Vec<(Atom, Atom)>,
+) -> Result<(), AllocError>
+    ensures { OnOk result
+        (map pair_of list.new.items
+        ≡ map pair_of list.old.items
+        ++ map pair_of (filter (λ p. not (has value.now (atom_of p.0))) pairs.now)) }
+{
+    for pair in pairs {
+        if !value.contains(&pair.0) {
+            list.push(copy_of(alloc, pair)?)?;
+        }
+    }
+    Ok(())
+}
+
+/// Adds copies of the pairs that the map doesn't have to the list. O(log n) comparisons for each of
+/// them, for a map of n pairs.
+pub fn append_unlike(
+    alloc: Global,
+    pairs: &[(Atom, Atom)],
+    value: &Value,
+    list: &mut Vec<(Atom, Atom)>,
+) -> Result<(), AllocError>
+    ensures { OnOk result
+        (map pair_of list.new.items
+        ≡ map pair_of list.old.items
+        ++ map pair_of (filter (λ p. not (has_at value.now (pair_of p))) pairs.now)) }
+{
+    for pair in pairs {
+        if !has_pair(value, pair) {
+            list.push(copy_of(alloc, pair)?)?;
+        }
+    }
+    Ok(())
+}
+
+/// Whether the map has the pair.
+fn has_pair(value: &Value, pair: &(Atom, Atom)) -> bool
+    ensures { result ≡ has_at value.now (pair_of pair.now) }
+{
+    match value.get(&pair.0) {
+        Some(at_key) => *at_key == pair.1,
+        None => false,
+    }
+}
+
+fn copy_of(alloc: Global, pair: &(Atom, Atom)) -> Result<(Atom, Atom), AllocError>
+    ensures { IfOk result (λ copy. pair_of copy ≡ pair_of pair.now) }
+{
+    Ok((pair.0.try_copy(alloc)?, pair.1.try_copy(alloc)?))
+}
+
+/// The map of pairs of one kind each, with distinct keys.
+pub fn map_of(pairs: Vec<(Atom, Atom)>) -> Value
+    requires { map_fault (map pair_of pairs.items) ≡ None }
+    ensures { result ≡ model.map_of (finite.from_entries (map pair_of pairs.items)) }
+{
+    match Value::map(pairs) {
+        Ok(value) => value,
+        Err(_) => unreachable!(),
+    }
+}

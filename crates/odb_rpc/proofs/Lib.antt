@@ -1,0 +1,4 @@
+pub mod Answered
+pub mod LeftOut
+pub mod Requests
+pub mod Texts

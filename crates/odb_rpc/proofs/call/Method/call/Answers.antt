@@ -1,0 +1,19 @@
+use Rattle.std.proofs.Common.{rules, ◌≡◌, Some, ap, ◌∙◌}
+use Rattle.serde_json.specs.Find.{as_array}
+use Rattle.serde_json.specs.View.{view, items_view}
+use Rattle.odb_rpc.specs.Message.{answered, of_request, reply}
+use Rattle.odb_rpc.specs.Served.{served}
+use Rattle.odb_rpc.specs.Represented.Call.{name_of}
+use Rattle.odb_rpc.specs.declared.call.Method.TheVariants.{Echo}
+use Rattle.odb_rpc.proofs.Requests.{echoed}
+use Rattle.odb_rpc.proofs.call.Method.call.Goals as goal
+
+-- src/call.rt:144:5
+pub returns-in-Echo : goal.returns-in-Echo
+returns-in-Echo c json id =
+    let params = view c.args.params.now in
+    let listed : Some (items_view c.in-Some.items.now.items) ≡ as_array params = search rules in
+    let is : Echo ≡ c.args.self = search rules in
+    ap (λ r. answered (reply id r)) c.known.ensures
+    ∙ echoed c.args.database.now json id (items_view c.in-Some.items.now.items) params listed
+    ∙ ap (λ k. of_request c.args.database.now json served id (name_of k) params) is

@@ -1,0 +1,17 @@
+use Rattle.std.proofs.Common.{rules, ◌≡◌, sym, ap, ◌∙◌}
+use Rattle.std.proofs.lemmas.Result.{IfOk-weaker}
+use Rattle.serde_json.specs.Data.{null}
+use Rattle.serde_json.specs.Written.{compact_text}
+use Rattle.odb_rpc.specs.Message.{failure_data}
+use Rattle.odb_rpc.specs.Represented.Failure.{failure_of}
+use Rattle.odb_rpc.specs.Represented.Printable.{printable_data}
+use Rattle.odb_rpc.specs.Represented.Texts.{response_text}
+use Rattle.odb_rpc.proofs.Texts.{message_text}
+use Rattle.odb_rpc.proofs.text.failure.Goals as goal
+
+pub returns : goal.returns
+returns c =
+    let id = printable_data c.args.id in
+    let error = failure_data (failure_of c.args.why) in
+    let printed : c.as_slice.result.now ≡ compact_text error = search rules in
+    IfOk-weaker c.response.result _ _ (λ _ is. is ∙ ap (λ t. response_text t (compact_text id) (compact_text null)) printed ∙ sym (message_text error id null)) c.response.ensures

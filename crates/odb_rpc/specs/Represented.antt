@@ -1,0 +1,4 @@
+pub mod Call
+pub mod Failure
+pub mod Printable
+pub mod Texts

@@ -1,0 +1,130 @@
+//! Replies and notifications as they are sent (RFC 7047, 4).
+ghost use Rattle.std.specs.Prelude.{◌≡◌, ◌++◌, ◌∷◌, [], List, IfOk, codes};
+ghost use Rattle.serde_json.specs.Data.{Data, string};
+ghost use Rattle.serde_json.specs.Written.{compact_text};
+ghost use Rattle.odb_schema.specs.Json.{array_of};
+ghost use Rattle.odb_rpc.specs.Message.{failure, failure_data, notification, one, reply};
+ghost use Rattle.odb_rpc.specs.Represented.Failure.{failure_of};
+ghost use Rattle.odb_rpc.specs.Represented.Printable.{printable_data};
+ghost use Rattle.odb_rpc.specs.Represented.Texts.{response_text};
+
+use crate::error::Failure;
+use crate::printable::Printable;
+use json::Writer;
+use std::alloc::{AllocError, Global};
+
+/// The reply of a success (RFC 7047, 4): `{"error":null,"id":ID,"result":RESULT}`. O(n) for a text
+/// of n bytes; an error says that there was no memory.
+pub fn reply(alloc: Global, id: Printable<'_>, value: Printable<'_>) -> Result<Vec<u8>, AllocError>
+    ensures { IfOk result (λ text. text.items
+        ≡ compact_text (reply (printable_data id.entry) (printable_data value.entry))) }
+{
+    let printed = value.to_vec(alloc)?;
+    reply_printed(alloc, id, printed.as_slice())
+}
+
+/// The same, for a result that is printed already: as compact text. O(n) for a text of n bytes.
+pub fn reply_printed(
+    alloc: Global,
+    id: Printable<'_>,
+    printed: &[u8],
+) -> Result<Vec<u8>, AllocError>
+    ensures { IfOk result (λ text. (d : Data) → printed.now ≡ compact_text d
+        → text.items ≡ compact_text (reply (printable_data id.entry) d)) }
+{
+    response(alloc, b"null", id, printed)
+}
+
+/// The reply of a failure: `{"error":ERROR,"id":ID,"result":null}`. The error is the name alone of
+/// `unknown method`, `unknown database`, `unknown monitor` and `canceled`, and `{"error":NAME}` of
+/// every other one. O(n) for a text of n bytes; an error says that there was no memory.
+pub fn failure(alloc: Global, id: Printable<'_>, why: Failure) -> Result<Vec<u8>, AllocError>
+    ensures { IfOk result (λ text. text.items
+        ≡ compact_text (failure (printable_data id.entry) (failure_of why))) }
+{
+    let error = error_text(alloc, why)?;
+    response(alloc, error.as_slice(), id, b"null")
+}
+
+/// A notification (RFC 7047, 4): `{"id":null,"method":METHOD,"params":PARAMS}`, for `params` that
+/// are printed already: an array, as compact text. O(n) for a text of n bytes; an error says that
+/// there was no memory.
+pub fn notice(alloc: Global, method: &str, params: &[u8]) -> Result<Vec<u8>, AllocError>
+    ensures { IfOk result (λ text. (ds : List Data) → params.now ≡ compact_text (array_of ds)
+        → text.items ≡ compact_text (notification method.now ds)) }
+{
+    let mut text = Vec::from_slice(alloc, b"{\"id\":null,\"method\":")?;
+    text = with_string(text, method)?;
+    text.extend_from_slice(b",\"params\":")?;
+    text.extend_from_slice(params)?;
+    text.push(b'}')?;
+    Ok(text)
+}
+
+/// The compact text of the array of one string: the result of `list_dbs` (RFC 7047, 4.1.1), and the
+/// `params` of `locked` and `stolen` (4.1.9, 4.1.10). O(n) for a text of n bytes; an error says
+/// that there was no memory.
+pub fn array_of_one(alloc: Global, name: &str) -> Result<Vec<u8>, AllocError>
+    ensures { IfOk result (λ text. text.items ≡ compact_text (array_of (string name.now ∷ []))) }
+{
+    let mut text = Vec::from_slice(alloc, b"[")?;
+    text = with_string(text, name)?;
+    text.push(b']')?;
+    Ok(text)
+}
+
+fn response(
+    alloc: Global,
+    error: &[u8],
+    id: Printable<'_>,
+    printed: &[u8],
+) -> Result<Vec<u8>, AllocError>
+    ensures { IfOk result (λ text. text.items
+        ≡ response_text error.now (compact_text (printable_data id.entry)) printed.now) }
+{
+    let id_text = id.to_vec(alloc)?;
+    let size = error
+        .len()
+        .saturating_add(id_text.len())
+        .saturating_add(printed.len())
+        .saturating_add(26);
+    let mut text = Vec::with_capacity(alloc, size)?;
+    text.extend_from_slice(b"{\"error\":")?;
+    text.extend_from_slice(error)?;
+    text.extend_from_slice(b",\"id\":")?;
+    text.extend_from_slice(id_text.as_slice())?;
+    text.extend_from_slice(b",\"result\":")?;
+    text.extend_from_slice(printed)?;
+    text.push(b'}')?;
+    Ok(text)
+}
+
+fn error_text(alloc: Global, failure: Failure) -> Result<Vec<u8>, AllocError>
+    ensures { IfOk result (λ text. text.items ≡ compact_text (failure_data (failure_of failure))) }
+{
+    match failure {
+        Failure::UnknownMethod => with_string(Vec::new(alloc), "unknown method"),
+        Failure::UnknownDatabase => with_string(Vec::new(alloc), "unknown database"),
+        Failure::UnknownMonitor => with_string(Vec::new(alloc), "unknown monitor"),
+        Failure::Canceled => with_string(Vec::new(alloc), "canceled"),
+        Failure::Failed(error) => named_error(alloc, error.name()),
+    }
+}
+
+fn named_error(alloc: Global, name: &str) -> Result<Vec<u8>, AllocError>
+    ensures { IfOk result (λ text. text.items ≡ compact_text (one (codes "error") (string name.now))) }
+{
+    let mut text = Vec::from_slice(alloc, b"{\"error\":")?;
+    text = with_string(text, name)?;
+    text.push(b'}')?;
+    Ok(text)
+}
+
+#[tactic(auto, using(crate::proofs::Texts::one_printed))]
+fn with_string(text: Vec<u8>, content: &str) -> Result<Vec<u8>, AllocError>
+    ensures { IfOk result (λ longer. longer.items ≡ text.items ++ compact_text (string content.now)) }
+{
+    let mut writer = Writer::new(text);
+    writer.string(content)?;
+    Ok(writer.into_inner())
+}

@@ -1,0 +1,71 @@
+//! Schemas (RFC 7047, section 3.2, `<database-schema>`).
+
+ghost use Rattle.std.specs.Prelude.{◌≡◌, ◌++◌, IfOk, IsUtf8, OnErr, OnOk, Some, option_map};
+ghost use Rattle.serde_json.specs.Read.{read};
+ghost use Rattle.serde_json.specs.View.{members_view, view};
+ghost use Rattle.serde_json.specs.Written.{compact_text};
+ghost use Rattle.odb_schema.specs.SchemaText as model;
+ghost use Rattle.odb_schema.specs.Represented.Members as written;
+ghost use Rattle.odb_schema.specs.Represented.Members.{onto};
+
+use super::leaf::{put, put_text};
+use super::table::write_tables;
+use crate::schema::Schema;
+use serde_json::{Map, Value};
+use std::alloc::{AllocError, Global};
+
+fn put_cksum(
+    alloc: Global,
+    members: &mut Map<String, Value>,
+    cksum: Option<&str>,
+) -> Result<(), AllocError>
+    ensures { OnOk result (members_view members.new.entries
+        ≡ onto (written.cksum_members (option_map (λ text. text.now) cksum.entry)) (members_view members.old.entries)) }
+{
+    match cksum {
+        None => Ok(()),
+        Some(cksum) => put_text(alloc, members, "cksum", cksum),
+    }
+}
+
+impl Schema {
+    /// The schema as JSON (RFC 7047, section 3.2). Members that equal their defaults are left out,
+    /// and so are those that were passed over when it was read. O(n log n) for the n bytes of its
+    /// text; an error says that there was no memory.
+    pub fn to_value(&self, alloc: Global) -> Result<Value, AllocError>
+        ensures { IfOk result (λ v. view v ≡ model.write_schema self.now) }
+    {
+        let mut members = Map::new(alloc);
+        put_cksum(alloc, &mut members, self.cksum())?;
+        let tables = write_tables(alloc, self.tables())?;
+        put(alloc, &mut members, "tables", tables)?;
+        put_text(alloc, &mut members, "version", self.version())?;
+        put_text(alloc, &mut members, "name", self.name())?;
+        Ok(Value::from(members))
+    }
+
+    /// The schema's text: its JSON in UTF-8, with no space between tokens and the keys of objects in
+    /// ascending order. O(n log n) for n bytes; an error says that there was no memory.
+    pub fn to_json(&self, alloc: Global) -> Result<Vec<u8>, AllocError>
+        ensures text { IfOk result (λ bytes. bytes.items ≡ compact_text (model.write_schema self.now)) }
+        ensures utf8 { IfOk result (λ bytes. IsUtf8 bytes.items) }
+
+        // It is JSON, and the JSON of the schema.
+        ensures json { IfOk result (λ bytes. read bytes.items
+            ≡ Some (model.write_schema self.now)) }
+    {
+        let value = self.to_value(alloc)?;
+        value.to_vec(alloc)
+    }
+
+    /// Appends the schema's text to the bytes, as `to_json` writes it. O(n log n) for n bytes that
+    /// are added; an error says that there was no memory, and nothing was added.
+    pub fn write_json(&self, alloc: Global, bytes: &mut Vec<u8>) -> Result<(), AllocError>
+        ensures ok { OnOk result (bytes.new.items
+            ≡ bytes.old.items ++ compact_text (model.write_schema self.now)) }
+        ensures err { OnErr result (bytes.new.items ≡ bytes.old.items) }
+    {
+        let text = self.to_json(alloc)?;
+        bytes.extend_from_slice(text.as_slice())
+    }
+}

@@ -1,0 +1,229 @@
+-- Scripts: lines of commands for named sessions, and the text that they print.
+use Rattle.std.specs.Prelude.{ℕ, zero, suc, ◌+◌, ◌-◌, ◌*◌, ◌%◌, ◌^◌, ◌==◌, nat_lt, nat_le, length, Bool, true, false, not, ◌&&◌, ◌||◌, if◌then◌else◌, List, [], ◌∷◌, ◌++◌, map, filter, find, flat_map, drop, Option, Some, None, is_some, option_and_then, Result, Ok, Err, codes, bytes_eq}
+use Rattle.std.specs.List.{list_all}
+use Rattle.serde_json.specs.Data.{Data}
+use Rattle.odb_atoms.specs.FinMap as finmap
+use Rattle.odb_core.specs.Run.{Event, Refusal, busy, closed, gone, if_ok, in_use, opened, step, beginning, submitted, ticked, too_many}
+use Rattle.odb_core.specs.Server.{served_by}
+use Rattle.odb_core.specs.Service.{Service, service}
+use Rattle.odb_schema.specs.Schema.{Schema}
+use Rattle.odb_core.specs.Session.{Session, dried, owed}
+use Rattle.odb_core.specs.World.{World}
+use Rattle.odb_wire.specs.Stream.{Ending, fault_bad, fault_too_long, goes_on, messages}
+use Rattle.odb_atoms.specs.Uuid.{Uuid, uuid_from}
+use Rattle.odb_wire.specs.Message.{inserts_of, method_of}
+
+-- a session of the script: its name, its identifier, the bytes that came, how many of its messages were handed on, and whether it is held
+pub record Named : Type 0 where
+  pub name : List ℕ
+  pub session : ℕ
+  pub bytes : List ℕ
+  pub handed : ℕ
+  pub held : Bool
+
+-- open sessions in order of opening; how many were opened; how many inserts were counted; the moment
+pub record Script : Type 0 where
+  pub world : World
+  pub sessions : List Named
+  pub opened_so_far : ℕ
+  pub inserts : ℕ
+  pub moment : ℕ
+
+pub data Command : Type 0 where
+  piece : List ℕ → List ℕ → Command
+  open_session : List ℕ → Command
+  close_session : List ℕ → Command
+  hold : List ℕ → Command
+  take_dry : List ℕ → Command
+  tick_to : ℕ → Command
+
+-- ---- lines
+
+abbrev pub is_letter_or_digit : ℕ → Bool
+is_letter_or_digit c = (nat_le 97 c && nat_le c 122) || ((nat_le 65 c && nat_le c 90) || (nat_le 48 c && nat_le c 57))
+
+abbrev pub is_name : List ℕ → Bool
+is_name n = nat_le 1 (length n) && (nat_le (length n) 16 && list_all is_letter_or_digit n)
+
+-- before the first byte c, and what follows it
+abbrev pub split_at : ℕ → List ℕ → List ℕ × Option (List ℕ)
+split_at c [] = ([], None)
+split_at c (x ∷ xs) = if x == c then ([], Some xs) else (x ∷ (split_at c xs).0, (split_at c xs).1)
+
+abbrev pub with_name : (List ℕ → Command) → List ℕ → Option Command
+with_name f n = if is_name n then Some (f n) else None
+
+abbrev pub number_in : ℕ → List ℕ → ℕ
+number_in n [] = n
+number_in n (c ∷ cs) = number_in (10 * n + digit c) cs
+  where
+    digit : ℕ → ℕ
+    digit c = c - 48
+
+abbrev pub tick_of : List ℕ → Option Command
+tick_of ds = if nat_le 1 (length ds) && (nat_le (length ds) 20 && (list_all (λ c. nat_le 48 c && nat_le c 57) ds && nat_lt (number_in 0 ds) (2 ^ 64))) then Some (tick_to (number_in 0 ds)) else None
+
+abbrev pub command_of : List ℕ → Option Command
+command_of line = by (split_at 32 line).0 (split_at 32 line).1
+  where
+    by : List ℕ → Option (List ℕ) → Option Command
+    by word None = None
+    by word (Some rest) =
+        if bytes_eq word (codes "!open") then with_name open_session rest
+        else (if bytes_eq word (codes "!close") then with_name close_session rest
+        else (if bytes_eq word (codes "!hold") then with_name hold rest
+        else (if bytes_eq word (codes "!take") then with_name take_dry rest
+        else (if bytes_eq word (codes "!tick") then tick_of rest
+        else with_name (λ n. piece n rest) word))))
+
+-- ---- what is printed
+
+abbrev pub line_of : List ℕ → List ℕ → List ℕ
+line_of name text = name ++ (32 ∷ text) ++ 10 ∷ []
+
+-- the UUID of the k-th insert
+abbrev pub script_uuid : ℕ → Uuid
+script_uuid k = uuid_from (16384 * 2 ^ 64 + 32768 * 2 ^ 48 + k % 2 ^ 48)
+
+abbrev pub fresh_from : ℕ → ℕ → List Uuid
+fresh_from k zero = []
+fresh_from k (suc n) = script_uuid (k + 1) ∷ fresh_from (k + 1) n
+
+abbrev pub at_name : List ℕ → (Named → Named) → List Named → List Named
+at_name n f xs = map (λ x. if bytes_eq x.name n then f x else x) xs
+
+module _ (h : Service) where
+  -- every open session that isn't held is taken dry, in order of opening
+  abbrev pub dry_one : Named → Option Session → Script → Script × List ℕ
+  dry_one x None p = (p, [])
+  dry_one x (Some s) p = (
+    record p { world = record (p.world) { sessions = finmap.insert p.world.sessions x.session (dried h p.world.db s) } },
+    flat_map (λ o. line_of x.name (h.printed o.message)) (owed h p.world.db s),
+  )
+
+  abbrev pub dry_each : List Named → Script → Script × List ℕ
+  dry_each [] p = (p, [])
+  dry_each (x ∷ xs) p =
+      let one = if x.held then (p, []) else dry_one x (finmap.get p.world.sessions x.session) p in
+      let rest = dry_each xs one.0 in
+      (rest.0, one.1 ++ rest.1)
+
+  abbrev pub dry_all : Script × List ℕ → Script × List ℕ
+  dry_all r = let d = dry_each r.0.sessions r.0 in (d.0, r.1 ++ d.1)
+
+  abbrev pub in_world : Result World Refusal → Script → Script
+  in_world (Err e) p = p
+  in_world (Ok w) p = record p { world = w }
+
+  abbrev pub world_after : Event → Script → Result World Refusal
+  world_after e p = if_ok (λ r. Ok r.0) (step h e p.world)
+
+  -- how a refusal is printed
+  abbrev pub refusal_text : Refusal → List ℕ
+  refusal_text too_many = codes "!toomany"
+  refusal_text gone = codes "!gone"
+  refusal_text busy = codes "!busy"
+  refusal_text in_use = codes "!open"
+
+  -- a message goes in, or is refused; a response does nothing
+  abbrev pub submit_result : Named → Result World Refusal → Script → Script × List ℕ
+  submit_result x (Err e) p = (p, line_of x.name (refusal_text e))
+  submit_result x (Ok w) p = (record p { world = w }, [])
+
+  abbrev pub hand_on : Named → Data → Script → Script × List ℕ
+  hand_on x d p =
+      let q = record p { inserts = p.inserts + inserts_of d } in
+      if is_some (method_of d)
+      then submit_result x (world_after (submitted x.session d (fresh_from p.inserts (inserts_of d)) p.moment) q) q
+      else (q, [])
+
+  abbrev pub hand_each : Named → List Data → Script → Script × List ℕ
+  hand_each x [] p = (p, [])
+  hand_each x (d ∷ ds) p =
+      let one = dry_all (hand_on x d p) in
+      let rest = hand_each x ds one.0 in
+      (rest.0, one.1 ++ rest.1)
+
+  abbrev pub shut : Named → Script → Script
+  shut x p = record (in_world (world_after (closed x.session) p) p) { sessions = filter (λ y. not (bytes_eq y.name x.name)) p.sessions }
+
+  abbrev pub at_ending : Named → Ending → Script × List ℕ → Script × List ℕ
+  at_ending x goes_on r = r
+  at_ending x fault_too_long r = let d = dry_all (shut x r.0, line_of x.name (codes "!fault 2")) in (d.0, r.1 ++ d.1)
+  at_ending x fault_bad r = let d = dry_all (shut x r.0, line_of x.name (codes "!fault 3")) in (d.0, r.1 ++ d.1)
+
+  -- the bytes that came, and of their messages the ones that weren't handed on yet
+  abbrev pub take_in : Named → List ℕ → Script → Script × List ℕ
+  take_in x bytes p =
+      let all = x.bytes ++ bytes in
+      let ms = messages all in
+      let q = record p { sessions = at_name x.name (λ y. record { name = y.name; session = y.session; bytes = all; handed = length ms.0; held = y.held }) p.sessions } in
+      at_ending x ms.1 (hand_each x (drop x.handed ms.0) q)
+
+  abbrev pub session_named : List ℕ → Script → Option Named
+  session_named n p = find (λ x. bytes_eq x.name n) p.sessions
+
+  abbrev pub when_open : List ℕ → (Named → Script → Script × List ℕ) → Script → Script × List ℕ
+  when_open n f p = elim (session_named n p) [ None ↦ (p, line_of n (codes "!gone")) | Some x ↦ f x p ]
+
+  abbrev pub open_as : List ℕ → Result World Refusal → Script → Script × List ℕ
+  open_as n (Err e) p = (p, line_of n (refusal_text e))
+  open_as n (Ok w) p =
+      (record { world = w; sessions = p.sessions ++ record { name = n; session = p.opened_so_far; bytes = []; handed = 0; held = false } ∷ []; opened_so_far = p.opened_so_far + 1; inserts = p.inserts; moment = p.moment }, [])
+
+  abbrev pub set_held : Bool → List ℕ → Script → Script
+  set_held b n p = record p { sessions = at_name n (λ y. record { name = y.name; session = y.session; bytes = y.bytes; handed = y.handed; held = b }) p.sessions }
+
+  abbrev pub perform : Command → Script → Script × List ℕ
+  perform (piece n bytes) p = when_open n (λ x q. take_in x bytes q) p
+  perform (open_session n) p =
+      dry_all (elim (session_named n p) [ None ↦ open_as n (world_after (opened p.opened_so_far) p) p | Some x ↦ (p, line_of n (codes "!open")) ])
+  perform (close_session n) p = dry_all (when_open n (λ x q. (shut x q, [])) p)
+  perform (hold n) p = dry_all (when_open n (λ x q. (set_held true n q, [])) p)
+  perform (take_dry n) p = dry_all (when_open n (λ x q. let d = dry_one x (finmap.get q.world.sessions x.session) q in (set_held false n d.0, d.1)) p)
+  perform (tick_to now) p = dry_all (in_world (world_after (ticked now) p) (record p { moment = now }), [])
+
+  -- the text of the lines, up to the first that isn't a command; its number, from 1
+  abbrev pub perform_lines : (List ℕ → Option Command) → ℕ → List (List ℕ) → Script → List ℕ × Option ℕ
+  perform_lines reads n [] p = ([], None)
+  perform_lines reads n ([] ∷ lines) p = perform_lines reads (n + 1) lines p
+  perform_lines reads n ((c ∷ cs) ∷ lines) p =
+      elim (reads (c ∷ cs)) [
+        | None ↦ ([], Some n)
+        | Some k ↦ (let r = perform k p in let rest = perform_lines reads (n + 1) lines r.0 in (r.1 ++ rest.0, rest.1))
+      ]
+
+-- lines end in a line feed, which the last need not have
+abbrev pub joined : ℕ → List (List ℕ) → List (List ℕ)
+joined c [] = (c ∷ []) ∷ []
+joined c (l ∷ ls) = (c ∷ l) ∷ ls
+
+abbrev pub lines_of : List ℕ → List (List ℕ)
+lines_of [] = []
+lines_of (c ∷ cs) = if c == 10 then [] ∷ lines_of cs else joined c (lines_of cs)
+
+-- a server of the schema with empty tables and no session
+abbrev pub fresh_script : Schema → Script
+fresh_script s = record { world = (beginning (length s.tables)).world; sessions = []; opened_so_far = 0; inserts = 0; moment = 0 }
+
+-- what a script on it prints, and the number of the first line that is no command
+abbrev pub script_of : Schema → List ℕ → List ℕ × Option ℕ
+script_of s text = perform_lines (service s) command_of 1 (lines_of text) (fresh_script s)
+
+-- ---- so far
+
+-- the commands that are read so far
+abbrev pub is_read : Command → Bool
+is_read (piece n bytes) = true
+is_read (open_session n) = true
+is_read (close_session n) = true
+is_read (hold n) = false
+is_read (take_dry n) = false
+is_read (tick_to now) = false
+
+abbrev pub read_command : List ℕ → Option Command
+read_command line = option_and_then (λ k. if is_read k then Some k else None) (command_of line)
+
+-- the same with the methods and the commands that are served so far
+abbrev pub served_script : Schema → List ℕ → List ℕ × Option ℕ
+served_script s text = perform_lines (served_by s) read_command 1 (lines_of text) (fresh_script s)

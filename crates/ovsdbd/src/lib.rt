@@ -1,2 +1,0 @@
-//! The programs of the OVSDB server.
-#![tactic(auto)]
