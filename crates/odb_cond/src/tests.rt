@@ -181,7 +181,7 @@ fn maps_are_compared_pair_by_pair(rt: HostRuntime) -> Result<(), Fail> {
     Ok(())
 }
 
-/// Whether the row 1, of version 7 and with a 9 as its only column, has the value in the column.
+/// Whether a row with UUID 1, of version 7 and with a 9 as its only column, has the value in the column.
 fn has(alloc: Global, column: Selector, value: Value) -> Result<bool, AllocError> {
     let clause = Clause::new(column, Function::Equal, value).try_copy(alloc)?;
     Ok(clause.holds(Uuid::from_u128(1), &row(alloc, integer(9))?))
