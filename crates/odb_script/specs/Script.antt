@@ -63,18 +63,19 @@ number_in n (c ∷ cs) = number_in (10 * n + digit c) cs
 abbrev pub tick_of : List ℕ → Option Command
 tick_of ds = if nat_le 1 (length ds) && (nat_le (length ds) 20 && (list_all (λ c. nat_le 48 c && nat_le c 57) ds && nat_lt (number_in 0 ds) (2 ^ 64))) then Some (tick_to (number_in 0 ds)) else None
 
+-- what a line of a word and of what follows its space stands for
+abbrev pub command_by : List ℕ → Option (List ℕ) → Option Command
+command_by word None = None
+command_by word (Some rest) =
+    if bytes_eq word (codes "!open") then with_name open_session rest
+    else (if bytes_eq word (codes "!close") then with_name close_session rest
+    else (if bytes_eq word (codes "!hold") then with_name hold rest
+    else (if bytes_eq word (codes "!take") then with_name take_dry rest
+    else (if bytes_eq word (codes "!tick") then tick_of rest
+    else with_name (λ n. piece n rest) word))))
+
 abbrev pub command_of : List ℕ → Option Command
-command_of line = by (split_at 32 line).0 (split_at 32 line).1
-  where
-    by : List ℕ → Option (List ℕ) → Option Command
-    by word None = None
-    by word (Some rest) =
-        if bytes_eq word (codes "!open") then with_name open_session rest
-        else (if bytes_eq word (codes "!close") then with_name close_session rest
-        else (if bytes_eq word (codes "!hold") then with_name hold rest
-        else (if bytes_eq word (codes "!take") then with_name take_dry rest
-        else (if bytes_eq word (codes "!tick") then tick_of rest
-        else with_name (λ n. piece n rest) word))))
+command_of line = command_by (split_at 32 line).0 (split_at 32 line).1
 
 -- ---- what is printed
 
@@ -91,6 +92,10 @@ fresh_from k (suc n) = script_uuid (k + 1) ∷ fresh_from (k + 1) n
 
 abbrev pub at_name : List ℕ → (Named → Named) → List Named → List Named
 at_name n f xs = map (λ x. if bytes_eq x.name n then f x else x) xs
+
+-- a session to which bytes came, all of whose messages are handed on
+abbrev pub with_bytes : List ℕ → Named → Named
+with_bytes bytes x = record { name = x.name; session = x.session; bytes = x.bytes ++ bytes; handed = length (messages (x.bytes ++ bytes)).0; held = x.held }
 
 module _ (h : Service) where
   -- every open session that isn't held is taken dry, in order of opening
@@ -125,40 +130,46 @@ module _ (h : Service) where
   refusal_text busy = codes "!busy"
   refusal_text in_use = codes "!open"
 
-  -- a message goes in, or is refused; a response does nothing
-  abbrev pub submit_result : Named → Result World Refusal → Script → Script × List ℕ
-  submit_result x (Err e) p = (p, line_of x.name (refusal_text e))
-  submit_result x (Ok w) p = (record p { world = w }, [])
+  -- a message of the session of this name and identifier goes in, or is refused; a response does nothing
+  abbrev pub submit_result : List ℕ → Result World Refusal → Script → Script × List ℕ
+  submit_result n (Err e) p = (p, line_of n (refusal_text e))
+  submit_result n (Ok w) p = (record p { world = w }, [])
 
-  abbrev pub hand_on : Named → Data → Script → Script × List ℕ
-  hand_on x d p =
+  -- with an identifier for each of its inserts
+  abbrev pub submit_as : List ℕ → ℕ → Data → Script → Script × List ℕ
+  submit_as n s d p =
       let q = record p { inserts = p.inserts + inserts_of d } in
-      if is_some (method_of d)
-      then submit_result x (world_after (submitted x.session d (fresh_from p.inserts (inserts_of d)) p.moment) q) q
-      else (q, [])
+      submit_result n (world_after (submitted s d (fresh_from p.inserts (inserts_of d)) p.moment) q) q
 
-  abbrev pub hand_each : Named → List Data → Script → Script × List ℕ
-  hand_each x [] p = (p, [])
-  hand_each x (d ∷ ds) p =
-      let one = dry_all (hand_on x d p) in
-      let rest = hand_each x ds one.0 in
+  abbrev pub hand_on : List ℕ → ℕ → Data → Script → Script × List ℕ
+  hand_on n s d p = if is_some (method_of d) then submit_as n s d p else (p, [])
+
+  abbrev pub hand_each : List ℕ → ℕ → List Data → Script → Script × List ℕ
+  hand_each n s [] p = (p, [])
+  hand_each n s (d ∷ ds) p =
+      let one = dry_all (hand_on n s d p) in
+      let rest = hand_each n s ds one.0 in
       (rest.0, one.1 ++ rest.1)
 
-  abbrev pub shut : Named → Script → Script
-  shut x p = record (in_world (world_after (closed x.session) p) p) { sessions = filter (λ y. not (bytes_eq y.name x.name)) p.sessions }
+  -- the session of this name and identifier ends
+  abbrev pub shut : List ℕ → ℕ → Script → Script
+  shut n s p = record (in_world (world_after (closed s) p) p) { sessions = filter (λ y. not (bytes_eq y.name n)) p.sessions }
 
-  abbrev pub at_ending : Named → Ending → Script × List ℕ → Script × List ℕ
-  at_ending x goes_on r = r
-  at_ending x fault_too_long r = let d = dry_all (shut x r.0, line_of x.name (codes "!fault 2")) in (d.0, r.1 ++ d.1)
-  at_ending x fault_bad r = let d = dry_all (shut x r.0, line_of x.name (codes "!fault 3")) in (d.0, r.1 ++ d.1)
+  abbrev pub shut_with : List ℕ → ℕ → List ℕ → Script × List ℕ → Script × List ℕ
+  shut_with n s line r = let d = dry_all (shut n s r.0, line_of n line) in (d.0, r.1 ++ d.1)
+
+  -- a stream that is at a fault ends its session
+  abbrev pub at_ending : List ℕ → ℕ → Ending → Script × List ℕ → Script × List ℕ
+  at_ending n s goes_on r = r
+  at_ending n s fault_too_long r = shut_with n s (codes "!fault 2") r
+  at_ending n s fault_bad r = shut_with n s (codes "!fault 3") r
 
   -- the bytes that came, and of their messages the ones that weren't handed on yet
   abbrev pub take_in : Named → List ℕ → Script → Script × List ℕ
   take_in x bytes p =
-      let all = x.bytes ++ bytes in
-      let ms = messages all in
-      let q = record p { sessions = at_name x.name (λ y. record { name = y.name; session = y.session; bytes = all; handed = length ms.0; held = y.held }) p.sessions } in
-      at_ending x ms.1 (hand_each x (drop x.handed ms.0) q)
+      let ms = messages (x.bytes ++ bytes) in
+      let q = record p { sessions = at_name x.name (with_bytes bytes) p.sessions } in
+      at_ending x.name x.session ms.1 (hand_each x.name x.session (drop x.handed ms.0) q)
 
   abbrev pub session_named : List ℕ → Script → Option Named
   session_named n p = find (λ x. bytes_eq x.name n) p.sessions
@@ -171,14 +182,21 @@ module _ (h : Service) where
   open_as n (Ok w) p =
       (record { world = w; sessions = p.sessions ++ record { name = n; session = p.opened_so_far; bytes = []; handed = 0; held = false } ∷ []; opened_so_far = p.opened_so_far + 1; inserts = p.inserts; moment = p.moment }, [])
 
+  -- a session of the name is opened, if none is open
+  abbrev pub open_named : List ℕ → Script → Script × List ℕ
+  open_named n p = elim (session_named n p) [ None ↦ open_as n (world_after (opened p.opened_so_far) p) p | Some x ↦ (p, line_of n (codes "!open")) ]
+
+  -- the session of the name is closed, if one is open
+  abbrev pub close_named : List ℕ → Script → Script × List ℕ
+  close_named n = when_open n (λ x q. (shut x.name x.session q, []))
+
   abbrev pub set_held : Bool → List ℕ → Script → Script
   set_held b n p = record p { sessions = at_name n (λ y. record { name = y.name; session = y.session; bytes = y.bytes; handed = y.handed; held = b }) p.sessions }
 
   abbrev pub perform : Command → Script → Script × List ℕ
   perform (piece n bytes) p = when_open n (λ x q. take_in x bytes q) p
-  perform (open_session n) p =
-      dry_all (elim (session_named n p) [ None ↦ open_as n (world_after (opened p.opened_so_far) p) p | Some x ↦ (p, line_of n (codes "!open")) ])
-  perform (close_session n) p = dry_all (when_open n (λ x q. (shut x q, [])) p)
+  perform (open_session n) p = dry_all (open_named n p)
+  perform (close_session n) p = dry_all (close_named n p)
   perform (hold n) p = dry_all (when_open n (λ x q. (set_held true n q, [])) p)
   perform (take_dry n) p = dry_all (when_open n (λ x q. let d = dry_one x (finmap.get q.world.sessions x.session) q in (set_held false n d.0, d.1)) p)
   perform (tick_to now) p = dry_all (in_world (world_after (ticked now) p) (record p { moment = now }), [])
@@ -221,8 +239,11 @@ is_read (hold n) = false
 is_read (take_dry n) = false
 is_read (tick_to now) = false
 
+abbrev pub if_read : Command → Option Command
+if_read k = if is_read k then Some k else None
+
 abbrev pub read_command : List ℕ → Option Command
-read_command line = option_and_then (λ k. if is_read k then Some k else None) (command_of line)
+read_command line = option_and_then if_read (command_of line)
 
 -- the same with the methods and the commands that are served so far
 abbrev pub served_script : Schema → List ℕ → List ℕ × Option ℕ

@@ -1,0 +1,11 @@
+use Rattle.std.proofs.Common.{◌≡◌, map}
+use Rattle.odb_core.specs.Server.{served_by}
+use Rattle.odb_wire.specs.Shown.{message_data}
+use Rattle.odb_script.proofs.Steps.{handed_from}
+use Rattle.odb_script.proofs.engine.Engine.hand_each.Given as goal
+
+abbrev pub invariant-loop-message : goal.invariant-loop-message
+invariant-loop-message l =
+    (handed_from (served_by l.fn.self.schema) l.name l.session (map message_data l.fn.messages.items) l.fn.self.script l.fn.text.items
+    ≡ handed_from (served_by l.fn.self.schema) l.name l.session (map message_data l.message-iterator.rest.items) l.self.script l.text.items)
+    × (l.self.schema ≡ l.fn.self.schema)

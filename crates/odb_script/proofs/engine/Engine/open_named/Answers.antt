@@ -1,0 +1,55 @@
+use Rattle.std.proofs.Common.{rules, ◌≡◌, ◌≤◌, ◌++◌, ◌∷◌, [], OnOk, Ok, true, false, codes, sym, subst, is_some}
+use Rattle.odb_atoms.specs.FinMap.{len}
+use Rattle.odb_core.specs.Run.{max_sessions, opened}
+use Rattle.odb_core.specs.Server.{serve, served_by}
+use Rattle.odb_script.specs.Running.{Running}
+use Rattle.odb_script.specs.Script.{Named, Script, line_of, open_named}
+use Rattle.odb_script.specs.Represented.Names.{AreApart}
+use Rattle.odb_script.specs.Represented.Steps.{Does}
+use Rattle.odb_script.proofs.Opening.{IsPlaceOf, absent, opens_full, opens_new, opens_there, script_of}
+use Rattle.odb_script.proofs.Places.{apart_end}
+use Rattle.odb_script.proofs.Steps.{on_ok}
+use Rattle.odb_script.proofs.engine.Engine.open_named.Goals as goal
+
+pub returns-then-is_some-clause-done : goal.returns-then-is_some-clause-done
+returns-then-is_some-clause-done c =
+    let old = c.self.inside in
+    let p : Script = script_of old.core old.sessions.items old.inserts in
+    let there : IsPlaceOf c.args.name.now old.sessions.items c.place_of.result = search rules in
+    let some : is_some c.place_of.result ≡ true = search rules in
+    let text : OnOk c.print_line.result (c.print_line.new.text.items ≡ c.args.text.now.items ++ line_of c.args.name.now (codes "!open")) = search rules in
+    subst (λ (v : Running). OnOk c.print_line.result (Does (open_named (served_by v.schema) c.args.name.now) v.script c.args.text.now.items v.script c.print_line.new.text.items)) c.self.view_is
+    (on_ok c.print_line.result (λ e. opens_there (served_by old.core.schema) c.args.name.now p c.place_of.result _ _ there some e) text)
+
+pub invariant_of-self-in-Ok : goal.invariant_of-self-in-Ok
+invariant_of-self-in-Ok c =
+    let old = c.self.inside in
+    let x : Named = record { name = c.args.name.now; session = c.in-Ok.session; bytes = []; handed = 0; held = false } in
+    let there : IsPlaceOf c.args.name.now old.sessions.items c.place_of.result = search rules in
+    let none : is_some c.place_of.result ≡ false = search rules in
+    let grown : c.push.new.self.items ≡ old.sessions.items ++ x ∷ [] = search rules in
+    subst AreApart (sym grown) (apart_end old.sessions.items x (absent c.args.name.now old.sessions.items c.place_of.result there none) c.self.invariant)
+
+pub returns-in_ok-push-in-Ok-clause-done : goal.returns-in_ok-push-in-Ok-clause-done
+returns-in_ok-push-in-Ok-clause-done c =
+    let old = c.self.inside in
+    let x : Named = record { name = c.args.name.now; session = c.in-Ok.session; bytes = []; handed = 0; held = false } in
+    let there : IsPlaceOf c.args.name.now old.sessions.items c.place_of.result = search rules in
+    let none : is_some c.place_of.result ≡ false = search rules in
+    let grown : c.push.new.self.items ≡ old.sessions.items ++ x ∷ [] = search rules in
+    let number : c.in-Ok.session ≡ old.core.opened = search rules in
+    let served : serve (opened c.in-Ok.session) old.core ≡ Ok (c.open.new.self, []) = search rules in
+    subst (λ (v : Running). Does (open_named (served_by v.schema) c.args.name.now) v.script c.args.text.now.items (script_of c.open.new.self c.push.new.self.items old.inserts) c.args.text.now.items) c.self.view_is
+    (opens_new old.core old.sessions.items old.inserts c.args.name.now c.place_of.result c.open.new.self [] c.in-Ok.session c.push.new.self.items c.args.text.now.items there none number served grown)
+
+pub returns-in-Err-TooMany-clause-done : goal.returns-in-Err-TooMany-clause-done
+returns-in-Err-TooMany-clause-done c =
+    let old = c.self.inside in
+    let there : IsPlaceOf c.args.name.now old.sessions.items c.place_of.result = search rules in
+    let none : is_some c.place_of.result ≡ false = search rules in
+    let full : max_sessions ≤ len old.core.world.sessions = search rules in
+    let same : c.open.new.self ≡ old.core = search rules in
+    let text : OnOk c.print_line-in-Err-TooMany.result (c.print_line-in-Err-TooMany.new.text.items ≡ c.args.text.now.items ++ line_of c.args.name.now (codes "!toomany")) = search rules in
+    subst (λ (v : Running). OnOk c.print_line-in-Err-TooMany.result (Does (open_named (served_by v.schema) c.args.name.now) v.script c.args.text.now.items (script_of c.open.new.self old.sessions.items old.inserts) c.print_line-in-Err-TooMany.new.text.items)) c.self.view_is
+    (on_ok c.print_line-in-Err-TooMany.result (λ e. subst (λ q. Does (open_named (served_by old.core.schema) c.args.name.now) (script_of old.core old.sessions.items old.inserts) c.args.text.now.items (script_of q old.sessions.items old.inserts) c.print_line-in-Err-TooMany.new.text.items) (sym same)
+    (opens_full old.core old.sessions.items old.inserts c.args.name.now c.place_of.result c.args.text.now.items c.print_line-in-Err-TooMany.new.text.items there none full e)) text)

@@ -1,0 +1,7 @@
+pub mod Command
+pub mod Dry
+pub mod Ending
+pub mod Names
+pub mod Run
+pub mod Steps
+pub mod Watched

@@ -1,0 +1,309 @@
+//! The engine of scripts.
+ghost use Rattle.std.specs.Prelude.{◌≡◌, All, IfOk, OnOk, bytes_eq, map};
+ghost use Rattle.odb_wire.specs.Feeding.{fault_of};
+ghost use Rattle.odb_wire.specs.Shown.{message_data, request_data, IsOfItsKind};
+ghost use Rattle.odb_wire.specs.Stream.{Ending};
+ghost use Rattle.std.specs.List.{position};
+ghost use Rattle.odb_core.specs.Run.{closed};
+ghost use Rattle.odb_core.specs.Server.{served_by};
+ghost use Rattle.odb_script.specs.Script.{Script, in_world, world_after};
+
+use crate::command::Command;
+use crate::dry::{print_line, take_all_dry};
+use crate::fresh::fresh_uuids;
+use crate::named::Named;
+use odb_core::{Core, Refused, SessionId};
+use odb_schema::Schema;
+use odb_wire::{Framer, Message, Request, WireFault};
+use std::alloc::{AllocError, Global};
+use std::hash::RandomState;
+use std::marker::Model;
+
+/// A script that runs: its server, its sessions in order of opening, and how many inserts were
+/// counted. No two sessions have one name.
+#[derive(Drop)]
+pub(crate) struct Engine {
+    alloc: Global,
+    core: Core,
+    sessions: Vec<Named>,
+    inserts: u64,
+}
+
+impl Model for Engine {
+    ghost use Rattle.odb_script.specs.Running.{Running, running_code};
+    ghost use Rattle.odb_script.specs.Represented.Names.{AreApart};
+
+    ghost Value = { Running };
+
+    ghost coded = { running_code };
+
+    ghost view = { λ e. record {
+      schema = e.core.schema;
+      script = record {
+        world = e.core.world;
+        sessions = e.sessions.items;
+        opened_so_far = e.core.opened;
+        inserts = e.inserts;
+        moment = 0;
+      };
+    } };
+
+    ghost invariant = { λ e. AreApart e.sessions.items };
+}
+
+impl Engine {
+    ghost use Rattle.odb_script.specs.Script.{at_ending, close_named, close_session, dry_all, fresh_script, hand_each, hand_on, open_named, open_session, perform, piece, shut, shut_with, submit_as};
+    ghost use Rattle.odb_script.specs.Represented.Command.{command_in};
+    ghost use Rattle.odb_script.specs.Represented.Steps.{Does};
+
+    /// A server of the schema with empty tables and no session.
+    pub(crate) fn new(
+        alloc: Global,
+        schema: Schema,
+        hashing: RandomState,
+    ) -> Result<Engine, AllocError>
+        ensures { IfOk result (λ engine. engine ≡ record { schema = schema; script = fresh_script schema }) }
+    {
+        match Core::new(alloc, schema, hashing) {
+            Ok(core) => Ok(Engine {
+                alloc,
+                core,
+                sessions: Vec::new(alloc),
+                inserts: 0,
+            }),
+            Err((_, _, refused)) => Err(refused),
+        }
+    }
+
+    /// Carries a command out, and answers what is printed. After an error, which says that memory was
+    /// refused, the engine is of no further use.
+    pub(crate) fn perform(&mut self, command: Command<'_>) -> Result<Vec<u8>, AllocError>
+        ensures text { IfOk result (λ text. perform (served_by self.old.schema) (command_in command.entry) self.old.script
+            ≡ (self.new.script, text.items)) }
+        ensures schema { IfOk result (λ text. self.new.schema ≡ self.old.schema) }
+    {
+        let mut text = Vec::new(self.alloc);
+        match command {
+            Command::Piece { name, bytes } => self.take_in(name, bytes, &mut text)?,
+            Command::Open(name) => self.open(name, &mut text)?,
+            Command::Close(name) => self.close(name, &mut text)?,
+        }
+        Ok(text)
+    }
+
+    fn take_all_dry(&mut self, text: &mut Vec<u8>) -> Result<(), AllocError>
+        ensures done { OnOk result (dry_all (served_by self.old.schema) (self.old.script, text.old.items) ≡ (self.new.script, text.new.items)) }
+        ensures schema { OnOk result (self.new.schema ≡ self.old.schema) }
+    {
+        take_all_dry(&mut self.core, self.sessions.as_slice(), text)
+    }
+
+    fn open(&mut self, name: &[u8], text: &mut Vec<u8>) -> Result<(), AllocError>
+        ensures done { OnOk result (Does (perform (served_by self.old.schema) (open_session name.now)) self.old.script text.old.items self.new.script text.new.items) }
+        ensures schema { OnOk result (self.new.schema ≡ self.old.schema) }
+    {
+        self.open_named(name, text)?;
+        self.take_all_dry(text)
+    }
+
+    fn open_named(&mut self, name: &[u8], text: &mut Vec<u8>) -> Result<(), AllocError>
+        ensures done { OnOk result (Does (open_named (served_by self.old.schema) name.now) self.old.script text.old.items self.new.script text.new.items) }
+        ensures schema { OnOk result (self.new.schema ≡ self.old.schema) }
+    {
+        if place_of(name, self.sessions.as_slice()).is_some() {
+            return print_line(text, name, "!open");
+        }
+        match self.core.open() {
+            Ok(session) => {
+                let name = Vec::from_slice(self.alloc, name)?;
+                let framer = Framer::new(self.alloc);
+                self.sessions.push(Named {
+                    name,
+                    session,
+                    framer,
+                })?;
+                Ok(())
+            }
+            Err(Refused::TooMany) => print_line(text, name, "!toomany"),
+            Err(_) => Err(AllocError),
+        }
+    }
+
+    fn close(&mut self, name: &[u8], text: &mut Vec<u8>) -> Result<(), AllocError>
+        ensures done { OnOk result (Does (perform (served_by self.old.schema) (close_session name.now)) self.old.script text.old.items self.new.script text.new.items) }
+        ensures schema { OnOk result (self.new.schema ≡ self.old.schema) }
+    {
+        self.close_named(name, text)?;
+        self.take_all_dry(text)
+    }
+
+    fn close_named(&mut self, name: &[u8], text: &mut Vec<u8>) -> Result<(), AllocError>
+        ensures done { OnOk result (Does (close_named (served_by self.old.schema) name.now) self.old.script text.old.items self.new.script text.new.items) }
+        ensures schema { OnOk result (self.new.schema ≡ self.old.schema) }
+    {
+        let Some(place) = place_of(name, self.sessions.as_slice()) else {
+            return print_line(text, name, "!gone");
+        };
+        let session = self.sessions[place].session;
+        self.shut(name, session)
+    }
+
+    /// Ends the session of this name and number.
+    fn shut(&mut self, name: &[u8], session: SessionId) -> Result<(), AllocError>
+        ensures done { OnOk result (self.new.script ≡ shut (served_by self.old.schema) name.now session self.old.script) }
+        ensures schema { OnOk result (self.new.schema ≡ self.old.schema) }
+    {
+        close_if_open(&mut self.core, session)?;
+        self.sessions.retain(|named| named.name.as_slice() != name);
+        Ok(())
+    }
+
+    fn take_in(&mut self, name: &[u8], bytes: &[u8], text: &mut Vec<u8>) -> Result<(), AllocError>
+        ensures done { OnOk result (Does (perform (served_by self.old.schema) (piece name.now bytes.now)) self.old.script text.old.items self.new.script text.new.items) }
+        ensures schema { OnOk result (self.new.schema ≡ self.old.schema) }
+    {
+        let Some(place) = place_of(name, self.sessions.as_slice()) else {
+            return print_line(text, name, "!gone");
+        };
+        let session = self.sessions[place].session;
+        let fed = self.sessions[place].feed(self.alloc, bytes)?;
+        self.hand_each(name, session, fed.messages, text)?;
+        self.end(name, session, fed.fault, text)
+    }
+
+    /// A stream that is at a fault ends its session.
+    fn end(
+        &mut self,
+        name: &[u8],
+        session: SessionId,
+        fault: Option<WireFault>,
+        text: &mut Vec<u8>,
+    ) -> Result<(), AllocError>
+        ensures done { OnOk result ((e : Ending) → fault_of e ≡ fault
+            → at_ending (served_by self.old.schema) name.now session e (self.old.script, text.old.items) ≡ (self.new.script, text.new.items)) }
+        ensures schema { OnOk result (self.new.schema ≡ self.old.schema) }
+    {
+        match fault {
+            None => Ok(()),
+            Some(WireFault::TooLong) => self.shut_with(name, session, "!fault 2", text),
+            Some(WireFault::BadStream) => self.shut_with(name, session, "!fault 3", text),
+            Some(WireFault::Memory) => Err(AllocError),
+        }
+    }
+
+    fn shut_with(
+        &mut self,
+        name: &[u8],
+        session: SessionId,
+        line: &str,
+        text: &mut Vec<u8>,
+    ) -> Result<(), AllocError>
+        ensures done { OnOk result (shut_with (served_by self.old.schema) name.now session line.now (self.old.script, text.old.items) ≡ (self.new.script, text.new.items)) }
+        ensures schema { OnOk result (self.new.schema ≡ self.old.schema) }
+    {
+        self.shut(name, session)?;
+        print_line(text, name, line)?;
+        self.take_all_dry(text)
+    }
+
+    fn hand_each(
+        &mut self,
+        name: &[u8],
+        session: SessionId,
+        messages: Vec<Message>,
+        text: &mut Vec<u8>,
+    ) -> Result<(), AllocError>
+        requires { All IsOfItsKind messages.items }
+        ensures done { OnOk result (Does (hand_each (served_by self.old.schema) name.now session (map message_data messages.items)) self.old.script text.old.items self.new.script text.new.items) }
+        ensures schema { OnOk result (self.new.schema ≡ self.old.schema) }
+    {
+        for message in messages {
+            self.hand(name, session, message, text)?;
+        }
+        Ok(())
+    }
+
+    /// A message goes in, and all sessions are taken dry.
+    fn hand(
+        &mut self,
+        name: &[u8],
+        session: SessionId,
+        message: Message,
+        text: &mut Vec<u8>,
+    ) -> Result<(), AllocError>
+        requires { IsOfItsKind message }
+        ensures done { OnOk result (Does (λ p. dry_all (served_by self.old.schema) (hand_on (served_by self.old.schema) name.now session (message_data message) p)) self.old.script text.old.items self.new.script text.new.items) }
+        ensures schema { OnOk result (self.new.schema ≡ self.old.schema) }
+    {
+        self.hand_on(name, session, message, text)?;
+        self.take_all_dry(text)
+    }
+
+    /// A request or a notification goes in, or is refused; a response does nothing.
+    fn hand_on(
+        &mut self,
+        name: &[u8],
+        session: SessionId,
+        message: Message,
+        text: &mut Vec<u8>,
+    ) -> Result<(), AllocError>
+        requires { IsOfItsKind message }
+        ensures done { OnOk result (Does (hand_on (served_by self.old.schema) name.now session (message_data message)) self.old.script text.old.items self.new.script text.new.items) }
+        ensures schema { OnOk result (self.new.schema ≡ self.old.schema) }
+    {
+        match message {
+            Message::Request(request) => self.submit(name, session, request, text),
+            Message::Notification(request) => self.submit(name, session, request, text),
+            Message::Response(response) => {
+                drop(response);
+                Ok(())
+            }
+        }
+    }
+
+    /// A request or a notification goes in, with an identifier for each of its inserts, or is
+    /// refused.
+    fn submit(
+        &mut self,
+        name: &[u8],
+        session: SessionId,
+        request: Request,
+        text: &mut Vec<u8>,
+    ) -> Result<(), AllocError>
+        ensures done { OnOk result (Does (submit_as (served_by self.old.schema) name.now session (request_data request)) self.old.script text.old.items self.new.script text.new.items) }
+        ensures schema { OnOk result (self.new.schema ≡ self.old.schema) }
+    {
+        let fresh = fresh_uuids(self.alloc, self.inserts, request.inserts())?;
+        let counted = self.inserts.checked_add(request.inserts() as u64);
+        self.inserts = counted.ok_or(AllocError)?;
+        match self.core.submit(session, request, fresh.as_slice(), 0) {
+            Ok(()) => Ok(()),
+            Err((_, Refused::Busy)) => print_line(text, name, "!busy"),
+            Err((_, Refused::Gone)) => print_line(text, name, "!gone"),
+            Err(_) => Err(AllocError),
+        }
+    }
+}
+
+/// Closes a session, where it is open.
+fn close_if_open(core: &mut Core, session: SessionId) -> Result<(), AllocError>
+    ensures world { OnOk result ((p : Script) → p.world ≡ core.old.world
+        → in_world (served_by core.old.schema) (world_after (served_by core.old.schema) (closed session) p) p ≡ record p { world = core.new.world }) }
+    ensures schema { OnOk result (core.new.schema ≡ core.old.schema) }
+    ensures opened { OnOk result (core.new.opened ≡ core.old.opened) }
+{
+    match core.close(session) {
+        Ok(()) => Ok(()),
+        Err(Refused::Gone) => Ok(()),
+        Err(_) => Err(AllocError),
+    }
+}
+
+/// Where the session of a name stands.
+fn place_of(name: &[u8], sessions: &[Named]) -> Option<usize>
+    ensures { result ≡ position (λ x. bytes_eq x.name name.now) sessions.now }
+{
+    sessions
+        .iter()
+        .position(|named| named.name.as_slice() == name)
+}

@@ -1,0 +1,94 @@
+//! The sessions of a script by their names.
+ghost use Rattle.std.specs.Prelude.{◌≡◌, ◌++◌, All, IfOk, OnOk, drop, length, map};
+ghost use Rattle.odb_script.specs.Script.{with_bytes};
+ghost use Rattle.odb_wire.specs.Feeding.{fault_of};
+ghost use Rattle.odb_wire.specs.Shown.{message_data, IsOfItsKind};
+ghost use Rattle.odb_wire.specs.Stream.{messages};
+
+use odb_core::SessionId;
+use odb_wire::{Framer, Message, WireFault};
+use std::alloc::{AllocError, Global};
+use std::marker::Model;
+
+/// An open session: its name, its number, and its framer.
+#[derive(Drop)]
+pub(crate) struct Named {
+    pub(crate) name: Vec<u8>,
+    pub(crate) session: SessionId,
+    pub(crate) framer: Framer,
+}
+
+impl Model for Named {
+    ghost use Rattle.std.specs.Prelude.{false, length};
+    ghost use Rattle.odb_script.specs.Running.{named_code};
+    ghost use Rattle.odb_script.specs.Script as model;
+    ghost use Rattle.odb_wire.specs.Stream.{messages};
+
+    ghost Value = { model.Named };
+
+    ghost coded = { named_code };
+
+    ghost view = { λ n. record {
+      name = n.name.items;
+      session = n.session;
+      bytes = n.framer;
+      handed = length (messages n.framer).0;
+      held = false;
+    } };
+}
+
+/// What bytes bring: the messages that are whole with them, and the fault that the stream stands at behind those.
+#[derive(Drop)]
+pub(crate) struct Fed {
+    pub(crate) messages: Vec<Message>,
+    pub(crate) fault: Option<WireFault>,
+}
+
+impl Named {
+    /// Takes the next bytes of the session's stream in.
+    pub(crate) fn feed(&mut self, alloc: Global, bytes: &[u8]) -> Result<Fed, AllocError>
+        ensures session { IfOk result (λ fed. self.new ≡ with_bytes bytes.now self.old) }
+        ensures messages { IfOk result (λ fed. map message_data fed.messages.items
+            ≡ drop self.old.handed (messages self.new.bytes).0) }
+        ensures kinds { IfOk result (λ fed. All IsOfItsKind fed.messages.items) }
+        ensures fault { IfOk result (λ fed. fault_of (messages self.new.bytes).1 ≡ fed.fault) }
+        ensures name { self.new.name ≡ self.old.name }
+        ensures number { self.new.session ≡ self.old.session }
+    {
+        let messages = new_messages(alloc, &mut self.framer, bytes)?;
+        let fault = fault_behind(&mut self.framer)?;
+        Ok(Fed { messages, fault })
+    }
+}
+
+/// The messages that are whole with the next bytes of a stream.
+fn new_messages(
+    alloc: Global,
+    framer: &mut Framer,
+    bytes: &[u8],
+) -> Result<Vec<Message>, AllocError>
+    ensures bytes { OnOk result (framer.new ≡ framer.old ++ bytes.now) }
+    ensures messages { IfOk result (λ found. map message_data found.items
+        ≡ drop (length (messages framer.old).0) (messages framer.new).0) }
+    ensures kinds { IfOk result (λ found. All IsOfItsKind found.items) }
+{
+    match framer.feed(bytes) {
+        Ok(messages) => Ok(messages),
+        Err(WireFault::Memory) => Err(AllocError),
+        // The stream is at a fault, and no further message is whole.
+        Err(_) => Ok(Vec::new(alloc)),
+    }
+}
+
+/// The fault that a stream stands at behind its messages, if it stands at one.
+fn fault_behind(framer: &mut Framer) -> Result<Option<WireFault>, AllocError>
+    ensures bytes { OnOk result (framer.new ≡ framer.old) }
+    ensures fault { IfOk result (λ fault. fault_of (messages framer.old).1 ≡ fault) }
+{
+    // A fault behind messages is answered by the call that comes next.
+    match framer.feed(&[]) {
+        Ok(_) => Ok(None),
+        Err(WireFault::Memory) => Err(AllocError),
+        Err(fault) => Ok(Some(fault)),
+    }
+}

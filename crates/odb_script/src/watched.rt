@@ -1,0 +1,98 @@
+//! Readers and writers that keep whether a call of theirs failed.
+ghost use Rattle.std.specs.Prelude.{◌≡◌, Bool, true, false, ◌||◌, List, length, IfSome, IfOk, ◌==◌, ◌&&◌, not, is_err, OnOk};
+ghost use Rattle.std.specs.Io.{ReadsAtMost, WritesAtMost, StartsWith};
+ghost use Rattle.std.specs.Io.KnownBytes.{Appends, Keeps, ReadConsumes, WriteAppends};
+ghost use Rattle.odb_script.specs.Represented.Watched.{has_failed, took_none, watched};
+ghost use Rattle.odb_script.specs.Represented.Run.{AppendsFront};
+
+use std::io::{Error, ErrorKind, Read, Result, Write};
+
+/// A reader or a writer, and whether a call of it failed. A script tells by it a failed read or write from refused
+/// memory, which the calls of std that read and write whole lines answer as the same kind of error.
+#[derive(Drop)]
+pub struct Watched<T> {
+    inner: T,
+    has_failed: bool,
+}
+
+impl<T> Watched<T> {
+    /// Watches a reader or a writer from here on.
+    pub fn new(inner: T) -> Watched<T>
+        ensures inner { watched result ≡ inner }
+        ensures failed { has_failed result ≡ false }
+    {
+        Watched {
+            inner,
+            has_failed: false,
+        }
+    }
+
+    /// Whether a call failed since: one that answered an error, or a write that took none of some bytes.
+    pub fn failed(&self) -> bool
+        ensures { result ≡ has_failed self.now }
+    {
+        self.has_failed
+    }
+}
+
+impl<R: Read> Read for Watched<R> {
+    ghost remaining = { λ w. R.remaining (watched w) };
+
+    fn read(&mut self, buf: &mut [u8]) -> Result<usize>
+        ensures bound { ReadsAtMost result buf.new }
+        ensures bytes { ReadConsumes (R.remaining (watched self.old)) (R.remaining (watched self.new)) result buf.new }
+        ensures failed { has_failed self.new ≡ (has_failed self.old || is_err result) }
+    {
+        let result = self.inner.read(buf);
+        self.has_failed = self.has_failed || result.is_err();
+        result
+    }
+}
+
+impl<W: Write> Write for Watched<W> {
+    ghost contents = { λ w. W.contents (watched w) };
+
+    fn write(&mut self, buf: &[u8]) -> Result<usize>
+        ensures bound { WritesAtMost result buf.now }
+        ensures bytes { WriteAppends (W.contents (watched self.old)) (W.contents (watched self.new)) result buf.now }
+        ensures failed { has_failed self.new ≡ (has_failed self.old || took_none result buf.now) }
+    {
+        let result = self.inner.write(buf);
+        let took = match &result {
+            Ok(taken) => *taken > 0 || buf.is_empty(),
+            Err(_) => false,
+        };
+        self.has_failed = self.has_failed || !took;
+        result
+    }
+
+    /// Writes all of it, in as many calls as it takes. After an error a beginning of it is written.
+    fn write_all(&mut self, buf: &[u8]) -> Result<()>
+        ensures bytes { OnOk result (Appends (W.contents (watched self.old)) (W.contents (watched self.new)) buf.now) }
+        ensures front { AppendsFront (W.contents (watched self.old)) (W.contents (watched self.new)) buf.now }
+    {
+        let mut rest = buf;
+        for _ in 0..u64::MAX {
+            if rest.is_empty() {
+                return Ok(());
+            }
+            match self.write(rest) {
+                Ok(0) => return Err(Error::from(ErrorKind::WriteZero)),
+                Ok(taken) => rest = &rest[taken..],
+                Err(error) => if error.kind() != ErrorKind::Interrupted {
+                    return Err(error);
+                },
+            }
+        }
+        Err(Error::from(ErrorKind::TimedOut))
+    }
+
+    fn flush(&mut self) -> Result<()>
+        ensures bytes { Keeps (W.contents (watched self.old)) (W.contents (watched self.new)) }
+        ensures failed { has_failed self.new ≡ (has_failed self.old || is_err result) }
+    {
+        let result = self.inner.flush();
+        self.has_failed = self.has_failed || result.is_err();
+        result
+    }
+}
