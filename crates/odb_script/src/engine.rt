@@ -52,9 +52,11 @@ impl Model for Engine {
 }
 
 impl Engine {
-    ghost use Rattle.odb_script.specs.Script.{at_ending, close_named, close_session, dry_all, fresh_script, hand_each, hand_on, open_named, open_session, perform, piece, shut, shut_with, submit_as};
+    ghost use Rattle.odb_script.specs.Script.{at_ending, close_named, close_session, dry_all};
+    ghost use Rattle.odb_script.specs.Script.{fresh_script, hand_each, hand_on, open_named};
+    ghost use Rattle.odb_script.specs.Script.{open_session, perform, piece, shut, shut_with, submit_as};
     ghost use Rattle.odb_script.specs.Represented.Command.{command_in};
-    ghost use Rattle.odb_script.specs.Represented.Steps.{Does};
+    ghost use Rattle.odb_script.specs.Represented.Steps.{Performs};
 
     /// A server of the schema with empty tables and no session.
     pub(crate) fn new(
@@ -62,7 +64,8 @@ impl Engine {
         schema: Schema,
         hashing: RandomState,
     ) -> Result<Engine, AllocError>
-        ensures { IfOk result (λ engine. engine ≡ record { schema = schema; script = fresh_script schema }) }
+        ensures { IfOk result (λ engine. engine
+            ≡ record { schema = schema; script = fresh_script schema }) }
     {
         match Core::new(alloc, schema, hashing) {
             Ok(core) => Ok(Engine {
@@ -78,7 +81,8 @@ impl Engine {
     /// Carries a command out, and answers what is printed. After an error, which says that memory was
     /// refused, the engine is of no further use.
     pub(crate) fn perform(&mut self, command: Command<'_>) -> Result<Vec<u8>, AllocError>
-        ensures text { IfOk result (λ text. perform (served_by self.old.schema) (command_in command.entry) self.old.script
+        ensures text { IfOk result (λ text.
+            perform (served_by self.old.schema) (command_in command.entry) self.old.script
             ≡ (self.new.script, text.items)) }
         ensures schema { IfOk result (λ text. self.new.schema ≡ self.old.schema) }
     {
@@ -92,14 +96,16 @@ impl Engine {
     }
 
     fn take_all_dry(&mut self, text: &mut Vec<u8>) -> Result<(), AllocError>
-        ensures done { OnOk result (dry_all (served_by self.old.schema) (self.old.script, text.old.items) ≡ (self.new.script, text.new.items)) }
+        ensures done { OnOk result (dry_all (served_by self.old.schema) (self.old.script, text.old.items)
+            ≡ (self.new.script, text.new.items)) }
         ensures schema { OnOk result (self.new.schema ≡ self.old.schema) }
     {
         take_all_dry(&mut self.core, self.sessions.as_slice(), text)
     }
 
     fn open(&mut self, name: &[u8], text: &mut Vec<u8>) -> Result<(), AllocError>
-        ensures done { OnOk result (Does (perform (served_by self.old.schema) (open_session name.now)) self.old.script text.old.items self.new.script text.new.items) }
+        ensures done { OnOk result (Performs (λ h. perform h (open_session name.now))
+            self.old text.old.items self.new text.new.items) }
         ensures schema { OnOk result (self.new.schema ≡ self.old.schema) }
     {
         self.open_named(name, text)?;
@@ -107,7 +113,8 @@ impl Engine {
     }
 
     fn open_named(&mut self, name: &[u8], text: &mut Vec<u8>) -> Result<(), AllocError>
-        ensures done { OnOk result (Does (open_named (served_by self.old.schema) name.now) self.old.script text.old.items self.new.script text.new.items) }
+        ensures done { OnOk result (Performs (λ h. open_named h name.now)
+            self.old text.old.items self.new text.new.items) }
         ensures schema { OnOk result (self.new.schema ≡ self.old.schema) }
     {
         if place_of(name, self.sessions.as_slice()).is_some() {
@@ -130,7 +137,8 @@ impl Engine {
     }
 
     fn close(&mut self, name: &[u8], text: &mut Vec<u8>) -> Result<(), AllocError>
-        ensures done { OnOk result (Does (perform (served_by self.old.schema) (close_session name.now)) self.old.script text.old.items self.new.script text.new.items) }
+        ensures done { OnOk result (Performs (λ h. perform h (close_session name.now))
+            self.old text.old.items self.new text.new.items) }
         ensures schema { OnOk result (self.new.schema ≡ self.old.schema) }
     {
         self.close_named(name, text)?;
@@ -138,7 +146,8 @@ impl Engine {
     }
 
     fn close_named(&mut self, name: &[u8], text: &mut Vec<u8>) -> Result<(), AllocError>
-        ensures done { OnOk result (Does (close_named (served_by self.old.schema) name.now) self.old.script text.old.items self.new.script text.new.items) }
+        ensures done { OnOk result (Performs (λ h. close_named h name.now)
+            self.old text.old.items self.new text.new.items) }
         ensures schema { OnOk result (self.new.schema ≡ self.old.schema) }
     {
         let Some(place) = place_of(name, self.sessions.as_slice()) else {
@@ -150,7 +159,8 @@ impl Engine {
 
     /// Ends the session of this name and number.
     fn shut(&mut self, name: &[u8], session: SessionId) -> Result<(), AllocError>
-        ensures done { OnOk result (self.new.script ≡ shut (served_by self.old.schema) name.now session self.old.script) }
+        ensures done { OnOk result (self.new.script
+            ≡ shut (served_by self.old.schema) name.now session self.old.script) }
         ensures schema { OnOk result (self.new.schema ≡ self.old.schema) }
     {
         close_if_open(&mut self.core, session)?;
@@ -159,7 +169,8 @@ impl Engine {
     }
 
     fn take_in(&mut self, name: &[u8], bytes: &[u8], text: &mut Vec<u8>) -> Result<(), AllocError>
-        ensures done { OnOk result (Does (perform (served_by self.old.schema) (piece name.now bytes.now)) self.old.script text.old.items self.new.script text.new.items) }
+        ensures done { OnOk result (Performs (λ h. perform h (piece name.now bytes.now))
+            self.old text.old.items self.new text.new.items) }
         ensures schema { OnOk result (self.new.schema ≡ self.old.schema) }
     {
         let Some(place) = place_of(name, self.sessions.as_slice()) else {
@@ -180,7 +191,8 @@ impl Engine {
         text: &mut Vec<u8>,
     ) -> Result<(), AllocError>
         ensures done { OnOk result ((e : Ending) → fault_of e ≡ fault
-            → at_ending (served_by self.old.schema) name.now session e (self.old.script, text.old.items) ≡ (self.new.script, text.new.items)) }
+            → at_ending (served_by self.old.schema) name.now session e (self.old.script, text.old.items)
+            ≡ (self.new.script, text.new.items)) }
         ensures schema { OnOk result (self.new.schema ≡ self.old.schema) }
     {
         match fault {
@@ -198,7 +210,8 @@ impl Engine {
         line: &str,
         text: &mut Vec<u8>,
     ) -> Result<(), AllocError>
-        ensures done { OnOk result (shut_with (served_by self.old.schema) name.now session line.now (self.old.script, text.old.items) ≡ (self.new.script, text.new.items)) }
+        ensures done { OnOk result (shut_with (served_by self.old.schema) name.now session line.now
+            (self.old.script, text.old.items) ≡ (self.new.script, text.new.items)) }
         ensures schema { OnOk result (self.new.schema ≡ self.old.schema) }
     {
         self.shut(name, session)?;
@@ -214,7 +227,8 @@ impl Engine {
         text: &mut Vec<u8>,
     ) -> Result<(), AllocError>
         requires { All IsOfItsKind messages.items }
-        ensures done { OnOk result (Does (hand_each (served_by self.old.schema) name.now session (map message_data messages.items)) self.old.script text.old.items self.new.script text.new.items) }
+        ensures done { OnOk result (Performs (λ h. hand_each h name.now session (map message_data messages.items))
+            self.old text.old.items self.new text.new.items) }
         ensures schema { OnOk result (self.new.schema ≡ self.old.schema) }
     {
         for message in messages {
@@ -232,7 +246,8 @@ impl Engine {
         text: &mut Vec<u8>,
     ) -> Result<(), AllocError>
         requires { IsOfItsKind message }
-        ensures done { OnOk result (Does (λ p. dry_all (served_by self.old.schema) (hand_on (served_by self.old.schema) name.now session (message_data message) p)) self.old.script text.old.items self.new.script text.new.items) }
+        ensures done { OnOk result (Performs (λ h p. dry_all h (hand_on h name.now session (message_data message) p))
+            self.old text.old.items self.new text.new.items) }
         ensures schema { OnOk result (self.new.schema ≡ self.old.schema) }
     {
         self.hand_on(name, session, message, text)?;
@@ -248,7 +263,8 @@ impl Engine {
         text: &mut Vec<u8>,
     ) -> Result<(), AllocError>
         requires { IsOfItsKind message }
-        ensures done { OnOk result (Does (hand_on (served_by self.old.schema) name.now session (message_data message)) self.old.script text.old.items self.new.script text.new.items) }
+        ensures done { OnOk result (Performs (λ h. hand_on h name.now session (message_data message))
+            self.old text.old.items self.new text.new.items) }
         ensures schema { OnOk result (self.new.schema ≡ self.old.schema) }
     {
         match message {
@@ -270,7 +286,8 @@ impl Engine {
         request: Request,
         text: &mut Vec<u8>,
     ) -> Result<(), AllocError>
-        ensures done { OnOk result (Does (submit_as (served_by self.old.schema) name.now session (request_data request)) self.old.script text.old.items self.new.script text.new.items) }
+        ensures done { OnOk result (Performs (λ h. submit_as h name.now session (request_data request))
+            self.old text.old.items self.new text.new.items) }
         ensures schema { OnOk result (self.new.schema ≡ self.old.schema) }
     {
         let fresh = fresh_uuids(self.alloc, self.inserts, request.inserts())?;
@@ -288,7 +305,8 @@ impl Engine {
 /// Closes a session, where it is open.
 fn close_if_open(core: &mut Core, session: SessionId) -> Result<(), AllocError>
     ensures world { OnOk result ((p : Script) → p.world ≡ core.old.world
-        → in_world (served_by core.old.schema) (world_after (served_by core.old.schema) (closed session) p) p ≡ record p { world = core.new.world }) }
+        → in_world (served_by core.old.schema) (world_after (served_by core.old.schema) (closed session) p) p
+        ≡ record p { world = core.new.world }) }
     ensures schema { OnOk result (core.new.schema ≡ core.old.schema) }
     ensures opened { OnOk result (core.new.opened ≡ core.old.opened) }
 {
