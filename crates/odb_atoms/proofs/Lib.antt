@@ -9,6 +9,7 @@ pub mod Merges
 pub mod Represented
 pub mod Rising
 pub mod Sorts
+pub mod TextMaps
 pub mod Types
 pub mod Uuids
 pub mod Values

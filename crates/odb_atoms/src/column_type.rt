@@ -138,6 +138,21 @@ impl Reference {
 }
 
 impl Base {
+    /// The kind without constraints. O(1), without memory.
+    pub fn plain(kind: Kind) -> Base
+        ensures { base_of result ≡ model.plain (kind_in kind) }
+    {
+        Base {
+            kind,
+            allowed: None,
+            min_integer: None,
+            max_integer: None,
+            min_length: None,
+            max_length: None,
+            reference: None,
+        }
+    }
+
     /// Whether the atom meets the constraints, its kind aside. O(log e) comparisons for an `enum`
     /// of e atoms, and O(the bytes) of a string.
     pub fn meets(&self, atom: &Atom) -> bool
@@ -211,12 +226,33 @@ fn is_within(min: Option<i64>, max: Option<i64>, number: i128) -> bool
 }
 
 impl ColType {
+    /// The scalar of the kind without constraints (RFC 7047, section 3.2, `<type>`): the type of
+    /// `_uuid` and `_version`, for one. O(1), without memory.
+    pub fn scalar(kind: Kind) -> ColType
+        ensures { type_of result ≡ model.scalar (kind_in kind) }
+    {
+        ColType {
+            key: Base::plain(kind),
+            value: None,
+            min: 1,
+            max: Some(1),
+        }
+    }
+
     /// Whether `max` is 1, so that a difference is the new value itself (ovsdb-server(7), update2).
     /// O(1).
     pub fn is_single(&self) -> bool
         ensures { result ≡ model.is_single (type_of self.now) }
     {
         self.max == Some(1)
+    }
+
+    /// Whether it is a scalar (RFC 7047, section 3.2, `<type>`): neither a set nor a map, but of
+    /// exactly one element. O(1).
+    pub fn is_scalar(&self) -> bool
+        ensures { result ≡ model.is_scalar (type_of self.now) }
+    {
+        self.is_single() && self.min == 1 && self.value.is_none()
     }
 
     /// An equal type. O(the bytes copied); an error says that there was no memory.

@@ -4,8 +4,8 @@ ghost use Rattle.std.specs.Prelude.{◌≡◌, false, IfOk};
 ghost use Rattle.odb_atoms.specs.Value.{is_map};
 
 use crate::{
-    Admit, Atom, Base, ColType, Entries, Enumeration, Kind, ListFault, Reference, Row, Value,
-    default_of, difference,
+    Admit, Atom, Base, ColType, Entries, Enumeration, Error, Kind, ListFault, Reference, Row,
+    Value, default_of, difference,
 };
 use std::alloc::{AllocError, Global};
 use std::cmp::Ordering;
@@ -33,18 +33,6 @@ fn counts(alloc: Global, pairs: &[(&str, i64)]) -> Result<Value, Fail> {
         entries.push((text(alloc, key)?, Atom::Integer(*count)))?;
     }
     Ok(Value::map(entries)?)
-}
-
-fn plain(kind: Kind) -> Base {
-    Base {
-        kind,
-        allowed: None,
-        min_integer: None,
-        max_integer: None,
-        min_length: None,
-        max_length: None,
-        reference: None,
-    }
 }
 
 fn set_of(key: Base, min: u32, max: Option<u32>) -> ColType {
@@ -181,7 +169,7 @@ fn assert_admits(rt: &impl Abort, column: &ColType, value: &Value, want: Result<
 #[test]
 fn types_admit_by_kind_number_and_constraints(rt: HostRuntime) -> Result<(), Fail> {
     let alloc = rt.alloc();
-    let mut small = plain(Kind::Integer);
+    let mut small = Base::plain(Kind::Integer);
     small.max_integer = Some(5);
     let few = set_of(small, 1, Some(2));
     assert_admits(&rt, &few, &integers(alloc, &[4, 5])?, Ok(()));
@@ -205,7 +193,7 @@ fn types_admit_by_kind_number_and_constraints(rt: HostRuntime) -> Result<(), Fai
 #[test]
 fn lengths_count_characters(rt: HostRuntime) -> Result<(), Fail> {
     let alloc = rt.alloc();
-    let mut short = plain(Kind::Text);
+    let mut short = Base::plain(Kind::Text);
     short.max_length = Some(2);
     let label = set_of(short, 1, Some(1));
     assert_admits(&rt, &label, &Value::one(text(alloc, "é€")?), Ok(()));
@@ -221,9 +209,9 @@ fn lengths_count_characters(rt: HostRuntime) -> Result<(), Fail> {
 #[test]
 fn enumerations_admit_what_they_list(rt: HostRuntime) -> Result<(), Fail> {
     let alloc = rt.alloc();
-    let mut odd = plain(Kind::Integer);
+    let mut odd = Base::plain(Kind::Integer);
     odd.allowed = Some(Enumeration::new(integers(alloc, &[1, 3])?));
-    let column = map_of(plain(Kind::Text), odd, 0).try_copy(alloc)?;
+    let column = map_of(Base::plain(Kind::Text), odd, 0).try_copy(alloc)?;
     assert_admits(&rt, &column, &counts(alloc, &[("a", 3)])?, Ok(()));
     assert_admits(
         &rt,
@@ -237,12 +225,12 @@ fn enumerations_admit_what_they_list(rt: HostRuntime) -> Result<(), Fail> {
 #[test]
 fn defaults_are_empty_or_zero(rt: HostRuntime) -> Result<(), Fail> {
     let alloc = rt.alloc();
-    let scalar = set_of(plain(Kind::Uuid), 1, Some(1));
+    let scalar = set_of(Base::plain(Kind::Uuid), 1, Some(1));
     let zero = Value::one(Atom::Uuid(Uuid::from_u128(0)));
     assert_eq!(rt; default_of(alloc, &scalar)?, zero);
-    let optional = set_of(plain(Kind::Uuid), 0, Some(1));
+    let optional = set_of(Base::plain(Kind::Uuid), 0, Some(1));
     assert_eq!(rt; default_of(alloc, &optional)?, Value::empty_set(alloc));
-    let one = map_of(plain(Kind::Text), plain(Kind::Integer), 1);
+    let one = map_of(Base::plain(Kind::Text), Base::plain(Kind::Integer), 1);
     assert_eq!(rt; default_of(alloc, &one)?, counts(alloc, &[("", 0)])?);
     Ok(())
 }
@@ -264,7 +252,7 @@ fn assert_leads(
 #[test]
 fn sets_differ_by_what_one_has(rt: HostRuntime) -> Result<(), Fail> {
     let alloc = rt.alloc();
-    let many = set_of(plain(Kind::Integer), 0, None);
+    let many = set_of(Base::plain(Kind::Integer), 0, None);
     let (old, new) = (integers(alloc, &[1, 2, 3])?, integers(alloc, &[2, 3, 4])?);
     assert_leads(&rt, alloc, &many, (&old, &new), &integers(alloc, &[1, 4])?)
 }
@@ -272,7 +260,7 @@ fn sets_differ_by_what_one_has(rt: HostRuntime) -> Result<(), Fail> {
 #[test]
 fn maps_differ_by_pairs(rt: HostRuntime) -> Result<(), Fail> {
     let alloc = rt.alloc();
-    let many = map_of(plain(Kind::Text), plain(Kind::Integer), 0);
+    let many = map_of(Base::plain(Kind::Text), Base::plain(Kind::Integer), 0);
     let old = counts(alloc, &[("a", 1), ("b", 2)])?;
     let new = counts(alloc, &[("b", 3), ("c", 4)])?;
     let want = counts(alloc, &[("a", 1), ("b", 3), ("c", 4)])?;
@@ -282,7 +270,7 @@ fn maps_differ_by_pairs(rt: HostRuntime) -> Result<(), Fail> {
 #[test]
 fn an_optional_value_differs_by_the_new_one(rt: HostRuntime) -> Result<(), Fail> {
     let alloc = rt.alloc();
-    let optional = set_of(plain(Kind::Integer), 0, Some(1));
+    let optional = set_of(Base::plain(Kind::Integer), 0, Some(1));
     let (old, new) = (integers(alloc, &[5])?, Value::empty_set(alloc));
     assert_leads(
         &rt,
@@ -294,9 +282,22 @@ fn an_optional_value_differs_by_the_new_one(rt: HostRuntime) -> Result<(), Fail>
 }
 
 #[test]
+fn scalars_have_exactly_one_element(rt: HostRuntime) {
+    assert!(rt; ColType::scalar(Kind::Integer).is_scalar());
+    assert!(rt; !set_of(Base::plain(Kind::Integer), 0, Some(1)).is_scalar());
+    assert!(rt; !set_of(Base::plain(Kind::Integer), 1, Some(2)).is_scalar());
+}
+
+#[test]
+fn errors_have_names(rt: HostRuntime) {
+    assert_eq!(rt; Error::UnknownUuidName.name(), "unknown uuid-name");
+    assert_eq!(rt; Error::ResourcesExhausted.name(), "resources exhausted");
+}
+
+#[test]
 fn base_types_are_copied_whole(rt: HostRuntime) -> Result<(), Fail> {
     let alloc = rt.alloc();
-    let mut base = plain(Kind::Uuid);
+    let mut base = Base::plain(Kind::Uuid);
     base.min_length = Some(-1);
     base.reference = Some(Reference {
         table: String::from_str(alloc, "Bridge")?,

@@ -4,6 +4,7 @@ use Rattle.odb_atoms.specs.Atom.{integers, same_kind}
 use Rattle.odb_atoms.specs.ColType.{ColType, is_scalar}
 use Rattle.odb_atoms.specs.Error.{Error, syntax_error, unknown_column}
 use Rattle.odb_atoms.specs.First.{Ok, Result, demand, ok_or, ◌>>=◌, ◌>>◌}
+use Rattle.odb_atoms.specs.Row.{Selector}
 use Rattle.odb_atoms.specs.Text.{same_text}
 use Rattle.odb_cond.specs.Condition.{Clause, Function, equal, excludes, greater, greater_or_equal, includes, less, less_or_equal, not_equal}
 use Rattle.odb_json.specs.ColumnValue.{read_by_kind}
@@ -41,17 +42,27 @@ abbrev pub triple : Data → Option (Data × Data × Data)
 triple (array (item a (item b (item c no_items)))) = Some (a, b, c)
 triple d = None
 
-abbrev pub read_word : Data → Result (List ℕ) Error
-read_word d = ok_or (as_str d) syntax_error
+abbrev pub read_text : Data → Result (List ℕ) Error
+read_text d = ok_or (as_str d) syntax_error
+
+abbrev pub read_selector : List Column → Data → Result Selector Error
+read_selector cs d = do
+  name ← read_text d
+  ok_or (selector cs name) unknown_column
+
+-- a function that a column of the type takes
+abbrev pub read_function : ColType → Data → Result Function Error
+read_function t d = do
+  name ← read_text d
+  function ← ok_or (function_named name) syntax_error
+  demand (takes_function t function) syntax_error
+  Ok function
 
 -- three members, then from the front the column, the function and the value
 abbrev pub read_clause : Option Names → List Column → Data → Result Clause Error
 read_clause names cs d = do
   parts ← ok_or (triple d) syntax_error
-  name ← read_word parts.0
-  column ← ok_or (selector cs name) unknown_column
-  word ← read_word parts.1
-  function ← ok_or (function_named word) syntax_error
-  demand (takes_function (selector_type cs column) function) syntax_error
+  column ← read_selector cs parts.0
+  function ← read_function (selector_type cs column) parts.1
   value ← read_by_kind names (selector_type cs column) parts.2
   Ok (record { column = column; function = function; value = value })

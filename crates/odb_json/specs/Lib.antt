@@ -2,3 +2,5 @@ pub mod ColumnValue
 pub mod ConditionNotation
 pub mod MutationNotation
 pub mod Operation
+pub mod Represented
+pub mod Written

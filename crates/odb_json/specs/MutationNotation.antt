@@ -6,8 +6,9 @@ use Rattle.odb_atoms.specs.Error.{Error, constraint_violation, syntax_error, unk
 use Rattle.odb_atoms.specs.First.{Ok, Result, demand, ok_or, ◌>>=◌, ◌>>◌}
 use Rattle.odb_atoms.specs.Row.{place_of}
 use Rattle.odb_atoms.specs.Text.{same_text}
+use Rattle.odb_atoms.specs.Value.{Value}
 use Rattle.odb_json.specs.ColumnValue.{read_by_kind}
-use Rattle.odb_json.specs.ConditionNotation.{read_word, triple}
+use Rattle.odb_json.specs.ConditionNotation.{read_text, triple}
 use Rattle.odb_mutate.specs.Mutation.{Mutation, Mutator, add, delete, divide, insert, multiply, remainder, subtract}
 use Rattle.odb_schema.specs.Json.{Data}
 use Rattle.odb_schema.specs.Notation.{Names, is_map_notation}
@@ -37,11 +38,11 @@ abbrev pub takes_mutator : ColType → Mutator → Bool
 takes_mutator t m = cond (is_arithmetic m) (same_kind t.key.kind integers && not (is_some t.value)) (not (is_scalar t))
 
 -- a set of keys of the map type
-abbrev key_set : ColType → ColType
+abbrev pub key_set : ColType → ColType
 key_set t = record t { value = None; min = 0; max = None }
 
 -- one integer for arithmetic; for `delete` on a map a map, or a set of keys; else a value of the column's kind
-abbrev operand_type : ColType → Mutator → Bool → ColType
+abbrev pub operand_type : ColType → Mutator → Bool → ColType
 operand_type t delete false = key_set t
 operand_type t m is_map = cond (is_arithmetic m) (scalar integers) t
 
@@ -53,14 +54,28 @@ changeable cs name = do
   demand (is_mutable cs i) constraint_violation
   Ok i
 
+abbrev pub read_changeable : List Column → Data → Result ℕ Error
+read_changeable cs d = do
+  name ← read_text d
+  changeable cs name
+
+-- a mutator that a column of the type takes
+abbrev pub read_mutator : ColType → Data → Result Mutator Error
+read_mutator t d = do
+  name ← read_text d
+  mutator ← ok_or (mutator_named name) syntax_error
+  demand (takes_mutator t mutator) syntax_error
+  Ok mutator
+
+-- the value of a mutation by the mutator of a column of the type
+abbrev pub read_operand : Option Names → ColType → Mutator → Data → Result Value Error
+read_operand names t mutator d = read_by_kind names (operand_type t mutator (is_map_notation d)) d
+
 -- three members, then from the front the column, the mutator and the value
 abbrev pub read_mutation : Option Names → List Column → Data → Result Mutation Error
 read_mutation names cs d = do
   parts ← ok_or (triple d) syntax_error
-  name ← read_word parts.0
-  column ← changeable cs name
-  word ← read_word parts.1
-  mutator ← ok_or (mutator_named word) syntax_error
-  demand (takes_mutator (column_type cs column) mutator) syntax_error
-  value ← read_by_kind names (operand_type (column_type cs column) mutator (is_map_notation parts.2)) parts.2
+  column ← read_changeable cs parts.0
+  mutator ← read_mutator (column_type cs column) parts.1
+  value ← read_operand names (column_type cs column) mutator parts.2
   Ok (record { column = column; mutator = mutator; value = value })

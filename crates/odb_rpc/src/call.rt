@@ -12,8 +12,9 @@ ghost use Rattle.odb_rpc.specs.Represented.Call.{call_view, called, name_of, num
 ghost use Rattle.odb_rpc.specs.Represented.Call.{unless};
 ghost use Rattle.odb_rpc.specs.Represented.Printable.{printable_data};
 
-use crate::error::{Error, Failure};
+use crate::error::Failure;
 use crate::printable::Printable;
+use odb_atoms::Error;
 use odb_schema::Schema;
 use odb_wire::Request;
 use serde_json::Value;

@@ -9,6 +9,7 @@ mod tests;
 mod text;
 
 pub use call::{Call, CallFault, has_reply, is_served, reply_id};
-pub use error::{Error, Failure};
+pub use error::Failure;
+pub use odb_atoms::Error;
 pub use printable::Printable;
 pub use text::{array_of_one, failure, notice, reply, reply_printed};

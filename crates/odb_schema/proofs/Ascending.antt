@@ -1,5 +1,5 @@
 -- Columns and tables that are read have the names of their members, so their names ascend.
-use Rattle.std.specs.Prelude.{◌≡◌, ℕ, true, false, T, codes, None, ◌&&◌, List, [], ◌∷◌, map, string_bytes, Result, Ok, Err}
+use Rattle.std.specs.Prelude.{◌≡◌, ℕ, true, false, T, codes, None, List, [], ◌∷◌, map, string_bytes, Result, Ok}
 use Rattle.std.specs.declared.cmp.Ordering.TheVariants.{Less}
 use Rattle.std.specs.Ordering.{is_lt}
 use Rattle.std.specs.List.{AllByRecursion}
@@ -11,56 +11,27 @@ use mathlib.Core.Path.{refl, sym, ap, subst, ◌∙◌}
 use Rattle.serde_json.proofs.Views.{Entry}
 use Rattle.serde_json.specs.View.{members_view}
 use Rattle.odb_atoms.proofs.Rising.{both}
-use Rattle.odb_atoms.specs.First.{demand, each, ◌>>=◌, ◌>>◌}
+use Rattle.odb_atoms.specs.First.{demand, each}
 use Rattle.odb_atoms.specs.Text.{text_cmp}
+use Rattle.odb_schema.proofs.Keys.{bare, keys_beside, sorted_keys}
+use Rattle.odb_schema.proofs.Holds.{Holds, read_so, so_read, tested_holds, then_holds, with_holds}
 use Rattle.odb_schema.specs.Json.{Data, get_member, given_or, if_given, members_list, needed}
 use Rattle.odb_schema.specs.Schema.{Column, TableSchema}
 use Rattle.odb_schema.specs.SchemaText.{SchemaFault, bad_id, is_name, read_between, read_bool, read_column, read_index, read_list, read_object, read_table, read_type, syntax}
 use Rattle.odb_schema.specs.Represented.Names.{Ascends, ColumnsAscend, TablesAscend, named}
 
-abbrev next : {A B : Type 0} → Result A SchemaFault → (A → Result B SchemaFault) → Result B SchemaFault
-next = ◌>>=◌
-
--- what was read has the property
-unfoldable Holds : {A : Type 0} → (A → Type 0) → Result A SchemaFault → Type 0
-Holds P (Ok x) = P x
-Holds P (Err e) = Unit {0}
-
-read_so : {A : Type 0} (P : A → Type 0) (x : A) → P x → Holds P (Ok x)
-unfolding Holds
-read_so P x h = h
-
-so_read : {A : Type 0} (P : A → Type 0) (x : A) → Holds P (Ok x) → P x
-unfolding Holds
-so_read P x h = h
-
-then_holds : {A B : Type 0} (P : B → Type 0) (r : Result A SchemaFault) (f : A → Result B SchemaFault) → ((x : A) → Holds P (f x)) → Holds P (next r f)
-unfolding Holds
-then_holds P (Ok x) f h = h x
-then_holds P (Err e) f h = tt
-
-tested_holds : {A B : Type 0} (P : B → Type 0) (r : Result A SchemaFault) (q : Result B SchemaFault) → Holds P q → Holds P (◌>>◌ r q)
-unfolding Holds
-tested_holds P (Ok x) q h = h
-tested_holds P (Err e) q h = tt
-
-with_holds : {A B : Type 0} (P : A → Type 0) (Q : B → Type 0) (r : Result A SchemaFault) (f : A → Result B SchemaFault) → Holds P r → ((x : A) → P x → Holds Q (f x)) → Holds Q (next r f)
-unfolding Holds
-with_holds P Q (Ok x) f h g = g x h
-with_holds P Q (Err e) f h g = tt
-
-column_named : (tables : List (List ℕ)) (m : List ℕ × Data) → Holds (λ c. c.name ≡ m.0) (read_column tables m)
+pub column_named : (tables : List (List ℕ)) (m : List ℕ × Data) → Holds (λ c. c.name ≡ m.0) (read_column tables m)
 column_named tables m =
     let P : Column → Type 0 = λ c. c.name ≡ m.0 in
     tested_holds P (demand (is_name m.0) bad_id) _ (then_holds P (read_object m.1) _ (λ ms. then_holds P (needed syntax (codes "type") ms) _ (λ t. then_holds P (read_type tables t) _ (λ type. then_holds P (given_or false read_bool (get_member (codes "ephemeral") ms)) _ (λ ephemeral. then_holds P (given_or true read_bool (get_member (codes "mutable") ms)) _ (λ mutable. read_so P (record { name = m.0; type = type; ephemeral = ephemeral; mutable = mutable }) refl))))))
 
-table_named : (tables : List (List ℕ)) (m : List ℕ × Data) → Holds (λ t. t.name ≡ m.0) (read_table tables m)
+pub table_named : (tables : List (List ℕ)) (m : List ℕ × Data) → Holds (λ t. t.name ≡ m.0) (read_table tables m)
 table_named tables m =
     let P : TableSchema → Type 0 = λ t. t.name ≡ m.0 in
     tested_holds P (demand (is_name m.0) bad_id) _ (then_holds P (read_object m.1) _ (λ ms. then_holds P (needed syntax (codes "columns") ms) _ (λ cs. then_holds P (read_object cs) _ (λ columns. then_holds P (each (read_column tables) (members_list columns)) _ (λ cols. then_holds P (if_given (read_between 1 None) (get_member (codes "maxRows") ms)) _ (λ rows. then_holds P (given_or false read_bool (get_member (codes "isRoot") ms)) _ (λ root. then_holds P (given_or [] (read_list (read_index cols)) (get_member (codes "indexes") ms)) _ (λ indexes. read_so P (record { name = m.0; columns = cols; max_rows = rows; is_root = root; indexes = indexes }) refl))))))))
 
 module _ {A : Type 0} (name : A → List ℕ) (f : List ℕ × Data → Result A SchemaFault) (has : (m : List ℕ × Data) → Holds (λ x. name x ≡ m.0) (f m)) where
-  each_named : (ms : List (List ℕ × Data)) → Holds (λ xs. map name xs ≡ map (λ m. m.0) ms) (each f ms)
+  pub each_named : (ms : List (List ℕ × Data)) → Holds (λ xs. map name xs ≡ map (λ m. m.0) ms) (each f ms)
   each_named [] = read_so (λ xs. map name xs ≡ []) [] refl
   each_named (m ∷ ms) = with_holds (λ x. name x ≡ m.0) _ (f m) _ (has m) (λ x n. with_holds (λ xs. map name xs ≡ map (λ m. m.0) ms) _ (each f ms) _ (each_named ms) (λ xs ns. read_so (λ ys. map name ys ≡ m.0 ∷ map (λ m. m.0) ms) (x ∷ xs) (λ i. n i ∷ ns i)))
 
@@ -68,9 +39,6 @@ module _ {A : Type 0} (name : A → List ℕ) (f : List ℕ × Data → Result A
   names_read ms xs e = so_read (λ xs. map name xs ≡ map (λ m. m.0) ms) xs (subst (Holds (λ xs. map name xs ≡ map (λ m. m.0) ms)) e (each_named ms))
 
 -- ---- names that ascend
-
-abbrev bare : List ℕ → List ℕ × Unit {0}
-bare n = (n, tt)
 
 below-bare : (x : List ℕ) (ns : List (List ℕ)) → AllByRecursion (λ n. text_cmp x n ≡ Less) ns → T (below_all text_cmp x (map bare ns))
 below-bare x [] h = tt
@@ -86,16 +54,8 @@ sorted-keys [] h = tt
 sorted-keys (e ∷ es) h = both _ _ (below-bare (string_bytes e.0) _ (below-keys (string_bytes e.0) es h.0)) (sorted-keys es h.1)
 
 module _ {A : Type 0} (name : A → List ℕ) where
-  below-named : (k : List ℕ) (xs : List A) → below_all text_cmp k (map bare (map name xs)) ≡ below_all text_cmp k (map (named name) xs)
-  below-named k [] = refl
-  below-named k (x ∷ xs) = ap (λ b. is_lt (text_cmp k (name x)) && b) (below-named k xs)
-
-  sorted-named : (xs : List A) → is_sorted text_cmp (map bare (map name xs)) ≡ is_sorted text_cmp (map (named name) xs)
-  sorted-named [] = refl
-  sorted-named (x ∷ xs) = λ i. below-named (name x) xs i && sorted-named xs i
-
   ascends : (xs : List A) (es : List Entry) → map name xs ≡ map (λ m. m.0) (members_list (members_view es)) → IsStrictlySortedBy string_cmp (keys_of es) → Ascends name xs
-  ascends xs es same h = subst T (ap (λ ns. is_sorted text_cmp (map bare ns)) (sym same) ∙ sorted-named xs) (sorted-keys es h)
+  ascends xs es same h = subst T (ap (λ ns. is_sorted text_cmp (map bare ns)) (sym (keys_beside name (λ x. x) xs ∙ same)) ∙ sorted_keys (map (named name) xs)) (sorted-keys es h)
 
 pub columns_ascend : (tables : List (List ℕ)) (es : List Entry) (cs : List Column) → IsStrictlySortedBy string_cmp (keys_of es) → each (read_column tables) (members_list (members_view es)) ≡ Ok cs → ColumnsAscend cs
 columns_ascend tables es cs h e = ascends (λ c. c.name) cs es (names_read (λ c. c.name) (read_column tables) (column_named tables) (members_list (members_view es)) cs e) h

@@ -17,41 +17,40 @@ use Rattle.odb_schema.specs.Json.{Data, items_list, members_list}
 use Rattle.odb_schema.specs.Schema.{Column}
 use Rattle.odb_schema.specs.SchemaText.{SchemaFault, bad_index, distinct_names, is_indexable, read_string}
 
-abbrev next : {A B : Type 0} → Result A SchemaFault → (A → Result B SchemaFault) → Result B SchemaFault
+abbrev next : {A B E : Type 0} → Result A E → (A → Result B E) → Result B E
 next = ◌>>=◌
 
 -- a reading of a rest, behind what was read in front of it
-abbrev pub after : {B : Type 0} → List B → Result (List B) SchemaFault → Result (List B) SchemaFault
+abbrev pub after : {B E : Type 0} → List B → Result (List B) E → Result (List B) E
 after done r = next r (λ ys. Ok (done ++ ys))
 
-pub at_start : {B : Type 0} (r : Result (List B) SchemaFault) → r ≡ after [] r
+pub at_start : {B E : Type 0} (r : Result (List B) E) → r ≡ after [] r
 at_start (Ok ys) = refl
 at_start (Err e) = refl
 
-pub moved : {B : Type 0} (done : List B) (y : B) (r : Result (List B) SchemaFault) → after done (next r (λ ys. Ok (y ∷ ys))) ≡ after (done ++ y ∷ []) r
+pub moved : {B E : Type 0} (done : List B) (y : B) (r : Result (List B) E) → after done (next r (λ ys. Ok (y ∷ ys))) ≡ after (done ++ y ∷ []) r
 moved done y (Ok ys) = ap Ok (sym (append_assoc done (y ∷ []) ys))
 moved done y (Err e) = refl
 
-pub at_end : {B : Type 0} (whole : Result (List B) SchemaFault) (done : List B) → whole ≡ after done (Ok []) → whole ≡ Ok done
+pub at_end : {B E : Type 0} (whole : Result (List B) E) (done : List B) → whole ≡ after done (Ok []) → whole ≡ Ok done
 at_end whole done e = e ∙ ap Ok (append-nil done)
 
-module _ {A B : Type 0} (f : A → Result B SchemaFault) where
+module _ {A B E : Type 0} (f : A → Result B E) where
   -- one more
-  pub each_more : (whole : Result (List B) SchemaFault) (done : List B) (x : A) (xs : List A) (y : B) → whole ≡ after done (each f (x ∷ xs)) → f x ≡ Ok y → whole ≡ after (done ++ y ∷ []) (each f xs)
+  pub each_more : (whole : Result (List B) E) (done : List B) (x : A) (xs : List A) (y : B) → whole ≡ after done (each f (x ∷ xs)) → f x ≡ Ok y → whole ≡ after (done ++ y ∷ []) (each f xs)
   each_more whole done x xs y e is = e ∙ ap (λ r. after done (next r (λ y. next (each f xs) (λ ys. Ok (y ∷ ys))))) is ∙ moved done y (each f xs)
 
   -- one with a fault
-  pub each_fault : (whole : Result (List B) SchemaFault) (done : List B) (x : A) (xs : List A) (g : SchemaFault) → whole ≡ after done (each f (x ∷ xs)) → f x ≡ Err g → whole ≡ Err g
+  pub each_fault : (whole : Result (List B) E) (done : List B) (x : A) (xs : List A) (g : E) → whole ≡ after done (each f (x ∷ xs)) → f x ≡ Err g → whole ≡ Err g
   each_fault whole done x xs g e is = e ∙ ap (λ r. after done (next r (λ y. next (each f xs) (λ ys. Ok (y ∷ ys))))) is
 
--- ---- the names of an index
+-- ---- those in front, the last first
 
--- the names in front, the last first
-abbrev pub turned : List (List ℕ) → List (List ℕ) → List (List ℕ)
+abbrev pub turned : {A : Type 0} → List A → List A → List A
 turned seen [] = seen
 turned seen (x ∷ xs) = turned (x ∷ seen) xs
 
-turned-push : (seen xs : List (List ℕ)) (y : List ℕ) → turned seen (xs ++ y ∷ []) ≡ y ∷ turned seen xs
+pub turned-push : {A : Type 0} (seen xs : List A) (y : A) → turned seen (xs ++ y ∷ []) ≡ y ∷ turned seen xs
 turned-push seen [] y = refl
 turned-push seen (x ∷ xs) y = turned-push (x ∷ seen) xs y
 
@@ -61,7 +60,7 @@ shifted true false c = refl
 shifted false true c = refl
 shifted false false c = refl
 
-any-turned : (p : List ℕ → Bool) (seen xs : List (List ℕ)) → list_any p (turned seen xs) ≡ (list_any p seen || list_any p xs)
+pub any-turned : {A : Type 0} (p : A → Bool) (seen xs : List A) → list_any p (turned seen xs) ≡ (list_any p seen || list_any p xs)
 any-turned p seen [] = or_false (list_any p seen)
   where
     or_false : (b : Bool) → b ≡ (b || false)
@@ -69,7 +68,9 @@ any-turned p seen [] = or_false (list_any p seen)
     or_false false = refl
 any-turned p seen (x ∷ xs) = any-turned p (x ∷ seen) xs ∙ shifted (p x) (list_any p seen) (list_any p xs)
 
-abbrev behind : {A B : Type 0} → Result A SchemaFault → Result B SchemaFault → Result B SchemaFault
+-- ---- the names of an index
+
+abbrev behind : {A B E : Type 0} → Result A E → Result B E → Result B E
 behind = ◌>>◌
 
 abbrev texts : List (String Global) → List (List ℕ)

@@ -21,16 +21,16 @@ use Rattle.odb_atoms.specs.Represented.AtomOrder.{atom_cmp_total}
 use Rattle.odb_atoms.proofs.FinMaps.{entries-insert}
 use Rattle.odb_atoms.proofs.FinSets.{contains-from_list, contains-insert, same_set}
 use Rattle.odb_schema.specs.Json.{Data, Items, as_bool, as_integer, no_items, item}
-use Rattle.odb_schema.specs.Notation.{read_atom, read_elements, read_string, read_uuid}
+use Rattle.odb_schema.specs.Notation.{Names, read_atom, read_elements, read_string, read_uuid}
 use Rattle.odb_schema.specs.SchemaText.{SchemaFault, bad_as, bad_type}
 use Rattle.odb_schema.specs.Represented.Parts.{atom_in, atoms_in, elements_in}
 
 -- none is in s, nor twice among them
-abbrev fresh : Atoms → List Atom → Bool
+abbrev pub fresh : Atoms → List Atom → Bool
 fresh s [] = true
 fresh s (a ∷ list) = not (set.contains s a) && fresh (set.insert s a) list
 
-abbrev put_all : Atoms → List Atom → Atoms
+abbrev pub put_all : Atoms → List Atom → Atoms
 put_all s [] = s
 put_all s (a ∷ list) = put_all (set.insert s a) list
 
@@ -136,23 +136,27 @@ elements_fault k ds f is = read_elements-each k set.empty ds ∙ ap (λ r. next 
 
 -- ---- atoms that are read are of their kind
 
-abbrev OfKind : Kind → Result Atom SchemaFault → Type 0
+abbrev pub OfKind : {E : Type 0} → Kind → Result Atom E → Type 0
 OfKind k (Ok a) = same_kind (kind_of a) k ≡ true
 OfKind k (Err e) = Unit {0}
 
-from_option : {A : Type 0} (k : Kind) (f : A → Atom) (o : Option A) → ((x : A) → same_kind (kind_of (f x)) k ≡ true) → OfKind k (bad_as (ok_or (option_map f o) syntax_error))
+from_option : {A : Type 0} (k : Kind) (f : A → Atom) (o : Option A) → ((x : A) → same_kind (kind_of (f x)) k ≡ true) → OfKind k (ok_or (option_map f o) syntax_error)
 from_option k f None h = tt
 from_option k f (Some x) h = h x
 
-from_result : {A : Type 0} (k : Kind) (f : A → Atom) (r : Result A Error) → ((x : A) → same_kind (kind_of (f x)) k ≡ true) → OfKind k (bad_as (◌>>=◌ r (λ x. Ok (f x))))
+from_result : {A : Type 0} (k : Kind) (f : A → Atom) (r : Result A Error) → ((x : A) → same_kind (kind_of (f x)) k ≡ true) → OfKind k (◌>>=◌ r (λ x. Ok (f x)))
 from_result k f (Err e) h = tt
 from_result k f (Ok x) h = h x
 
-read_of_kind : (k : Kind) (d : Data) → OfKind k (atom_in k d)
-read_of_kind integers d = from_option integers integer (as_integer d) (λ x. refl)
-read_of_kind booleans d = from_option booleans boolean (as_bool d) (λ x. refl)
-read_of_kind strings d = from_result strings text (read_string d) (λ x. refl)
-read_of_kind uuids d = from_result uuids uuid (read_uuid None d) (λ x. refl)
+pub read_of_kind : (names : Option Names) (k : Kind) (d : Data) → OfKind k (read_atom names k d)
+read_of_kind names integers d = from_option integers integer (as_integer d) (λ x. refl)
+read_of_kind names booleans d = from_option booleans boolean (as_bool d) (λ x. refl)
+read_of_kind names strings d = from_result strings text (read_string d) (λ x. refl)
+read_of_kind names uuids d = from_result uuids uuid (read_uuid names d) (λ x. refl)
+
+in_schema : (k : Kind) (r : Result Atom Error) → OfKind k r → OfKind k (bad_as r)
+in_schema k (Ok a) h = h
+in_schema k (Err e) h = tt
 
 abbrev AllOfKind : Kind → Result (List Atom) SchemaFault → Type 0
 AllOfKind k (Ok list) = list_all (λ a. same_kind (kind_of a) k) list ≡ true
@@ -165,7 +169,7 @@ one_of_kind k (Ok a) (Ok list) h g = λ j. h j && g j
 
 all_of_kind : (k : Kind) (ds : Items) → AllOfKind k (atoms_in k ds)
 all_of_kind k no_items = refl
-all_of_kind k (item d ds) = one_of_kind k (atom_in k d) (atoms_in k ds) (read_of_kind k d) (all_of_kind k ds)
+all_of_kind k (item d ds) = one_of_kind k (atom_in k d) (atoms_in k ds) (in_schema k (read_atom None k d) (read_of_kind None k d)) (all_of_kind k ds)
 
 same_kinds : (k l m : Kind) → same_kind k m ≡ true → same_kind l m ≡ true → same_kind l k ≡ true
 same_kinds k l m h g = (unsigned_Decides (rank l) (rank k)).1 ((unsigned_Decides (rank l) (rank m)).0 g ∙ sym ((unsigned_Decides (rank k) (rank m)).0 h))
@@ -174,18 +178,18 @@ with_first : (k : Kind) (a : Atom) (list : List Atom) → same_kind (kind_of a) 
 with_first k a [] h g = refl
 with_first k a (b ∷ list) h g = let p = both _ _ g in λ j. same_kinds (kind_of a) (kind_of b) k h p.0 j && with_first k a list h p.1 j
 
-of_one_kind : (k : Kind) (list : List Atom) → list_all (λ b. same_kind (kind_of b) k) list ≡ true → are_of_one_kind list ≡ true
+pub of_one_kind : (k : Kind) (list : List Atom) → list_all (λ b. same_kind (kind_of b) k) list ≡ true → are_of_one_kind list ≡ true
 of_one_kind k [] h = refl
 of_one_kind k (a ∷ list) h = let p = both _ _ h in with_first k a list p.0 p.1
 
 -- ---- the elements, by the answer of `Value::set`
 
-once_of : (one twice : Bool) → None ≡ cond (not one) (Some mixed_kinds) (cond twice (Some repeated) None) → twice ≡ false
+pub once_of : (one twice : Bool) → None ≡ cond (not one) (Some mixed_kinds) (cond twice (Some repeated) None) → twice ≡ false
 once_of true true e = cc
 once_of true false e = refl
 once_of false twice e = cc
 
-twice_of : (one twice : Bool) (f : ListFault) → Some f ≡ cond (not one) (Some mixed_kinds) (cond twice (Some repeated) None) → one ≡ true → twice ≡ true
+pub twice_of : (one twice : Bool) (f : ListFault) → Some f ≡ cond (not one) (Some mixed_kinds) (cond twice (Some repeated) None) → one ≡ true → twice ≡ true
 twice_of true true f e h = refl
 twice_of true false f e h = cc
 twice_of false twice f e h = absurd (true≢false (sym h))

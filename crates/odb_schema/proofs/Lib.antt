@@ -2,9 +2,12 @@ pub mod Ascending
 pub mod Elements
 pub mod Eachs
 pub mod Faults
+pub mod Holds
+pub mod Keys
 pub mod Members
 pub mod Parts
 pub mod Places
+pub mod RoundTrip
 pub mod Written
 pub mod SameData
 pub mod Uuids

@@ -99,7 +99,7 @@ module _ (tables : List (List ℕ)) (ms : Members) where
       each_way (bounds_of (codes "minInteger") (codes "maxInteger") (same_kind kind integers) ms) _ _ (λ i. lengths kind enum i)
       ∙ tested (bound (same_kind kind integers) (codes "minInteger")) (bound (same_kind kind integers) (codes "maxInteger")) (in_order int_le) (λ x y. (x, y)) (λ i. after_integers kind enum i)
 
-  base_in-is : base_in tables ms ≡ read_constraints tables ms
+  pub base_in-is : base_in tables ms ≡ read_constraints tables ms
   base_in-is =
       three (needed syntax (codes "type") ms) read_string read_kind _
       ∙ each_way (needed syntax (codes "type") ms) _ _ (λ t. each_way (read_string t) _ _ (λ name. each_way (read_kind name) _ _ (λ kind. each_way (enum_of kind ms) _ _ (λ enum. bounded kind enum))))
@@ -130,7 +130,7 @@ type_named tables (string t) s k e h = let same : s ≡ t = cc in ap (λ r. next
 type_named tables (array ds) s k e h = cc
 type_named tables (object ms) s k e h = cc
 
-type_in-is : (tables : List (List ℕ)) (ms : Members) → type_in tables ms ≡ read_type tables (object ms)
+pub type_in-is : (tables : List (List ℕ)) (ms : Members) → type_in tables ms ≡ read_type tables (object ms)
 type_in-is tables ms = apart (needed syntax (codes "key") ms) (read_base tables) _
 
 pub type_members : (tables : List (List ℕ)) (d : Data) (ms : Members) → None ≡ as_str d → read_object d ≡ Ok ms → type_in tables ms ≡ read_type tables d
@@ -181,7 +181,7 @@ named ms = do
   demand (is_name name) bad_id
   versioned ms name
 
-schema_in-is : (ms : Members) → schema_in ms ≡ named ms
+pub schema_in-is : (ms : Members) → schema_in ms ≡ named ms
 schema_in-is ms = three (needed syntax (codes "name") ms) read_string (λ name. behind (demand (is_name name) bad_id) (Ok name)) _ ∙ each_way (needed syntax (codes "name") ms) _ _ (λ n. each_way (read_string n) _ _ (λ name. apart_behind (demand (is_name name) bad_id) (Ok name) _ ∙ ap (behind (demand (is_name name) bad_id)) (by_version name)))
   where
     by_tables : (name version : List ℕ) (cksum : Option (List ℕ)) → next (tables_of ms) (λ tables. Ok (record { name = name; version = version; cksum = cksum; tables = tables })) ≡ described ms name version cksum

@@ -1,5 +1,8 @@
 -- Reading what is behind a tag, and identifiers.
-use Rattle.std.specs.Prelude.{◌≡◌, ℕ, ◌==◌, Bool, true, false, cond, List, [], ◌∷◌, length, codes, ok_or, Option, Some, None, Err, option_and_then, option_map}
+use Rattle.std.specs.Prelude.{◌≡◌, ℕ, ◌==◌, Bool, true, false, cond, List, [], ◌∷◌, length, codes, ok_or, Option, Some, None, Err, option_and_then, option_map, Result, Ok, IfOk}
+use Rattle.std.specs.Result.{IsOk, result_ok}
+use Rattle.odb_atoms.specs.Represented.Atom.{uuid_of}
+use mathlib.Core.Bool.{true≢false}
 use mathlib.Core.Path.{refl, sym, ap, subst, ◌∙◌}
 use Rattle.serde_json.specs.declared.value.Value.{Value}
 use Rattle.serde_json.specs.View.{view, items_view}
@@ -9,19 +12,20 @@ use Rattle.odb_atoms.specs.Uuid.{Uuid, uuid_of_text}
 use Rattle.odb_atoms.specs.Error.{syntax_error}
 use Rattle.odb_schema.specs.Json.{Data, Items, array, as_array, as_str, boolean, item, no_items, null, number, object, string}
 use Rattle.odb_schema.specs.Notation.{tagged}
-use Rattle.odb_schema.specs.SchemaText.{SchemaFault, bad_as, bad_type}
+use Rattle.odb_schema.specs.SchemaText.{bad_as, bad_type}
 use Rattle.odb_schema.specs.Represented.Parts.{uuid_in}
 
-no_uuid : (o : Option (List ℕ)) (f : List ℕ → Uuid) → ((u : List ℕ) → o ≡ Some u → ⊥) → ok_or {E = SchemaFault} (option_map f o) bad_type ≡ Err bad_type
+no_uuid : (o : Option (List ℕ)) (f : List ℕ → Uuid) → ((u : List ℕ) → o ≡ Some u → ⊥) → None ≡ option_map f o
 no_uuid None f h = refl
 no_uuid (Some u) f h = absurd (h u refl)
 
 chosen : {A : Type 0} (n : ℕ) (a b c : A) → n ≡ 36 → cond (n == 32) a (cond (n == 36) b c) ≡ b
 chosen n a b c e = subst (λ n. cond (n == 32) a (cond (n == 36) b c) ≡ b) (sym e) refl
 
--- a text of 36 characters that parses to nothing is no identifier
-pub not_parsed : (s : List ℕ) → length s ≡ 36 → ((u : List ℕ) → parsed s ≡ Some u → ⊥) → ok_or {E = SchemaFault} (uuid_of_text s) bad_type ≡ Err bad_type
-not_parsed s e h = no_uuid (parsed_hyphenated s) _ (λ u is. h u (chosen (length s) _ _ _ e ∙ is))
+-- a text of 36 characters is the identifier that it parses to, and none if it parses to nothing
+pub parsed_is : {E : Type 0} (s : List ℕ) (r : Result (List ℕ) E) → length s ≡ 36 → IfOk r (λ u. Some u ≡ parsed s) → ((u : List ℕ) → parsed s ≡ Some u → IsOk r) → option_map uuid_of (result_ok r) ≡ uuid_of_text s
+parsed_is s (Ok u) long is h = ap (option_map uuid_of) (is ∙ chosen (length s) _ _ _ long)
+parsed_is s (Err e) long is h = no_uuid (parsed_hyphenated s) _ (λ u found. true≢false (sym (h u (chosen (length s) _ _ _ long ∙ found))))
 
 as_bad : (o : Option Uuid) → bad_as (ok_or o syntax_error) ≡ ok_or o bad_type
 as_bad None = refl
@@ -54,7 +58,7 @@ uuid_found d content s is text =
 
 -- ---- arrays without two members have no tag
 
-array_of : (d : Data) (ds : Items) → Some ds ≡ as_array d → array ds ≡ d
+pub array_of : (d : Data) (ds : Items) → Some ds ≡ as_array d → array ds ≡ d
 array_of null ds e = cc
 array_of (boolean b) ds e = cc
 array_of (number n) ds e = cc

@@ -19,6 +19,7 @@ use Rattle.odb_atoms.specs.ColType.{ColType, has_kind, is_a, value_base}
 use Rattle.odb_atoms.specs.FinMap.{FinMap, contains_key, empty, get, insert, keys}
 use Rattle.odb_atoms.specs.Value.{Atoms, Pairs, Value, each_atom, map_of, set_of}
 use Rattle.odb_schema.specs.Json.{items_of}
+use Rattle.odb_schema.proofs.Keys.{keys_of}
 use Rattle.odb_schema.specs.Notation.{Names, has_notation, read_any, read_atom, read_elements, read_pairs, read_set, set_content, write_atom, write_atoms, write_pair, write_value}
 
 both : (a b : Bool) → (a && b) ≡ true → (a ≡ true) × (b ≡ true)
@@ -48,14 +49,11 @@ read_atom-write_atom names uuids (boolean b) e h = not_true e
 read_atom-write_atom names uuids (text s) e h = not_true e
 read_atom-write_atom names uuids (uuid u) e h = rw (uuid_of_text-uuid_text u) refl
 
-abbrev keys_of : {K X : Type 0} → List (K × X) → List K
-keys_of es = map_list (λ e. e.0) es
-
 -- ---- entries put in from the front
 
 module _ {K X : Type 0} {R : K → K → Ordering} where
   -- m with the entries of a list, one after another
-  abbrev put_all : FinMap R X → List (K × X) → FinMap R X
+  abbrev pub put_all : FinMap R X → List (K × X) → FinMap R X
   put_all m [] = m
   put_all m (e ∷ es) = put_all (insert m e.0 e.1) es
 
@@ -82,7 +80,7 @@ apart : {K : Type 0} {R : K → K → Ordering} → IsTotalOrder R → (x y : K)
 apart {R = R} o x y h = ap is_eq (o.antisymm y x ∙ ap ordering_reverse (is_less (R x y) h))
 
 module _ {K X : Type 0} {R : K → K → Ordering} (o : IsTotalOrder R) where
-  contains-put : (m : FinMap R X) (k : K) (v : X) (q : K) → contains_key (insert m k v) q ≡ (eq_by_cmp R q k || contains_key m q)
+  pub contains-put : (m : FinMap R X) (k : K) (v : X) (q : K) → contains_key (insert m k v) q ≡ (eq_by_cmp R q k || contains_key m q)
   contains-put m k v q = ap is_some (get-insert o m k v q) ∙ by (eq_by_cmp R q k) (get m q)
     where
       by : (b : Bool) (x : Option X) → is_some (cond b (Some v) x) ≡ (b || is_some x)
@@ -113,7 +111,7 @@ module _ {K X : Type 0} {R : K → K → Ordering} (o : IsTotalOrder R) where
       by Equal t = ap (λ x. option_or x (Some e.1)) (no_tie q e.0 es t split.0)
       by Greater t = refl
 
-option_or-None : {A : Type 0} (x : Option A) → option_or x None ≡ x
+pub option_or-None : {A : Type 0} (x : Option A) → option_or x None ≡ x
 option_or-None None = refl
 option_or-None (Some a) = refl
 
@@ -154,6 +152,11 @@ module _ (names : Option Names) (k : Kind) where
   set_back (e ∷ []) h noted = rw (alone e.0, read_atom-write_atom names k e.0 (both _ _ noted.0).0 (both _ _ noted.1).0) refl
   set_back (e ∷ f ∷ es) h noted = elements_back empty (e ∷ f ∷ es) h (all_new atom_cmp (e ∷ f ∷ es)) noted
 
+  -- a set of such atoms
+  pub read_set-write_value : (s : Atoms) → (list_all (is_a k) (keys_of s.entries) ≡ true) × (list_all has_notation (keys_of s.entries) ≡ true) → read_set names k (write_value (set_of s)) ≡ Ok s
+  unfolding keys
+  read_set-write_value s noted = rw (set_back s.entries s.sorted noted, put_all-entries atom_cmp_total atom_cmp-IsAntisymmetric s) refl
+
 module _ (names : Option Names) (k l : Kind) where
   -- each is a pair of the two kinds that the notation has
   abbrev ArePairs : List (Atom × Atom) → Type 0
@@ -177,7 +180,7 @@ pub read_any-write_value : (names : Option Names) (t : ColType) (v : Value) → 
 unfolding keys
 read_any-write_value names t (set_of s) e h =
     let kind = both (cond (is_some t.value) false true) (list_all (is_a t.key.kind) (keys_of s.entries)) e in
-    rw (is_set (is_some t.value) kind.0, set_back names t.key.kind s.entries s.sorted (kind.1, h), put_all-entries atom_cmp_total atom_cmp-IsAntisymmetric s) refl
+    rw (is_set (is_some t.value) kind.0, read_set-write_value names t.key.kind s (kind.1, h)) refl
   where
     is_set : (b : Bool) → cond b false true ≡ true → b ≡ false
     is_set true e = sym e

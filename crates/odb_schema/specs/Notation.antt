@@ -33,7 +33,7 @@ abbrev pub is_map_notation : Data → Bool
 is_map_notation d = is_some (map_content d)
 
 -- the UUID that a name stands for. Outside a transaction there are no names, and no notation of them
-abbrev named_uuid : Option Names → List ℕ → Result Uuid Error
+abbrev pub named_uuid : Option Names → List ℕ → Result Uuid Error
 named_uuid None name = Err syntax_error
 named_uuid (Some names) name = do
   demand (is_id name) syntax_error
@@ -71,7 +71,7 @@ read_elements names k seen (item d ds) = do
   demand (not (set.contains seen a)) syntax_error
   read_elements names k (set.insert seen a) ds
 
-abbrev pair_of : Data → Option (Data × Data)
+abbrev pub pair_of : Data → Option (Data × Data)
 pair_of (array (item k (item v no_items))) = Some (k, v)
 pair_of d = None
 

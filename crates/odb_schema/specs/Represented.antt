@@ -7,3 +7,4 @@ pub mod Schema
 pub mod Fault
 pub mod Members
 pub mod Parts
+pub mod Sound

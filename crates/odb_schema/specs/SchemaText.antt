@@ -1,5 +1,5 @@
 -- The JSON of schemas (RFC 7047, <database-schema>): reading, with the first fault where a text has one, and printing.
-use Rattle.std.specs.Prelude.{ℕ, ℤ, pos, negsuc, Bool, true, false, cond, not, ◌&&◌, ◌||◌, ◌==◌, List, [], ◌∷◌, ◌++◌, map as map_list, length, codes, nat_lt, nat_le, int_le, slice_index, is_some, is_none, unwrap_or, Option, Some, None, option_map, option_and_then, find}
+use Rattle.std.specs.Prelude.{◌≡◌, ℕ, ℤ, pos, negsuc, Bool, true, false, cond, not, ◌&&◌, ◌||◌, ◌==◌, List, [], ◌∷◌, ◌++◌, map as map_list, length, codes, nat_lt, nat_le, int_le, slice_index, is_some, is_none, unwrap_or, Option, Some, None, option_map, option_and_then, find}
 use Rattle.std.specs.List.{list_any, list_all, slice_split}
 use Rattle.std.specs.Str.{is_utf8}
 use Rattle.serde_json.specs.Read.{read}
@@ -322,3 +322,7 @@ write_schema s =
     ∷ (codes "version", string s.version)
     ∷ (codes "tables", object_of (map_list (λ t. (t.name, write_table t)) s.tables))
     ∷ present (codes "cksum") (option_map string s.cksum))
+
+-- what is printed of the schema is read as the same schema
+abbrev pub IsReadBack : Schema → Type 0
+IsReadBack s = read_schema (write_schema s) ≡ Ok s

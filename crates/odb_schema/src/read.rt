@@ -13,3 +13,5 @@ mod parts;
 mod reference;
 mod size;
 mod table;
+
+pub use leaf::member;

@@ -7,6 +7,7 @@ ghost use Rattle.std.specs.List.{list_any};
 ghost use Rattle.std.specs.Option.{option_copied};
 ghost use Rattle.odb_atoms.specs.Represented.ColType.{type_of};
 ghost use Rattle.odb_schema.specs.Schema as model;
+ghost use Rattle.odb_schema.specs.SchemaText.{IsReadBack};
 ghost use Rattle.odb_schema.specs.Represented.Names.{ColumnsAscend, TablesAscend, names_of};
 
 use odb_atoms::ColType;
@@ -45,7 +46,7 @@ pub struct TableSchema {
 }
 
 /// A schema (RFC 7047, section 3.2, `<database-schema>`), with its tables by ascending name. It is
-/// made by `Schema::read`, from a file's text.
+/// made by `Schema::read`, from a file's text, and what is printed of it is read as the same schema.
 #[derive(Debug, Drop)]
 pub struct Schema {
     name: String,
@@ -300,14 +301,20 @@ impl TableSchema {
 }
 
 impl Schema {
-    /// A schema with these members, its tables by ascending name.
+    /// A schema with these members, its tables by ascending name, that is read as it is printed.
     pub(crate) fn new(
         name: String,
         version: String,
         cksum: Option<String>,
         tables: Vec<TableSchema>,
     ) -> Schema
-        requires { TablesAscend tables.items }
+        requires ascending { TablesAscend tables.items }
+        requires read_back { IsReadBack (record {
+          name = string_bytes name;
+          version = string_bytes version;
+          cksum = option_map string_bytes cksum;
+          tables = tables.items;
+        }) }
         ensures { result ≡ record {
           name = string_bytes name;
           version = string_bytes version;
@@ -323,6 +330,13 @@ impl Schema {
             tables,
             marks_roots,
         }
+    }
+
+    /// What is printed of it is read as the same schema; called for its contract alone. O(1).
+    pub(crate) fn reads_back(&self)
+        ensures { IsReadBack self.now }
+    {
+        let _name = &self.name;
     }
 
     /// The name of the database. O(1).

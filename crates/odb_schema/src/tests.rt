@@ -1,9 +1,11 @@
 //! What the contracts leave to examples: each part once on its happy path, and one fault.
 
 use crate::fault::SchemaFault;
+use crate::notation::{parse_uuid, tagged, text_in, write_uuid};
 use crate::schema::Schema;
 use crate::text::{is_name, is_version, read_kind};
 use odb_atoms::Kind;
+use serde_json::Value as Json;
 use std::alloc::{AllocError, Global};
 use std::process::Abort;
 use std::test::Fail;
@@ -338,5 +340,23 @@ fn faults_of_types_in_order(rt: HostRuntime) -> Result<(), Fail> {
     ] {
         assert_fault_of_type(&rt, rt.alloc(), column_type, fault)?;
     }
+    Ok(())
+}
+
+#[test]
+fn the_shared_notation(rt: HostRuntime) -> Result<(), Fail> {
+    let alloc = rt.alloc();
+    let text = "550e8400-e29b-41d4-a716-446655440000";
+    let uuid = parse_uuid(text).ok_or("no UUID")?;
+    assert_eq!(rt;
+        parse_uuid("550E8400-E29B-41D4-A716-446655440000"),
+        Some(uuid)
+    );
+    assert_eq!(rt; parse_uuid("550e8400e29b41d4a716446655440000"), None);
+    let written = write_uuid(alloc, uuid)?;
+    assert_eq!(rt; tagged("uuid", &written).and_then(text_in), Some(text));
+    assert!(rt; tagged("set", &written).is_none());
+    let with_nul = Json::from_str(alloc, r#""a\u0000""#)?;
+    assert!(rt; text_in(&with_nul).is_none());
     Ok(())
 }

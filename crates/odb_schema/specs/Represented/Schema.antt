@@ -1,7 +1,8 @@
--- What a schema of the code stands for: its tables ascend by name.
+-- What a schema of the code stands for: its tables ascend by name, and what is printed of it is read back.
 use Rattle.std.specs.Prelude.{◌≡◌, option_map, string_bytes}
 use Rattle.std.specs.List.{list_any}
 use Rattle.odb_schema.specs.Schema.{Schema}
+use Rattle.odb_schema.specs.SchemaText.{IsReadBack}
 use Rattle.odb_schema.specs.Represented.Names.{TablesAscend}
 use Rattle.odb_schema.specs.declared.schema.Schema.TheInside.{Inside}
 
@@ -12,3 +13,4 @@ schema_of a = record { name = string_bytes a.name; version = string_bytes a.vers
 pub record IsInOrder (a : Inside) : Type 0 where
   pub ascending : TablesAscend a.tables.items
   pub marks : a.marks_roots ≡ list_any (λ t. t.is_root) a.tables.items
+  pub read_back : IsReadBack (schema_of a)

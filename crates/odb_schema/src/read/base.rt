@@ -2,7 +2,6 @@
 
 ghost use Rattle.std.specs.Prelude.{◌≡◌};
 ghost use Rattle.serde_json.specs.View.{members_view, view};
-ghost use Rattle.odb_atoms.specs.ColType as model_type;
 ghost use Rattle.odb_atoms.specs.Represented.Atom.{kind_in};
 ghost use Rattle.odb_atoms.specs.Represented.ColType.{base_of};
 ghost use Rattle.odb_schema.specs.SchemaText as model;
@@ -19,21 +18,6 @@ use crate::text::read_kind;
 use odb_atoms::{Base, Enumeration, Kind};
 use serde_json::{Map, Value};
 use std::alloc::Global;
-
-/// The base type without constraints.
-pub fn plain(kind: Kind) -> Base
-    ensures { base_of result ≡ model_type.plain (kind_in kind) }
-{
-    Base {
-        kind,
-        allowed: None,
-        min_integer: None,
-        max_integer: None,
-        min_length: None,
-        max_length: None,
-        reference: None,
-    }
-}
 
 /// `type` of a base type that is an object.
 fn read_base_kind(members: &Map<String, Value>) -> Result<Kind, SchemaFault>
@@ -105,7 +89,7 @@ pub fn read_base(
         (model.read_base (names_in (members_view tables.now.entries)) (view value.now)) }
 {
     match value.as_str() {
-        Some(name) => Ok(plain(read_kind(name)?)),
+        Some(name) => Ok(Base::plain(read_kind(name)?)),
         None => read_constraints(alloc, tables, read_object(value)?),
     }
 }

@@ -2,7 +2,6 @@
 
 ghost use Rattle.std.specs.Prelude.{◌≡◌, codes, option_map};
 ghost use Rattle.serde_json.specs.View.{members_view, view};
-ghost use Rattle.odb_atoms.specs.ColType as model_type;
 ghost use Rattle.odb_atoms.specs.Represented.Atom.{kind_in};
 ghost use Rattle.odb_atoms.specs.Represented.ColType.{base_of, type_of};
 ghost use Rattle.odb_schema.specs.SchemaText as model;
@@ -10,7 +9,7 @@ ghost use Rattle.odb_schema.specs.Represented.Fault.{Reads};
 ghost use Rattle.odb_schema.specs.Represented.Parts as parts;
 ghost use Rattle.odb_schema.specs.Represented.Parts.{names_in};
 
-use super::base::{plain, read_base};
+use super::base::read_base;
 use super::leaf::{member, needed, read_object};
 use super::parts::{read_max, read_min};
 use crate::fault::SchemaFault;
@@ -18,18 +17,6 @@ use crate::text::read_kind;
 use odb_atoms::{Base, ColType, Kind};
 use serde_json::{Map, Value};
 use std::alloc::Global;
-
-/// The scalar type without constraints.
-fn scalar(kind: Kind) -> ColType
-    ensures { type_of result ≡ model_type.scalar (kind_in kind) }
-{
-    ColType {
-        key: plain(kind),
-        value: None,
-        min: 1,
-        max: Some(1),
-    }
-}
 
 /// `key` of a type that is an object.
 fn read_key(
@@ -93,7 +80,7 @@ pub fn read_type(
         (model.read_type (names_in (members_view tables.now.entries)) (view value.now)) }
 {
     match value.as_str() {
-        Some(name) => Ok(scalar(read_kind(name)?)),
+        Some(name) => Ok(ColType::scalar(read_kind(name)?)),
         None => read_members(alloc, tables, read_object(value)?),
     }
 }

@@ -1,11 +1,13 @@
 //! Schemas (RFC 7047, section 3.2, `<database-schema>`).
 
-ghost use Rattle.std.specs.Prelude.{◌≡◌, IfOk, option_map};
+ghost use Rattle.std.specs.Prelude.{◌≡◌, false, IfOk, option_map};
 ghost use Rattle.serde_json.specs.View.{members_view, view};
 ghost use Rattle.odb_schema.specs.SchemaText as model;
 ghost use Rattle.odb_schema.specs.Represented.Fault.{Gives, Reads};
 ghost use Rattle.odb_schema.specs.Represented.Names.{TablesAscend};
 ghost use Rattle.odb_schema.specs.Represented.Parts as parts;
+ghost use Rattle.odb_schema.specs.Represented.Sound.{HasSound, IsSound};
+ghost use Rattle.odb_schema.specs.Json.{object};
 
 use super::leaf::{member, needed, read_object, read_string};
 use super::size::is_too_large;
@@ -67,6 +69,8 @@ fn read_schema_tables(
 
 /// A schema, of the members of its object.
 fn read_members(alloc: Global, members: &Map<String, Value>) -> Result<Schema, SchemaFault>
+    requires sound { HasSound (members_view members.now.entries) }
+    requires small { model.is_too_large (object (members_view members.now.entries)) ≡ false }
     ensures { Reads (λ schema. schema) result (parts.schema_in (members_view members.now.entries)) }
 {
     let name = read_name(members)?;
@@ -84,6 +88,7 @@ fn read_members(alloc: Global, members: &Map<String, Value>) -> Result<Schema, S
 
 /// The schema that JSON is, if it is one.
 fn read_schema(alloc: Global, value: &Value) -> Result<Schema, SchemaFault>
+    requires { IsSound (view value.now) }
     ensures { Reads (λ schema. schema) result (model.read_schema (view value.now)) }
 {
     if is_too_large(value) {
@@ -94,7 +99,8 @@ fn read_schema(alloc: Global, value: &Value) -> Result<Schema, SchemaFault>
 
 /// The JSON that a text is, if it is some.
 fn read_json(alloc: Global, text: &[u8]) -> Result<Value, SchemaFault>
-    ensures { Reads view result (parts.json_of text.now) }
+    ensures exact { Reads view result (parts.json_of text.now) }
+    ensures sound { IfOk result (λ value. IsSound (view value)) }
 {
     match Value::from_slice(alloc, text) {
         Ok(value) => Ok(value),

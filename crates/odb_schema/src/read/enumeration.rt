@@ -7,8 +7,9 @@ ghost use Rattle.odb_schema.specs.SchemaText as model;
 ghost use Rattle.odb_schema.specs.Represented.Fault.{Reads};
 ghost use Rattle.odb_schema.specs.Represented.Parts as parts;
 
-use super::atom::{read_atom, tagged};
+use super::atom::read_atom;
 use crate::fault::SchemaFault;
+use crate::notation::tagged;
 use odb_atoms::{Atom, Enumeration, Kind};
 use serde_json::Value;
 use std::alloc::Global;

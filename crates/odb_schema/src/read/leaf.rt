@@ -58,7 +58,7 @@ pub fn needed<'a>(key: &str, members: &'a Map<String, Value>) -> Result<&'a Valu
     member(key, members).ok_or(SchemaFault::Syntax)
 }
 
-/// The member at a key, if there is one.
+/// The member of an object at a key, if there is one. O(log n) for n members; it takes no memory.
 pub fn member<'a>(key: &str, members: &'a Map<String, Value>) -> Option<&'a Value>
     ensures { option_map (λ value. view value.now) result
         ≡ json.get_member key.now (members_view members.now.entries) }

@@ -9,8 +9,8 @@ ghost use Rattle.odb_schema.specs.SchemaText as model;
 ghost use Rattle.odb_schema.specs.Represented.Members as written;
 ghost use Rattle.odb_schema.specs.Represented.Members.{onto};
 
-use super::atom::write_value;
 use super::leaf::{put, put_integer, put_number, put_text};
+use crate::notation::write_value;
 use odb_atoms::{Base, ColType, Enumeration, Kind, Reference};
 use serde_json::{Map, Value};
 use std::alloc::{AllocError, Global};

@@ -1,6 +1,6 @@
 //! Schemas (RFC 7047, section 3.2, `<database-schema>`).
 
-ghost use Rattle.std.specs.Prelude.{◌≡◌, ◌++◌, IfOk, IsUtf8, OnErr, OnOk, Some, option_map};
+ghost use Rattle.std.specs.Prelude.{◌≡◌, ◌≤◌, ◌++◌, length, IfOk, IsUtf8, Ok, OnErr, OnOk, Some, option_map};
 ghost use Rattle.serde_json.specs.Read.{read};
 ghost use Rattle.serde_json.specs.View.{members_view, view};
 ghost use Rattle.serde_json.specs.Written.{compact_text};
@@ -30,11 +30,13 @@ fn put_cksum(
 
 impl Schema {
     /// The schema as JSON (RFC 7047, section 3.2). Members that equal their defaults are left out,
-    /// and so are those that were passed over when it was read. O(n log n) for the n bytes of its
-    /// text; an error says that there was no memory.
+    /// and so are those that were passed over when it was read. It is the JSON of the same schema.
+    /// O(n log n) for the n bytes of its text; an error says that there was no memory.
     pub fn to_value(&self, alloc: Global) -> Result<Value, AllocError>
-        ensures { IfOk result (λ v. view v ≡ model.write_schema self.now) }
+        ensures exact { IfOk result (λ v. view v ≡ model.write_schema self.now) }
+        ensures read_back { IfOk result (λ v. model.read_schema (view v) ≡ Ok self.now) }
     {
+        self.reads_back();
         let mut members = Map::new(alloc);
         put_cksum(alloc, &mut members, self.cksum())?;
         let tables = write_tables(alloc, self.tables())?;
@@ -45,7 +47,8 @@ impl Schema {
     }
 
     /// The schema's text: its JSON in UTF-8, with no space between tokens and the keys of objects in
-    /// ascending order. O(n log n) for n bytes; an error says that there was no memory.
+    /// ascending order. Where it has at most 16,777,216 bytes, `Schema::read` makes the same schema
+    /// of it. O(n log n) for n bytes; an error says that there was no memory.
     pub fn to_json(&self, alloc: Global) -> Result<Vec<u8>, AllocError>
         ensures text { IfOk result (λ bytes. bytes.items ≡ compact_text (model.write_schema self.now)) }
         ensures utf8 { IfOk result (λ bytes. IsUtf8 bytes.items) }
@@ -53,6 +56,10 @@ impl Schema {
         // It is JSON, and the JSON of the schema.
         ensures json { IfOk result (λ bytes. read bytes.items
             ≡ Some (model.write_schema self.now)) }
+
+        // As a file it is the same schema.
+        ensures read_back { IfOk result (λ bytes. length bytes.items ≤ model.max_file
+            → model.schema_of_file bytes.items ≡ Ok self.now) }
     {
         let value = self.to_value(alloc)?;
         value.to_vec(alloc)

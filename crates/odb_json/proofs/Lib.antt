@@ -1,0 +1,7 @@
+pub mod Columns
+pub mod Fronts
+pub mod Maps
+pub mod Sets
+pub mod Shapes
+pub mod Triples
+pub mod Written

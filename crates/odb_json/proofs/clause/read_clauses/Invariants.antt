@@ -1,0 +1,10 @@
+use Rattle.std.proofs.Common.{◌≡◌, Some, drop}
+use Rattle.serde_json.specs.View.{items_view}
+use Rattle.odb_atoms.specs.First.{each}
+use Rattle.odb_schema.specs.Json.{items_list}
+use Rattle.odb_schema.proofs.Eachs.{after}
+use Rattle.odb_json.specs.ConditionNotation.{read_clause}
+use Rattle.odb_json.proofs.clause.read_clauses.Given as goal
+
+abbrev pub invariant-loop-item : goal.invariant-loop-item
+invariant-loop-item l = each (read_clause (Some l.names) l.table.columns) (items_list (items_view l.items)) ≡ after l.clauses.items (each (read_clause (Some l.names) l.table.columns) (items_list (items_view (drop l.item-index l.items))))

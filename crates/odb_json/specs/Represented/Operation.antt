@@ -1,0 +1,58 @@
+-- What an operation of the code stands for.
+use Rattle.std.specs.Prelude.{ℕ, List, map, option_map, string_bytes}
+use Rattle.odb_atoms.specs.Error.{Error}
+use Rattle.odb_atoms.specs.First.{Result}
+use Rattle.odb_cond.specs.Represented.Clause.{selector_of}
+use Rattle.odb_schema.specs.Json.{Members}
+use Rattle.odb_schema.specs.Notation.{Names}
+use Rattle.odb_schema.specs.Schema.{Column}
+use Rattle.odb_json.specs.Operation as model
+use Rattle.odb_json.specs.Represented.Row.{cells_of}
+use Rattle.odb_json.specs.declared.operation.Op.{Op}
+use Rattle.odb_json.specs.declared.operation.Op.TheVariants as op
+use Rattle.odb_json.specs.declared.operation.TableVerb.{TableVerb}
+use Rattle.odb_json.specs.declared.operation.TableVerb.TheVariants as table_verb
+use Rattle.odb_json.specs.declared.operation.Until.{Until}
+use Rattle.odb_json.specs.declared.operation.Until.TheVariants as until
+use Rattle.odb_json.specs.declared.operation.Verb.{Verb}
+use Rattle.odb_json.specs.declared.operation.Verb.TheVariants as verb
+
+abbrev pub until_of : Until → model.Until
+until_of until.Equal = model.until_equal
+until_of until.NotEqual = model.until_not_equal
+
+abbrev pub op_of : Op → model.Op
+op_of (op.Insert table row name) = model.Op.insert table row.items (option_map string_bytes name)
+op_of (op.Select table conditions columns) = model.Op.select table conditions (map selector_of columns.items)
+op_of (op.Update table conditions row) = model.Op.update table conditions row.items
+op_of (op.Mutate table conditions mutations) = model.Op.mutate table conditions mutations.items
+op_of (op.Delete table conditions) = model.Op.delete table conditions
+op_of (op.Wait table conditions columns until rows timeout) = model.Op.wait table conditions (map selector_of columns.items) (until_of until) (map cells_of rows.items) timeout
+op_of (op.Commit durable) = model.Op.commit durable
+op_of op.Abort = model.Op.abort
+op_of op.Comment = model.Op.comment
+op_of (op.Assert lock) = model.Op.assert (string_bytes lock)
+
+abbrev pub on_table_of : TableVerb → model.Verb
+on_table_of table_verb.Insert = model.Verb.insert
+on_table_of table_verb.Select = model.Verb.select
+on_table_of table_verb.Update = model.Verb.update
+on_table_of table_verb.Mutate = model.Verb.mutate
+on_table_of table_verb.Delete = model.Verb.delete
+on_table_of table_verb.Wait = model.Verb.wait
+
+abbrev pub verb_of : Verb → model.Verb
+verb_of (verb.OnTable v) = on_table_of v
+verb_of verb.Commit = model.Verb.commit
+verb_of verb.Abort = model.Verb.abort
+verb_of verb.Comment = model.Verb.comment
+verb_of verb.Assert = model.Verb.assert
+
+-- what stands behind the table
+abbrev pub table_reader : TableVerb → Names → ℕ → List Column → Members → Result model.Op Error
+table_reader table_verb.Insert = model.read_insert
+table_reader table_verb.Select = model.read_select
+table_reader table_verb.Update = model.read_update
+table_reader table_verb.Mutate = model.read_mutate
+table_reader table_verb.Delete = model.read_delete
+table_reader table_verb.Wait = model.read_wait

@@ -1,0 +1,445 @@
+//! Operations (RFC 7047, section 5.2) and their reading.
+
+ghost use Rattle.std.specs.Prelude.{◌≡◌, ◌<◌, IfOk, codes, length, option_map, string_bytes};
+ghost use Rattle.serde_json.specs.View.{members_view, view};
+ghost use Rattle.odb_schema.specs.Json.{get_member, if_given};
+ghost use Rattle.odb_json.specs.Operation as model;
+ghost use Rattle.odb_json.specs.Represented.Fault.{Gives, Reads};
+ghost use Rattle.odb_json.specs.Represented.Operation.{on_table_of, op_of, table_reader, until_of, verb_of};
+
+use crate::atom::SYNTAX;
+use crate::clause::read_where;
+use crate::column::read_columns;
+use crate::fault::OpFault;
+use crate::leaf::{needed, no_other, read_bool, read_id, read_natural, read_object, read_text};
+use crate::mutation::read_mutations;
+use crate::names::Names;
+use crate::row::{Writing, read_expected_rows, read_row};
+use odb_atoms::Error;
+use odb_cond::{Selector, Where};
+use odb_mutate::Mutation;
+use odb_schema::{ColumnId, Schema, TableId, TableSchema, member};
+use serde_json::{Map, Value};
+use std::alloc::Global;
+
+/// An operation (RFC 7047, section 5.2), with its tables and columns by their places.
+#[derive(Debug, Drop)]
+pub enum Op {
+    /// `insert` (section 5.2.1) of a row with these values.
+    Insert {
+        table: TableId,
+        row: Vec<(ColumnId, odb_atoms::Value)>,
+        /// `uuid-name`, which stands for the row's identifier in the transaction.
+        name: Option<String>,
+    },
+    /// `select` (section 5.2.2) of these columns, in their order.
+    Select {
+        table: TableId,
+        conditions: Where,
+        columns: Vec<Selector>,
+    },
+    /// `update` (section 5.2.3), which writes these values.
+    Update {
+        table: TableId,
+        conditions: Where,
+        row: Vec<(ColumnId, odb_atoms::Value)>,
+    },
+    /// `mutate` (section 5.2.4), in this order.
+    Mutate {
+        table: TableId,
+        conditions: Where,
+        mutations: Vec<Mutation>,
+    },
+    /// `delete` (section 5.2.5).
+    Delete {
+        table: TableId,
+        conditions: Where,
+    },
+    /// `wait` (section 5.2.6) until these columns of the rows that match are these rows, or aren't.
+    Wait {
+        table: TableId,
+        conditions: Where,
+        columns: Vec<Selector>,
+        until: Until,
+        rows: Vec<Vec<(Selector, odb_atoms::Value)>>,
+        /// In milliseconds; `None` is for ever.
+        timeout: Option<u64>,
+    },
+    /// `commit` (section 5.2.7).
+    Commit {
+        durable: bool,
+    },
+    /// `abort` (section 5.2.8).
+    Abort,
+    /// `comment` (section 5.2.9), whose text nothing needs.
+    Comment,
+    /// `assert` (section 5.2.10) that the session has the lock.
+    Assert {
+        lock: String,
+    },
+}
+
+/// `until` of `wait` (RFC 7047, section 5.2.6).
+#[derive(Clone, Copy, Debug, PartialEq, Eq)]
+pub enum Until {
+    /// `==`: the same set of rows.
+    Equal,
+    /// `!=`: another set of rows.
+    NotEqual,
+}
+
+/// What `op` names.
+#[derive(Clone, Copy)]
+enum Verb {
+    OnTable(TableVerb),
+    Commit,
+    Abort,
+    Comment,
+    Assert,
+}
+
+/// What `op` names of operations on a table.
+#[derive(Clone, Copy)]
+enum TableVerb {
+    Insert,
+    Select,
+    Update,
+    Mutate,
+    Delete,
+    Wait,
+}
+
+/// The verb with the name.
+fn verb_named(name: &str) -> Option<Verb>
+    ensures { option_map verb_of result ≡ model.verb_named name.now }
+{
+    match name {
+        "insert" => Some(Verb::OnTable(TableVerb::Insert)),
+        "select" => Some(Verb::OnTable(TableVerb::Select)),
+        "update" => Some(Verb::OnTable(TableVerb::Update)),
+        "mutate" => Some(Verb::OnTable(TableVerb::Mutate)),
+        "delete" => Some(Verb::OnTable(TableVerb::Delete)),
+        "wait" => Some(Verb::OnTable(TableVerb::Wait)),
+        "commit" => Some(Verb::Commit),
+        "abort" => Some(Verb::Abort),
+        "comment" => Some(Verb::Comment),
+        "assert" => Some(Verb::Assert),
+        _ => None,
+    }
+}
+
+/// `table` of an operation.
+fn read_table(schema: &Schema, members: &Map<String, Value>) -> Result<TableId, OpFault>
+    ensures place { Gives (λ table. table) result
+        (model.read_table schema.now (members_view members.now.entries)) }
+    ensures in_schema { IfOk result (λ table. table < length schema.now.tables) }
+{
+    let name = read_text(needed("table", members)?)?;
+    schema
+        .table(name)
+        .ok_or(OpFault::Failed(Error::UnknownTable))
+}
+
+/// `uuid-name` of `insert`, where it is given.
+fn read_name(alloc: Global, members: &Map<String, Value>) -> Result<Option<String>, OpFault>
+    ensures { Reads (option_map string_bytes) result
+        (if_given model.read_id
+        (get_member (codes "uuid-name") (members_view members.now.entries))) }
+{
+    match member("uuid-name", members) {
+        None => Ok(None),
+        Some(value) => Ok(Some(read_id(alloc, value)?)),
+    }
+}
+
+/// `insert`, behind its table.
+fn read_insert(
+    alloc: Global,
+    names: &Names,
+    id: TableId,
+    table: &TableSchema,
+    members: &Map<String, Value>,
+) -> Result<Op, OpFault>
+    ensures { Reads op_of result
+        (model.read_insert names.now id table.now.columns (members_view members.now.entries)) }
+{
+    let row = needed("row", members)?;
+    let row = read_row(alloc, row, table, Writing::Insert, names)?;
+    let name = read_name(alloc, members)?;
+    no_other(&["table", "row", "uuid-name"], members)?;
+    Ok(Op::Insert {
+        table: id,
+        row,
+        name,
+    })
+}
+
+/// `select`, behind its table.
+fn read_select(
+    alloc: Global,
+    names: &Names,
+    id: TableId,
+    table: &TableSchema,
+    members: &Map<String, Value>,
+) -> Result<Op, OpFault>
+    ensures { Reads op_of result
+        (model.read_select names.now id table.now.columns (members_view members.now.entries)) }
+{
+    let conditions = read_where(alloc, members, table, names)?;
+    let columns = read_columns(alloc, table, members)?;
+    no_other(&["table", "where", "columns"], members)?;
+    Ok(Op::Select {
+        table: id,
+        conditions,
+        columns,
+    })
+}
+
+/// `update`, behind its table.
+fn read_update(
+    alloc: Global,
+    names: &Names,
+    id: TableId,
+    table: &TableSchema,
+    members: &Map<String, Value>,
+) -> Result<Op, OpFault>
+    ensures { Reads op_of result
+        (model.read_update names.now id table.now.columns (members_view members.now.entries)) }
+{
+    let conditions = read_where(alloc, members, table, names)?;
+    let row = needed("row", members)?;
+    let row = read_row(alloc, row, table, Writing::Update, names)?;
+    no_other(&["table", "where", "row"], members)?;
+    Ok(Op::Update {
+        table: id,
+        conditions,
+        row,
+    })
+}
+
+/// `mutate`, behind its table.
+fn read_mutate(
+    alloc: Global,
+    names: &Names,
+    id: TableId,
+    table: &TableSchema,
+    members: &Map<String, Value>,
+) -> Result<Op, OpFault>
+    ensures { Reads op_of result
+        (model.read_mutate names.now id table.now.columns (members_view members.now.entries)) }
+{
+    let conditions = read_where(alloc, members, table, names)?;
+    let mutations = read_mutations(alloc, members, table, names)?;
+    no_other(&["table", "where", "mutations"], members)?;
+    Ok(Op::Mutate {
+        table: id,
+        conditions,
+        mutations,
+    })
+}
+
+/// `delete`, behind its table.
+fn read_delete(
+    alloc: Global,
+    names: &Names,
+    id: TableId,
+    table: &TableSchema,
+    members: &Map<String, Value>,
+) -> Result<Op, OpFault>
+    ensures { Reads op_of result
+        (model.read_delete names.now id table.now.columns (members_view members.now.entries)) }
+{
+    let conditions = read_where(alloc, members, table, names)?;
+    no_other(&["table", "where"], members)?;
+    Ok(Op::Delete {
+        table: id,
+        conditions,
+    })
+}
+
+/// `until` of `wait`.
+fn read_until(members: &Map<String, Value>) -> Result<Until, OpFault>
+    ensures { Gives until_of result
+        (model.read_needed (codes "until") model.read_until (members_view members.now.entries)) }
+{
+    let name = read_text(needed("until", members)?)?;
+    match name {
+        "==" => Ok(Until::Equal),
+        "!=" => Ok(Until::NotEqual),
+        _ => Err(SYNTAX),
+    }
+}
+
+/// `timeout` of `wait`, where it is given.
+fn read_timeout(members: &Map<String, Value>) -> Result<Option<u64>, OpFault>
+    ensures { Gives (λ timeout. timeout) result
+        (if_given model.read_natural
+        (get_member (codes "timeout") (members_view members.now.entries))) }
+{
+    match member("timeout", members) {
+        None => Ok(None),
+        Some(value) => Ok(Some(read_natural(value)?)),
+    }
+}
+
+/// `wait`, behind its table.
+fn read_wait(
+    alloc: Global,
+    names: &Names,
+    id: TableId,
+    table: &TableSchema,
+    members: &Map<String, Value>,
+) -> Result<Op, OpFault>
+    ensures { Reads op_of result
+        (model.read_wait names.now id table.now.columns (members_view members.now.entries)) }
+{
+    let conditions = read_where(alloc, members, table, names)?;
+    let columns = read_columns(alloc, table, members)?;
+    let until = read_until(members)?;
+    let rows = read_expected_rows(alloc, members, table, names)?;
+    let timeout = read_timeout(members)?;
+    no_other(
+        &["table", "where", "columns", "until", "rows", "timeout"],
+        members,
+    )?;
+    Ok(Op::Wait {
+        table: id,
+        conditions,
+        columns,
+        until,
+        rows,
+        timeout,
+    })
+}
+
+/// An operation on a table, behind its table.
+fn read_behind_table(
+    alloc: Global,
+    verb: TableVerb,
+    names: &Names,
+    id: TableId,
+    table: &TableSchema,
+    members: &Map<String, Value>,
+) -> Result<Op, OpFault>
+    ensures { Reads op_of result
+        (table_reader verb names.now id table.now.columns (members_view members.now.entries)) }
+{
+    match verb {
+        TableVerb::Insert => read_insert(alloc, names, id, table, members),
+        TableVerb::Select => read_select(alloc, names, id, table, members),
+        TableVerb::Update => read_update(alloc, names, id, table, members),
+        TableVerb::Mutate => read_mutate(alloc, names, id, table, members),
+        TableVerb::Delete => read_delete(alloc, names, id, table, members),
+        TableVerb::Wait => read_wait(alloc, names, id, table, members),
+    }
+}
+
+/// An operation on a table.
+fn read_on_table(
+    alloc: Global,
+    verb: TableVerb,
+    schema: &Schema,
+    names: &Names,
+    members: &Map<String, Value>,
+) -> Result<Op, OpFault>
+    ensures { Reads op_of result
+        (model.read_members schema.now names.now (members_view members.now.entries)
+        (on_table_of verb)) }
+{
+    let id = read_table(schema, members)?;
+    let table = &schema.tables()[id.place()];
+    read_behind_table(alloc, verb, names, id, table, members)
+}
+
+/// `commit`.
+fn read_commit(members: &Map<String, Value>) -> Result<Op, OpFault>
+    ensures { Gives op_of result (model.read_commit (members_view members.now.entries)) }
+{
+    let durable = read_bool(needed("durable", members)?)?;
+    no_other(&["durable"], members)?;
+    Ok(Op::Commit { durable })
+}
+
+/// `abort`.
+fn read_abort(members: &Map<String, Value>) -> Result<Op, OpFault>
+    ensures { Gives op_of result (model.read_abort (members_view members.now.entries)) }
+{
+    no_other(&[], members)?;
+    Ok(Op::Abort)
+}
+
+/// `comment`.
+fn read_comment(members: &Map<String, Value>) -> Result<Op, OpFault>
+    ensures { Gives op_of result (model.read_comment (members_view members.now.entries)) }
+{
+    read_text(needed("comment", members)?)?;
+    no_other(&["comment"], members)?;
+    Ok(Op::Comment)
+}
+
+/// `assert`.
+fn read_assert(alloc: Global, members: &Map<String, Value>) -> Result<Op, OpFault>
+    ensures { Reads op_of result (model.read_assert (members_view members.now.entries)) }
+{
+    let lock = read_id(alloc, needed("lock", members)?)?;
+    no_other(&["lock"], members)?;
+    Ok(Op::Assert { lock })
+}
+
+/// What stands behind `op`.
+fn read_members(
+    alloc: Global,
+    verb: Verb,
+    schema: &Schema,
+    names: &Names,
+    members: &Map<String, Value>,
+) -> Result<Op, OpFault>
+    ensures { Reads op_of result
+        (model.read_members schema.now names.now (members_view members.now.entries)
+        (verb_of verb)) }
+{
+    match verb {
+        Verb::OnTable(verb) => read_on_table(alloc, verb, schema, names, members),
+        Verb::Commit => read_commit(members),
+        Verb::Abort => read_abort(members),
+        Verb::Comment => read_comment(members),
+        Verb::Assert => read_assert(alloc, members),
+    }
+}
+
+/// An operation on a database of the schema (RFC 7047, section 5.2). `names` are the identifiers
+/// that the names of the transaction stand for.
+///
+/// The first of these faults is the answer: an object with a string `op`, else `syntax error`; an
+/// `op` that is none of the ten (`unknown operation`); then its members, as below from left to
+/// right, where one that has to be there and isn't, or has another JSON kind, is `syntax error`; and
+/// last a member that isn't one of them (`syntax error`).
+///
+/// - `insert`: `table`, `row`, [`uuid-name`], an id;
+/// - `select`: `table`, `where`, [`columns`];
+/// - `update`: `table`, `where`, `row`;
+/// - `mutate`: `table`, `where`, `mutations`;
+/// - `delete`: `table`, `where`;
+/// - `wait`: `table`, `where`, [`columns`], `until`, `rows`, [`timeout`], an integer of at least 0;
+/// - `commit`: `durable`;
+/// - `abort`;
+/// - `comment`: `comment`, a string;
+/// - `assert`: `lock`, an id.
+///
+/// Those in brackets may be left out. A name of a table that the schema doesn't have is `unknown
+/// table`; `columns` names none twice, else `syntax error`, and left out stands for all columns with
+/// `_uuid` and `_version`. The faults of `row`, `where` and `mutations` are those of `read_row`,
+/// `read_clause` and `read_mutation`, from the front; those of `rows` are by row and in it by name:
+/// `unknown column`, and what `read_by_kind` says. `Memory` says nothing of the operation.
+///
+/// O(log n) comparisons of names for each name, O(m²) comparisons of places for m names in
+/// `columns`, of which the first 259 repeat one at the latest, and what the values take.
+#[tactic(auto, unfolding(crate::specs::Operation::read_op))]
+pub fn read_op(alloc: Global, value: &Value, schema: &Schema, names: &Names) -> Result<Op, OpFault>
+    ensures { Reads op_of result (model.read_op schema.now names.now (view value.now)) }
+{
+    let members = read_object(value)?;
+    let name = read_text(needed("op", members)?)?;
+    let verb = verb_named(name).ok_or(OpFault::Failed(Error::UnknownOperation))?;
+    read_members(alloc, verb, schema, names, members)
+}
