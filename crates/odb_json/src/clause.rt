@@ -89,7 +89,7 @@ fn read_function(column: &ColType, value: &Value) -> Result<Function, OpFault>
 /// column's name, a string (`syntax error`) that the table has (`unknown column`); the function, one
 /// of `<`, `<=`, `==`, `!=`, `>=`, `>`, `includes` and `excludes`, of which `<`, `<=`, `>=` and `>`
 /// are for scalars of integers alone, else `syntax error`; and last the faults of the value, as
-/// `read_by_kind` says them.
+/// `read_by_kind` says them. `Memory` may come in place of any of these.
 ///
 /// O(log c) comparisons of names for c columns, and what `read_by_kind` takes.
 pub fn read_clause(

@@ -104,7 +104,16 @@ fn distinct_columns(
     Ok(columns)
 }
 
-/// `columns` of `select` and `wait`: all where it is not given.
+/// The member `columns` of `select`, of `wait` or of a monitor's request: the columns that its
+/// strings name, in their order, and where it is left out `_uuid`, `_version` and each declared
+/// column by ascending name (RFC 7047, section 5.2.2).
+///
+/// The first of these faults is the answer: an array, else `syntax error`; then from the front a
+/// string (`syntax error`) that names a column of the table (`unknown column`) and stands for the
+/// first time (`syntax error`). `Memory` may come in place of any of these.
+///
+/// O(log c) comparisons of names for each of n names and c columns, and O(n²) of places, where a
+/// name is repeated by the 259th at the latest.
 pub fn read_columns(
     alloc: Global,
     table: &TableSchema,

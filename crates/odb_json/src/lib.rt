@@ -15,6 +15,7 @@ mod row;
 mod value;
 
 pub use clause::read_clause;
+pub use column::read_columns;
 pub use fault::OpFault;
 pub use mutation::read_mutation;
 pub use names::Names;

@@ -155,7 +155,8 @@ fn read_operand(
 /// can change (`constraint violation` for `_uuid`, `_version` and an immutable one); the mutator,
 /// else `syntax error`: `+=`, `-=`, `*=`, `/=` or `%=` where the type is of integers and no map,
 /// `insert` or `delete` where it is no scalar; and last the faults of the value, as `read_by_kind`
-/// says them: for arithmetic of one integer, for `delete` of a map also of a set of keys.
+/// says them: for arithmetic of one integer, for `delete` of a map also of a set of keys. `Memory`
+/// may come in place of any of these.
 ///
 /// O(log c) comparisons of names for c columns, and what `read_by_kind` takes.
 pub fn read_mutation(

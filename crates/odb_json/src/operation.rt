@@ -427,13 +427,12 @@ fn read_members(
 /// - `assert`: `lock`, an id.
 ///
 /// Those in brackets may be left out. A name of a table that the schema doesn't have is `unknown
-/// table`; `columns` names none twice, else `syntax error`, and left out stands for all columns with
-/// `_uuid` and `_version`. The faults of `row`, `where` and `mutations` are those of `read_row`,
-/// `read_clause` and `read_mutation`, from the front; those of `rows` are by row and in it by name:
-/// `unknown column`, and what `read_by_kind` says. `Memory` says nothing of the operation.
+/// table`. The faults of `row`, `where`, `mutations` and `columns` are those of `read_row`,
+/// `read_clause`, `read_mutation` and `read_columns`, from the front; those of `rows` are by row and
+/// in it by ascending name: `unknown column`, and what `read_by_kind` says. `Memory` may come in
+/// place of any of these.
 ///
-/// O(log n) comparisons of names for each name, O(m²) comparisons of places for m names in
-/// `columns`, of which the first 259 repeat one at the latest, and what the values take.
+/// O(log n) comparisons of names for each name, and what `read_columns` and the values take.
 #[tactic(auto, unfolding(crate::specs::Operation::read_op))]
 pub fn read_op(alloc: Global, value: &Value, schema: &Schema, names: &Names) -> Result<Op, OpFault>
     ensures { Reads op_of result (model.read_op schema.now names.now (view value.now)) }

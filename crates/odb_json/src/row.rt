@@ -99,7 +99,7 @@ fn read_cells(
 /// The first of these faults is the answer: an object, else `syntax error`; then by ascending name
 /// a column that the table doesn't have (`unknown column`), or that may not be written, as `_uuid`,
 /// `_version`, and in `update` an immutable one (`constraint violation`); and the faults of its
-/// value, as `read_value` says them.
+/// value, as `read_value` says them. `Memory` may come in place of any of these.
 ///
 /// O(n log c) comparisons of names for n members and c columns, and what `read_value` takes.
 pub fn read_row(

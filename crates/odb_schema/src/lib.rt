@@ -9,8 +9,8 @@ mod text;
 mod write;
 
 pub use fault::SchemaFault;
-pub use read::member;
 pub use notation::{parse_uuid, tagged, text_in, write_uuid, write_value};
+pub use read::member;
 pub use schema::{Column, ColumnId, Schema, TableId, TableSchema};
 pub use text::{is_id, is_name};
 

@@ -27,9 +27,6 @@ abbrev pub Front : Type 0 → Type 0
 Front A = List A × Option Error
 
 module _ {A : Type 0} where
-  abbrev pub no_fault : List A → Front A
-  no_fault xs = (xs, None)
-
   -- what follows, unless there was a fault already
   abbrev pub followed : List A → Option Error → Front A → Front A
   followed xs None rest = (xs ++ rest.0, rest.1)
