@@ -335,6 +335,19 @@ fn faults_of_types_in_order(rt: HostRuntime) -> Result<(), Fail> {
         ("{'key':{'type':'string','minInteger':'1'}}", 2),
         ("{'key':{'type':'string','minLength':3,'maxLength':2}}", 4),
         ("{'key':{'type':'string','refTable':'Z'}}", 4),
+        ("{'key':{'type':'real','enum':null}}", 4),
+        (
+            "{'key':{'type':'integer','maxInteger':'a','minLength':1}}",
+            2,
+        ),
+        (
+            "{'key':{'type':'integer','minLength':1,'maxLength':'a'}}",
+            4,
+        ),
+        (
+            "{'key':{'type':'string','maxLength':'a','refTable':'Z'}}",
+            2,
+        ),
         ("{'key':{'type':'uuid','refTable':'Z','refType':5}}", 5),
         ("{'key':{'type':'uuid','refType':'weak'}}", 4),
     ] {
