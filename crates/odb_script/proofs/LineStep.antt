@@ -37,6 +37,6 @@ pub carried : (n : ℕ) (step : Option (Script × List ℕ)) (new : Script) (tex
     → step ≡ Some (new, text) → OnOk r (Appends before after text) → AppendsFront before after text → IfErr r IsOfWriting → CarriesOut n step new r before after
 carried n step new text (Ok done) before after is ok front err = (text, is, ok)
 carried n step new text (Err (BadCommand k)) before after is ok front err = absurd err
-carried n step new text (Err Memory) before after is ok front err = ((new, text), is, front)
+carried n step new text (Err Memory) before after is ok front err = absurd err
 carried n step new text (Err Read) before after is ok front err = absurd err
 carried n step new text (Err Write) before after is ok front err = ((new, text), is, front)

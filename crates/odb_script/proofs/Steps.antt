@@ -5,11 +5,6 @@ use Rattle.odb_core.specs.Service.{Service}
 use Rattle.odb_script.specs.Script.{Script, dry_all, dry_each, hand_each, hand_on}
 use Rattle.odb_script.specs.Represented.Steps.{Does}
 
--- what follows from success
-pub on_ok : {A E P Q : Type 0} → (r : Result A E) → (P → Q) → OnOk r P → OnOk r Q
-on_ok (Ok x) f p = f p
-on_ok (Err e) f p = tt
-
 module _ (h : Service) (n : List ℕ) (s : ℕ) where
   -- all of these messages are handed on behind a text
   abbrev pub handed_from : List Data → Script → List ℕ → Script × List ℕ

@@ -129,9 +129,7 @@ fn print<W: Write>(text: &[u8], writer: &mut Watched<W>) -> Result<(), RunFault>
 {
     if writer.write_all(text).is_ok() && writer.flush().is_ok() {
         Ok(())
-    } else if writer.failed() {
-        Err(RunFault::Write)
     } else {
-        Err(RunFault::Memory)
+        Err(RunFault::Write)
     }
 }

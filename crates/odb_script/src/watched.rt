@@ -1,5 +1,5 @@
 //! Readers and writers that keep whether a call of theirs failed.
-ghost use Rattle.std.specs.Prelude.{◌≡◌, Bool, true, false, ◌||◌, List, length, IfSome, IfOk, ◌==◌, ◌&&◌, not, is_err, OnOk};
+ghost use Rattle.std.specs.Prelude.{◌≡◌, Bool, true, false, ◌||◌, List, length, IfSome, IfOk, ◌==◌, ◌&&◌, not, is_err, OnErr, OnOk};
 ghost use Rattle.std.specs.Io.{ReadsAtMost, WritesAtMost, StartsWith};
 ghost use Rattle.std.specs.Io.KnownBytes.{Appends, Keeps, ReadConsumes, WriteAppends};
 ghost use Rattle.odb_script.specs.Represented.Watched.{has_failed, took_none, watched};
@@ -70,6 +70,7 @@ impl<W: Write> Write for Watched<W> {
     fn write_all(&mut self, buf: &[u8]) -> Result<()>
         ensures bytes { OnOk result (Appends (W.contents (watched self.old)) (W.contents (watched self.new)) buf.now) }
         ensures front { AppendsFront (W.contents (watched self.old)) (W.contents (watched self.new)) buf.now }
+        ensures failed { OnErr result (has_failed self.new ≡ true) }
     {
         let mut rest = buf;
         for _ in 0..u64::MAX {
@@ -84,6 +85,7 @@ impl<W: Write> Write for Watched<W> {
                 },
             }
         }
+        self.has_failed = true;
         Err(Error::from(ErrorKind::TimedOut))
     }
 

@@ -1,1 +1,7 @@
 pub mod Changes
+mod Drafts
+mod KeyedMaps
+mod Keys
+mod Overlays
+mod SameValues
+mod TableChanges

@@ -1,2 +1,4 @@
 pub mod Change
 pub mod Database
+pub mod Draft
+pub mod Represented

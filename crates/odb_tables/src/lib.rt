@@ -1,2 +1,21 @@
 //! Databases: tables of rows, and changes of them.
 #![tactic(auto)]
+
+mod change_set;
+mod database;
+mod draft;
+mod key;
+mod overlay;
+mod row_change;
+mod table;
+mod table_change;
+
+pub use change_set::ChangeSet;
+pub use database::Db;
+pub use draft::Draft;
+pub use row_change::RowChange;
+pub use table::Table;
+pub use table_change::TableChange;
+
+#[cfg(test)]
+mod tests;

@@ -33,7 +33,7 @@ IsOfReading Write = ⊥
 -- what a write that fails answers
 abbrev pub IsOfWriting : RunFault → Type 0
 IsOfWriting (BadCommand k) = ⊥
-IsOfWriting Memory = ⊤
+IsOfWriting Memory = ⊥
 IsOfWriting Read = ⊥
 IsOfWriting Write = ⊤
 

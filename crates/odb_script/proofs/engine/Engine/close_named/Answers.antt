@@ -2,14 +2,14 @@ use Rattle.std.proofs.Common.{rules, ◌≡◌, ◌++◌, OnOk, [], Some, None, 
 use Rattle.odb_core.specs.Server.{served_by}
 use Rattle.odb_script.specs.Script.{Named, line_of, shut}
 use Rattle.odb_script.proofs.Opening.{IsPlaceOf, closes, gone_away}
-use Rattle.odb_script.proofs.Steps.{on_ok}
+use Rattle.std.proofs.lemmas.Result.{on_ok_weaker}
 use Rattle.odb_script.proofs.engine.Engine.close_named.Goals as goal
 
 pub returns-in_default-clause-done : goal.returns-in_default-clause-done
 returns-in_default-clause-done c =
     let none : IsPlaceOf c.args.name.now c.args.self.now.script.sessions None = search rules in
     let text : OnOk c.print_line.result (c.print_line.new.text.items ≡ c.args.text.now.items ++ line_of c.args.name.now (codes "!gone")) = search rules in
-    on_ok c.print_line.result (λ e. gone_away (served_by c.args.self.now.schema) c.args.name.now (λ (x : Named) q. (shut (served_by c.args.self.now.schema) x.name x.session q, [])) c.args.self.now.script _ _ none e) text
+    on_ok_weaker c.print_line.result (λ e. gone_away (served_by c.args.self.now.schema) c.args.name.now (λ (x : Named) q. (shut (served_by c.args.self.now.schema) x.name x.session q, [])) c.args.self.now.script _ _ none e) text
 
 pub returns-clause-done : goal.returns-clause-done
 returns-clause-done c =
@@ -17,4 +17,4 @@ returns-clause-done c =
     let at : c.index.result.now ≡ slice_index_or c.args.self.now.script.sessions c.in-Some.place c.index.result.now = search rules in
     let number : c.behind-self.inside.session ≡ c.index.result.now.session = search rules in
     let ended : OnOk c.shut.result (c.shut.new.self.script ≡ shut (served_by c.args.self.now.schema) c.args.name.now c.behind-self.inside.session c.args.self.now.script) = search rules in
-    on_ok c.shut.result (λ e. closes (served_by c.args.self.now.schema) c.args.name.now c.args.self.now.script c.shut.new.self.script c.args.text.now.items c.in-Some.place c.behind-self.inside.session c.index.result.now place at number e) ended
+    on_ok_weaker c.shut.result (λ e. closes (served_by c.args.self.now.schema) c.args.name.now c.args.self.now.script c.shut.new.self.script c.args.text.now.items c.in-Some.place c.behind-self.inside.session c.index.result.now place at number e) ended

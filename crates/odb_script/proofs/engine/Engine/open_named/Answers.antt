@@ -8,7 +8,7 @@ use Rattle.odb_script.specs.Represented.Names.{AreApart}
 use Rattle.odb_script.specs.Represented.Steps.{Does}
 use Rattle.odb_script.proofs.Opening.{IsPlaceOf, absent, opens_full, opens_new, opens_there, script_of}
 use Rattle.odb_script.proofs.Places.{apart_end}
-use Rattle.odb_script.proofs.Steps.{on_ok}
+use Rattle.std.proofs.lemmas.Result.{on_ok_weaker}
 use Rattle.odb_script.proofs.engine.Engine.open_named.Goals as goal
 
 pub returns-then-is_some-clause-done : goal.returns-then-is_some-clause-done
@@ -19,7 +19,7 @@ returns-then-is_some-clause-done c =
     let some : is_some c.place_of.result ≡ true = search rules in
     let text : OnOk c.print_line.result (c.print_line.new.text.items ≡ c.args.text.now.items ++ line_of c.args.name.now (codes "!open")) = search rules in
     subst (λ (v : Running). OnOk c.print_line.result (Does (open_named (served_by v.schema) c.args.name.now) v.script c.args.text.now.items v.script c.print_line.new.text.items)) c.self.view_is
-    (on_ok c.print_line.result (λ e. opens_there (served_by old.core.schema) c.args.name.now p c.place_of.result _ _ there some e) text)
+    (on_ok_weaker c.print_line.result (λ e. opens_there (served_by old.core.schema) c.args.name.now p c.place_of.result _ _ there some e) text)
 
 pub invariant_of-self-in-Ok : goal.invariant_of-self-in-Ok
 invariant_of-self-in-Ok c =
@@ -51,5 +51,5 @@ returns-in-Err-TooMany-clause-done c =
     let same : c.open.new.self ≡ old.core = search rules in
     let text : OnOk c.print_line-in-Err-TooMany.result (c.print_line-in-Err-TooMany.new.text.items ≡ c.args.text.now.items ++ line_of c.args.name.now (codes "!toomany")) = search rules in
     subst (λ (v : Running). OnOk c.print_line-in-Err-TooMany.result (Does (open_named (served_by v.schema) c.args.name.now) v.script c.args.text.now.items (script_of c.open.new.self old.sessions.items old.inserts) c.print_line-in-Err-TooMany.new.text.items)) c.self.view_is
-    (on_ok c.print_line-in-Err-TooMany.result (λ e. subst (λ q. Does (open_named (served_by old.core.schema) c.args.name.now) (script_of old.core old.sessions.items old.inserts) c.args.text.now.items (script_of q old.sessions.items old.inserts) c.print_line-in-Err-TooMany.new.text.items) (sym same)
+    (on_ok_weaker c.print_line-in-Err-TooMany.result (λ e. subst (λ q. Does (open_named (served_by old.core.schema) c.args.name.now) (script_of old.core old.sessions.items old.inserts) c.args.text.now.items (script_of q old.sessions.items old.inserts) c.print_line-in-Err-TooMany.new.text.items) (sym same)
     (opens_full old.core old.sessions.items old.inserts c.args.name.now c.place_of.result c.args.text.now.items c.print_line-in-Err-TooMany.new.text.items there none full e)) text)

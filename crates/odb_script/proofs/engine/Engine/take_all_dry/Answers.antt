@@ -4,7 +4,7 @@ use Rattle.odb_script.specs.Running.{Running}
 use Rattle.odb_script.specs.Script.{Script, dry_all}
 use Rattle.odb_script.specs.Represented.Dry.{all_dry}
 use Rattle.odb_script.proofs.AllDry.{dry_all_is}
-use Rattle.odb_script.proofs.Steps.{on_ok}
+use Rattle.std.proofs.lemmas.Result.{on_ok_weaker}
 use Rattle.odb_script.proofs.engine.Engine.take_all_dry.Goals as goal
 
 pub returns-clause-done : goal.returns-clause-done
@@ -17,7 +17,7 @@ returns-clause-done c =
     let done : OnOk c.take_all_dry.result (all_dry c.as_slice.result.now (old.core, t) ≡ (q, u)) = search rules in
     subst (λ (v : Running). OnOk c.take_all_dry.result (dry_all (served_by v.schema) (v.script, t) ≡ (let r : Script × List ℕ = (record { world = q.world; sessions = old.sessions.items; opened_so_far = q.opened; inserts = old.inserts; moment = 0 }, u) in r)))
     c.self.view_is
-    (on_ok c.take_all_dry.result (λ e. (dry_all_is old.core.schema c.as_slice.result.now p t q u c.as_slice.ensures.value e).0) done)
+    (on_ok_weaker c.take_all_dry.result (λ e. (dry_all_is old.core.schema c.as_slice.result.now p t q u c.as_slice.ensures.value e).0) done)
 
 pub returns-clause-schema : goal.returns-clause-schema
 returns-clause-schema c =
@@ -28,4 +28,4 @@ returns-clause-schema c =
     let p : Script = record { world = old.core.world; sessions = old.sessions.items; opened_so_far = old.core.opened; inserts = old.inserts; moment = 0 } in
     let done : OnOk c.take_all_dry.result (all_dry c.as_slice.result.now (old.core, t) ≡ (q, u)) = search rules in
     subst (λ (v : Running). OnOk c.take_all_dry.result (q.schema ≡ v.schema)) c.self.view_is
-    (on_ok c.take_all_dry.result (λ e. (dry_all_is old.core.schema c.as_slice.result.now p t q u c.as_slice.ensures.value e).1) done)
+    (on_ok_weaker c.take_all_dry.result (λ e. (dry_all_is old.core.schema c.as_slice.result.now p t q u c.as_slice.ensures.value e).1) done)

@@ -10,7 +10,7 @@ use Rattle.odb_script.specs.Script.{Named, Script, at_ending, hand_each, line_of
 use Rattle.odb_script.specs.Represented.Steps.{Does}
 use Rattle.odb_script.proofs.Opening.{IsPlaceOf, acts, gone_away, script_of, standing}
 use Rattle.odb_script.proofs.Places.{apart_set}
-use Rattle.odb_script.proofs.Steps.{on_ok}
+use Rattle.std.proofs.lemmas.Result.{on_ok_weaker}
 use Rattle.odb_script.proofs.Taking.{took_in}
 use Rattle.odb_script.proofs.engine.Engine.take_in.Goals as goal
 
@@ -18,7 +18,7 @@ pub returns-in_default-clause-done : goal.returns-in_default-clause-done
 returns-in_default-clause-done c =
     let none : IsPlaceOf c.args.name.now c.args.self.now.script.sessions None = search rules in
     let text : OnOk c.print_line.result (c.print_line.new.text.items ≡ c.args.text.now.items ++ line_of c.args.name.now (codes "!gone")) = search rules in
-    on_ok c.print_line.result (λ e. gone_away (served_by c.args.self.now.schema) c.args.name.now (λ (x : Named) q. take_in (served_by c.args.self.now.schema) x c.args.bytes.now q) c.args.self.now.script c.args.text.now.items c.print_line.new.text.items none e) text
+    on_ok_weaker c.print_line.result (λ e. gone_away (served_by c.args.self.now.schema) c.args.name.now (λ (x : Named) q. take_in (served_by c.args.self.now.schema) x c.args.bytes.now q) c.args.self.now.script c.args.text.now.items c.print_line.new.text.items none e) text
 
 pub invariant_of-self : goal.invariant_of-self
 invariant_of-self c =
@@ -63,10 +63,10 @@ returns-clause-done c =
     let any : OnOk c.end.result ((e : Ending) → fault_of e ≡ c.in_ok-fed.fed.fault → at_ending (served_by c.hand_each.new.self.schema) n s e (c.hand_each.new.self.script, c.hand_each.new.text.items) ≡ (c.end.new.self.script, c.end.new.text.items)) = search rules in
     let ended : OnOk c.end.result (at_ending h n s (messages (x.bytes ++ bytes)).1 (c.hand_each.new.self.script, c.hand_each.new.text.items) ≡ (c.end.new.self.script, c.end.new.text.items)) =
     subst (λ (a : Schema). OnOk c.end.result (at_ending (served_by a) n s (messages (x.bytes ++ bytes)).1 (c.hand_each.new.self.script, c.hand_each.new.text.items) ≡ (c.end.new.self.script, c.end.new.text.items))) schema
-    (on_ok c.end.result (λ f. f (messages (x.bytes ++ bytes)).1 fault) any) in
+    (on_ok_weaker c.end.result (λ f. f (messages (x.bytes ++ bytes)).1 fault) any) in
     let a = acts h n (λ y q. take_in h y bytes q) p k x place at in
     subst (λ (v : Running). OnOk c.end.result (Does (perform (served_by v.schema) (piece n bytes)) v.script c.args.text.now.items c.end.new.self.script c.end.new.text.items)) c.self.view_is
-    (on_ok c.end.result (λ e.
+    (on_ok_weaker c.end.result (λ e.
     let done : Does (take_in h x bytes) p c.args.text.now.items c.end.new.self.script c.end.new.text.items =
     took_in h x n bytes s k p c.hand_each.new.self.script c.end.new.self.script (slice_set xs k c.feed.new.self) c.args.text.now.items c.hand_each.new.text.items c.end.new.text.items (map message_data c.in_ok-fed.fed.messages.items)
     c.self.invariant st.2 number st.1 st.0 (ap (slice_set xs k) fed) found does e in

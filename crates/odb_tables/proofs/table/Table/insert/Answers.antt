@@ -1,0 +1,13 @@
+use Rattle.std.proofs.Common.{rules, Some, ◌∙◌}
+use Rattle.std.specs.Arc.{arc_value}
+use Rattle.std.specs.Ordering.{eq_by_cmp}
+use Rattle.indexmap.specs.IndexMap.{Updates}
+use Rattle.odb_atoms.specs.FinMap as finite
+use Rattle.odb_atoms.specs.Uuid.{uuid_cmp}
+use Rattle.odb_tables.proofs.KeyedMaps.{inserted}
+use Rattle.odb_tables.proofs.table.Table.insert.Goals as goal
+
+pub returns-in-Ok-clause-ok : goal.returns-in-Ok-clause-ok
+returns-in-Ok-clause-ok c =
+    let changed : Updates (eq_by_cmp uuid_cmp) c.self.inside.rows c.insert.new.self c.of.result (Some c.args.row) = search rules in
+    inserted arc_value c.self.inside.rows c.insert.new.self c.of.result c.args.row changed ∙ (λ i. finite.insert (c.self.view_is i) (c.of.ensures i) (arc_value c.args.row))

@@ -1,0 +1,7 @@
+pub mod Draft
+pub mod Key
+pub mod Keyed
+pub mod Overlay
+pub mod RowChange
+pub mod Table
+pub mod TableChange

@@ -1,0 +1,84 @@
+//! Databases: the tables of a schema, in its order (RFC 7047, section 3.2).
+ghost use Rattle.std.specs.Prelude.{◌≡◌, IfOk, length, replicate, slice_get};
+ghost use Rattle.std.specs.Option.{option_copied};
+ghost use Rattle.odb_atoms.specs.FinMap as finite;
+ghost use Rattle.odb_atoms.specs.Represented.Atom.{uuid_of};
+ghost use Rattle.odb_tables.specs.Database.{table_at};
+
+use crate::table::Table;
+use odb_atoms::Row;
+use odb_schema::TableId;
+use std::alloc::{AllocError, Global};
+use std::hash::RandomState;
+use std::marker::Model;
+use uuid::Uuid;
+
+/// The tables of a database, in the order of the schema's.
+#[derive(Drop)]
+pub struct Db {
+    hashing: RandomState,
+    tables: Vec<Table>,
+}
+
+impl Model for Db {
+    ghost use Rattle.odb_tables.specs.Database as model;
+    ghost use Rattle.odb_tables.specs.Database.{db_code};
+
+    ghost Value = { model.Db };
+
+    ghost coded = { db_code };
+
+    ghost view = { λ d. d.tables.items };
+}
+
+impl Db {
+    /// A database of so many tables, all of them without rows. An error says that memory was refused.
+    pub fn new(alloc: Global, tables: usize, hashing: RandomState) -> Result<Db, AllocError>
+        ensures { IfOk result (λ db. db ≡ replicate tables finite.empty) }
+    {
+        let mut list = Vec::with_capacity(alloc, tables)?;
+        for _ in 0..tables {
+            list.push(Table::new(alloc, hashing))?;
+        }
+        Ok(Db {
+            hashing,
+            tables: list,
+        })
+    }
+
+    /// Its tables, in the order of the schema's. O(1).
+    pub fn tables(&self) -> &[Table]
+        ensures { result.now ≡ self.now }
+    {
+        self.tables.as_slice()
+    }
+
+    /// A table, if the database has it. O(1).
+    pub fn table(&self, table: TableId) -> Option<&Table>
+        ensures { option_copied result ≡ slice_get self.now table }
+    {
+        self.tables.get(table.place())
+    }
+
+    /// The row of an identifier, if the table has one. O(1), without memory.
+    pub fn get(&self, table: TableId, uuid: Uuid) -> Option<&Row>
+        ensures { option_copied result ≡ finite.get (table_at self.now table) (uuid_of uuid) }
+    {
+        match self.table(table) {
+            Some(table) => table.get(uuid),
+            None => None,
+        }
+    }
+
+    /// By what its tables hash. O(1).
+    pub(crate) fn hashing(&self) -> RandomState {
+        self.hashing
+    }
+
+    /// How many tables it has. O(1).
+    pub fn len(&self) -> usize
+        ensures { result ≡ length self.now }
+    {
+        self.tables.len()
+    }
+}

@@ -1,0 +1,77 @@
+//! Identifiers as the keys of tables.
+ghost use Rattle.std.specs.Prelude.{◌≡◌};
+ghost use Rattle.std.specs.Hash.{u128};
+ghost use Rattle.std.specs.Ordering.{eq_by_cmp};
+ghost use Rattle.odb_atoms.specs.Represented.Atom.{uuid_of};
+ghost use Rattle.odb_atoms.specs.Uuid.{uuid_cmp};
+ghost use Rattle.odb_tables.specs.Represented.Key.{keys_alike, keys_equivalent, keys_partially_equivalent};
+
+use std::hash::{Hash, Hasher};
+use std::marker::Model;
+use uuid::Uuid;
+
+/// An identifier, by the number that it is.
+#[derive(Clone, Copy, Debug)]
+pub(crate) struct Key {
+    number: u128,
+}
+
+impl Model for Key {
+    ghost use Rattle.std.specs.Prelude.{◌^◌, nat_lt, T};
+    ghost use Rattle.odb_atoms.specs.Uuid.{Uuid, uuid_code, uuid_from};
+    ghost use Rattle.odb_tables.specs.Represented.Key.{number-uuid_from};
+
+    ghost Value = { Uuid };
+
+    ghost coded = { uuid_code };
+
+    ghost view = { λ k. uuid_from k.number };
+
+    ghost invariant = { λ k. T (nat_lt k.number (2 ^ 128)) };
+
+    ghost inverse = { λ u. record { number = u.number } };
+
+    ghost inverse_ok = { λ k h. λ i. record { number = number-uuid_from k.number h i } };
+}
+
+impl Key {
+    /// The identifier as a key. O(1).
+    pub(crate) fn of(uuid: Uuid) -> Key
+        ensures { result ≡ uuid_of uuid }
+    {
+        Key {
+            number: uuid.as_u128(),
+        }
+    }
+
+    /// The identifier. O(1).
+    pub(crate) fn uuid(self) -> Uuid
+        ensures { uuid_of result ≡ self }
+    {
+        Uuid::from_u128(self.number)
+    }
+}
+
+impl PartialEq for Key {
+    ghost eq = { eq_by_cmp uuid_cmp };
+
+    ghost laws = { keys_partially_equivalent };
+
+    fn eq(&self, other: &Key) -> bool {
+        self.number == other.number
+    }
+}
+
+impl Eq for Key {
+    ghost laws = { keys_equivalent };
+}
+
+impl Hash for Key {
+    ghost hash_input = { λ u. u128 u.number };
+
+    ghost respects_eq = { keys_alike.fed };
+
+    fn hash<H: Hasher>(&self, state: &mut H) {
+        self.number.hash(state);
+    }
+}

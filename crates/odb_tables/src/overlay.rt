@@ -1,0 +1,104 @@
+//! What a draft made of the rows of a table that it touched.
+ghost use Rattle.std.specs.Prelude.{◌≡◌, ◌++◌, IfOk, OnOk, OnErr, option_map, option_to_list};
+ghost use Rattle.std.specs.Arc.{arc_value};
+ghost use Rattle.std.specs.Option.{option_copied};
+ghost use Rattle.odb_atoms.specs.FinMap as finite;
+ghost use Rattle.odb_atoms.specs.FinSet as set;
+ghost use Rattle.odb_tables.specs.Represented.Draft.{overlaid, taken_out};
+ghost use Rattle.odb_tables.specs.Change.{change};
+ghost use Rattle.odb_atoms.specs.Represented.Atom.{uuid_of};
+
+use crate::key::Key;
+use crate::row_change::RowChange;
+use crate::table::Table;
+use crate::table_change::TableChange;
+use indexmap::IndexMap;
+use odb_atoms::Row;
+use std::alloc::{AllocError, Global};
+use std::hash::RandomState;
+use std::marker::Model;
+use std::sync::Arc;
+use uuid::Uuid;
+
+/// The rows of a table that a draft touched: what each is now, or that it was taken out.
+#[derive(Drop)]
+pub(crate) struct Overlay {
+    rows: IndexMap<Key, Option<Arc<Row>>, RandomState>,
+}
+
+impl Model for Overlay {
+    ghost use Rattle.odb_tables.specs.Represented.Overlay.{Touched, row_of, touched_code};
+    ghost use Rattle.odb_tables.specs.Represented.Keyed.{keyed};
+
+    ghost Value = { Touched };
+
+    ghost coded = { touched_code };
+
+    ghost view = { λ o. keyed row_of o.rows };
+}
+
+impl Overlay {
+    /// No row is touched. O(1), without memory.
+    pub(crate) fn new(alloc: Global, hashing: RandomState) -> Overlay
+        ensures { result ≡ finite.empty }
+    {
+        Overlay {
+            rows: IndexMap::with_hasher(alloc, hashing),
+        }
+    }
+
+    /// What the row of an identifier is now, if it was touched: `Some(None)` where it was taken out.
+    /// O(1), without memory.
+    pub(crate) fn get(&self, uuid: Uuid) -> Option<Option<&Row>>
+        ensures { option_map option_copied result ≡ finite.get self.now (uuid_of uuid) }
+    {
+        match self.rows.get(&Key::of(uuid)) {
+            None => None,
+            Some(None) => Some(None),
+            Some(Some(row)) => Some(Some(&**row)),
+        }
+    }
+
+    /// Lets the row of an identifier be this one, or be taken out. O(1), but for growth. An error says
+    /// that memory was refused; the overlay is as it was then.
+    pub(crate) fn put(&mut self, uuid: Uuid, row: Option<Arc<Row>>) -> Result<(), AllocError>
+        ensures ok { OnOk result (self.new ≡ finite.insert self.old (uuid_of uuid) (option_map arc_value row)) }
+        ensures err { OnErr result (self.new ≡ self.old) }
+    {
+        match self.rows.insert(Key::of(uuid), row) {
+            Ok(_) => Ok(()),
+            Err(_) => Err(AllocError),
+        }
+    }
+    /// Whether the row of an identifier was taken out. O(1), without memory.
+    pub(crate) fn is_removed(&self, uuid: Uuid) -> bool
+        ensures { result ≡ set.contains (taken_out self.now) (uuid_of uuid) }
+    {
+        match self.get(uuid) {
+            None => false,
+            Some(None) => true,
+            Some(Some(_)) => false,
+        }
+    }
+    /// What leads from the rows of the table to those that are over it. O(rows touched); an error says
+    /// that memory was refused.
+    pub(crate) fn changes(&self, alloc: Global, base: &Table) -> Result<TableChange, AllocError>
+        ensures { IfOk result (λ changes. changes ≡ change base.now (overlaid base.now self.now)) }
+    {
+        let mut rows = Vec::with_capacity(alloc, self.rows.len())?;
+        for (key, now) in &self.rows {
+            let change = RowChange::between(*key, base.share(*key), now.as_ref())?;
+            add(&mut rows, change)?;
+        }
+        Ok(TableChange::new(rows))
+    }
+}
+
+fn add(rows: &mut Vec<RowChange>, change: Option<RowChange>) -> Result<(), AllocError>
+    ensures { OnOk result (rows.new.items ≡ rows.old.items ++ option_to_list change) }
+{
+    match change {
+        Some(change) => Ok(rows.push(change)?),
+        None => Ok(()),
+    }
+}

@@ -1,0 +1,120 @@
+//! Changes of single rows.
+ghost use Rattle.std.specs.Prelude.{◌≡◌, ◌&&◌, IfOk, is_some, not, option_map};
+ghost use Rattle.std.specs.Option.{option_copied};
+ghost use Rattle.odb_atoms.specs.Represented.Atom.{uuid_of};
+ghost use Rattle.odb_atoms.specs.Uuid.{same_uuid};
+ghost use Rattle.odb_atoms.specs.Value.{same_values};
+ghost use Rattle.odb_tables.specs.Change.{changed_row};
+ghost use Rattle.odb_tables.specs.Represented.Overlay.{row_of};
+ghost use Rattle.odb_tables.specs.Represented.RowChange.{change_at};
+
+use crate::key::Key;
+use odb_atoms::{Row, Value};
+use std::alloc::AllocError;
+use std::marker::Model;
+use std::sync::Arc;
+use uuid::Uuid;
+
+/// What a row of a table was before a change and what it is after it, or that there was or is none. The
+/// two differ.
+#[derive(Drop)]
+pub struct RowChange {
+    key: Key,
+    old: Option<Arc<Row>>,
+    new: Option<Arc<Row>>,
+}
+
+impl Model for RowChange {
+    ghost use Rattle.std.specs.Prelude.{Option};
+    ghost use Rattle.odb_atoms.specs.Row.{Row};
+    ghost use Rattle.odb_atoms.specs.Uuid.{Uuid};
+    ghost use Rattle.odb_tables.specs.Represented.Overlay.{row_of};
+    ghost use Rattle.odb_tables.specs.Represented.RowChange.{entry_code};
+
+    ghost Value = { Uuid × (Option Row × Option Row) };
+
+    ghost coded = { entry_code };
+
+    ghost view = { λ c. (c.key, (row_of c.old, row_of c.new)) };
+}
+
+impl RowChange {
+    /// What leads from the old row to the new one; `None` where they are the same. An error says that
+    /// memory was refused.
+    pub(crate) fn between(
+        key: Key,
+        old: Option<&Arc<Row>>,
+        new: Option<&Arc<Row>>,
+    ) -> Result<Option<RowChange>, AllocError>
+        ensures { IfOk result (λ change. change ≡ change_at key (row_of (option_copied old.entry)) (row_of (option_copied new.entry))) }
+    {
+        if are_same(old, new) {
+            return Ok(None);
+        }
+        let old = share(old)?;
+        let new = share(new)?;
+        Ok(Some(RowChange { key, old, new }))
+    }
+
+    /// The row's identifier. O(1).
+    pub fn uuid(&self) -> Uuid
+        ensures { uuid_of result ≡ self.now.0 }
+    {
+        self.key.uuid()
+    }
+
+    /// The row before the change, if there was one. O(1).
+    pub fn old(&self) -> Option<&Row>
+        ensures { option_copied result ≡ self.now.1.0 }
+    {
+        match &self.old {
+            Some(row) => Some(&**row),
+            None => None,
+        }
+    }
+
+    /// The row after the change, if there is one. O(1).
+    pub fn new(&self) -> Option<&Row>
+        ensures { option_copied result ≡ self.now.1.1 }
+    {
+        match &self.new {
+            Some(row) => Some(&**row),
+            None => None,
+        }
+    }
+}
+
+/// The same row once more.
+fn share(row: Option<&Arc<Row>>) -> Result<Option<Arc<Row>>, AllocError>
+    ensures { IfOk result (λ shared. row_of shared ≡ row_of (option_copied row.entry)) }
+{
+    match row {
+        Some(row) => Ok(Some(row.clone()?)),
+        None => Ok(None),
+    }
+}
+
+/// Whether nothing changed.
+fn are_same(old: Option<&Arc<Row>>, new: Option<&Arc<Row>>) -> bool
+    ensures { result ≡ not (is_some (changed_row (row_of (option_copied old.entry)) (row_of (option_copied new.entry)))) }
+{
+    match (old, new) {
+        (None, None) => true,
+        (Some(old), Some(new)) => is_same(&**old, &**new),
+        _ => false,
+    }
+}
+
+/// Whether two rows are the same.
+fn is_same(old: &Row, new: &Row) -> bool
+    ensures { result ≡ (same_uuid old.now.version new.now.version && same_values old.now.columns new.now.columns) }
+{
+    Key::of(old.version()) == Key::of(new.version()) && are_equal(old.columns(), new.columns())
+}
+
+/// Whether the values are the same, one by one.
+fn are_equal(old: &[Value], new: &[Value]) -> bool
+    ensures { result ≡ same_values old.now new.now }
+{
+    old == new
+}

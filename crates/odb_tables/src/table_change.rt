@@ -1,0 +1,45 @@
+//! Changes of tables.
+ghost use Rattle.std.specs.Prelude.{◌≡◌};
+ghost use Rattle.odb_atoms.specs.FinMap as finite;
+ghost use Rattle.odb_tables.specs.Represented.TableChange.{AreDistinct};
+
+use crate::row_change::RowChange;
+use std::marker::Model;
+
+/// The rows by which two contents of a table differ, each of them once.
+#[derive(Drop)]
+pub struct TableChange {
+    rows: Vec<RowChange>,
+}
+
+impl Model for TableChange {
+    ghost use Rattle.odb_atoms.specs.FinMap as finite;
+    ghost use Rattle.odb_tables.specs.Change as model;
+    ghost use Rattle.odb_tables.specs.Represented.TableChange.{AreDistinct, changes_code};
+
+    ghost Value = { model.Changes };
+
+    ghost coded = { changes_code };
+
+    ghost view = { λ c. finite.from_entries c.rows.items };
+
+    ghost invariant = { λ c. AreDistinct c.rows.items };
+}
+
+impl TableChange {
+    /// Changes of rows, none of them twice.
+    pub(crate) fn new(rows: Vec<RowChange>) -> TableChange
+        requires { AreDistinct rows.items }
+        ensures { result ≡ finite.from_entries rows.items }
+    {
+        TableChange { rows }
+    }
+
+    /// The changes of its rows, in no order that is told. O(1).
+    pub fn rows(&self) -> &[RowChange]
+        ensures changes { finite.from_entries result.now ≡ self.now }
+        ensures distinct { AreDistinct result.now }
+    {
+        self.rows.as_slice()
+    }
+}
