@@ -1,12 +1,14 @@
 -- Operations keep databases of their schema.
-use Rattle.std.specs.Prelude.{◌≡◌, ℕ, suc, Bool, true, false, cond, not, ◌&&◌, ◌==◌, List, [], ◌∷◌, length, map as map_list, find, is_none, slice_set, zip, unwrap_or, Option, Some, None, option_and_then, option_map, Result, Ok, Err}
-use Rattle.std.specs.List.{list_all, enumerate_from}
+use Rattle.std.specs.Prelude.{◌≡◌, ℕ, Bool, true, false, cond, not, ◌&&◌, ◌==◌, List, [], ◌∷◌, length, map as map_list, is_none, slice_set, unwrap_or, Option, Some, None, option_and_then, Result, Ok, Err}
+use Rattle.std.specs.List.{enumerate_from}
 use Rattle.std.specs.Result.{result_ok}
 use Rattle.std.specs.Ordering.{eq_by_cmp}
 use Rattle.std.proofs.lemmas.Option.{none-some, same_Some}
+use Rattle.std.proofs.lemmas.List.{length-map}
+use Rattle.std.proofs.lemmas.List.FromFn.{length-enumerate_from}
+use Rattle.std.specs.Cmp.{unsigned_Decides}
 use mathlib.Core.Path.{refl, sym, ap, subst, ◌∙◌}
 use Rattle.odb_atoms.specs.FinMap as map
-use Rattle.odb_atoms.specs.FinSet as set
 use Rattle.odb_atoms.specs.ColType.{AdmitFault, admits, has_kind, wrong_kind}
 use Rattle.odb_atoms.specs.Error.{Error, constraint_violation, duplicate_uuid, duplicate_uuid_name, resources_exhausted}
 use Rattle.odb_atoms.specs.First.{demand}
@@ -14,7 +16,7 @@ use Rattle.odb_atoms.specs.Row.{Row, Selector, cell}
 use Rattle.odb_atoms.specs.Uuid.{Uuid, uuid_cmp, zero_uuid}
 use Rattle.odb_atoms.specs.Value.{Value, within_limit}
 use Rattle.odb_atoms.proofs.Atoms.{uuid_cmp-IsAntisymmetric}
-use Rattle.odb_atoms.proofs.FinMaps.{get-insert, get-map_entries, get-retain_keys, same_key}
+use Rattle.odb_atoms.proofs.FinMaps.{get-insert, get-map_entries, get-retain_keys}
 use Rattle.odb_atoms.proofs.Lists.{both}
 use Rattle.odb_cond.specs.Condition.{Clause, holds_all}
 use Rattle.odb_json.specs.Operation.{Op}
@@ -22,10 +24,10 @@ use Rattle.odb_json.specs.Suited.{IsFor, are_of_kind}
 use Rattle.odb_mutate.specs.Mutation.{Mutation, mutate, result_of}
 use Rattle.odb_ops.specs.Execution as model
 use Rattle.odb_ops.specs.Execution.{Context, Draft, Stop}
-use Rattle.odb_schema.proofs.Holds.{Holds, behind, next, none_read, passed_holds, read_in, tested_holds, then_holds, with_holds}
+use Rattle.odb_schema.proofs.Holds.{Holds, none_read, passed_holds, read_in, tested_holds, then_holds, with_holds}
 use Rattle.odb_schema.specs.Json.{Data}
 use Rattle.odb_schema.specs.Schema.{Column, Schema, column_type, columns_at}
-use Rattle.odb_tables.specs.Database.{Db, Table, table_at}
+use Rattle.odb_tables.specs.Database.{Table, table_at}
 use Rattle.odb_tables.specs.Represented.Key.{uuid_cmp_total}
 use Rattle.odb_tables.specs.Typed.{IsTyped, fits}
 use Rattle.odb_tables.proofs.TypedDatabases.{AllFit, AreOfKind, fits_with, typed_with}
@@ -74,12 +76,11 @@ admitted_kinds (c ∷ cs) (v ∷ vs) e =
     let parts : (admits c.type v ≡ true) × (model.all_admit cs vs ≡ true) = both (admits c.type v) _ e in
     λ i. of_kind (has_kind c.type v) _ parts.0 i && admitted_kinds cs vs parts.1 i
 
-same_length : (n : ℕ) (cs : List Column) (f : ℕ × Column → Value) → (length (map_list f (enumerate_from n cs)) == length cs) ≡ true
-same_length n [] f = refl
-same_length n (c ∷ cs) f = same_length (suc n) cs f
+same_length : (cs : List Column) (f : ℕ × Column → Value) → (length (map_list f (enumerate_from 0 cs)) == length cs) ≡ true
+same_length cs f = (unsigned_Decides _ _).1 (length-map (enumerate_from 0 cs) f ∙ length-enumerate_from 0 cs)
 
 new_fits : (cs : List Column) (given : List (ℕ × Value)) → model.all_admit cs (model.new_row cs given).columns ≡ true → Fits cs (model.new_row cs given)
-new_fits cs given e = λ i. same_length 0 cs (model.value_for given) i && admitted_kinds cs (model.new_row cs given).columns e i
+new_fits cs given e = λ i. same_length cs (model.value_for given) i && admitted_kinds cs (model.new_row cs given).columns e i
 
 -- ---- update and mutate
 
@@ -92,8 +93,8 @@ replaced_fits cs (e ∷ es) r h g =
 mutate_kind : (cs : List Column) (m : Mutation) (v : Value) → Holds (λ w. has_kind (column_type cs m.column) w ≡ true) (mutate m.mutator m.value (column_type cs m.column) v)
 mutate_kind cs m v =
     then_holds P (result_of m.mutator v m.value) _ (λ new.
-      tested_holds P (demand (within_limit new) resources_exhausted) _
-      (passed_holds P (admits (column_type cs m.column) new) constraint_violation _ (λ e. read_in Error P new (of_kind (has_kind (column_type cs m.column) new) _ e))))
+    tested_holds P (demand (within_limit new) resources_exhausted) _
+    (passed_holds P (admits (column_type cs m.column) new) constraint_violation _ (λ e. read_in Error P new (of_kind (has_kind (column_type cs m.column) new) _ e))))
   where
     P : Value → Type 0
     P w = has_kind (column_type cs m.column) w ≡ true
@@ -135,7 +136,7 @@ inserted_typed s d u t given name h =
     tested_holds (λ p. IsTyped s p.0.db) (demand (not (model.takes_name d name)) duplicate_uuid_name) _
     (tested_holds (λ p. IsTyped s p.0.db) (demand (not (model.has_used d t u)) duplicate_uuid) _
     (passed_holds (λ p. IsTyped s p.0.db) (model.all_admit (columns_at s t) row.columns) constraint_violation _ (λ e.
-      read_in Error (λ p. IsTyped s p.0.db) _ (typed_with s d.db t (map.insert (table_at d.db t) u row) h (rows_with (columns_at s t) (table_at d.db t) u row (h.1 t) (new_fits (columns_at s t) given e))))))
+    read_in Error (λ p. IsTyped s p.0.db) _ (typed_with s d.db t (map.insert (table_at d.db t) u row) h (rows_with (columns_at s t) (table_at d.db t) u row (h.1 t) (new_fits (columns_at s t) given e))))))
 
 pub perform_typed : (s : Schema) (c : Context) (u : Uuid) (d : Draft) (o : Op) → IsFor s o → IsTyped s d.db → KeepsTyped s (model.perform s c u d o)
 unfolding model.perform
