@@ -39,17 +39,17 @@ pub data Stop : Type 0 where
   fails : Error → Stop
   waits : Option ℕ → Stop
 
-abbrev or_stop : {A : Type 0} → Result A Error → Result A Stop
+abbrev pub or_stop : {A : Type 0} → Result A Error → Result A Stop
 or_stop (Ok x) = Ok x
 or_stop (Err e) = Err (fails e)
 
-abbrev table_of : Draft → ℕ → Table
+abbrev pub table_of : Draft → ℕ → Table
 table_of d t = table_at d.db t
 
-abbrev with_table : Draft → ℕ → Table → Draft
+abbrev pub with_table : Draft → ℕ → Table → Draft
 with_table d t table = record d { db = slice_set d.db t table }
 
-abbrev deleted_at : Draft → ℕ → set.FinSet uuid_cmp
+abbrev pub deleted_at : Draft → ℕ → set.FinSet uuid_cmp
 deleted_at d t = unwrap_or (slice_get d.deleted t) set.empty
 
 abbrev pub found : Draft → ℕ → List Clause → Table
@@ -60,29 +60,29 @@ abbrev pub on_matching : List Clause → (Row → Row) → Table → Table
 on_matching clauses f table = map.map_entries (λ u r. Some (cond (holds_all clauses u r) (f r) r)) table
 
 -- the number of these rows
-abbrev count : Table → Data
+abbrev pub count : Table → Data
 count table = object_of ((codes "count", json.of_integer (pos (map.len table))) ∷ [])
 
 -- ---- insert
 
-abbrev value_for : List (ℕ × Value) → ℕ × Column → Value
+abbrev pub value_for : List (ℕ × Value) → ℕ × Column → Value
 value_for given c = unwrap_or (option_map (λ e. e.1) (find (λ e. e.0 == c.0) given)) (default_of c.1.type)
 
 -- the values given, and the default for each other column
 abbrev pub new_row : List Column → List (ℕ × Value) → Row
 new_row cs given = record { version = zero_uuid; columns = map_list (value_for given) (enumerate_from 0 cs) }
 
-abbrev all_admit : List Column → List Value → Bool
+abbrev pub all_admit : List Column → List Value → Bool
 all_admit cs vs = list_all (λ e. admits e.0.type e.1) (zip cs vs)
 
-abbrev takes_name : Draft → Option (List ℕ) → Bool
+abbrev pub takes_name : Draft → Option (List ℕ) → Bool
 takes_name d None = false
 takes_name d (Some name) = list_any (same_text name) d.named
 
-abbrev has_used : Draft → ℕ → Uuid → Bool
+abbrev pub has_used : Draft → ℕ → Uuid → Bool
 has_used d t u = map.contains_key (table_of d t) u || set.contains (deleted_at d t) u
 
-abbrev name_list : Option (List ℕ) → List (List ℕ)
+abbrev pub name_list : Option (List ℕ) → List (List ℕ)
 name_list None = []
 name_list (Some name) = name ∷ []
 
@@ -101,7 +101,7 @@ abbrev pub project : List Selector → Uuid → Row → List Value
 project columns u r = map_list (cell u r) columns
 
 -- the first of each that are the same
-abbrev distinct : List (List Value) → List (List Value)
+abbrev pub distinct : List (List Value) → List (List Value)
 distinct [] = []
 distinct (r ∷ rs) = r ∷ filter (λ q. not (same_values r q)) (distinct rs)
 
@@ -109,24 +109,24 @@ distinct (r ∷ rs) = r ∷ filter (λ q. not (same_values r q)) (distinct rs)
 abbrev pub selected : List Selector → Table → List (List Value)
 selected columns table = map_list (λ e. project columns e.0 e.1) (map.entries_of table)
 
-abbrev write_cells : List Column → List Selector → List Value → Data
+abbrev pub write_cells : List Column → List Selector → List Value → Data
 write_cells cs columns vs = object_of (map_list (λ e. (selector_name cs e.0, write_value e.1)) (zip columns vs))
 
-abbrev rows_result : List Column → List Selector → List (List Value) → Data
+abbrev pub rows_result : List Column → List Selector → List (List Value) → Data
 rows_result cs columns rows = object_of ((codes "rows", array_of (map_list (write_cells cs columns) rows)) ∷ [])
 
 -- the selected columns of a row of `rows`, with defaults for those that it doesn't name
 abbrev pub expected : List Column → List Selector → List (Selector × Value) → List Value
 expected cs columns given = map_list (λ c. unwrap_or (option_map (λ e. e.1) (find (λ e. same_selector e.0 c) given)) (default_of (selector_type cs c))) columns
 
-abbrev each_in : List (List Value) → List (List Value) → Bool
+abbrev pub each_in : List (List Value) → List (List Value) → Bool
 each_in rows others = list_all (λ r. list_any (same_values r) others) rows
 
 -- the same as sets of rows
 abbrev pub same_rows : List (List Value) → List (List Value) → Bool
 same_rows rows others = each_in rows others && each_in others rows
 
-abbrev is_reached : Until → Bool → Bool
+abbrev pub is_reached : Until → Bool → Bool
 is_reached until_equal same = same
 is_reached until_not_equal same = not same
 
@@ -141,7 +141,7 @@ has_passed c (Some moment) = nat_le moment c.now
 
 -- ---- update and mutate
 
-abbrev replaced : List (ℕ × Value) → Row → Row
+abbrev pub replaced : List (ℕ × Value) → Row → Row
 replaced [] r = r
 replaced (e ∷ es) r = let q : Row = replaced es r in record q { columns = slice_set q.columns e.0 e.1 }
 
@@ -152,38 +152,38 @@ mutated cs (m ∷ ms) r = do
   v ← mutate m.mutator m.value (column_type cs m.column) (cell zero_uuid r (Selector.declared m.column))
   mutated cs ms (record r { columns = slice_set r.columns m.column v })
 
-abbrev mutated_or_same : List Column → List Mutation → Row → Row
+abbrev pub mutated_or_same : List Column → List Mutation → Row → Row
 mutated_or_same cs ms r = unwrap_or (result_ok (mutated cs ms r)) r
 
-abbrev same_error : Error → Error → Bool
+abbrev pub same_error : Error → Error → Bool
 same_error e f = same_text (error_name e) (error_name f)
 
 -- of the rows' faults, the first in this order
 abbrev pub first_fault : List Error → Option Error
 first_fault es = find (λ e. list_any (same_error e) es) (domain_error ∷ range_error ∷ resources_exhausted ∷ constraint_violation ∷ [])
 
-abbrev faults : List Column → List Mutation → Table → List Error
+abbrev pub faults : List Column → List Mutation → Table → List Error
 faults cs ms table = filter_map (λ e. result_err (mutated cs ms e.1)) (map.entries_of table)
 
-abbrev or_fault : {A : Type 0} → Option Error → A → Result A Stop
+abbrev pub or_fault : {A : Type 0} → Option Error → A → Result A Stop
 or_fault None x = Ok x
 or_fault (Some e) x = Err (fails e)
 
 -- ---- the ten operations
 
-abbrev empty_result : Data
+abbrev pub empty_result : Data
 empty_result = object_of []
 
 -- the draft goes on unchanged where the test holds
-abbrev go_on : Bool → Draft → Stop → Result (Draft × Data) Stop
+abbrev pub go_on : Bool → Draft → Stop → Result (Draft × Data) Stop
 go_on true d stop = Ok (d, empty_result)
 go_on false d stop = Err stop
 
 -- what a `wait` that isn't met comes to
-abbrev unmet : Context → Option ℕ → Stop
+abbrev pub unmet : Context → Option ℕ → Stop
 unmet c moment = cond (has_passed c moment) (fails timed_out) (waits moment)
 
-abbrev without : Draft → ℕ → Table → Draft
+abbrev pub without : Draft → ℕ → Table → Draft
 without d t gone = record (with_table d t (map.retain_keys (table_of d t) (λ u. not (map.contains_key gone u)))) { deleted = slice_set d.deleted t (set.insert_all (deleted_at d t) (map.keys gone)) }
 
 -- What the operation makes of the draft, and its result. u is the identifier of an `insert`.
@@ -210,15 +210,15 @@ perform s c u d (Op.assert lock) = go_on (c.owns lock) d (fails not_owner)
 abbrev pub is_insert : Data → Bool
 is_insert d = unwrap_or (option_map (same_text (codes "insert")) (string_member (codes "op") d)) false
 
-abbrev bind_name : Option (List ℕ) → Uuid → Names → Names
+abbrev pub bind_name : Option (List ℕ) → Uuid → Names → Names
 bind_name None u names = names
 bind_name (Some name) u names = map.insert names name u
 
 -- the first of the fresh identifiers, and those that are left
-abbrev first_fresh : List Uuid → Uuid
+abbrev pub first_fresh : List Uuid → Uuid
 first_fresh fresh = unwrap_or (slice_get fresh 0) zero_uuid
 
-abbrev fresh_after : Data → List Uuid → List Uuid
+abbrev pub fresh_after : Data → List Uuid → List Uuid
 fresh_after d fresh = cond (is_insert d) (drop 1 fresh) fresh
 
 -- each insert has its identifier, and a name stands for that of the first insert that has it
@@ -235,7 +235,7 @@ pub data Ran : Type 0 where
 abbrev pub error_result : Error → Data
 error_result e = object_of ((codes "error", string (error_name e)) ∷ [])
 
-abbrev with_result : Data → Ran → Ran
+abbrev pub with_result : Data → Ran → Ran
 with_result result (finished d results) = finished d (result ∷ results)
 with_result result (failed results) = failed (result ∷ results)
 with_result result (must_wait moment) = must_wait moment

@@ -1,2 +1,10 @@
 //! The ten database operations (RFC 7047, 5.2).
 #![tactic(auto)]
+
+mod context;
+mod execution;
+mod select;
+mod wait;
+
+pub use context::Context;
+pub use execution::{Ran, run};

@@ -1,0 +1,4 @@
+-- What the types of the code stand for.
+pub mod Context
+pub mod Draft
+pub mod Ran
