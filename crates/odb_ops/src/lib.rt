@@ -3,6 +3,9 @@
 
 mod context;
 mod execution;
+mod fresh;
+mod insert;
+mod results;
 mod select;
 mod wait;
 

@@ -1,0 +1,30 @@
+-- What the code's functions make of a draft, as parts of the definitions.
+use Rattle.std.specs.Prelude.{ℕ, not, List, [], ◌∷◌, codes, slice_set}
+use Rattle.odb_atoms.specs.FinMap as map
+use Rattle.odb_atoms.specs.Error.{Error, constraint_violation, duplicate_uuid}
+use Rattle.odb_atoms.specs.First.{Ok, Result, demand, ◌>>◌}
+use Rattle.odb_atoms.specs.Row.{Row}
+use Rattle.odb_atoms.specs.Uuid.{Uuid}
+use Rattle.odb_atoms.specs.Value.{Value}
+use Rattle.odb_ops.specs.Execution.{all_admit, has_used, new_row}
+use Rattle.odb_ops.specs.Represented.Draft.{begun}
+use Rattle.odb_schema.specs.Json.{Data, object_of}
+use Rattle.odb_schema.specs.Notation.{write_uuid}
+use Rattle.odb_schema.specs.Schema.{Column}
+use Rattle.odb_tables.specs.Database.{Table, table_at}
+use Rattle.odb_tables.specs.Draft.{Draft}
+
+-- the draft with these rows for those of a table
+abbrev pub with_rows : ℕ → Table → Draft → Draft
+with_rows t rows d = record d { now = slice_set d.now t rows }
+
+-- an insert behind the test of its name: the draft with the row, and the result
+abbrev pub insert_row : List Column → ℕ → Uuid → List (ℕ × Value) → Draft → Result (Draft × Data) Error
+insert_row cs t u given d = do
+  demand (not (has_used (begun d) t u)) duplicate_uuid
+  demand (all_admit cs (new_row cs given).columns) constraint_violation
+  Ok (with_rows t (map.insert (table_at d.now t) u (new_row cs given)) d, object_of ((codes "uuid", write_uuid u) ∷ []))
+
+-- the row with a value in a column
+abbrev pub with_value : ℕ → Value → Row → Row
+with_value i v r = record r { columns = slice_set r.columns i v }
