@@ -1,2 +1,3 @@
+pub mod Deletes
 pub mod Drafts
 pub mod Rows

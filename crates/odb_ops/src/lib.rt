@@ -2,6 +2,7 @@
 #![tactic(auto)]
 
 mod context;
+mod delete;
 mod execution;
 mod fresh;
 mod insert;

@@ -1,6 +1,7 @@
 -- What the code's functions make of a draft, as parts of the definitions.
 use Rattle.std.specs.Prelude.{ℕ, not, List, [], ◌∷◌, codes, slice_set}
 use Rattle.odb_atoms.specs.FinMap as map
+use Rattle.odb_atoms.specs.FinSet as set
 use Rattle.odb_atoms.specs.Error.{Error, constraint_violation, duplicate_uuid}
 use Rattle.odb_atoms.specs.First.{Ok, Result, demand, ◌>>◌}
 use Rattle.odb_atoms.specs.Row.{Row}
@@ -12,7 +13,7 @@ use Rattle.odb_schema.specs.Json.{Data, object_of}
 use Rattle.odb_schema.specs.Notation.{write_uuid}
 use Rattle.odb_schema.specs.Schema.{Column}
 use Rattle.odb_tables.specs.Database.{Table, table_at}
-use Rattle.odb_tables.specs.Draft.{Draft}
+use Rattle.odb_tables.specs.Draft.{Draft, removed_at, without_row}
 
 -- the draft with these rows for those of a table
 abbrev pub with_rows : ℕ → Table → Draft → Draft
@@ -28,3 +29,12 @@ insert_row cs t u given d = do
 -- the row with a value in a column
 abbrev pub with_value : ℕ → Value → Row → Row
 with_value i v r = record r { columns = slice_set r.columns i v }
+
+-- the draft without these rows of a table
+abbrev pub without_found : ℕ → Table → Draft → Draft
+without_found t gone d = record d { now = slice_set d.now t (map.retain_keys (table_at d.now t) (λ u. not (map.contains_key gone u))); removed = slice_set d.removed t (set.insert_all (removed_at d t) (map.keys gone)) }
+
+-- the same, one after another
+abbrev pub without_rows : ℕ → List Uuid → Draft → Draft
+without_rows t [] d = d
+without_rows t (u ∷ us) d = without_rows t us (without_row t u d)
