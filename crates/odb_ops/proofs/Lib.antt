@@ -1,3 +1,4 @@
 pub mod Deletes
 pub mod Drafts
+pub mod Rewrites
 pub mod Rows

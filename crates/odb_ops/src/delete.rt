@@ -43,5 +43,5 @@ pub fn delete(
 {
     let found = draft.matching(table, conditions)?;
     remove_all(draft, table, found.as_slice())?;
-    results::count(alloc, found.len())
+    results::count(alloc, found.as_slice())
 }

@@ -8,6 +8,7 @@ mod fresh;
 mod insert;
 mod results;
 mod select;
+mod update;
 mod wait;
 
 pub use context::Context;

@@ -1,9 +1,12 @@
 //! The results of operations, as JSON (RFC 7047, section 5.2).
-ghost use Rattle.std.specs.Prelude.{◌≡◌, ◌∷◌, [], IfOk, codes, pos};
+ghost use Rattle.std.specs.Prelude.{◌≡◌, ◌∷◌, [], IfOk, codes, map, pos};
 ghost use Rattle.serde_json.specs.View.{view};
+ghost use Rattle.odb_atoms.specs.FinMap as finite;
 ghost use Rattle.odb_atoms.specs.Represented.Atom.{uuid_of};
 ghost use Rattle.odb_atoms.specs.Represented.Error.{error_of};
+ghost use Rattle.odb_ops.specs.Execution as model;
 ghost use Rattle.odb_ops.specs.Execution.{empty_result, error_result};
+ghost use Rattle.odb_tables.specs.Database.{Table};
 ghost use Rattle.odb_schema.specs.Json.{object_of, of_integer};
 ghost use Rattle.odb_schema.specs.Notation as notation;
 
@@ -20,11 +23,19 @@ pub fn nothing(alloc: Global) -> Value
     Value::from(Map::new(alloc))
 }
 
-/// `{"count": rows}`, the result of `update`, `mutate` and `delete`.
-pub fn count(alloc: Global, rows: usize) -> Result<Value, AllocError>
+/// `{"count": rows}`.
+fn counted(alloc: Global, rows: usize) -> Result<Value, AllocError>
     ensures { IfOk result (λ v. view v ≡ object_of ((codes "count", of_integer (pos rows)) ∷ [])) }
 {
     json!(in alloc; {"count": rows})
+}
+
+/// `{"count": n}` for n identifiers, the result of `update`, `mutate` and `delete`.
+pub fn count(alloc: Global, uuids: &[Uuid]) -> Result<Value, AllocError>
+    ensures { IfOk result (λ v. (rows : Table) → map uuid_of uuids.now ≡ finite.keys rows
+        → view v ≡ model.count rows) }
+{
+    counted(alloc, uuids.len())
 }
 
 /// `{"uuid": uuid}`, the result of `insert`.

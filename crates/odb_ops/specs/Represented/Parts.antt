@@ -1,5 +1,5 @@
 -- What the code's functions make of a draft, as parts of the definitions.
-use Rattle.std.specs.Prelude.{ℕ, not, List, [], ◌∷◌, codes, slice_set}
+use Rattle.std.specs.Prelude.{ℕ, not, List, [], ◌∷◌, codes, slice_set, Option, option_and_then}
 use Rattle.odb_atoms.specs.FinMap as map
 use Rattle.odb_atoms.specs.FinSet as set
 use Rattle.odb_atoms.specs.Error.{Error, constraint_violation, duplicate_uuid}
@@ -38,3 +38,12 @@ without_found t gone d = record d { now = slice_set d.now t (map.retain_keys (ta
 abbrev pub without_rows : ℕ → List Uuid → Draft → Draft
 without_rows t [] d = d
 without_rows t (u ∷ us) d = without_rows t us (without_row t u d)
+
+-- the draft with what f makes of the row of an identifier, where it makes one
+abbrev pub rewritten : (Row → Option Row) → ℕ → Uuid → Draft → Draft
+rewritten f t u d = with_rows t (map.insert_if (option_and_then f (map.get (table_at d.now t) u)) u (table_at d.now t)) d
+
+-- the same, one after another
+abbrev pub all_rewritten : (Row → Option Row) → ℕ → List Uuid → Draft → Draft
+all_rewritten f t [] d = d
+all_rewritten f t (u ∷ us) d = all_rewritten f t us (rewritten f t u d)
