@@ -1,4 +1,5 @@
 pub mod Deletes
 pub mod Drafts
+pub mod Fits
 pub mod Rewrites
 pub mod Rows

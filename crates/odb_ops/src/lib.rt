@@ -6,6 +6,7 @@ mod delete;
 mod execution;
 mod fresh;
 mod insert;
+mod mutate;
 mod results;
 mod select;
 mod update;

@@ -1,19 +1,26 @@
 -- What the code's functions make of a draft, as parts of the definitions.
-use Rattle.std.specs.Prelude.{ℕ, not, List, [], ◌∷◌, codes, slice_set, Option, option_and_then}
+use Rattle.std.specs.Prelude.{◌≡◌, ℕ, Bool, true, not, List, [], ◌∷◌, ◌++◌, codes, slice_set, Option, Some, None, option_and_then, option_to_list}
+use Rattle.std.specs.List.{list_all}
+use Rattle.std.specs.Result.{result_err, result_ok}
 use Rattle.odb_atoms.specs.FinMap as map
 use Rattle.odb_atoms.specs.FinSet as set
 use Rattle.odb_atoms.specs.Error.{Error, constraint_violation, duplicate_uuid}
-use Rattle.odb_atoms.specs.First.{Ok, Result, demand, ◌>>◌}
+use Rattle.odb_atoms.specs.First.{Err, Ok, Result, demand, ◌>>◌}
 use Rattle.odb_atoms.specs.Row.{Row}
 use Rattle.odb_atoms.specs.Uuid.{Uuid}
 use Rattle.odb_atoms.specs.Value.{Value}
-use Rattle.odb_ops.specs.Execution.{all_admit, has_used, new_row}
+use Rattle.odb_cond.specs.Condition.{Clause}
+use Rattle.odb_mutate.specs.Mutation.{Mutation}
+use Rattle.odb_mutate.specs.Taken.{takes}
+use Rattle.odb_ops.specs.Execution.{all_admit, count, faults, first_fault, has_used, mutated_or_same, new_row, on_matching}
 use Rattle.odb_ops.specs.Represented.Draft.{begun}
 use Rattle.odb_schema.specs.Json.{Data, object_of}
 use Rattle.odb_schema.specs.Notation.{write_uuid}
-use Rattle.odb_schema.specs.Schema.{Column}
+use Rattle.odb_schema.specs.Schema.{Column, column_type}
 use Rattle.odb_tables.specs.Database.{Table, table_at}
 use Rattle.odb_tables.specs.Draft.{Draft, removed_at, without_row}
+use Rattle.odb_tables.specs.Matching.{matching}
+use Rattle.odb_tables.specs.Typed.{fits}
 
 -- the draft with these rows for those of a table
 abbrev pub with_rows : ℕ → Table → Draft → Draft
@@ -47,3 +54,31 @@ rewritten f t u d = with_rows t (map.insert_if (option_and_then f (map.get (tabl
 abbrev pub all_rewritten : (Row → Option Row) → ℕ → List Uuid → Draft → Draft
 all_rewritten f t [] d = d
 all_rewritten f t (u ∷ us) d = all_rewritten f t us (rewritten f t u d)
+
+-- ---- mutate
+
+-- mutations that the columns have
+abbrev pub are_taken : List Column → List Mutation → Bool
+are_taken cs ms = list_all (λ m. takes (column_type cs m.column) m.mutator m.value) ms
+
+-- each row has for each column a value of its kind
+abbrev pub AllFit : List Column → Table → Type 0
+AllFit cs table = (u : Uuid) (r : Row) → map.get table u ≡ Some r → fits cs r ≡ true
+
+abbrev pub row_fault : {A : Type 0} → (Row → Result A Error) → Option Row → Option Error
+row_fault f row = option_and_then (λ r. result_err (f r)) row
+
+-- the faults of the rows that are rewritten one after another
+abbrev pub all_faults : (Row → Result Row Error) → ℕ → List Uuid → Draft → List Error
+all_faults f t [] d = []
+all_faults f t (u ∷ us) d = option_to_list (row_fault f (map.get (table_at d.now t) u)) ++ all_faults f t us (rewritten (λ r. result_ok (f r)) t u d)
+
+abbrev or_error : {A : Type 0} → Option Error → A → Result A Error
+or_error None x = Ok x
+or_error (Some e) x = Err e
+
+-- the draft with the rows mutated, and how many they are; or the first of the rows' faults
+abbrev pub mutate_rows : List Column → ℕ → List Clause → List Mutation → Draft → Result (Draft × Data) Error
+mutate_rows cs t clauses ms d =
+    let found = matching clauses (table_at d.now t) in
+    or_error (first_fault (faults cs ms found)) (with_rows t (on_matching clauses (mutated_or_same cs ms) (table_at d.now t)) d, count found)
