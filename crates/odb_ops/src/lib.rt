@@ -1,2 +1,16 @@
 //! The ten database operations (RFC 7047, 5.2).
 #![tactic(auto)]
+
+mod context;
+mod delete;
+mod execution;
+mod fresh;
+mod insert;
+mod mutate;
+mod results;
+mod select;
+mod update;
+mod wait;
+
+pub use context::Context;
+pub use execution::{Ran, run};

@@ -1,6 +1,6 @@
 pub mod Changes
 mod Drafts
-mod KeyedMaps
+pub mod KeyedMaps
 mod Keys
 mod Overlays
 mod SameValues

@@ -1,0 +1,5 @@
+-- What the types of the code stand for.
+pub mod Context
+pub mod Draft
+pub mod Parts
+pub mod Ran

@@ -1,0 +1,47 @@
+//! `delete` (RFC 7047, section 5.2.5).
+ghost use Rattle.std.specs.Prelude.{◌≡◌, ◌<◌, IfOk, OnOk, length, map};
+ghost use Rattle.serde_json.specs.View.{view};
+ghost use Rattle.odb_atoms.specs.Represented.Atom.{uuid_of};
+ghost use Rattle.odb_ops.specs.Execution.{count};
+ghost use Rattle.odb_ops.specs.Represented.Parts.{without_found, without_rows};
+ghost use Rattle.odb_tables.specs.Database.{table_at};
+ghost use Rattle.odb_tables.specs.Matching.{matching};
+
+use crate::results;
+use odb_cond::Where;
+use odb_schema::TableId;
+use odb_tables::Draft;
+use serde_json::Value;
+use std::alloc::{AllocError, Global};
+use uuid::Uuid;
+
+/// Takes each of the rows out of the table.
+fn remove_all(draft: &mut Draft, table: TableId, uuids: &[Uuid]) -> Result<(), AllocError>
+    requires { table < length draft.old.old }
+    ensures ok { OnOk result (draft.new ≡ without_rows table (map uuid_of uuids.now) draft.old) }
+    ensures base { draft.new.old ≡ draft.old.old }
+{
+    for uuid in uuids {
+        draft.remove(table, *uuid)?;
+    }
+    Ok(())
+}
+
+/// Takes the rows that match out of the table; the result is how many they are.
+pub fn delete(
+    alloc: Global,
+    draft: &mut Draft,
+    table: TableId,
+    conditions: &Where,
+) -> Result<Value, AllocError>
+    requires { table < length draft.old.old }
+    ensures result { IfOk result (λ v. view v
+        ≡ count (matching conditions.now (table_at draft.old.now table))) }
+    ensures draft { OnOk result (draft.new
+        ≡ without_found table (matching conditions.now (table_at draft.old.now table)) draft.old) }
+    ensures base { draft.new.old ≡ draft.old.old }
+{
+    let found = draft.matching(table, conditions)?;
+    remove_all(draft, table, found.as_slice())?;
+    results::count(alloc, found.as_slice())
+}

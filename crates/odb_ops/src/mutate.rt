@@ -1,0 +1,118 @@
+//! `mutate` (RFC 7047, section 5.2.4).
+ghost use Rattle.std.specs.Prelude.{◌≡◌, ◌<◌, ◌++◌, ◌∷◌, [], IfOk, OnOk, length, map, option_map, option_to_list, true};
+ghost use Rattle.std.specs.Result.{result_ok};
+ghost use Rattle.serde_json.specs.View.{view};
+ghost use Rattle.odb_atoms.specs.ColType.{has_kind, scalar};
+ghost use Rattle.odb_atoms.specs.Atom.{uuids};
+ghost use Rattle.odb_atoms.specs.FinSet as set;
+ghost use Rattle.odb_atoms.specs.Represented.Atom.{uuid_of};
+ghost use Rattle.odb_atoms.specs.Represented.ColType.{type_of};
+ghost use Rattle.odb_atoms.specs.Row.{cell, declared};
+ghost use Rattle.odb_atoms.specs.Uuid.{zero_uuid};
+ghost use Rattle.odb_atoms.specs.Value.{set_of};
+ghost use Rattle.odb_json.specs.Represented.Fault.{Reads};
+ghost use Rattle.odb_mutate.specs.Mutation as model;
+ghost use Rattle.odb_mutate.specs.Represented.Mutation.{answered, error_of};
+ghost use Rattle.odb_mutate.specs.Taken.{takes};
+ghost use Rattle.odb_ops.specs.Execution.{first_fault, mutated};
+ghost use Rattle.odb_ops.specs.Represented.Parts.{AllFit, all_faults, all_rewritten, are_taken, mutate_rows, rewritten, row_fault, with_value};
+ghost use Rattle.odb_schema.specs.Schema.{column_type};
+ghost use Rattle.odb_tables.specs.Database.{table_at};
+ghost use Rattle.odb_tables.specs.Typed.{fits};
+
+use crate::insert::set;
+use crate::results;
+use odb_atoms::{ColType, Error, Kind, Row, Value};
+use odb_cond::Where;
+use odb_json::OpFault;
+use odb_mutate::{Mutation, MutationFault};
+use odb_schema::{Column, ColumnId, TableId};
+use odb_tables::Draft;
+use std::alloc::{AllocError, Global};
+use uuid::Uuid;
+
+/// The value of a column, and nothing where the column is past the row's.
+fn value_at<'a>(row: &'a Row, place: usize, nothing: &'a Value) -> &'a Value
+    requires { nothing.now ≡ set_of set.empty }
+    ensures { result.now ≡ cell zero_uuid row.now (declared place) }
+{
+    match row.get(place) {
+        Some(value) => value,
+        None => nothing,
+    }
+}
+
+/// The type of a column, and that of identifiers for a column past the table's.
+fn type_at<'a>(columns: &'a [Column], place: usize, uuid: &'a ColType) -> &'a ColType
+    requires { type_of uuid.now ≡ scalar uuids }
+    ensures { type_of result.now ≡ column_type columns.now place }
+{
+    match columns.get(place) {
+        Some(column) => column.column_type(),
+        None => uuid,
+    }
+}
+
+/// What the mutation makes of its column of the row.
+fn new_value(
+    alloc: Global,
+    row: &Row,
+    columns: &[Column],
+    mutation: &Mutation,
+) -> Result<Result<Value, MutationFault>, AllocError>
+    requires fits { fits columns.now row.now ≡ true }
+    requires suits { takes (column_type columns.now mutation.now.column) mutation.now.mutator
+        mutation.now.value ≡ true }
+    ensures { IfOk result (λ v. answered (λ v. v) v
+        ≡ model.mutate mutation.now.mutator mutation.now.value
+        (column_type columns.now mutation.now.column)
+        (cell zero_uuid row.now (declared mutation.now.column))) }
+{
+    let nothing = Value::empty_set(alloc);
+    let uuid = ColType::scalar(Kind::Uuid);
+    let value = value_at(row, mutation.column(), &nothing);
+    let column_type = type_at(columns, mutation.column(), &uuid);
+    mutation.on(alloc, value, column_type)
+}
+
+/// Makes the mutation of its column of the row.
+fn mutate_column(
+    alloc: Global,
+    row: &mut Row,
+    columns: &[Column],
+    mutation: &Mutation,
+) -> Result<Result<(), MutationFault>, AllocError>
+    requires fits { fits columns.now row.old ≡ true }
+    requires suits { takes (column_type columns.now mutation.now.column) mutation.now.mutator
+        mutation.now.value ≡ true }
+    ensures { IfOk result (λ done. answered (λ _. row.new) done
+        ≡ mutated columns.now (mutation.now ∷ []) row.old) }
+{
+    match new_value(alloc, row, columns, mutation)? {
+        Ok(value) => {
+            set(row, ColumnId::at(mutation.column()), value);
+            Ok(Ok(()))
+        }
+        Err(fault) => Ok(Err(fault)),
+    }
+}
+
+/// The row with the mutations made in their order, or the fault of the first that has one.
+fn mutated_row(
+    alloc: Global,
+    row: &Row,
+    columns: &[Column],
+    mutations: &[Mutation],
+) -> Result<Result<Row, MutationFault>, AllocError>
+    requires fits { fits columns.now row.now ≡ true }
+    requires suit { are_taken columns.now mutations.now ≡ true }
+    ensures { IfOk result (λ new. answered (λ r. r) new ≡ mutated columns.now mutations.now row.now) }
+{
+    let mut row = row.try_copy(alloc)?;
+    for mutation in mutations {
+        if let Err(fault) = mutate_column(alloc, &mut row, columns, mutation)? {
+            return Ok(Err(fault));
+        }
+    }
+    Ok(Ok(row))
+}
