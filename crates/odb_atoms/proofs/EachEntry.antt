@@ -1,17 +1,19 @@
--- Finite maps of which each entry passes a test: what keeps it so.
-use Rattle.std.specs.Prelude.{◌≡◌, Bool, true, false, cond, ◌&&◌, List, [], ◌∷◌, Option, Some, None}
+-- Entries of finite maps: each of them is found by its key; and maps of which each entry passes a test: what keeps it so.
+use Rattle.std.specs.Prelude.{◌≡◌, T, Bool, true, false, cond, ◌&&◌, List, [], ◌∷◌, Option, Some, None}
 use Rattle.std.specs.List.{list_all}
 use Rattle.std.proofs.lemmas.Option.{none-some, same_Some}
+use mathlib.Core.Logic.{inl, inr}
 use mathlib.Core.Path.{refl, sym, ap, subst, ◌∙◌}
 use Rattle.std.specs.declared.cmp.Ordering.{Ordering}
 use Rattle.std.specs.declared.cmp.Ordering.TheVariants.{Less, Equal, Greater}
-use Rattle.std.specs.Ordering.{eq_by_cmp}
-use Rattle.std.specs.Cmp.{IsTotalOrder}
+use Rattle.std.specs.Ordering.{eq_by_cmp, is_eq, ordering_reverse}
+use Rattle.std.specs.Cmp.{IsTotalOrder, tied_itself}
 use Rattle.std.specs.FinMap.{IsAntisymmetric}
-use Rattle.std.specs.FinMap.Entries.{by_order, find, put, where_key}
+use Rattle.std.specs.FinMap.Entries.{below_all, by_order, find, is_sorted, put, where_key}
 use Rattle.odb_atoms.specs.FinMap as map
 use Rattle.odb_atoms.proofs.FinMaps.{entries-insert, get-entries, same_key}
-use Rattle.odb_atoms.proofs.Lists.{both}
+use Rattle.odb_atoms.proofs.Lists.{Member, both}
+use Rattle.odb_atoms.proofs.Rising.{first, less, second}
 
 abbrev pub Each : {K X : Type 0} {R : K → K → Ordering} → (K × X → Bool) → map.FinMap R X → Type 0
 Each p m = list_all p (map.entries_of m) ≡ true
@@ -19,6 +21,29 @@ Each p m = list_all p (map.entries_of m) ≡ true
 pub each-empty : {K X : Type 0} (R : K → K → Ordering) (p : K × X → Bool) → Each {R = R} p map.empty
 unfolding map.empty
 each-empty R p = refl
+
+-- ---- entries are found by their keys
+
+module _ {K X : Type 0} {R : K → K → Ordering} (o : IsTotalOrder R) where
+  before_later : (k : K) (es : List (K × X)) (m : K × X) → T (below_all R k es) → Member m es → eq_by_cmp R m.0 k ≡ false
+  before_later k [] m low n = absurd n
+  before_later k (e ∷ es) m low (inl h) = ap (λ y. eq_by_cmp R y.0 k) h ∙ ap is_eq (o.antisymm e.0 k ∙ ap ordering_reverse (less _ (first _ _ low)))
+  before_later k (e ∷ es) m low (inr n) = before_later k es m (second _ _ low) n
+
+  pub entry_found : (es : List (K × X)) (m : K × X) → T (is_sorted R es) → Member m es → find R m.0 es ≡ Some m.1
+  entry_found [] m up n = absurd n
+  entry_found (e ∷ es) m up (inl h) =
+      ap (λ y. cond (eq_by_cmp R y.0 e.0) (Some e.1) (find R y.0 es)) h
+      ∙ ap (λ b. cond b (Some e.1) (find R e.0 es)) (ap is_eq (tied_itself o e.0))
+      ∙ ap (λ y. Some y.1) (sym h)
+  entry_found (e ∷ es) m up (inr n) =
+      ap (λ b. cond b (Some e.1) (find R m.0 es)) (before_later e.0 es m (first _ _ up) n)
+      ∙ entry_found es m (second _ _ up) n
+
+  pub get-entry : (m : map.FinMap R X) (e : K × X) → Member e (map.entries_of m) → map.get m e.0 ≡ Some e.1
+  get-entry m e n = get-entries m e.0 ∙ entry_found m.entries e m.sorted n
+
+-- ---- each entry passes a test
 
 module _ {K X : Type 0} {R : K → K → Ordering} (o : IsTotalOrder R) (same : IsAntisymmetric R) (p : K × X → Bool) where
   found : (es : List (K × X)) → list_all p es ≡ true → (k : K) (x : X) → find R k es ≡ Some x → p (k, x) ≡ true

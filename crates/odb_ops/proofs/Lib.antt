@@ -2,5 +2,8 @@ pub mod Deletes
 pub mod Drafts
 pub mod Fits
 pub mod Rewrites
+pub mod RowSets
 pub mod Rows
+pub mod Selected
 pub mod Typed
+pub mod Written

@@ -1,4 +1,5 @@
 -- What the types of the code stand for.
+pub mod Cells
 pub mod Context
 pub mod Draft
 pub mod Parts

@@ -1,6 +1,8 @@
 //! The ten database operations (RFC 7047, 5.2).
 #![tactic(auto)]
 
+mod cells;
+mod contents;
 mod context;
 mod delete;
 mod execution;

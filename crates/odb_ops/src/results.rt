@@ -47,6 +47,13 @@ pub fn inserted(alloc: Global, uuid: Uuid) -> Result<Value, AllocError>
     json!(in alloc; {"uuid": uuid})
 }
 
+/// `{"rows": rows}`, the result of `select`.
+pub fn rows(alloc: Global, rows: Value) -> Result<Value, AllocError>
+    ensures { IfOk result (λ v. view v ≡ object_of ((codes "rows", view rows) ∷ [])) }
+{
+    json!(in alloc; {"rows": rows})
+}
+
 /// `{"error": name}`, the result of an operation that fails.
 pub fn failure(alloc: Global, error: Error) -> Result<Value, AllocError>
     ensures { IfOk result (λ v. view v ≡ error_result (error_of error)) }

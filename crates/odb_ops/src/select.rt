@@ -1,19 +1,32 @@
 //! `select` (RFC 7047, section 5.2.2).
-ghost use Rattle.std.specs.Prelude.{◌≡◌, IfOk, map};
-ghost use Rattle.serde_json.specs.View.{view};
+ghost use Rattle.std.specs.Prelude.{◌≡◌, ◌∷◌, [], IfOk, OnOk, map};
+ghost use Rattle.serde_json.specs.Data.{put as with_member};
+ghost use Rattle.serde_json.specs.View.{members_view, view};
 ghost use Rattle.odb_cond.specs.Represented.Clause.{selector_of};
-ghost use Rattle.odb_ops.specs.Execution.{distinct, rows_result, selected};
+ghost use Rattle.odb_ops.specs.Execution.{distinct, rows_result, selected, write_cells};
+ghost use Rattle.odb_ops.specs.Represented.Cells.{written};
+ghost use Rattle.odb_schema.specs.Json.{array_of};
+ghost use Rattle.odb_schema.specs.Represented.Members.{onto};
+ghost use Rattle.odb_schema.specs.Schema.{selector_name};
 ghost use Rattle.odb_tables.specs.Database.{table_at};
 ghost use Rattle.odb_tables.specs.Matching.{matching};
 
+use crate::cells::{Cells, selected};
+use crate::contents::first_of_each;
+use crate::results;
 use odb_cond::{Selector, Where};
+use odb_json::write_value;
 use odb_schema::{TableId, TableSchema};
 use odb_tables::Draft;
-use serde_json::Value;
+use serde_json::{Map, Value};
 use std::alloc::{AllocError, Global};
 
-/// The result of `select`: these columns of the rows that match, each of the rows that come out equal once.
-pub(crate) fn select(
+/// The result of `select`: these columns of the rows that match, each of the rows that come out equal once,
+/// in the order of the least identifier with that content.
+///
+/// What `Draft::matching` costs, and O(n log n) comparisons of rows for the n that match. An error says
+/// that memory was refused.
+pub fn select(
     alloc: Global,
     draft: &Draft,
     table: TableId,
@@ -26,7 +39,90 @@ pub(crate) fn select(
         (distinct (selected (map selector_of columns.now)
         (matching conditions.now (table_at draft.now.now table))))) }
 {
-    let _found = draft.matching(table, conditions)?;
-    let _rows: Vec<Value> = Vec::with_capacity(alloc, columns.len() + schema.columns().len())?;
-    Err(AllocError)
+    let rows = selected(alloc, draft, table, conditions, columns)?;
+    let kept = first_of_each(alloc, &rows)?;
+    let rows = write_rows(alloc, schema, columns, &kept)?;
+    results::rows(alloc, rows)
+}
+
+/// The rows as JSON.
+fn write_rows(
+    alloc: Global,
+    schema: &TableSchema,
+    columns: &[Selector],
+    rows: &[&Cells],
+) -> Result<Value, AllocError>
+    ensures { IfOk result (λ json. view json
+        ≡ array_of (map (λ row. write_cells schema.now.columns (map selector_of columns.now) row.now) rows.now)) }
+{
+    let mut items = Vec::with_capacity(alloc, rows.len())?;
+    for row in rows {
+        items.push(write_row(alloc, schema, columns, row)?)?;
+    }
+    Ok(Value::from(items))
+}
+
+/// A row as JSON: an object with the value of each column under its name.
+fn write_row(
+    alloc: Global,
+    schema: &TableSchema,
+    columns: &[Selector],
+    row: &Cells,
+) -> Result<Value, AllocError>
+    ensures { IfOk result (λ json. view json ≡ write_cells schema.now.columns (map selector_of columns.now) row.now) }
+{
+    let mut members = Map::new(alloc);
+    put_all(alloc, &mut members, schema, columns, row.values())?;
+    Ok(Value::from(members))
+}
+
+/// Puts the value of each column into the object, under the column's name.
+fn put_all(
+    alloc: Global,
+    members: &mut Map<String, Value>,
+    schema: &TableSchema,
+    columns: &[Selector],
+    values: &[odb_atoms::Value],
+) -> Result<(), AllocError>
+    ensures { OnOk result (members_view members.new.entries
+        ≡ onto (written schema.now.columns (map selector_of columns.now) values.now) (members_view members.old.entries)) }
+{
+    let [column, columns @ ..] = columns else {
+        return Ok(());
+    };
+    let [value, values @ ..] = values else {
+        return Ok(());
+    };
+    put_all(alloc, members, schema, columns, values)?;
+    let value = write_value(alloc, value)?;
+    put(alloc, members, name_of(schema, *column), value)
+}
+
+/// Puts a member into an object.
+fn put(
+    alloc: Global,
+    members: &mut Map<String, Value>,
+    name: &str,
+    value: Value,
+) -> Result<(), AllocError>
+    ensures { OnOk result (members_view members.new.entries
+        ≡ with_member name.now (view value) (members_view members.old.entries)) }
+{
+    let name = String::from_str(alloc, name)?;
+    drop(members.insert(name, value)?);
+    Ok(())
+}
+
+/// The name of a column; of one that isn't there it is empty.
+fn name_of(schema: &TableSchema, column: Selector) -> &str
+    ensures { result.now ≡ selector_name schema.now.columns (selector_of column) }
+{
+    match column {
+        Selector::Uuid => "_uuid",
+        Selector::Version => "_version",
+        Selector::Declared(place) => match schema.columns().get(place) {
+            Some(column) => column.name(),
+            None => "",
+        },
+    }
 }

@@ -1,13 +1,20 @@
 //! `wait` (RFC 7047, section 5.2.6).
-ghost use Rattle.std.specs.Prelude.{◌≡◌, IfOk, map};
+ghost use Rattle.std.specs.Prelude.{◌≡◌, IfOk, find, map, option_map};
+ghost use Rattle.std.specs.Option.{option_copied};
+ghost use Rattle.odb_atoms.specs.ColType as column_type;
+ghost use Rattle.odb_atoms.specs.Row.{same_selector};
 ghost use Rattle.odb_cond.specs.Represented.Clause.{selector_of};
 ghost use Rattle.odb_json.specs.Represented.Operation.{until_of};
-ghost use Rattle.odb_json.specs.Represented.Row.{cells_of};
-ghost use Rattle.odb_ops.specs.Execution.{expected, is_reached, same_rows, selected};
+ghost use Rattle.odb_json.specs.Represented.Row.{cell_of, cells_of};
+ghost use Rattle.odb_ops.specs.Execution as model;
+ghost use Rattle.odb_ops.specs.Represented.Cells.{value_in};
+ghost use Rattle.odb_schema.specs.Schema.{selector_type};
 ghost use Rattle.odb_tables.specs.Database.{table_at};
 ghost use Rattle.odb_tables.specs.Matching.{matching};
 
-use odb_atoms::Value;
+use crate::cells::{Cells, selected};
+use crate::contents::{are_among, contents};
+use odb_atoms::{ColType, Kind, Value, default_of};
 use odb_cond::{Selector, Where};
 use odb_json::Until;
 use odb_schema::{TableId, TableSchema};
@@ -15,7 +22,10 @@ use odb_tables::Draft;
 use std::alloc::{AllocError, Global};
 
 /// Whether these columns of the rows that match are the rows, or aren't, as `until` wants it.
-pub(crate) fn wait(
+///
+/// What `Draft::matching` costs, and O((m + n) log (m + n)) comparisons of rows for the m that match and n
+/// that are given. An error says that memory was refused.
+pub fn wait(
     alloc: Global,
     draft: &Draft,
     table: TableId,
@@ -25,14 +35,117 @@ pub(crate) fn wait(
     until: Until,
     rows: &[Vec<(Selector, Value)>],
 ) -> Result<bool, AllocError>
-    ensures { IfOk result (λ reached. reached
-        ≡ is_reached (until_of until)
-        (same_rows (selected (map selector_of columns.now)
+    ensures { IfOk result (λ reached. reached ≡ model.is_reached (until_of until)
+        (model.same_rows (model.selected (map selector_of columns.now)
         (matching conditions.now (table_at draft.now.now table)))
-        (map (expected schema.now.columns (map selector_of columns.now)) (map cells_of rows.now)))) }
+        (map (model.expected schema.now.columns (map selector_of columns.now)) (map cells_of rows.now)))) }
 {
-    let _found = draft.matching(table, conditions)?;
-    let _expected: Vec<Value> = Vec::with_capacity(alloc, rows.len())?;
-    let _until = until;
-    Err(AllocError)
+    let found = selected(alloc, draft, table, conditions, columns)?;
+    let expected = all_expected(alloc, schema, columns, rows)?;
+    let same = are_same(alloc, &found, &expected)?;
+    Ok(is_reached(until, same))
+}
+
+/// Whether it is as `until` wants it.
+fn is_reached(until: Until, same: bool) -> bool
+    ensures { result ≡ model.is_reached (until_of until) same }
+{
+    match until {
+        Until::Equal => same,
+        Until::NotEqual => !same,
+    }
+}
+
+/// Whether both are the same set of rows.
+fn are_same(alloc: Global, rows: &[Cells], others: &[Cells]) -> Result<bool, AllocError>
+    ensures { IfOk result (λ same. same ≡ model.same_rows rows.now others.now) }
+{
+    let there = each_in(alloc, rows, others)?;
+    let back = each_in(alloc, others, rows)?;
+    Ok(there && back)
+}
+
+/// Whether each of the rows is among the others.
+fn each_in(alloc: Global, rows: &[Cells], others: &[Cells]) -> Result<bool, AllocError>
+    ensures { IfOk result (λ all. all ≡ model.each_in rows.now others.now) }
+{
+    let set = contents(alloc, others)?;
+    Ok(are_among(rows, &set))
+}
+
+/// The values of the columns of each of the rows that are waited for.
+fn all_expected(
+    alloc: Global,
+    schema: &TableSchema,
+    columns: &[Selector],
+    rows: &[Vec<(Selector, Value)>],
+) -> Result<Vec<Cells>, AllocError>
+    ensures { IfOk result (λ all. all.items
+        ≡ map (model.expected schema.now.columns (map selector_of columns.now)) (map cells_of rows.now)) }
+{
+    let mut all = Vec::with_capacity(alloc, rows.len())?;
+    for row in rows {
+        all.push(expected(alloc, schema, columns, row.as_slice())?)?;
+    }
+    Ok(all)
+}
+
+/// The values of the columns of a row that is waited for, with defaults for those that it doesn't name.
+fn expected(
+    alloc: Global,
+    schema: &TableSchema,
+    columns: &[Selector],
+    given: &[(Selector, Value)],
+) -> Result<Cells, AllocError>
+    ensures { IfOk result (λ cells. cells
+        ≡ model.expected schema.now.columns (map selector_of columns.now) (map cell_of given.now)) }
+{
+    let mut values = Vec::with_capacity(alloc, columns.len())?;
+    for column in columns {
+        values.push(value_for(alloc, schema, *column, given)?)?;
+    }
+    Ok(Cells::new(values))
+}
+
+/// The value given for the column, or its default.
+fn value_for(
+    alloc: Global,
+    schema: &TableSchema,
+    column: Selector,
+    given: &[(Selector, Value)],
+) -> Result<Value, AllocError>
+    ensures { IfOk result (λ value. value
+        ≡ value_in schema.now.columns (map cell_of given.now) (selector_of column)) }
+{
+    match given_for(given, column) {
+        Some(value) => value.try_copy(alloc),
+        None => default_for(alloc, schema, column),
+    }
+}
+
+/// The first value given for the column.
+fn given_for(given: &[(Selector, Value)], column: Selector) -> Option<&Value>
+    ensures { option_copied result ≡ option_map (λ e. e.1)
+        (find (λ e. same_selector e.0 (selector_of column)) (map cell_of given.now)) }
+{
+    for (selector, value) in given {
+        if *selector == column {
+            return Some(value);
+        }
+    }
+    None
+}
+
+/// The default of the column.
+fn default_for(alloc: Global, schema: &TableSchema, column: Selector) -> Result<Value, AllocError>
+    ensures { IfOk result (λ value. value
+        ≡ column_type.default_of (selector_type schema.now.columns (selector_of column))) }
+{
+    match column {
+        Selector::Declared(place) => match schema.columns().get(place) {
+            Some(column) => default_of(alloc, column.column_type()),
+            None => default_of(alloc, &ColType::scalar(Kind::Uuid)),
+        },
+        Selector::Uuid | Selector::Version => default_of(alloc, &ColType::scalar(Kind::Uuid)),
+    }
 }
