@@ -1,6 +1,6 @@
 -- A map of the code with identifiers for its keys answers as the finite map that it stands for, and changes as it does.
 use Rattle.std.proofs.Common.{◌≡◌, ℕ, suc, ◌+◌, arith, Bool, true, false, cond, not, List, [], ◌∷◌, length, map, Option, Some, None, is_some, option_map, refl, sym, ap, subst, ◌∙◌}
-use Rattle.std.proofs.lemmas.List.{length-map}
+use Rattle.std.proofs.lemmas.List.{length-map, nil_from_length}
 use Rattle.std.proofs.lemmas.Map.Keys.{IsDistinct-head, IsDistinct-tail}
 use Rattle.std.specs.FinMap.Entries.{find, length-put}
 use Rattle.std.specs.List.{AllByRecursion, IsDistinct}
@@ -78,3 +78,14 @@ module _ {V X S : Type 0} (f : V → X) where
 
   pub len-keyed : (m : IndexMap Uuid V S) → IsUnique (eq_by_cmp uuid_cmp) m → finite.len (keyed f m) ≡ index_map_len m
   len-keyed m h = len-from_entries (map (shown f) m.entries) (subst (IsDistinct (eq_by_cmp uuid_cmp)) (keys-shown f m.entries) h) ∙ length-map m.entries (shown f)
+
+  -- whether it has an entry
+  pub contains-keyed : (m : IndexMap Uuid V S) (q : Uuid) → is_some (get_by (eq_by_cmp uuid_cmp q) m) ≡ finite.contains_key (keyed f m) q
+  contains-keyed m q = same_kind (get_by (eq_by_cmp uuid_cmp q) m) ∙ ap is_some (sym (get-keyed m q))
+    where
+      same_kind : (o : Option V) → is_some o ≡ is_some (option_map f o)
+      same_kind None = refl
+      same_kind (Some v) = refl
+
+  pub none-keyed : (m : IndexMap Uuid V S) (q : Uuid) → index_map_len m ≡ 0 → false ≡ finite.contains_key (keyed f m) q
+  none-keyed m q e = ap (λ es. is_some (lookup (eq_by_cmp uuid_cmp q) es)) (sym (nil_from_length m.entries e)) ∙ contains-keyed m q

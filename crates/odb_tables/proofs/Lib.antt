@@ -1,4 +1,5 @@
 pub mod Changes
+mod Found
 mod Drafts
 mod KeyedMaps
 mod Keys

@@ -1,4 +1,5 @@
 pub mod Draft
+pub mod Found
 pub mod Key
 pub mod Keyed
 pub mod Overlay

@@ -1,15 +1,20 @@
 //! Tables: rows by their identifiers (RFC 7047, section 3.2).
-ghost use Rattle.std.specs.Prelude.{◌≡◌, OnOk, OnErr, IfErr, option_map};
+ghost use Rattle.std.specs.Prelude.{◌≡◌, ◌&&◌, OnOk, OnErr, IfErr, map, not, option_map};
 ghost use Rattle.std.specs.Arc.{arc_value};
 ghost use Rattle.std.specs.Option.{option_copied};
 ghost use Rattle.odb_atoms.specs.FinMap as finite;
 ghost use Rattle.odb_atoms.specs.Represented.Atom.{uuid_of};
+ghost use Rattle.odb_cond.specs.Condition.{holds_all};
+ghost use Rattle.odb_tables.specs.Matching.{matching};
+ghost use Rattle.odb_tables.specs.Represented.Found.{Appends, untouched};
 ghost use Rattle.odb_tables.specs.Represented.Overlay.{row_of};
 
 use crate::key::Key;
+use crate::overlay::Overlay;
 use indexmap::IndexMap;
 use odb_atoms::Row;
-use std::alloc::{AllocFailed, Global};
+use odb_cond::Where;
+use std::alloc::{AllocError, AllocFailed, Global};
 use std::hash::RandomState;
 use std::marker::Model;
 use std::sync::Arc;
@@ -57,6 +62,7 @@ impl Table {
         let row = self.rows.get(&Key::of(uuid))?;
         Some(&**row)
     }
+
     /// Lets the identifier have the row, in place of the one that it had. O(1), but for growth. Where memory
     /// is refused the table is as it was, and the row comes back.
     pub(crate) fn insert(&mut self, uuid: Uuid, row: Arc<Row>) -> Result<(), AllocFailed<Arc<Row>>>
@@ -77,10 +83,37 @@ impl Table {
     {
         self.rows.swap_remove(&Key::of(uuid))
     }
+
     /// The row of a key, to be shared.
     pub(crate) fn share(&self, key: Key) -> Option<&Arc<Row>>
         ensures { row_of (option_copied result) ≡ finite.get self.now key }
     {
         self.rows.get(&key)
     }
+
+    /// Appends the identifiers of the rows of which the conditions hold, but for those that the overlay
+    /// touched. O(rows); an error says that memory was refused.
+    pub(crate) fn find_untouched(
+        &self,
+        overlay: &Overlay,
+        conditions: &Where,
+        found: &mut Vec<Uuid>,
+    ) -> Result<(), AllocError>
+        ensures { OnOk result (Appends (map uuid_of found.old.items) (map uuid_of found.new.items)
+            (matching conditions.now (untouched overlay.now self.now))) }
+    {
+        for (key, row) in self.rows.iter() {
+            if is_found(*key, &**row, overlay, conditions) {
+                found.push(key.uuid())?;
+            }
+        }
+        Ok(())
+    }
+}
+
+/// Whether the conditions hold of the row, and it wasn't touched.
+fn is_found(key: Key, row: &Row, overlay: &Overlay, conditions: &Where) -> bool
+    ensures { result ≡ (holds_all conditions.now key row.now && not (finite.contains_key overlay.now key)) }
+{
+    conditions.holds(key.uuid(), row) && !overlay.touches(key)
 }
