@@ -5,4 +5,5 @@ mod KeyedMaps
 mod Keys
 mod Overlays
 mod SameValues
+mod Stamps
 mod TableChanges

@@ -204,8 +204,17 @@ impl<'a> Draft<'a> {
         ensures { IfOk result (λ changes. changes
             ≡ change_between self.entry.old (stamped (uuid_of version) self.entry.old self.entry.now)) }
     {
-        let _version = version;
-        Err(AllocError)
+        let Draft {
+            alloc,
+            base,
+            overlays,
+        } = self;
+        let mut tables = Vec::with_capacity(alloc, overlays.len())?;
+        for overlay in overlays {
+            let table = &base.tables()[tables.len()];
+            tables.push(overlay.commit(alloc, table, version)?)?;
+        }
+        Ok(ChangeSet::new(tables))
     }
 }
 

@@ -10,6 +10,7 @@ ghost use Rattle.odb_atoms.specs.Represented.Atom.{uuid_of};
 ghost use Rattle.odb_tables.specs.Matching.{matching};
 ghost use Rattle.odb_tables.specs.Represented.Found.{Appends, standing};
 ghost use Rattle.odb_tables.specs.Represented.Overlay.{holds_now, row_of};
+ghost use Rattle.odb_tables.specs.Stamped.{stamped_table};
 
 use crate::key::Key;
 use crate::row_change::RowChange;
@@ -115,6 +116,25 @@ impl Overlay {
         let mut rows = Vec::with_capacity(alloc, self.rows.len())?;
         for (key, now) in &self.rows {
             let change = RowChange::between(*key, base.share(*key), now.as_ref())?;
+            add(&mut rows, change)?;
+        }
+        Ok(TableChange::new(rows))
+    }
+
+    /// The same, where each row that is new, or has another value in a column, has this version. O(rows
+    /// touched); an error says that memory was refused.
+    pub(crate) fn commit(
+        self,
+        alloc: Global,
+        base: &Table,
+        version: Uuid,
+    ) -> Result<TableChange, AllocError>
+        ensures { IfOk result (λ changes. changes
+            ≡ change base.now (stamped_table (uuid_of version) (base.now, overlaid base.now self))) }
+    {
+        let mut rows = Vec::with_capacity(alloc, self.rows.len())?;
+        for (key, now) in self.rows {
+            let change = RowChange::stamped(alloc, key, base.share(key), now, version)?;
             add(&mut rows, change)?;
         }
         Ok(TableChange::new(rows))
