@@ -1,6 +1,7 @@
 pub mod Changes
 mod Found
 mod Drafts
+mod Installs
 mod KeyedMaps
 mod Keys
 mod Overlays

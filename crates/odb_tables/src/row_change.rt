@@ -7,6 +7,7 @@ ghost use Rattle.odb_atoms.specs.Uuid as model_uuid;
 ghost use Rattle.odb_atoms.specs.Uuid.{same_uuid};
 ghost use Rattle.odb_atoms.specs.Value.{same_values};
 ghost use Rattle.odb_tables.specs.Change.{changed_row};
+ghost use Rattle.odb_tables.specs.Represented.Installed.{new_row};
 ghost use Rattle.odb_tables.specs.Represented.Overlay.{row_of};
 ghost use Rattle.odb_tables.specs.Represented.RowChange.{change_at};
 ghost use Rattle.odb_tables.specs.Stamped.{stamped_row, with_number};
@@ -94,6 +95,28 @@ impl RowChange {
             Some(row) => Some(&**row),
             None => None,
         }
+    }
+
+    /// The row's key, and the row before and after.
+    pub(crate) fn into_parts(self) -> (Key, Option<Arc<Row>>, Option<Arc<Row>>)
+        ensures { (result.0, (row_of result.1, row_of result.2)) ≡ self }
+    {
+        let RowChange { key, old, new } = self;
+        (key, old, new)
+    }
+
+    /// Whether there was no row, and is one.
+    pub(crate) fn is_new(&self) -> bool
+        ensures { result ≡ is_some (new_row self.now.1) }
+    {
+        self.old.is_none() && self.new.is_some()
+    }
+
+    /// The row after the change once more, if there is one.
+    pub(crate) fn share_new(&self) -> Result<Option<Arc<Row>>, AllocError>
+        ensures { IfOk result (λ shared. row_of shared ≡ self.now.1.1) }
+    {
+        share(self.new.as_ref())
     }
 
     /// The row after the change, if there is one. O(1).
