@@ -126,3 +126,8 @@ one-committed v db os done t o made inside table is =
     append_assoc done (made ∷ []) (committed v (drop (length (done ++ made ∷ [])) db) os)
     ∙ (λ i. done ++ is i ∷ committed v (drop (longer i) db) os)
     ∙ ap (λ ts. done ++ committed v ts (o ∷ os)) (sym front)
+
+pub length-stamped : (v : Uuid) (db : Db) (os : List Touched) → length os ≡ length db → length (stamped v db (all_overlaid db os)) ≡ length db
+length-stamped v [] os e = refl
+length-stamped v (t ∷ db) [] e = absurd (omega (arith, e))
+length-stamped v (t ∷ db) (o ∷ os) e = ap suc (length-stamped v db os (omega (arith, e)))

@@ -9,11 +9,12 @@ ghost use Rattle.odb_atoms.specs.Row as model_row;
 ghost use Rattle.odb_atoms.specs.Uuid as model_uuid;
 ghost use Rattle.odb_atoms.specs.Uuid.{uuid_cmp};
 ghost use Rattle.odb_cond.specs.Condition.{holds_all};
-ghost use Rattle.odb_tables.specs.Change.{change_between};
+ghost use Rattle.odb_tables.specs.Change.{all_changed_by, change_between};
 ghost use Rattle.odb_tables.specs.Database.{table_at};
 ghost use Rattle.odb_tables.specs.Represented.Draft.{overlaid, touched_at};
 ghost use Rattle.odb_tables.specs.Represented.Overlay.{holds_now};
 ghost use Rattle.odb_tables.specs.Draft.{draft_of, removed_at, with_row, without_row};
+ghost use Rattle.odb_tables.specs.Installing.{IsChangeOf};
 ghost use Rattle.odb_tables.specs.Matching.{matching};
 ghost use Rattle.odb_tables.specs.Stamped.{stamped};
 
@@ -201,8 +202,11 @@ impl<'a> Draft<'a> {
     /// has another value in a column, has this `_version` (RFC 7047, section 3.2). O(rows touched) and
     /// O(tables); an error says that memory was refused.
     pub fn commit(self, version: Uuid) -> Result<ChangeSet, AllocError>
-        ensures { IfOk result (λ changes. changes
+        ensures changes { IfOk result (λ changes. changes
             ≡ change_between self.entry.old (stamped (uuid_of version) self.entry.old self.entry.now)) }
+        ensures change_of { IfOk result (λ changes. IsChangeOf self.entry.old changes) }
+        ensures leads_to { IfOk result (λ changes. all_changed_by self.entry.old changes
+            ≡ stamped (uuid_of version) self.entry.old self.entry.now) }
     {
         let Draft {
             alloc,
