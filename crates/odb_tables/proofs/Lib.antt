@@ -1,8 +1,11 @@
 pub mod Changes
 mod Drafts
+mod Found
+mod Installs
 pub mod KeyedMaps
 mod Keys
 mod Overlays
 mod SameValues
+mod Stamps
 mod TableChanges
 pub mod TypedDatabases

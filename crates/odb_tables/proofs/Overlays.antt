@@ -105,6 +105,14 @@ touched-is os k x inside at = at ∙ sym (ap (λ o. unwrap_or o finite.empty) (s
 pub untouched-past : (os : List Touched) (k : ℕ) → length os ≤ k → touched_at os k ≡ finite.empty
 untouched-past os k past = ap (λ o. unwrap_or o finite.empty) (slice_get_past os k past)
 
+pub table-is : (db : Db) (k : ℕ) (t : Table) → k < length db → t ≡ slice_index_or db k t → t ≡ table_at db k
+table-is db k t inside at = at ∙ sym (ap (λ o. unwrap_or o finite.empty) (slice_get-get_or db k t inside))
+
+-- past the last table
+pub nothing-past : (db : Db) (os : List Touched) (k : ℕ) → length os ≡ length db → length db ≤ k → table_at (all_overlaid db os) k ≡ finite.empty
+nothing-past db os k e past =
+    at-all_overlaid db os k e ∙ (λ i. overlaid (unwrap_or (slice_get_past db k past i) finite.empty) (untouched-past os k (omega (arith, e, past)) i)) ∙ overlaid-empty finite.empty
+
 -- a row that is there was not taken out
 not_taken : (r : Option Row) (o : Option (Option Row)) (x : Row) → laid r o ≡ Some x → is_some (option_and_then if_none o) ≡ false
 not_taken r None x e = refl

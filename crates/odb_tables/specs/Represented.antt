@@ -1,4 +1,6 @@
 pub mod Draft
+pub mod Found
+pub mod Installed
 pub mod Key
 pub mod Keyed
 pub mod Overlay

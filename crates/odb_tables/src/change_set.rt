@@ -37,4 +37,12 @@ impl ChangeSet {
     {
         self.tables.as_slice()
     }
+
+    /// The same, by value. O(1).
+    pub(crate) fn into_tables(self) -> Vec<TableChange>
+        ensures { result.items ≡ self }
+    {
+        let ChangeSet { tables } = self;
+        tables
+    }
 }

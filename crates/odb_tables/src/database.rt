@@ -6,9 +6,11 @@ ghost use Rattle.odb_atoms.specs.Represented.Atom.{uuid_of};
 ghost use Rattle.odb_tables.specs.Change.{all_changed_by};
 ghost use Rattle.odb_tables.specs.Database.{table_at};
 ghost use Rattle.odb_tables.specs.Installing.{IsChangeOf};
+ghost use Rattle.odb_tables.specs.Represented.Installed.{each_table, put_in, settled, taken_back};
 
 use crate::change_set::ChangeSet;
 use crate::table::Table;
+use crate::table_change::TableChange;
 use odb_atoms::Row;
 use odb_schema::TableId;
 use std::alloc::{AllocError, AllocFailed, Global};
@@ -93,7 +95,12 @@ impl Db {
         ensures err { OnErr result (self.new ≡ self.old) }
         ensures handed_back { IfErr result (λ refused. refused.value ≡ change) }
     {
-        Err(AllocFailed { value: change })
+        if put_in(&mut self.tables, change.tables()).is_err() {
+            take_back(&mut self.tables, change.tables());
+            return Err(AllocFailed { value: change });
+        }
+        settle(&mut self.tables, change.into_tables());
+        Ok(())
     }
 
     /// An equal database, whose rows are shared with this one. O(rows); an error says that memory was
@@ -101,7 +108,49 @@ impl Db {
     pub fn try_copy(&self, alloc: Global) -> Result<Db, AllocError>
         ensures { IfOk result (λ copy. copy ≡ self.now) }
     {
-        let _tables: Vec<Table> = Vec::with_capacity(alloc, self.tables.len())?;
-        Err(AllocError)
+        let mut tables = Vec::with_capacity(alloc, self.tables.len())?;
+        for table in &self.tables {
+            tables.push(table.try_copy(alloc, self.hashing)?)?;
+        }
+        Ok(Db {
+            hashing: self.hashing,
+            tables,
+        })
+    }
+}
+
+/// Puts in the rows that are new by the changes. Where memory is refused some of them are in, and nothing
+/// else changed.
+fn put_in(tables: &mut Vec<Table>, changes: &[TableChange]) -> Result<(), AllocError>
+    requires { length changes.now ≡ length tables.old.items }
+    ensures ok { OnOk result (tables.new.items ≡ each_table put_in tables.old.items changes.now) }
+    ensures only_new { each_table taken_back tables.new.items changes.now ≡ each_table taken_back tables.old.items changes.now }
+    ensures same_length { length tables.new.items ≡ length tables.old.items }
+{
+    for place in 0..changes.len() {
+        tables[place].put_in(&changes[place])?;
+    }
+    Ok(())
+}
+
+/// Takes out the rows that are new by the changes.
+fn take_back(tables: &mut Vec<Table>, changes: &[TableChange])
+    requires { length changes.now ≡ length tables.old.items }
+    ensures { tables.new.items ≡ each_table taken_back tables.old.items changes.now }
+{
+    for place in 0..changes.len() {
+        tables[place].take_back(&changes[place]);
+    }
+}
+
+/// Replaces and removes the rows that aren't new by the changes.
+fn settle(tables: &mut Vec<Table>, changes: Vec<TableChange>)
+    requires { length changes.items ≡ length tables.old.items }
+    ensures { tables.new.items ≡ each_table settled tables.old.items changes.items }
+{
+    let mut place = 0;
+    for change in changes {
+        tables[place].settle(change);
+        place += 1;
     }
 }

@@ -1,19 +1,28 @@
 //! Drafts: a database under a transaction.
-ghost use Rattle.std.specs.Prelude.{◌≡◌, ◌<◌, false, length, map, IfOk, IfSome, OnErr, OnOk, option_map};
+ghost use Rattle.std.specs.Prelude.{◌≡◌, ◌<◌, false, length, map, IfOk, IfSome, IsPermutation, IsTrue, OnErr, OnOk, option_map};
+ghost use Rattle.std.specs.List.Sorted.{IsSortedByKey};
 ghost use Rattle.std.specs.Option.{option_copied};
 ghost use Rattle.odb_atoms.specs.FinMap as finite;
 ghost use Rattle.odb_atoms.specs.FinSet as set;
 ghost use Rattle.odb_atoms.specs.Represented.Atom.{uuid_of};
-ghost use Rattle.odb_tables.specs.Change.{change_between};
+ghost use Rattle.odb_atoms.specs.Row as model_row;
+ghost use Rattle.odb_atoms.specs.Uuid as model_uuid;
+ghost use Rattle.odb_atoms.specs.Uuid.{uuid_cmp};
+ghost use Rattle.odb_cond.specs.Condition.{holds_all};
+ghost use Rattle.odb_tables.specs.Change.{all_changed_by, change_between};
 ghost use Rattle.odb_tables.specs.Database.{table_at};
-ghost use Rattle.odb_tables.specs.Represented.Draft.{touched_at};
+ghost use Rattle.odb_tables.specs.Represented.Draft.{overlaid, touched_at};
+ghost use Rattle.odb_tables.specs.Represented.Overlay.{holds_now};
 ghost use Rattle.odb_tables.specs.Draft.{draft_of, removed_at, with_row, without_row};
+ghost use Rattle.odb_tables.specs.Installing.{IsChangeOf};
 ghost use Rattle.odb_tables.specs.Matching.{matching};
 ghost use Rattle.odb_tables.specs.Stamped.{stamped};
 
 use crate::change_set::ChangeSet;
 use crate::database::Db;
+use crate::key::Key;
 use crate::overlay::Overlay;
+use crate::table::Table;
 use odb_atoms::Row;
 use odb_cond::Where;
 use odb_schema::TableId;
@@ -114,8 +123,8 @@ impl<'a> Draft<'a> {
     pub fn uuids(&self, table: TableId) -> Result<Vec<Uuid>, AllocError>
         ensures { IfOk result (λ uuids. map uuid_of uuids.items ≡ finite.keys (table_at self.now.now table)) }
     {
-        let _place = table.place();
-        Err(AllocError)
+        let everything = Where::new(Vec::new(self.alloc));
+        self.scan(table, &everything)
     }
 
     /// The identifiers of the rows, as they are now, of which all conditions hold, ascending (RFC 7047,
@@ -128,9 +137,52 @@ impl<'a> Draft<'a> {
         ensures { IfOk result (λ uuids. map uuid_of uuids.items
             ≡ finite.keys (matching conditions.now (table_at self.now.now table))) }
     {
-        let _place = table.place();
-        let _pinned = conditions.pinned();
-        Err(AllocError)
+        match conditions.pinned() {
+            Some(uuid) => self.look_up(table, uuid, conditions),
+            None => self.scan(table, conditions),
+        }
+    }
+
+    /// What `matching` answers where no row under another identifier can match.
+    fn look_up(
+        &self,
+        table: TableId,
+        uuid: Uuid,
+        conditions: &Where,
+    ) -> Result<Vec<Uuid>, AllocError>
+        requires { (u : model_uuid.Uuid) (r : model_row.Row)
+            → IsTrue (holds_all conditions.now u r) → u ≡ uuid_of uuid }
+        ensures { IfOk result (λ uuids. map uuid_of uuids.items
+            ≡ finite.keys (matching conditions.now (table_at self.now.now table))) }
+    {
+        let mut found = Vec::new(self.alloc);
+        if !self.has_match(table, uuid, conditions) {
+            return Ok(found);
+        }
+        found.push(uuid)?;
+        Ok(found)
+    }
+
+    /// Whether the table has a row under the identifier of which the conditions hold.
+    fn has_match(&self, table: TableId, uuid: Uuid, conditions: &Where) -> bool
+        ensures { result ≡ holds_now conditions.now (uuid_of uuid) (finite.get (table_at self.now.now table) (uuid_of uuid)) }
+    {
+        match self.get(table, uuid) {
+            Some(row) => conditions.holds(uuid, row),
+            None => false,
+        }
+    }
+
+    /// What `matching` answers, by a test of each row.
+    fn scan(&self, table: TableId, conditions: &Where) -> Result<Vec<Uuid>, AllocError>
+        ensures { IfOk result (λ uuids. map uuid_of uuids.items
+            ≡ finite.keys (matching conditions.now (table_at self.now.now table))) }
+    {
+        let Some(overlay) = self.overlays.get(table.place()) else {
+            return Ok(Vec::new(self.alloc));
+        };
+        let base = &self.base.tables()[table.place()];
+        found_in(self.alloc, base, overlay, conditions)
     }
 
     /// What leads from the database as it was to the one as it is now. O(rows touched) and O(tables); an
@@ -150,11 +202,23 @@ impl<'a> Draft<'a> {
     /// has another value in a column, has this `_version` (RFC 7047, section 3.2). O(rows touched) and
     /// O(tables); an error says that memory was refused.
     pub fn commit(self, version: Uuid) -> Result<ChangeSet, AllocError>
-        ensures { IfOk result (λ changes. changes
+        ensures changes { IfOk result (λ changes. changes
             ≡ change_between self.entry.old (stamped (uuid_of version) self.entry.old self.entry.now)) }
+        ensures change_of { IfOk result (λ changes. IsChangeOf self.entry.old changes) }
+        ensures leads_to { IfOk result (λ changes. all_changed_by self.entry.old changes
+            ≡ stamped (uuid_of version) self.entry.old self.entry.now) }
     {
-        let _version = version;
-        Err(AllocError)
+        let Draft {
+            alloc,
+            base,
+            overlays,
+        } = self;
+        let mut tables = Vec::with_capacity(alloc, overlays.len())?;
+        for overlay in overlays {
+            let table = &base.tables()[tables.len()];
+            tables.push(overlay.commit(alloc, table, version)?)?;
+        }
+        Ok(ChangeSet::new(tables))
     }
 }
 
@@ -166,4 +230,29 @@ fn touched(overlays: &[Overlay], table: TableId, uuid: Uuid) -> Option<Option<&R
         Some(overlay) => overlay.get(uuid),
         None => None,
     }
+}
+
+/// The identifiers of the rows of which the conditions hold, ascending.
+fn found_in(
+    alloc: Global,
+    base: &Table,
+    overlay: &Overlay,
+    conditions: &Where,
+) -> Result<Vec<Uuid>, AllocError>
+    ensures { IfOk result (λ uuids. map uuid_of uuids.items
+        ≡ finite.keys (matching conditions.now (overlaid base.now overlay.now))) }
+{
+    let mut found = Vec::new(alloc);
+    base.find_untouched(overlay, conditions, &mut found)?;
+    overlay.find(conditions, &mut found)?;
+    sort(&mut found);
+    Ok(found)
+}
+
+/// Puts the identifiers into their order. O(n log n), without memory.
+fn sort(uuids: &mut Vec<Uuid>)
+    ensures permutation { IsPermutation uuids.old.items uuids.new.items }
+    ensures sorted { IsSortedByKey uuid_of uuid_cmp uuids.new.items }
+{
+    uuids.sort_unstable_by_key(|uuid| Key::of(*uuid));
 }

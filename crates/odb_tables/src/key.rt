@@ -1,11 +1,12 @@
 //! Identifiers as the keys of tables.
-ghost use Rattle.std.specs.Prelude.{◌≡◌};
+ghost use Rattle.std.specs.Prelude.{◌≡◌, refl, Some};
 ghost use Rattle.std.specs.Hash.{u128};
 ghost use Rattle.std.specs.Ordering.{eq_by_cmp};
 ghost use Rattle.odb_atoms.specs.Represented.Atom.{uuid_of};
 ghost use Rattle.odb_atoms.specs.Uuid.{uuid_cmp};
-ghost use Rattle.odb_tables.specs.Represented.Key.{keys_alike, keys_equivalent, keys_partially_equivalent};
+ghost use Rattle.odb_tables.specs.Represented.Key.{keys_alike, keys_equivalent, keys_partial, keys_partially_equivalent, uuid_cmp_total};
 
+use std::cmp::Ordering;
 use std::hash::{Hash, Hasher};
 use std::marker::Model;
 use uuid::Uuid;
@@ -64,6 +65,30 @@ impl PartialEq for Key {
 
 impl Eq for Key {
     ghost laws = { keys_equivalent };
+}
+
+impl Ord for Key {
+    ghost cmp = { uuid_cmp };
+
+    ghost total = { uuid_cmp_total };
+
+    ghost matches_partial_cmp = { λ _ _. refl };
+
+    ghost matches_eq = { λ _ _. refl };
+
+    fn cmp(&self, other: &Key) -> Ordering {
+        self.number.cmp(&other.number)
+    }
+}
+
+impl PartialOrd for Key {
+    ghost partial_cmp = { λ u v. Some (uuid_cmp u v) };
+
+    ghost laws = { keys_partial };
+
+    fn partial_cmp(&self, other: &Key) -> Option<Ordering> {
+        Some(self.cmp(other))
+    }
 }
 
 impl Hash for Key {

@@ -1,5 +1,5 @@
 //! What a draft made of the rows of a table that it touched.
-ghost use Rattle.std.specs.Prelude.{◌≡◌, ◌++◌, IfOk, OnOk, OnErr, option_map, option_to_list};
+ghost use Rattle.std.specs.Prelude.{◌≡◌, ◌++◌, IfOk, OnOk, OnErr, map, option_map, option_to_list};
 ghost use Rattle.std.specs.Arc.{arc_value};
 ghost use Rattle.std.specs.Option.{option_copied};
 ghost use Rattle.odb_atoms.specs.FinMap as finite;
@@ -7,6 +7,10 @@ ghost use Rattle.odb_atoms.specs.FinSet as set;
 ghost use Rattle.odb_tables.specs.Represented.Draft.{overlaid, taken_out};
 ghost use Rattle.odb_tables.specs.Change.{change};
 ghost use Rattle.odb_atoms.specs.Represented.Atom.{uuid_of};
+ghost use Rattle.odb_tables.specs.Matching.{matching};
+ghost use Rattle.odb_tables.specs.Represented.Found.{Appends, standing};
+ghost use Rattle.odb_tables.specs.Represented.Overlay.{holds_now, row_of};
+ghost use Rattle.odb_tables.specs.Stamped.{stamped_table};
 
 use crate::key::Key;
 use crate::row_change::RowChange;
@@ -14,6 +18,7 @@ use crate::table::Table;
 use crate::table_change::TableChange;
 use indexmap::IndexMap;
 use odb_atoms::Row;
+use odb_cond::Where;
 use std::alloc::{AllocError, Global};
 use std::hash::RandomState;
 use std::marker::Model;
@@ -70,6 +75,7 @@ impl Overlay {
             Err(_) => Err(AllocError),
         }
     }
+
     /// Whether the row of an identifier was taken out. O(1), without memory.
     pub(crate) fn is_removed(&self, uuid: Uuid) -> bool
         ensures { result ≡ set.contains (taken_out self.now) (uuid_of uuid) }
@@ -80,6 +86,28 @@ impl Overlay {
             Some(Some(_)) => false,
         }
     }
+
+    /// Whether the row of a key was touched. O(1), without memory.
+    pub(crate) fn touches(&self, key: Key) -> bool
+        ensures { result ≡ finite.contains_key self.now key }
+    {
+        !self.rows.is_empty() && self.rows.contains_key(&key)
+    }
+
+    /// Appends the identifiers of the rows that are there and of which the conditions hold. O(rows
+    /// touched); an error says that memory was refused.
+    pub(crate) fn find(&self, conditions: &Where, found: &mut Vec<Uuid>) -> Result<(), AllocError>
+        ensures { OnOk result (Appends (map uuid_of found.old.items) (map uuid_of found.new.items)
+            (matching conditions.now (standing self.now))) }
+    {
+        for (key, now) in self.rows.iter() {
+            if is_found(*key, now.as_ref(), conditions) {
+                found.push(key.uuid())?;
+            }
+        }
+        Ok(())
+    }
+
     /// What leads from the rows of the table to those that are over it. O(rows touched); an error says
     /// that memory was refused.
     pub(crate) fn changes(&self, alloc: Global, base: &Table) -> Result<TableChange, AllocError>
@@ -91,6 +119,35 @@ impl Overlay {
             add(&mut rows, change)?;
         }
         Ok(TableChange::new(rows))
+    }
+
+    /// The same, where each row that is new, or has another value in a column, has this version. O(rows
+    /// touched); an error says that memory was refused.
+    pub(crate) fn commit(
+        self,
+        alloc: Global,
+        base: &Table,
+        version: Uuid,
+    ) -> Result<TableChange, AllocError>
+        ensures { IfOk result (λ changes. changes
+            ≡ change base.now (stamped_table (uuid_of version) (base.now, overlaid base.now self))) }
+    {
+        let mut rows = Vec::with_capacity(alloc, self.rows.len())?;
+        for (key, now) in self.rows {
+            let change = RowChange::stamped(alloc, key, base.share(key), now, version)?;
+            add(&mut rows, change)?;
+        }
+        Ok(TableChange::new(rows))
+    }
+}
+
+/// Whether the row is there, and the conditions hold of it.
+fn is_found(key: Key, now: Option<&Arc<Row>>, conditions: &Where) -> bool
+    ensures { result ≡ holds_now conditions.now key (row_of (option_copied now.entry)) }
+{
+    match now {
+        Some(row) => conditions.holds(key.uuid(), &**row),
+        None => false,
     }
 }
 

@@ -1,16 +1,20 @@
 //! Changes of single rows.
 ghost use Rattle.std.specs.Prelude.{◌≡◌, ◌&&◌, IfOk, is_some, not, option_map};
+ghost use Rattle.std.specs.Arc.{arc_value};
 ghost use Rattle.std.specs.Option.{option_copied};
 ghost use Rattle.odb_atoms.specs.Represented.Atom.{uuid_of};
+ghost use Rattle.odb_atoms.specs.Uuid as model_uuid;
 ghost use Rattle.odb_atoms.specs.Uuid.{same_uuid};
 ghost use Rattle.odb_atoms.specs.Value.{same_values};
 ghost use Rattle.odb_tables.specs.Change.{changed_row};
+ghost use Rattle.odb_tables.specs.Represented.Installed.{new_row};
 ghost use Rattle.odb_tables.specs.Represented.Overlay.{row_of};
 ghost use Rattle.odb_tables.specs.Represented.RowChange.{change_at};
+ghost use Rattle.odb_tables.specs.Stamped.{stamped_row, with_number};
 
 use crate::key::Key;
 use odb_atoms::{Row, Value};
-use std::alloc::AllocError;
+use std::alloc::{AllocError, Global};
 use std::marker::Model;
 use std::sync::Arc;
 use uuid::Uuid;
@@ -56,6 +60,26 @@ impl RowChange {
         Ok(Some(RowChange { key, old, new }))
     }
 
+    /// What leads from the old row to the new one with this version; `None` where there is no row, or one
+    /// with the same columns. An error says that memory was refused.
+    pub(crate) fn stamped(
+        alloc: Global,
+        key: Key,
+        old: Option<&Arc<Row>>,
+        new: Option<Arc<Row>>,
+        version: Uuid,
+    ) -> Result<Option<RowChange>, AllocError>
+        ensures { IfOk result (λ change. let old_row = row_of (option_copied old.entry) in
+            change ≡ change_at key old_row (option_map (stamped_row (uuid_of version) old_row) (row_of new))) }
+    {
+        if have_same_columns(old, new.as_ref()) {
+            return Ok(None);
+        }
+        let old = share(old)?;
+        let new = with_version(alloc, new, version)?;
+        Ok(Some(RowChange { key, old, new }))
+    }
+
     /// The row's identifier. O(1).
     pub fn uuid(&self) -> Uuid
         ensures { uuid_of result ≡ self.now.0 }
@@ -71,6 +95,28 @@ impl RowChange {
             Some(row) => Some(&**row),
             None => None,
         }
+    }
+
+    /// The row's key, and the row before and after.
+    pub(crate) fn into_parts(self) -> (Key, Option<Arc<Row>>, Option<Arc<Row>>)
+        ensures { (result.0, (row_of result.1, row_of result.2)) ≡ self }
+    {
+        let RowChange { key, old, new } = self;
+        (key, old, new)
+    }
+
+    /// Whether there was no row, and is one.
+    pub(crate) fn is_new(&self) -> bool
+        ensures { result ≡ is_some (new_row self.now.1) }
+    {
+        self.old.is_none() && self.new.is_some()
+    }
+
+    /// The row after the change once more, if there is one.
+    pub(crate) fn share_new(&self) -> Result<Option<Arc<Row>>, AllocError>
+        ensures { IfOk result (λ shared. row_of shared ≡ self.now.1.1) }
+    {
+        share(self.new.as_ref())
     }
 
     /// The row after the change, if there is one. O(1).
@@ -91,6 +137,44 @@ fn share(row: Option<&Arc<Row>>) -> Result<Option<Arc<Row>>, AllocError>
     match row {
         Some(row) => Ok(Some(row.clone()?)),
         None => Ok(None),
+    }
+}
+
+/// The row with another version.
+fn with_version(
+    alloc: Global,
+    row: Option<Arc<Row>>,
+    version: Uuid,
+) -> Result<Option<Arc<Row>>, AllocError>
+    ensures { IfOk result (λ made. row_of made ≡ option_map (with_number (uuid_of version)) (row_of row)) }
+{
+    let Some(row) = row else {
+        return Ok(None);
+    };
+    let mut row = taken_out(alloc, row)?;
+    row.set_version(version);
+    Ok(Some(Arc::new(alloc, row)?))
+}
+
+/// The row itself where nobody else has it, and else a copy.
+fn taken_out(alloc: Global, row: Arc<Row>) -> Result<Row, AllocError>
+    ensures { IfOk result (λ own. own ≡ arc_value row) }
+{
+    match Arc::try_unwrap(row) {
+        Ok(row) => Ok(row),
+        Err(shared) => shared.try_copy(alloc),
+    }
+}
+
+/// Whether there is no row, or one with the same columns as before.
+fn have_same_columns(old: Option<&Arc<Row>>, new: Option<&Arc<Row>>) -> bool
+    ensures { (number : model_uuid.Uuid) → let old_row = row_of (option_copied old.entry) in
+        result ≡ not (is_some (changed_row old_row (option_map (stamped_row number old_row) (row_of (option_copied new.entry))))) }
+{
+    match (old, new) {
+        (None, None) => true,
+        (Some(old), Some(new)) => are_equal(old.columns(), new.columns()),
+        _ => false,
     }
 }
 

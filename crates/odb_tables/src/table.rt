@@ -1,15 +1,23 @@
 //! Tables: rows by their identifiers (RFC 7047, section 3.2).
-ghost use Rattle.std.specs.Prelude.{◌≡◌, OnOk, OnErr, IfErr, option_map};
+ghost use Rattle.std.specs.Prelude.{◌≡◌, ◌&&◌, IfOk, OnOk, OnErr, IfErr, map, not, option_map};
 ghost use Rattle.std.specs.Arc.{arc_value};
 ghost use Rattle.std.specs.Option.{option_copied};
 ghost use Rattle.odb_atoms.specs.FinMap as finite;
 ghost use Rattle.odb_atoms.specs.Represented.Atom.{uuid_of};
+ghost use Rattle.odb_cond.specs.Condition.{holds_all};
+ghost use Rattle.odb_tables.specs.Matching.{matching};
+ghost use Rattle.odb_tables.specs.Represented.Found.{Appends, untouched};
+ghost use Rattle.odb_tables.specs.Represented.Installed.{each_row, one_row, put_in, settled, taken_back, with_row_at};
 ghost use Rattle.odb_tables.specs.Represented.Overlay.{row_of};
 
 use crate::key::Key;
+use crate::overlay::Overlay;
+use crate::row_change::RowChange;
+use crate::table_change::TableChange;
 use indexmap::IndexMap;
 use odb_atoms::Row;
-use std::alloc::{AllocFailed, Global};
+use odb_cond::Where;
+use std::alloc::{AllocError, AllocFailed, Global};
 use std::hash::RandomState;
 use std::marker::Model;
 use std::sync::Arc;
@@ -57,6 +65,7 @@ impl Table {
         let row = self.rows.get(&Key::of(uuid))?;
         Some(&**row)
     }
+
     /// Lets the identifier have the row, in place of the one that it had. O(1), but for growth. Where memory
     /// is refused the table is as it was, and the row comes back.
     pub(crate) fn insert(&mut self, uuid: Uuid, row: Arc<Row>) -> Result<(), AllocFailed<Arc<Row>>>
@@ -77,10 +86,124 @@ impl Table {
     {
         self.rows.swap_remove(&Key::of(uuid))
     }
+
     /// The row of a key, to be shared.
     pub(crate) fn share(&self, key: Key) -> Option<&Arc<Row>>
         ensures { row_of (option_copied result) ≡ finite.get self.now key }
     {
         self.rows.get(&key)
     }
+
+    /// An equal table, whose rows are shared with this one. O(rows); an error says that memory was refused.
+    pub(crate) fn try_copy(&self, alloc: Global, hashing: RandomState) -> Result<Table, AllocError>
+        ensures { IfOk result (λ copy. copy ≡ self.now) }
+    {
+        let rows = IndexMap::with_capacity_and_hasher(alloc, self.len(), hashing)?;
+        let mut copy = Table { rows };
+        for (key, row) in self.rows.iter() {
+            copy.insert(key.uuid(), row.clone()?)?;
+        }
+        Ok(copy)
+    }
+
+    /// Puts in the rows that are new by the change. Where memory is refused some of them are in, and nothing
+    /// else changed. O(rows changed).
+    pub(crate) fn put_in(&mut self, change: &TableChange) -> Result<(), AllocError>
+        ensures ok { OnOk result (self.new ≡ each_row put_in self.old change.now) }
+        ensures only_new { each_row taken_back self.new change.now ≡ each_row taken_back self.old change.now }
+    {
+        for row in change.rows() {
+            self.put_in_row(row)?;
+        }
+        Ok(())
+    }
+
+    fn put_in_row(&mut self, row: &RowChange) -> Result<(), AllocError>
+        ensures ok { OnOk result (self.new ≡ one_row put_in self.old row.now) }
+        ensures err { OnErr result (self.new ≡ self.old) }
+    {
+        if !row.is_new() {
+            return Ok(());
+        }
+        let Some(new) = row.share_new()? else {
+            return Ok(());
+        };
+        Ok(self.insert(row.uuid(), new)?)
+    }
+
+    /// Takes out the rows that are new by the change. O(rows changed), without memory.
+    pub(crate) fn take_back(&mut self, change: &TableChange)
+        ensures { self.new ≡ each_row taken_back self.old change.now }
+    {
+        for row in change.rows() {
+            self.take_back_row(row);
+        }
+    }
+
+    fn take_back_row(&mut self, row: &RowChange)
+        ensures { self.new ≡ one_row taken_back self.old row.now }
+    {
+        if !row.is_new() {
+            return;
+        }
+        drop(self.remove(row.uuid()));
+    }
+
+    /// Replaces and removes the rows that aren't new by the change. O(rows changed), without memory.
+    pub(crate) fn settle(&mut self, change: TableChange)
+        ensures { self.new ≡ each_row settled self.old change }
+    {
+        for row in change.into_rows() {
+            self.settle_row(row);
+        }
+    }
+
+    fn settle_row(&mut self, row: RowChange)
+        ensures { self.new ≡ one_row settled self.old row }
+    {
+        let (key, old, new) = row.into_parts();
+        if old.is_none() {
+            return;
+        }
+        match new {
+            Some(new) => self.replace(key, new),
+            None => drop(self.rows.swap_remove(&key)),
+        }
+    }
+
+    /// Lets the key have the row, if it has one.
+    fn replace(&mut self, key: Key, row: Arc<Row>)
+        ensures { self.new ≡ with_row_at self.old key (option_map (λ _. arc_value row) (finite.get self.old key)) }
+    {
+        let Some(place) = self.rows.get_mut(&key) else {
+            return;
+        };
+        *place = row;
+    }
+
+    /// Appends the identifiers of the rows of which the conditions hold, but for those that the overlay
+    /// touched. O(rows); an error says that memory was refused.
+    pub(crate) fn find_untouched(
+        &self,
+        overlay: &Overlay,
+        conditions: &Where,
+        found: &mut Vec<Uuid>,
+    ) -> Result<(), AllocError>
+        ensures { OnOk result (Appends (map uuid_of found.old.items) (map uuid_of found.new.items)
+            (matching conditions.now (untouched overlay.now self.now))) }
+    {
+        for (key, row) in self.rows.iter() {
+            if is_found(*key, &**row, overlay, conditions) {
+                found.push(key.uuid())?;
+            }
+        }
+        Ok(())
+    }
+}
+
+/// Whether the conditions hold of the row, and it wasn't touched.
+fn is_found(key: Key, row: &Row, overlay: &Overlay, conditions: &Where) -> bool
+    ensures { result ≡ (holds_all conditions.now key row.now && not (finite.contains_key overlay.now key)) }
+{
+    conditions.holds(key.uuid(), row) && !overlay.touches(key)
 }

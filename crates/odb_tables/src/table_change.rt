@@ -42,4 +42,13 @@ impl TableChange {
     {
         self.rows.as_slice()
     }
+
+    /// The same, by value. O(1).
+    pub(crate) fn into_rows(self) -> Vec<RowChange>
+        ensures changes { finite.from_entries result.items ≡ self }
+        ensures distinct { AreDistinct result.items }
+    {
+        let TableChange { rows } = self;
+        rows
+    }
 }

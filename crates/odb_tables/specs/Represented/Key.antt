@@ -1,8 +1,8 @@
 -- Keys of tables: identifiers by their numbers.
-use Rattle.std.specs.Prelude.{◌≡◌, ℕ, ◌^◌, nat_lt, Bool, true, false, T}
+use Rattle.std.specs.Prelude.{◌≡◌, ℕ, ◌^◌, nat_lt, Bool, true, false, Some, T}
 use mathlib.Core.Path.{refl, sym, subst}
 use Rattle.std.specs.Ordering.{eq_by_cmp}
-use Rattle.std.specs.Cmp.{IsEquivalence, IsPartialEquivalence, IsTotalOrder, eq_by_cmp_equiv, nat_cmp_total, on_total, partial_equiv_from_equiv, unsigned_tied, unsigned_Decides}
+use Rattle.std.specs.Cmp.{IsEquivalence, IsPartialEquivalence, IsPartialOrder, IsTotalOrder, eq_by_cmp_equiv, nat_cmp_total, on_total, partial_equiv_from_equiv, po, unsigned_tied, unsigned_Decides}
 use Rattle.std.specs.Hash.{Alike, on_Alike, same_Alike, u128}
 use Rattle.odb_atoms.specs.Uuid.{Uuid, bounded_uuid, uuid_cmp, uuid_from}
 
@@ -25,6 +25,9 @@ keys_equivalent = eq_by_cmp_equiv uuid_cmp_total
 
 pub keys_partially_equivalent : IsPartialEquivalence (eq_by_cmp uuid_cmp)
 keys_partially_equivalent = partial_equiv_from_equiv keys_equivalent
+
+pub keys_partial : IsPartialOrder (eq_by_cmp uuid_cmp) (λ u v. Some (uuid_cmp u v))
+keys_partial = po uuid_cmp_total (λ _ _. refl)
 
 pub keys_alike : Alike (eq_by_cmp uuid_cmp) (λ u. u128 u.number)
 keys_alike = subst (λ (E : Uuid → Uuid → Bool). Alike E (λ u. u128 u.number)) (λ i x y. sym (unsigned_tied x.number y.number) i) (on_Alike (λ u. u.number) (same_Alike u128 unsigned_Decides))

@@ -1,0 +1,357 @@
+-- Identifiers that were found, each once: those of a part of a table behind those of the rest, and in order they are the keys of the whole.
+use Rattle.std.proofs.Common.{◌≡◌, ◌+◌, ◌<◌, Bool, true, false, cond, not, ◌&&◌, ◌||◌, List, [], ◌∷◌, ◌++◌, length, map, filter, get_or, Option, Some, None, option_and_then, option_map, is_some, IsPermutation, IsTrue, refl, sym, ap, subst, ◌∙◌, arith}
+use lib.Dec.{T}
+use mathlib.Core.Bool.{true≢false}
+use Rattle.std.proofs.lemmas.List.{get_or-map, length-map}
+use Rattle.std.proofs.lemmas.List.Sorted.{IsPermutation-map, list_any-IsPermutation}
+use Rattle.std.proofs.lemmas.Map.Keys.{IsDistinct-IsPermutation, IsDistinct-cons, IsDistinct-head, IsDistinct-tail, apart_from_distinct, sorted_from_all_adjacent, sorted_head, sorted_tail}
+use Rattle.std.specs.Arc.{arc_value}
+use Rattle.std.specs.declared.sync.Arc.{Arc}
+use Rattle.std.specs.declared.cmp.Ordering.{Ordering}
+use Rattle.std.specs.declared.cmp.Ordering.TheVariants.{Less, Equal, Greater}
+use Rattle.std.specs.FinMap.Entries.{below_all, find, is_sorted, same_entries}
+use Rattle.std.specs.List.{AllByRecursion, IsDistinct, list_any}
+use Rattle.std.specs.List.Sorted.{IsSortedByKey, IsStrictlySortedBy}
+use Rattle.std.specs.Map.{keys_of, lookup}
+use Rattle.std.specs.Ordering.{eq_by_cmp, is_eq, is_lt, ordering_reverse}
+use Rattle.indexmap.specs.IndexMap.{IndexMap, IsUnique}
+use Rattle.odb_atoms.specs.FinMap as finite
+use Rattle.odb_atoms.specs.Row.{Row}
+use Rattle.odb_atoms.specs.Uuid.{Uuid, uuid_cmp}
+use Rattle.odb_atoms.proofs.Atoms.{uuid_cmp-IsAntisymmetric}
+use Rattle.odb_atoms.proofs.FinMaps.{contains_key-keys, get-empty, get-map_entries, same_key, same_map}
+use Rattle.odb_atoms.proofs.Rising.{is_less}
+use Rattle.odb_cond.specs.Condition.{Clause, holds_all}
+use Rattle.odb_tables.specs.Database.{Table}
+use Rattle.odb_tables.specs.Matching.{matching}
+use Rattle.odb_tables.specs.Represented.Draft.{laid, overlaid}
+use Rattle.odb_tables.specs.Represented.Found.{Appends, Lists, standing, untouched}
+use Rattle.odb_tables.specs.Represented.Key.{keys_equivalent, uuid_cmp_total}
+use Rattle.odb_tables.specs.Represented.Overlay.{Touched, holds_now, row_of}
+use Rattle.odb_tables.specs.Represented.Keyed.{keyed}
+use Rattle.odb_tables.proofs.KeyedMaps.{get-keyed}
+use Rattle.odb_tables.proofs.Overlays.{get-overlaid}
+
+-- ---- the entries of a list that pass a test
+
+module _ {V : Type 0} (p : Uuid × V → Bool) where
+  abbrev pub found : List (Uuid × V) → List Uuid
+  found es = map (λ e. e.0) (filter p es)
+
+  abbrev pub found_one : Uuid × V → List Uuid
+  found_one e = cond (p e) (e.0 ∷ []) []
+
+  pub found-more : (es : List (Uuid × V)) (e : Uuid × V) → found (es ++ e ∷ []) ≡ found es ++ found_one e
+  found-more [] e = by (p e)
+    where
+      by : (b : Bool) → map (λ (x : Uuid × V). x.0) (cond b (e ∷ []) []) ≡ cond b (e.0 ∷ []) []
+      by true = refl
+      by false = refl
+  found-more (d ∷ es) e = by (p d) (found-more es e)
+    where
+      by : (b : Bool) → found (es ++ e ∷ []) ≡ found es ++ found_one e → map (λ (x : Uuid × V). x.0) (cond b (d ∷ filter p (es ++ e ∷ [])) (filter p (es ++ e ∷ []))) ≡ map (λ (x : Uuid × V). x.0) (cond b (d ∷ filter p es) (filter p es)) ++ found_one e
+      by true h = ap (λ us. d.0 ∷ us) h
+      by false h = h
+
+  -- whether what stands under an identifier passes
+  abbrev pub passes : Uuid → Option V → Bool
+  passes q None = false
+  passes q (Some v) = p (q, v)
+
+  all_found : (P : Uuid → Type 0) (es : List (Uuid × V)) → AllByRecursion P (keys_of es) → AllByRecursion P (found es)
+  all_found P [] h = tt
+  all_found P (e ∷ es) h = by (p e) (all_found P es h.1)
+    where
+      by : (b : Bool) → AllByRecursion P (found es) → AllByRecursion P (map (λ (x : Uuid × V). x.0) (cond b (e ∷ filter p es) (filter p es)))
+      by true r = (h.0, r)
+      by false r = r
+
+  distinct_found : (es : List (Uuid × V)) → IsDistinct (eq_by_cmp uuid_cmp) (keys_of es) → IsDistinct (eq_by_cmp uuid_cmp) (found es)
+  unfolding IsDistinct
+  distinct_found [] h = tt
+  distinct_found (e ∷ es) h = by (p e) (distinct_found es (IsDistinct-tail (eq_by_cmp uuid_cmp) e.0 (keys_of es) h))
+    where
+      by : (b : Bool) → IsDistinct (eq_by_cmp uuid_cmp) (found es) → IsDistinct (eq_by_cmp uuid_cmp) (map (λ (x : Uuid × V). x.0) (cond b (e ∷ filter p es) (filter p es)))
+      by true r = IsDistinct-cons (eq_by_cmp uuid_cmp) e.0 (found es) (all_found _ es (IsDistinct-head (eq_by_cmp uuid_cmp) e.0 (keys_of es) h)) r
+      by false r = r
+
+  none_behind : (k : Uuid) (es : List (Uuid × V)) → AllByRecursion (λ y. eq_by_cmp uuid_cmp k y ≡ false) (keys_of es) → lookup (eq_by_cmp uuid_cmp k) es ≡ None
+  none_behind k [] h = refl
+  none_behind k (e ∷ es) h = ap (λ b. cond b (Some e.1) (lookup (eq_by_cmp uuid_cmp k) es)) h.0 ∙ none_behind k es h.1
+
+  any_found : (es : List (Uuid × V)) (q : Uuid) → IsDistinct (eq_by_cmp uuid_cmp) (keys_of es) → list_any (eq_by_cmp uuid_cmp q) (found es) ≡ passes q (lookup (eq_by_cmp uuid_cmp q) es)
+  any_found [] q h = refl
+  any_found (e ∷ es) q h = by (p e) refl (eq_by_cmp uuid_cmp q e.0) refl (any_found es q (IsDistinct-tail (eq_by_cmp uuid_cmp) e.0 (keys_of es) h))
+    where
+      absent : eq_by_cmp uuid_cmp q e.0 ≡ true → lookup (eq_by_cmp uuid_cmp q) es ≡ None
+      absent is = ap (λ u. lookup (eq_by_cmp uuid_cmp u) es) (same_key uuid_cmp-IsAntisymmetric q e.0 is) ∙ none_behind e.0 es (IsDistinct-head (eq_by_cmp uuid_cmp) e.0 (keys_of es) h)
+
+      here : eq_by_cmp uuid_cmp q e.0 ≡ true → p e ≡ p (q, e.1)
+      here is = ap (λ u. p (u, e.1)) (sym (same_key uuid_cmp-IsAntisymmetric q e.0 is))
+
+      by : (b : Bool) → p e ≡ b → (a : Bool) → eq_by_cmp uuid_cmp q e.0 ≡ a → list_any (eq_by_cmp uuid_cmp q) (found es) ≡ passes q (lookup (eq_by_cmp uuid_cmp q) es)
+          → list_any (eq_by_cmp uuid_cmp q) (map (λ (x : Uuid × V). x.0) (cond b (e ∷ filter p es) (filter p es))) ≡ passes q (cond a (Some e.1) (lookup (eq_by_cmp uuid_cmp q) es))
+      by true pe true is rest = ap (λ b. b || list_any (eq_by_cmp uuid_cmp q) (found es)) is ∙ sym pe ∙ here is
+      by true pe false is rest = ap (λ b. b || list_any (eq_by_cmp uuid_cmp q) (found es)) is ∙ rest
+      by false pe true is rest = rest ∙ ap (passes q) (absent is) ∙ sym pe ∙ here is
+      by false pe false is rest = rest
+
+  pub found-Lists : (es : List (Uuid × V)) (t : Table) → IsDistinct (eq_by_cmp uuid_cmp) (keys_of es) → ((q : Uuid) → finite.contains_key t q ≡ passes q (lookup (eq_by_cmp uuid_cmp q) es)) → Lists (found es) t
+  found-Lists es t h is = (distinct_found es h, λ q. any_found es q h ∙ sym (is q))
+
+-- ---- which rows match
+
+abbrev hold : List Clause → Uuid → Row → Option Row
+hold cs u r = cond (holds_all cs u r) (Some r) None
+
+pub get-matching : (cs : List Clause) (t : Table) (q : Uuid) → finite.get (matching cs t) q ≡ option_and_then (hold cs q) (finite.get t q)
+get-matching cs t q = get-map_entries uuid_cmp_total uuid_cmp-IsAntisymmetric (hold cs) t q
+
+get-untouched : (o : Touched) (t : Table) (q : Uuid) → finite.get (untouched o t) q ≡ option_and_then (λ r. cond (finite.contains_key o q) None (Some r)) (finite.get t q)
+get-untouched o t q = get-map_entries uuid_cmp_total uuid_cmp-IsAntisymmetric (λ u r. cond (finite.contains_key o u) None (Some r)) t q
+
+get-standing : (o : Touched) (q : Uuid) → finite.get (standing o) q ≡ option_and_then (λ now. now) (finite.get o q)
+get-standing o q = get-map_entries uuid_cmp_total uuid_cmp-IsAntisymmetric (λ u now. now) o q
+
+some_cond : (b : Bool) (r : Row) → is_some (cond b (Some r) None) ≡ b
+some_cond true r = refl
+some_cond false r = refl
+
+pub matches : (cs : List Clause) (t : Table) (q : Uuid) → finite.contains_key (matching cs t) q ≡ holds_now cs q (finite.get t q)
+matches cs t q = ap is_some (get-matching cs t q) ∙ by (finite.get t q)
+  where
+    by : (o : Option Row) → is_some (option_and_then (hold cs q) o) ≡ holds_now cs q o
+    by None = refl
+    by (Some r) = some_cond (holds_all cs q r) r
+
+pub matches-untouched : (cs : List Clause) (o : Touched) (t : Table) (q : Uuid) → finite.contains_key (matching cs (untouched o t)) q ≡ (holds_now cs q (finite.get t q) && not (finite.contains_key o q))
+matches-untouched cs o t q = matches cs (untouched o t) q ∙ ap (holds_now cs q) (get-untouched o t q) ∙ by (finite.get t q) (finite.contains_key o q)
+  where
+    and_false : (b : Bool) → false ≡ (b && false)
+    and_false true = refl
+    and_false false = refl
+
+    and_true : (b : Bool) → b ≡ (b && true)
+    and_true true = refl
+    and_true false = refl
+
+    by : (r : Option Row) (b : Bool) → holds_now cs q (option_and_then (λ x. cond b None (Some x)) r) ≡ (holds_now cs q r && not b)
+    by None b = refl
+    by (Some r) true = and_false (holds_all cs q r)
+    by (Some r) false = and_true (holds_all cs q r)
+
+pub matches-standing : (cs : List Clause) (o : Touched) (q : Uuid) → finite.contains_key (matching cs (standing o)) q ≡ holds_now cs q (option_and_then (λ now. now) (finite.get o q))
+matches-standing cs o q = matches cs (standing o) q ∙ ap (holds_now cs q) (get-standing o q)
+
+-- a row matches in one of the two parts, and not in both
+parted : (cs : List Clause) (o : Touched) (t : Table) (q : Uuid) → (finite.contains_key (matching cs (overlaid t o)) q ≡ (finite.contains_key (matching cs (untouched o t)) q || finite.contains_key (matching cs (standing o)) q)) × (finite.contains_key (matching cs (untouched o t)) q ≡ true → finite.contains_key (matching cs (standing o)) q ≡ false)
+parted cs o t q =
+    let h : Goal (finite.get o q) = by (holds_now cs q (finite.get t q)) (finite.get o q) refl in
+    (matches cs (overlaid t o) q ∙ ap (holds_now cs q) (get-overlaid t o q) ∙ h.0 ∙ (λ i. sym (matches-untouched cs o t q) i || sym (matches-standing cs o q) i), λ e. matches-standing cs o q ∙ h.1 (sym (matches-untouched cs o t q) ∙ e))
+  where
+    Goal : Option (Option Row) → Type 0
+    Goal w = (holds_now cs q (laid (finite.get t q) w) ≡ ((holds_now cs q (finite.get t q) && not (is_some w)) || holds_now cs q (option_and_then (λ now. now) w))) × ((holds_now cs q (finite.get t q) && not (is_some w)) ≡ true → holds_now cs q (option_and_then (λ now. now) w) ≡ false)
+
+    alone : (b : Bool) → b ≡ ((b && true) || false)
+    alone true = refl
+    alone false = refl
+
+    never : (b x : Bool) → x ≡ ((b && false) || x)
+    never true x = refl
+    never false x = refl
+
+    not_both : (b x : Bool) → (b && false) ≡ true → x ≡ false
+    not_both true x e = absurd (true≢false (sym e))
+    not_both false x e = absurd (true≢false (sym e))
+
+    by : (b : Bool) (w : Option (Option Row)) → holds_now cs q (finite.get t q) ≡ b → Goal w
+    by b None e = (alone (holds_now cs q (finite.get t q)), λ _. refl)
+    by b (Some w) e = (never (holds_now cs q (finite.get t q)) (holds_now cs q w), not_both (holds_now cs q (finite.get t q)) (holds_now cs q w))
+
+-- of an entry of a table: it matches, and isn't touched
+abbrev pub is_untouched : {Z : Type 0} → List Clause → Touched → Uuid × Arc Row Z → Bool
+is_untouched cs o e = holds_all cs e.0 (arc_value e.1) && not (finite.contains_key o e.0)
+
+-- of an entry of an overlay: the row is there and matches
+abbrev pub is_standing : {Z : Type 0} → List Clause → Uuid × Option (Arc Row Z) → Bool
+is_standing cs e = holds_now cs e.0 (row_of e.1)
+
+pub listed-untouched : {Z S : Type 0} (cs : List Clause) (o : Touched) (m : IndexMap Uuid (Arc Row Z) S) → IsUnique (eq_by_cmp uuid_cmp) m → Lists (found (is_untouched cs o) m.entries) (matching cs (untouched o (keyed arc_value m)))
+listed-untouched {Z = Z} cs o m distinct =
+    found-Lists (is_untouched cs o) m.entries _ distinct
+    (λ q. matches-untouched cs o (keyed arc_value m) q ∙ ap (λ r. holds_now cs q r && not (finite.contains_key o q)) (get-keyed arc_value m q) ∙ by q (lookup (eq_by_cmp uuid_cmp q) m.entries))
+  where
+    by : (q : Uuid) (v : Option (Arc Row Z)) → (holds_now cs q (option_map arc_value v) && not (finite.contains_key o q)) ≡ passes (is_untouched cs o) q v
+    by q None = refl
+    by q (Some v) = refl
+
+pub listed-standing : {Z S : Type 0} (cs : List Clause) (m : IndexMap Uuid (Option (Arc Row Z)) S) → IsUnique (eq_by_cmp uuid_cmp) m → Lists (found (is_standing cs) m.entries) (matching cs (standing (keyed row_of m)))
+listed-standing {Z = Z} cs m distinct =
+    found-Lists (is_standing cs) m.entries _ distinct
+    (λ q. matches-standing cs (keyed row_of m) q ∙ ap (λ r. holds_now cs q (option_and_then (λ now. now) r)) (get-keyed row_of m q) ∙ by q (lookup (eq_by_cmp uuid_cmp q) m.entries))
+  where
+    by : (q : Uuid) (v : Option (Option (Arc Row Z))) → holds_now cs q (option_and_then (λ (now : Option Row). now) (option_map row_of v)) ≡ passes (is_standing cs) q v
+    by q None = refl
+    by q (Some v) = refl
+
+-- ---- the two parts behind each other
+
+none_of : (p : Uuid → Bool) (us : List Uuid) → list_any p us ≡ false → AllByRecursion (λ y. p y ≡ false) us
+none_of p [] e = tt
+none_of p (u ∷ us) e = by (p u) refl e (none_of p us)
+  where
+    by : (b : Bool) → p u ≡ b → (b || list_any p us) ≡ false → (list_any p us ≡ false → AllByRecursion (λ y. p y ≡ false) us) → AllByRecursion (λ y. p y ≡ false) (u ∷ us)
+    by true is h rest = absurd (true≢false h)
+    by false is h rest = (is, rest h)
+
+all-++ : (P : Uuid → Type 0) (us ws : List Uuid) → AllByRecursion P us → AllByRecursion P ws → AllByRecursion P (us ++ ws)
+all-++ P [] ws h k = k
+all-++ P (u ∷ us) ws h k = (h.0, all-++ P us ws h.1 k)
+
+any-++ : (p : Uuid → Bool) (us ws : List Uuid) → list_any p (us ++ ws) ≡ (list_any p us || list_any p ws)
+any-++ p [] ws = refl
+any-++ p (u ∷ us) ws = by (p u) (any-++ p us ws)
+  where
+    by : (b : Bool) → list_any p (us ++ ws) ≡ (list_any p us || list_any p ws) → (b || list_any p (us ++ ws)) ≡ ((b || list_any p us) || list_any p ws)
+    by true rest = refl
+    by false rest = rest
+
+or_later : (a b : Bool) → b ≡ true → (a || b) ≡ true
+or_later true b e = refl
+or_later false b e = e
+
+distinct-++ : (us ws : List Uuid) → IsDistinct (eq_by_cmp uuid_cmp) us → IsDistinct (eq_by_cmp uuid_cmp) ws → ((q : Uuid) → list_any (eq_by_cmp uuid_cmp q) us ≡ true → list_any (eq_by_cmp uuid_cmp q) ws ≡ false) → IsDistinct (eq_by_cmp uuid_cmp) (us ++ ws)
+distinct-++ [] ws h k apart = k
+distinct-++ (u ∷ us) ws h k apart =
+    IsDistinct-cons (eq_by_cmp uuid_cmp) u (us ++ ws)
+    (all-++ _ us ws (IsDistinct-head (eq_by_cmp uuid_cmp) u us h) (none_of (eq_by_cmp uuid_cmp u) ws (apart u (ap (λ b. b || list_any (eq_by_cmp uuid_cmp u) us) (keys_equivalent.refl u)))))
+    (distinct-++ us ws (IsDistinct-tail (eq_by_cmp uuid_cmp) u us h) k (λ q e. apart q (or_later (eq_by_cmp uuid_cmp q u) (list_any (eq_by_cmp uuid_cmp q) us) e)))
+
+pub both-Lists : (cs : List Clause) (o : Touched) (t : Table) (us ws : List Uuid) → Lists us (matching cs (untouched o t)) → Lists ws (matching cs (standing o)) → Lists (us ++ ws) (matching cs (overlaid t o))
+both-Lists cs o t us ws h k =
+    (distinct-++ us ws h.0 k.0 (λ q e. k.1 q ∙ (parted cs o t q).1 (sym (h.1 q) ∙ e)), λ q. any-++ (eq_by_cmp uuid_cmp q) us ws ∙ (λ i. h.1 q i || k.1 q i) ∙ sym (parted cs o t q).0)
+
+-- ---- in order
+
+abbrev marked : List Uuid → List (Uuid × Unit {0})
+marked us = map (λ u. (u, tt)) us
+
+unmarked : (us : List Uuid) → map (λ (e : Uuid × Unit {0}). e.0) (marked us) ≡ us
+unmarked [] = refl
+unmarked (u ∷ us) = ap (λ ws. u ∷ ws) (unmarked us)
+
+below-marked : {X : Type 0} (u : Uuid) (es : List (Uuid × X)) → below_all uuid_cmp u (marked (map (λ e. e.0) es)) ≡ below_all uuid_cmp u es
+below-marked u [] = refl
+below-marked u (e ∷ es) = ap (λ b. is_lt (uuid_cmp u e.0) && b) (below-marked u es)
+
+sorted-marked : {X : Type 0} (es : List (Uuid × X)) → is_sorted uuid_cmp (marked (map (λ e. e.0) es)) ≡ is_sorted uuid_cmp es
+sorted-marked [] = refl
+sorted-marked (e ∷ es) = λ i. below-marked e.0 es i && sorted-marked es i
+
+find-marked : (q : Uuid) (us : List Uuid) → find uuid_cmp q (marked us) ≡ cond (list_any (eq_by_cmp uuid_cmp q) us) (Some tt) None
+find-marked q [] = refl
+find-marked q (u ∷ us) = by (eq_by_cmp uuid_cmp q u) (find-marked q us)
+  where
+    by : (b : Bool) → find uuid_cmp q (marked us) ≡ cond (list_any (eq_by_cmp uuid_cmp q) us) (Some tt) None → cond b (Some tt) (find uuid_cmp q (marked us)) ≡ cond (b || list_any (eq_by_cmp uuid_cmp q) us) (Some tt) None
+    by true rest = refl
+    by false rest = rest
+
+both : (a b : Bool) → T a → T b → T (a && b)
+both true b p q = q
+both false b p q = p
+
+below-rising : (u : Uuid) (us : List Uuid) → AllByRecursion (λ y. uuid_cmp u y ≡ Less) us → T (below_all uuid_cmp u (marked us))
+below-rising u [] h = tt
+below-rising u (w ∷ us) h = both _ _ (is_less h.0) (below-rising u us h.1)
+
+rising-marked : (us : List Uuid) → IsStrictlySortedBy uuid_cmp us → T (is_sorted uuid_cmp (marked us))
+rising-marked [] h = tt
+rising-marked (u ∷ us) h = both _ _ (below-rising u us (sorted_head uuid_cmp u us h)) (rising-marked us (sorted_tail uuid_cmp u us h))
+
+-- a rising list of the keys of a table is that of its keys
+pub rising-keys : (us : List Uuid) (t : Table) → IsStrictlySortedBy uuid_cmp us → ((q : Uuid) → list_any (eq_by_cmp uuid_cmp q) us ≡ finite.contains_key t q) → us ≡ finite.keys t
+unfolding finite.keys finite.get
+rising-keys us t up is =
+    let ks = finite.keys t in
+    let same : marked us ≡ marked ks = same_entries uuid_cmp uuid_cmp_total uuid_cmp-IsAntisymmetric (marked us) (marked ks) (rising-marked us up) (subst T (sym (sorted-marked t.entries)) t.sorted)
+    (λ q. find-marked q us ∙ ap (λ b. cond b (Some tt) None) (is q ∙ contains_key-keys t q) ∙ sym (find-marked q ks)) in
+    sym (unmarked us) ∙ ap (map (λ (e : Uuid × Unit {0}). e.0)) same ∙ unmarked ks
+
+-- identifiers that don't fall, and differ, rise
+next : (r : Ordering) → is_lt (ordering_reverse r) ≡ false → is_eq r ≡ false → r ≡ Less
+next Less e f = refl
+next Equal e f = absurd (true≢false f)
+next Greater e f = absurd (true≢false e)
+
+rising-none : IsStrictlySortedBy uuid_cmp []
+unfolding IsStrictlySortedBy
+rising-none = tt
+
+rising-one : (u : Uuid) → IsStrictlySortedBy uuid_cmp (u ∷ [])
+unfolding IsStrictlySortedBy
+rising-one u = (tt, tt)
+
+rises : (us : List Uuid) → IsSortedByKey (λ u. u) uuid_cmp us → IsDistinct (eq_by_cmp uuid_cmp) us → IsStrictlySortedBy uuid_cmp us
+rises [] up apart = rising-none
+rises (u ∷ us) up apart =
+    sorted_from_all_adjacent uuid_cmp_total (u ∷ us) u
+    (λ k low.
+    let a = get_or (u ∷ us) k u in
+    let b = get_or (u ∷ us) (k + 1) u in
+    next (uuid_cmp a b) (ap is_lt (sym (uuid_cmp_total.antisymm b a)) ∙ up k u (omega arith) low) (apart_from_distinct (eq_by_cmp uuid_cmp) (u ∷ us) k (k + 1) u apart (omega arith) low))
+
+pub sorted-keys : (us ws : List Uuid) (t : Table) → Lists us t → IsPermutation us ws → IsSortedByKey (λ u. u) uuid_cmp ws → ws ≡ finite.keys t
+sorted-keys us ws t h moved up =
+    rising-keys ws t (rises ws up (IsDistinct-IsPermutation (eq_by_cmp uuid_cmp) keys_equivalent.symm us ws moved h.0))
+    (λ q. sym (list_any-IsPermutation (eq_by_cmp uuid_cmp q) us ws moved) ∙ h.1 q)
+
+ranked : {X : Type 0} (f : X → Uuid) (xs : List X) → IsSortedByKey f uuid_cmp xs → IsSortedByKey (λ u. u) uuid_cmp (map f xs)
+ranked f [] up = λ k d low high. absurd (omega (arith, high))
+ranked f (x ∷ xs) up = λ k d low high.
+    let long : k + 1 < length (x ∷ xs) = omega (arith, length-map (x ∷ xs) f, high) in
+    (λ i. is_lt (uuid_cmp (get_or-map f (x ∷ xs) (k + 1) x d long i) (get_or-map f (x ∷ xs) k x d (omega (arith, long)) i))) ∙ up k x low long
+
+-- the identifiers that were found in the two parts, once they are sorted
+pub in-order : {X : Type 0} (f : X → Uuid) (cs : List Clause) (o : Touched) (t : Table) (first second sorted : List X)
+    → Appends [] (map f first) (matching cs (untouched o t)) → Appends (map f first) (map f second) (matching cs (standing o)) → IsPermutation second sorted → IsSortedByKey f uuid_cmp sorted
+    → map f sorted ≡ finite.keys (matching cs (overlaid t o))
+in-order f cs o t first second sorted some rest moved up =
+    let both : map f second ≡ some.0 ++ rest.0 = rest.1 ∙ ap (λ us. us ++ rest.0) some.1 in
+    sorted-keys (map f second) (map f sorted) (matching cs (overlaid t o)) (subst (λ us. Lists us (matching cs (overlaid t o))) (sym both) (both-Lists cs o t some.0 rest.0 some.2 rest.2)) (IsPermutation-map f second sorted moved) (ranked f sorted up)
+
+-- ---- where no row under another identifier can match
+
+module _ (cs : List Clause) (t : Table) (u : Uuid) (alone : (v : Uuid) (r : Row) → IsTrue (holds_all cs v r) → v ≡ u) where
+  who : (q : Uuid) → holds_now cs q (finite.get t q) ≡ true → q ≡ u
+  who q h = by (finite.get t q) h
+    where
+      by : (o : Option Row) → holds_now cs q o ≡ true → q ≡ u
+      by None e = absurd (true≢false (sym e))
+      by (Some r) e = alone q r e
+
+  pub none-matches : holds_now cs u (finite.get t u) ≡ false → [] ≡ finite.keys (matching cs t)
+  none-matches absent = rising-keys [] (matching cs t) rising-none (λ q. sym (matches cs t q ∙ by q (holds_now cs q (finite.get t q)) refl))
+    where
+      by : (q : Uuid) (b : Bool) → holds_now cs q (finite.get t q) ≡ b → b ≡ false
+      by q false e = refl
+      by q true e = sym e ∙ (λ i. holds_now cs (who q e i) (finite.get t (who q e i))) ∙ absent
+
+  pub one-matches : holds_now cs u (finite.get t u) ≡ true → u ∷ [] ≡ finite.keys (matching cs t)
+  one-matches here = rising-keys (u ∷ []) (matching cs t) (rising-one u) (λ q. by q (eq_by_cmp uuid_cmp q u) refl (holds_now cs q (finite.get t q)) refl ∙ sym (matches cs t q))
+    where
+      by : (q : Uuid) (a : Bool) → eq_by_cmp uuid_cmp q u ≡ a → (b : Bool) → holds_now cs q (finite.get t q) ≡ b → (a || false) ≡ b
+      by q true is b e = sym here ∙ (let same = same_key uuid_cmp-IsAntisymmetric q u is in λ i. holds_now cs (sym same i) (finite.get t (sym same i))) ∙ e
+      by q false is false e = refl
+      by q false is true e = absurd (true≢false (sym (keys_equivalent.refl u) ∙ (λ i. eq_by_cmp uuid_cmp (sym (who q e) i) u) ∙ is))
+
+-- no conditions at all
+pub all-match : (t : Table) → matching [] t ≡ t
+all-match t = same_map uuid_cmp_total uuid_cmp-IsAntisymmetric (matching [] t) t (λ q. get-matching [] t q ∙ by (finite.get t q))
+  where
+    by : (o : Option Row) → option_and_then (λ (r : Row). Some r) o ≡ o
+    by None = refl
+    by (Some r) = refl
+
+-- no rows at all
+pub nothing-matches : (cs : List Clause) → [] ≡ finite.keys (matching cs finite.empty)
+nothing-matches cs = rising-keys [] (matching cs finite.empty) rising-none (λ q. sym (matches cs finite.empty q ∙ ap (holds_now cs q) (get-empty uuid_cmp q)))

@@ -1,0 +1,8 @@
+use Rattle.std.proofs.Common.{◌≡◌, ◌++◌, map}
+use Rattle.std.specs.Map.Iter.{deref_pair}
+use Rattle.odb_atoms.specs.Represented.Atom.{uuid_of}
+use Rattle.odb_tables.proofs.Found.{found, is_standing}
+use Rattle.odb_tables.proofs.overlay.Overlay.find.Given as goal
+
+abbrev pub invariant-loop-key : goal.invariant-loop-key
+invariant-loop-key l = map uuid_of l.found.items ≡ map uuid_of l.initial.found.items ++ found (is_standing l.conditions) (map deref_pair l.yielded)

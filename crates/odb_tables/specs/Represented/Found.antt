@@ -1,0 +1,24 @@
+-- Identifiers that were found, in no order: those of the rows of a table, each of them once.
+use Rattle.std.specs.Prelude.{◌≡◌, cond, ◌++◌, List, Some, None}
+use Rattle.std.specs.List.{IsDistinct, list_any}
+use Rattle.std.specs.Ordering.{eq_by_cmp}
+use Rattle.odb_atoms.specs.FinMap as map
+use Rattle.odb_atoms.specs.Uuid.{Uuid, uuid_cmp}
+use Rattle.odb_tables.specs.Database.{Table}
+use Rattle.odb_tables.specs.Represented.Overlay.{Touched}
+
+-- the rows of a table but for those that were touched
+abbrev pub untouched : Touched → Table → Table
+untouched o t = map.map_entries (λ u r. cond (map.contains_key o u) None (Some r)) t
+
+-- of the rows that were touched, those that weren't taken out
+abbrev pub standing : Touched → Table
+standing o = map.map_entries (λ u now. now) o
+
+-- each row of the table once, and nothing else
+abbrev pub Lists : List Uuid → Table → Type 0
+Lists us t = IsDistinct (eq_by_cmp uuid_cmp) us × ((q : Uuid) → list_any (eq_by_cmp uuid_cmp q) us ≡ map.contains_key t q)
+
+-- behind the old list stand the rows of the table
+abbrev pub Appends : List Uuid → List Uuid → Table → Type 0
+Appends old new t = (us : List Uuid) × (new ≡ old ++ us) × Lists us t
