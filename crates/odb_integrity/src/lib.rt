@@ -1,2 +1,6 @@
 //! Settlement at the end of a transaction: garbage collection, references, constraints (RFC 7047, 3.2).
 #![tactic(auto)]
+
+mod settlement;
+
+pub use settlement::settle;
