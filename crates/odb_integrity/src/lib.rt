@@ -1,6 +1,8 @@
 //! Settlement at the end of a transaction: garbage collection, references, constraints (RFC 7047, 3.2).
 #![tactic(auto)]
 
+mod references;
+mod row_id;
 mod settlement;
 
 pub use settlement::settle;
