@@ -1,8 +1,10 @@
 //! Settlement at the end of a transaction: garbage collection, references, constraints (RFC 7047, 3.2).
 #![tactic(auto)]
 
+mod garbage;
 mod references;
 mod row_id;
+mod rows;
 mod settlement;
 
 pub use settlement::settle;
