@@ -1,6 +1,9 @@
 pub mod Databases
 pub mod Ids
 pub mod Kept
+pub mod Listings
 pub mod Named
+pub mod Prunings
 pub mod Referents
 pub mod Rounds
+pub mod Zipped

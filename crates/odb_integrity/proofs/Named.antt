@@ -59,3 +59,15 @@ zip_done [] ys e = refl
 zip_done (x ∷ xs) [] e = refl
 zip_done (x ∷ xs) (y ∷ ys) (inl e) = cc
 zip_done (x ∷ xs) (y ∷ ys) (inr e) = cc
+
+one_mapped : {Y : Type 0} (o : Option Y) → cons_option o [] ≡ option_to_list o
+one_mapped None = refl
+one_mapped (Some y) = refl
+
+-- one item more
+pub mapped_more : {X Y : Type 0} (h : X → Option Y) (before now : List Y) (xs : List X) (i : ℕ) (x : X) → i < length xs → x ≡ get_or xs i x → before ≡ filter_map h (take i xs) → now ≡ before ++ option_to_list (h x) → now ≡ filter_map h (take (i + 1) xs)
+mapped_more h before now xs i x inside is done more =
+    more ∙ ap (λ ys. ys ++ option_to_list (h x)) done
+    ∙ ap (λ ys. filter_map h (take i xs) ++ ys) (sym (one_mapped (h x)))
+    ∙ sym (filter_map-append h (take i xs) (x ∷ []))
+    ∙ ap (filter_map h) (ap (λ y. take i xs ++ y ∷ []) is ∙ sym (take_more xs i x inside))

@@ -26,6 +26,10 @@ row_of db x = map.get (table_at db x.0) x.1
 abbrev pub is_there : Db → RowId → Bool
 is_there db x = is_some (row_of db x)
 
+-- the row is there, and p holds of it
+abbrev pub at_row : (RowId → Row → Bool) → Db → RowId → Bool
+at_row p db x = unwrap_or (option_map (p x) (row_of db x)) false
+
 -- the row ids of a database
 abbrev pub row_ids : Db → List RowId
 row_ids db = flat_map (λ e. map_list (λ u. (e.0, u)) (map.keys e.1)) (enumerate_from 0 db)
@@ -65,7 +69,7 @@ strong_of_row s x r = flat_map (λ e. strong_of_value s e.0.type e.1) (typed_cel
 
 -- x has a strong reference to y
 abbrev pub refers : Schema → Db → RowId → RowId → Bool
-refers s db x y = unwrap_or (option_map (λ r. list_any (same_row y) (strong_of_row s x r)) (row_of db x)) false
+refers s db x y = at_row (λ x r. list_any (same_row y) (strong_of_row s x r)) db x
 
 -- ---- what is kept
 
@@ -109,8 +113,11 @@ abbrev pub any_row : (RowId → Row → Bool) → Db → Bool
 any_row p db = list_any (λ e. list_any (λ f. p (e.0, f.0) f.1) (map.entries_of e.1)) (enumerate_from 0 db)
 
 -- a strong reference to a row that isn't there
+abbrev pub dangles : Schema → Db → RowId → Row → Bool
+dangles s db x r = list_any (λ y. not (is_there db y)) (strong_of_row s x r)
+
 abbrev pub has_dangling : Schema → Db → Bool
-has_dangling s db = any_row (λ x r. list_any (λ y. not (is_there db y)) (strong_of_row s x r)) db
+has_dangling s db = any_row (dangles s db) db
 
 -- the atom names a row of the table that isn't there
 abbrev pub is_stale : Db → Option ℕ → Atom → Bool
@@ -128,8 +135,15 @@ abbrev pub pruned : Schema → Db → Db
 pruned s db = each_row (λ x r. Some (pruned_row s db x r)) db
 
 -- a column with fewer elements than its `min`
+abbrev pub is_short : Column × Value → Bool
+is_short e = nat_lt (size e.1) e.0.type.min
+
 abbrev pub has_too_few : Schema → RowId → Row → Bool
-has_too_few s x r = list_any (λ e. nat_lt (size e.1) e.0.type.min) (typed_cells s x r)
+has_too_few s x r = list_any is_short (typed_cells s x r)
+
+-- not more rows than `maxRows`
+abbrev pub within_max_rows : TableSchema × Table → Bool
+within_max_rows e = at_most nat_le e.0.max_rows (map.len e.1)
 
 -- the rows of a table
 abbrev pub rows_of : Table → List Row
@@ -157,7 +171,7 @@ settle s max_rows db =
     do
       demand (not (has_dangling s rest)) referential_integrity_violation
       demand (not (any_row (has_too_few s) new)) constraint_violation
-      demand (list_all (λ e. at_most nat_le e.0.max_rows (map.len e.1)) (zip s.tables new)) constraint_violation
+      demand (list_all within_max_rows (zip s.tables new)) constraint_violation
       demand (not (list_any has_duplicates (zip s.tables new))) constraint_violation
       demand (nat_le (row_count new) max_rows) resources_exhausted
       Ok new

@@ -1,7 +1,10 @@
 //! Settlement at the end of a transaction: garbage collection, references, constraints (RFC 7047, 3.2).
 #![tactic(auto)]
 
+mod constraints;
+mod dangling;
 mod garbage;
+mod pruning;
 mod references;
 mod row_id;
 mod rows;
