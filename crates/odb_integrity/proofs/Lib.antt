@@ -6,4 +6,6 @@ pub mod Named
 pub mod Prunings
 pub mod Referents
 pub mod Rounds
+pub mod Settled
+pub mod Twins
 pub mod Zipped

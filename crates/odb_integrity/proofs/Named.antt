@@ -71,3 +71,10 @@ mapped_more h before now xs i x inside is done more =
     ∙ ap (λ ys. filter_map h (take i xs) ++ ys) (sym (one_mapped (h x)))
     ∙ sym (filter_map-append h (take i xs) (x ∷ []))
     ∙ ap (filter_map h) (ap (λ y. take i xs ++ y ∷ []) is ∙ sym (take_more xs i x inside))
+
+pub filter_map-map : {X Y Z : Type 0} (h : Y → Option Z) (f : X → Y) (xs : List X) → filter_map h (map f xs) ≡ filter_map (λ x. h (f x)) xs
+filter_map-map h f [] = refl
+filter_map-map h f (x ∷ xs) = ap (cons_option (h (f x))) (filter_map-map h f xs)
+
+pub filter_map_more : {X Y Z : Type 0} (f : X → Y) (h : Y → Option Z) (before now : List Z) (xs : List X) (i : ℕ) (x : X) → i < length xs → x ≡ get_or xs i x → before ≡ filter_map h (map f (take i xs)) → now ≡ before ++ option_to_list (h (f x)) → now ≡ filter_map h (map f (take (i + 1) xs))
+filter_map_more f h before now xs i x inside is done more = mapped_more (λ y. h (f y)) before now xs i x inside is (done ∙ filter_map-map h f (take i xs)) more ∙ sym (filter_map-map h f (take (i + 1) xs))

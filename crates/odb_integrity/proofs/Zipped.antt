@@ -1,5 +1,5 @@
 -- Loops over the tables of a schema and a database.
-use Rattle.std.specs.Prelude.{◌≡◌, ℕ, zero, suc, ◌+◌, ◌<◌, ◌≤◌, Bool, true, false, not, ◌&&◌, nat_lt, nat_le, List, [], ◌∷◌, drop, length, map as map_list, zip, Option, Some, None}
+use Rattle.std.specs.Prelude.{◌≡◌, ℕ, zero, suc, ◌+◌, ◌<◌, ◌≤◌, Bool, true, false, not, ◌&&◌, ◌||◌, nat_lt, nat_le, List, [], ◌∷◌, drop, length, map as map_list, zip, Option, Some, None}
 use Rattle.std.specs.List.{list_all, list_any}
 use mathlib.Core.Path.{refl, sym, ap, ◌∙◌}
 use Rattle.std.proofs.Common.{add-one, arith, get_or}
@@ -51,3 +51,14 @@ module _ (p : TableSchema × Table → Bool) (ts : List TableSchema) (db : Db) (
 
   pub one_passes : b ≡ false → list_all p (zip (drop (k + 1) ts) (drop (k + 1) db)) ≡ all
   one_passes e = sym (next ∙ ap (λ c. c && list_all p (zip (drop (k + 1) ts) (drop (k + 1) db))) (test_is b _ answer ∙ ap not e)) ∙ left
+
+-- a test of any table, which holds of the next or doesn't
+module _ (p : TableSchema × Table → Bool) (ts : List TableSchema) (db : Db) (k : ℕ) (t : TableSchema) (all : Bool) (low : k < length ts) (long : length db ≡ length ts) (is : t ≡ get_or ts k t) (left : list_any p (zip (drop k ts) (drop k db)) ≡ all) (b : Bool) (answer : b ≡ p (t, table_at db k)) where
+  any_next : list_any p (zip (drop k ts) (drop k db)) ≡ (p (t, table_at db k) || list_any p (zip (drop (k + 1) ts) (drop (k + 1) db)))
+  any_next = ap (list_any p) (zip_next ts db k t low long is)
+
+  pub one_holds : b ≡ true → true ≡ all
+  one_holds e = sym (sym left ∙ any_next ∙ ap (λ c. c || list_any p (zip (drop (k + 1) ts) (drop (k + 1) db))) (sym answer ∙ e))
+
+  pub one_lacks : b ≡ false → list_any p (zip (drop (k + 1) ts) (drop (k + 1) db)) ≡ all
+  one_lacks e = sym (any_next ∙ ap (λ c. c || list_any p (zip (drop (k + 1) ts) (drop (k + 1) db))) (sym answer ∙ e)) ∙ left

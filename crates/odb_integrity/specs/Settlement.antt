@@ -9,7 +9,7 @@ use Rattle.odb_atoms.specs.Error.{Error, constraint_violation, referential_integ
 use Rattle.odb_atoms.specs.First.{Ok, Result, demand, ◌>>◌}
 use Rattle.odb_atoms.specs.Row.{Row, cell, declared}
 use Rattle.odb_atoms.specs.Uuid.{Uuid, same_uuid, zero_uuid}
-use Rattle.odb_atoms.specs.Value.{Value, map_of, same_value, set_of, size}
+use Rattle.odb_atoms.specs.Value.{Value, map_of, same_values, set_of, size}
 use Rattle.odb_schema.specs.Schema.{Column, Schema, TableSchema, column_place, columns_at, is_root_at, table_place}
 use Rattle.odb_tables.specs.Database.{Db, Table, table_at}
 
@@ -149,29 +149,35 @@ within_max_rows e = at_most nat_le e.0.max_rows (map.len e.1)
 abbrev pub rows_of : Table → List Row
 rows_of table = map.values table
 
--- the rows agree in all columns of the index
-abbrev pub agree : List Column → List (List ℕ) → Row → Row → Bool
-agree cs index p q = list_all (λ i. same_value (cell zero_uuid p (declared i)) (cell zero_uuid q (declared i))) (filter_map (column_place cs) index)
+-- what a row has in the columns of an index
+abbrev pub index_cells : List Column → List (List ℕ) → Row → List Value
+index_cells cs index r = map_list (λ i. cell zero_uuid r (declared i)) (filter_map (column_place cs) index)
 
+-- one stands twice
 abbrev pub has_twins : {A : Type 0} → (A → A → Bool) → List A → Bool
 has_twins same [] = false
 has_twins same (x ∷ xs) = list_any (same x) xs || has_twins same xs
 
+-- two rows have the same in all columns of an index
 abbrev pub has_duplicates : TableSchema × Table → Bool
-has_duplicates e = list_any (λ index. has_twins (agree e.0.columns index) (rows_of e.1)) e.0.indexes
+has_duplicates e = list_any (λ index. has_twins same_values (map_list (index_cells e.0.columns index) (rows_of e.1))) e.0.indexes
 
 abbrev pub row_count : Db → ℕ
 row_count db = sum_by map.len db
 
--- The settled database, or the first fault: rows that nothing keeps go out, strong references lead to rows, weak ones that don't are taken out, and then the numbers of elements, of a table's rows, the indexes and the number of all rows are tested.
+-- the database, or the first constraint that it breaks: numbers of elements, of a table's rows, indexes, and the number of all rows
+abbrev pub constrained : Schema → ℕ → Db → Result Db Error
+constrained s max_rows db = do
+  demand (not (any_row (has_too_few s) db)) constraint_violation
+  demand (list_all within_max_rows (zip s.tables db)) constraint_violation
+  demand (not (list_any has_duplicates (zip s.tables db))) constraint_violation
+  demand (nat_le (row_count db) max_rows) resources_exhausted
+  Ok db
+
+-- The settled database, or the first fault: rows that nothing keeps go out, strong references lead to rows, weak ones that don't are taken out, and then the constraints are tested.
 unfoldable pub settle : Schema → ℕ → Db → Result Db Error
 settle s max_rows db =
     let rest : Db = kept s db in
-    let new : Db = pruned s rest in
     do
       demand (not (has_dangling s rest)) referential_integrity_violation
-      demand (not (any_row (has_too_few s) new)) constraint_violation
-      demand (list_all within_max_rows (zip s.tables new)) constraint_violation
-      demand (not (list_any has_duplicates (zip s.tables new))) constraint_violation
-      demand (nat_le (row_count new) max_rows) resources_exhausted
-      Ok new
+      constrained s max_rows (pruned s rest)

@@ -4,6 +4,7 @@
 mod constraints;
 mod dangling;
 mod garbage;
+mod indexes;
 mod pruning;
 mod references;
 mod row_id;
