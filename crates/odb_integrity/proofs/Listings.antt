@@ -1,13 +1,12 @@
 -- Tests of all rows, by the ids of the rows.
-use Rattle.std.specs.Prelude.{◌≡◌, ℕ, zero, suc, ◌+◌, Bool, true, false, cond, ◌||◌, T, List, [], ◌∷◌, ◌++◌, map as map_list, length, unwrap_or, Option, Some, None, option_map, sum_by}
+use Rattle.std.specs.Prelude.{◌≡◌, ℕ, suc, ◌+◌, Bool, true, false, cond, ◌||◌, T, List, [], ◌∷◌, length, unwrap_or, Option, Some, option_map}
 use Rattle.std.specs.List.{enumerate_from, list_any}
 use Rattle.std.specs.declared.cmp.Ordering.{Ordering}
-use Rattle.std.specs.declared.cmp.Ordering.TheVariants.{Less, Equal, Greater}
 use Rattle.std.specs.Ordering.{eq_by_cmp, is_eq, ordering_reverse}
 use Rattle.std.specs.Cmp.{IsTotalOrder, tied_itself}
 use Rattle.std.specs.FinMap.Entries.{below_all, find, is_sorted}
-use mathlib.Core.Path.{refl, sym, ap, subst, ◌∙◌}
-use mathlib.Core.Logic.{◌⊎◌, inl, inr}
+use mathlib.Core.Path.{refl, sym, ap, ◌∙◌}
+use mathlib.Core.Logic.{inl, inr}
 use Rattle.std.proofs.Common.{◌<◌, ◌≤◌, arith, get_or, take}
 use Rattle.std.proofs.lemmas.List.{take_all}
 use Rattle.std.proofs.lemmas.List.Folds.{list_any-append, list_any_at}
@@ -18,7 +17,7 @@ use Rattle.odb_atoms.specs.Row.{Row}
 use Rattle.odb_atoms.specs.Uuid.{Uuid, uuid_cmp}
 use Rattle.odb_tables.specs.Database.{Db, Table, table_at}
 use Rattle.odb_tables.specs.Represented.Key.{uuid_cmp_total}
-use Rattle.odb_integrity.specs.Settlement.{RowId, any_row, at_row, row_count, row_ids, row_of}
+use Rattle.odb_integrity.specs.Settlement.{RowId, any_row, at_row, row_ids, row_of}
 use Rattle.odb_integrity.proofs.Databases.{ids_at, ids_from}
 
 -- ---- entries are found by their keys

@@ -1,5 +1,5 @@
 -- Pruning: the values that the code makes of the entries that aren't stale, and the rows in which nothing is.
-use Rattle.std.specs.Prelude.{◌≡◌, ◌⊎◌, ℕ, zero, suc, ◌+◌, ◌<◌, Bool, true, false, cond, not, ◌&&◌, ◌||◌, ◌==◌, List, [], ◌∷◌, ◌++◌, filter, filter_map, fold, length, map, zip, is_some, slice_set, unwrap_or, Option, Some, None, option_and_then, option_map}
+use Rattle.std.specs.Prelude.{◌≡◌, ℕ, zero, suc, ◌<◌, Bool, true, false, cond, not, ◌&&◌, ◌||◌, ◌==◌, List, [], ◌∷◌, filter, filter_map, length, map, zip, is_some, unwrap_or, Option, Some, None, option_and_then, option_map}
 use Rattle.std.specs.FinMap.Entries.{find}
 use Rattle.std.specs.Cmp.{unsigned_Decides}
 use Rattle.std.proofs.lemmas.Option.{same_Some}
@@ -10,12 +10,11 @@ use mathlib.Core.Logic.{inl, inr}
 use mathlib.Core.Bool.{true≢false}
 use Rattle.std.proofs.Common.{arith, get_or}
 use Rattle.std.proofs.Math.ListN.{length-set}
-use Rattle.std.proofs.lemmas.Bool.Decides.{nat_tests}
 use Rattle.odb_atoms.proofs.Atoms.{atom_cmp-IsAntisymmetric}
 use Rattle.odb_atoms.proofs.FinMaps.{contains_key-keys, get-entries, get-map_entries, same_key, same_map}
 use Rattle.odb_atoms.proofs.FinSets.{contains-from_list, contains-retain, same_set}
 use Rattle.odb_atoms.proofs.Lists.{Member, any-map, any_gives, both}
-use Rattle.odb_atoms.specs.Atom.{Atom, Kind, atom_cmp, same_atom}
+use Rattle.odb_atoms.specs.Atom.{Atom, atom_cmp, same_atom}
 use Rattle.odb_atoms.specs.ColType.{ColType, has_kind, is_a, value_base}
 use Rattle.odb_atoms.specs.FinMap as finite
 use Rattle.odb_atoms.specs.FinSet as set
@@ -31,9 +30,9 @@ use Rattle.odb_mutate.proofs.Distinct.{IsDistinct, distinct-filter, distinct-ris
 use Rattle.odb_mutate.proofs.Each.{all-filter, filter-map}
 use Rattle.odb_mutate.proofs.Maps.{find-pairs, get-from_entries}
 use Rattle.odb_schema.specs.Schema.{Column, Schema, columns_at}
-use Rattle.odb_tables.specs.Database.{Db, table_at}
+use Rattle.odb_tables.specs.Database.{Db}
 use Rattle.odb_tables.specs.Typed.{IsTyped, fits}
-use Rattle.odb_integrity.specs.Settlement.{RowId, each_row, is_stale, is_there, pruned, pruned_row, pruned_value, row_ids, row_of, same_row, weak_target}
+use Rattle.odb_integrity.specs.Settlement.{RowId, is_stale, pruned, pruned_row, pruned_value, row_ids, row_of, same_row, weak_target}
 use Rattle.odb_integrity.specs.Steps.{has_stale, pruning, row_has_stale, with_row, with_rows}
 use Rattle.odb_integrity.proofs.Databases.{any-row_ids, length-each_row, row_of-each_row, row_of-put, same_db, there_inside}
 use Rattle.odb_integrity.proofs.Ids.{same_row_equal}

@@ -1,12 +1,12 @@
 -- Rounds of garbage collection: what is left has all rows that are kept, and those alone once nothing more goes.
-use Rattle.std.specs.Prelude.{◌≡◌, ◌⊎◌, ℕ, suc, ◌+◌, ◌<◌, ◌≤◌, ◌≢◌, Bool, true, false, cond, not, ◌&&◌, ◌||◌, List, [], ◌∷◌, ◌++◌, filter, length}
+use Rattle.std.specs.Prelude.{◌≡◌, ◌⊎◌, suc, ◌≤◌, Bool, true, false, cond, not, ◌&&◌, ◌||◌, List, [], ◌∷◌, ◌++◌, filter, length}
 use Rattle.std.specs.List.{list_any}
 use mathlib.Core.Path.{refl, sym, ap, subst, ◌∙◌}
 use mathlib.Core.Logic.{inl, inr}
 use mathlib.Core.Bool.{true≢false}
 use Rattle.std.proofs.Common.{arith}
 use Rattle.std.proofs.lemmas.List.Folds.{list_any-append}
-use Rattle.odb_atoms.proofs.Lists.{Member, any_gives, both, either, gives_any, or_right}
+use Rattle.odb_atoms.proofs.Lists.{any_gives, both, either, gives_any, or_right}
 use Rattle.odb_integrity.specs.Settlement.{IsSupported, RowId, has_support, is_kept, is_referred, is_there, refers, row_ids, same_row}
 use Rattle.odb_integrity.proofs.Databases.{any-row_ids}
 use Rattle.odb_integrity.proofs.Ids.{any-filter, listed, member}

@@ -1,5 +1,5 @@
 -- What the steps of a settlement make of a database.
-use Rattle.std.specs.Prelude.{Bool, false, cond, ◌||◌, List, Option, Some, None, fold, option_and_then, slice_set}
+use Rattle.std.specs.Prelude.{Bool, cond, ◌||◌, List, Option, Some, None, fold, option_and_then, slice_set}
 use Rattle.std.specs.List.{list_any}
 use Rattle.odb_atoms.specs.ColType.{ColType, value_base}
 use Rattle.odb_atoms.specs.FinMap as map

@@ -1,5 +1,4 @@
 -- Row ids of the code: the order of tables, and in each of identifiers.
-use Rattle.std.specs.Prelude.{◌≡◌, Bool}
 use Rattle.std.specs.Coded.{Coded, coded×, coded_ℕ}
 use Rattle.std.specs.declared.cmp.Ordering.{Ordering}
 use Rattle.std.specs.Ordering.{eq_by_cmp, nat_cmp, on, then_cmp}

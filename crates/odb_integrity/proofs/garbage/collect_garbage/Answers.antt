@@ -6,7 +6,7 @@ use Rattle.std.proofs.lemmas.Result.{on_ok_weaker}
 use Rattle.odb_atoms.proofs.Lists.{both}
 use Rattle.odb_atoms.specs.Row.{Row}
 use Rattle.odb_tables.specs.Database.{Db}
-use Rattle.odb_integrity.specs.Settlement.{RowId, is_kept, is_there, kept, row_of, same_row}
+use Rattle.odb_integrity.specs.Settlement.{RowId, is_kept, is_there, kept, same_row}
 use Rattle.odb_integrity.specs.Steps.{without_rows}
 use Rattle.odb_schema.specs.Schema.{Schema}
 use Rattle.odb_integrity.proofs.Databases.{each_row_agree, there_inside}

@@ -1,10 +1,9 @@
-use Rattle.std.proofs.Common.{rules, ◌≡◌, ◌<◌, ◌+◌, ◌||◌, ◌∷◌, [], List, true, false, not, drop, length, map, slice_index_or, sym, ap, ◌∙◌, refl}
-use Rattle.std.specs.BTreeSet.{contains, insert_key}
+use Rattle.std.proofs.Common.{rules, ◌≡◌, ◌<◌, ◌+◌, ◌||◌, ◌∷◌, true, false, drop, length, map, sym, ap, ◌∙◌}
 use Rattle.std.specs.List.{list_any}
 use Rattle.std.proofs.lemmas.List.{drop_more}
 use Rattle.odb_atoms.specs.Value.{same_values}
 use Rattle.odb_integrity.specs.Settlement.{has_twins}
-use Rattle.odb_integrity.proofs.Twins.{cells_cmp, cells_of, contains-seen, nothing_seen, not_is, seen-inserted, seen_values, twin_found, twin_later}
+use Rattle.odb_integrity.proofs.Twins.{cells_of, contains-seen, nothing_seen, not_is, seen-inserted, seen_values, twin_found, twin_later}
 use Rattle.odb_integrity.proofs.indexes.has_twins.Goals as goal
 
 pub loop-row-init : goal.loop-row-init

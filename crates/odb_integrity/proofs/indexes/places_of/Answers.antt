@@ -1,4 +1,4 @@
-use Rattle.std.proofs.Common.{rules, ◌≡◌, ◌<◌, ◌++◌, ◌∷◌, [], filter_map, length, map, option_to_list, slice_index_or, string_bytes, take, sym, ap, ◌∙◌}
+use Rattle.std.proofs.Common.{rules, ◌≡◌, ◌<◌, ◌++◌, length, option_to_list, slice_index_or, string_bytes}
 use Rattle.odb_schema.specs.Schema.{column_place}
 use Rattle.odb_integrity.proofs.Named.{filter_map_more}
 use Rattle.odb_integrity.proofs.indexes.places_of.Goals as goal

@@ -1,4 +1,4 @@
-use Rattle.std.proofs.Common.{rules, ◌≡◌, ap, ◌∙◌}
+use Rattle.std.proofs.Common.{ap, ◌∙◌}
 use Rattle.std.proofs.lemmas.Result.{on_ok_weaker}
 use Rattle.odb_integrity.specs.Steps.{with_rows}
 use Rattle.odb_integrity.proofs.Prunings.{all_pruned, prunings_inside}

@@ -1,5 +1,4 @@
 use Rattle.std.proofs.Common.{rules, ◌≡◌, ◌<◌, ◌∷◌, List, length, slice_set, sym, ap, ◌∙◌}
-use Rattle.std.specs.List.{All}
 use Rattle.std.proofs.lemmas.List.Elements.{All-rest}
 use Rattle.odb_atoms.specs.FinMap as finite
 use Rattle.odb_atoms.specs.Represented.Atom.{uuid_of}
@@ -7,7 +6,7 @@ use Rattle.odb_atoms.specs.Row.{Row}
 use Rattle.odb_tables.specs.Database.{table_at}
 use Rattle.odb_tables.specs.Draft as model
 use Rattle.odb_integrity.specs.Settlement.{RowId}
-use Rattle.odb_integrity.specs.Steps.{with_row, with_rows}
+use Rattle.odb_integrity.specs.Steps.{with_rows}
 use Rattle.odb_integrity.proofs.pruning.put_all.Goals as goal
 
 pub loop-id-preserved : goal.loop-id-preserved

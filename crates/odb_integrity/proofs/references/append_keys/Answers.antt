@@ -1,7 +1,5 @@
-use Rattle.std.proofs.Common.{◌≡◌, ◌<◌, ◌++◌, length, map, option_to_list, rules, slice_index_or, Some}
+use Rattle.std.proofs.Common.{◌≡◌, ◌<◌, length, map, rules, slice_index_or, Some}
 use Rattle.odb_atoms.specs.Represented.Atom.{atom_of}
-use Rattle.odb_atoms.specs.declared.atom.Atom.{Atom}
-use Rattle.odb_integrity.specs.Settlement.{referent}
 use Rattle.odb_integrity.proofs.Named.{named_more, nothing_added}
 use Rattle.odb_integrity.proofs.references.append_keys.Goals as goal
 

@@ -1,5 +1,4 @@
-use Rattle.std.proofs.Common.{rules, ◌≡◌, ◌<◌, ◌++◌, length, take, sym, ap, ◌∙◌}
-use Rattle.odb_integrity.specs.Settlement.{row_ids}
+use Rattle.std.proofs.Common.{rules, ◌≡◌, ◌<◌, ◌++◌, length, sym, ◌∙◌}
 use Rattle.odb_integrity.proofs.Databases.{ids_at, row_ids-more}
 use Rattle.odb_tables.specs.Database.{table_at}
 use Rattle.odb_integrity.proofs.rows.rows_of.Goals as goal

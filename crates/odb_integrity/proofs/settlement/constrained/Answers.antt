@@ -1,4 +1,4 @@
-use Rattle.std.proofs.Common.{rules, ◌≡◌, ◌<◌, ◌≤◌, true, false, length, zip, sym, ap, ◌∙◌}
+use Rattle.std.proofs.Common.{rules, ◌≡◌, true, false, length, zip, sym, ◌∙◌}
 use Rattle.std.specs.List.{list_all, list_any}
 use Rattle.odb_integrity.specs.Settlement.{any_row, has_duplicates, has_too_few, within_max_rows}
 use Rattle.odb_integrity.proofs.Settled.{above_limit, last_test, within_limit}

@@ -1,5 +1,5 @@
-use Rattle.std.proofs.Common.{◌≡◌, cond, length, None, Some, subst, sym, ap, ◌∙◌}
-use Rattle.odb_integrity.specs.Settlement.{is_kept, kept, pruned, pruned_row}
+use Rattle.std.proofs.Common.{length, Some, subst, sym, ap, ◌∙◌}
+use Rattle.odb_integrity.specs.Settlement.{pruned_row}
 use Rattle.odb_integrity.proofs.Databases.{length-each_row}
 use Rattle.odb_integrity.proofs.Settled.{kept_typed}
 use Rattle.odb_tables.specs.Typed.{IsTyped}
