@@ -1,5 +1,6 @@
 pub mod Databases
 pub mod Ids
+pub mod KeepsTyped
 pub mod Kept
 pub mod Listings
 pub mod Named

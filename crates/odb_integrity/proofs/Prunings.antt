@@ -141,7 +141,7 @@ not_found p (y ∷ ys) e x (inl h) = ap p h ∙ (neither _ _ e).0
 not_found p (y ∷ ys) e x (inr m) = not_found p ys (neither _ _ e).1 x m
 
 -- the entry of a key is a member
-found_member : (q : Atom) (es : List (Atom × Atom)) (x : Atom) → find atom_cmp q es ≡ Some x → Member (q, x) es
+pub found_member : (q : Atom) (es : List (Atom × Atom)) (x : Atom) → find atom_cmp q es ≡ Some x → Member (q, x) es
 found_member q [] x e = absurd (true≢false (sym (ap is_some e)))
 found_member q (f ∷ es) x e = by (same_atom q f.0) refl e (found_member q es x)
   where
