@@ -3,26 +3,11 @@ use Rattle.std.specs.Prelude.{◌≡◌, ◌⊎◌, Bool, true, false, cond, not
 use Rattle.std.specs.List.{list_any}
 use mathlib.Core.Path.{refl, sym, ap, subst, ◌∙◌}
 use mathlib.Core.Logic.{inl, inr}
-use Rattle.std.specs.Cmp.{unsigned_Decides}
 use Rattle.odb_atoms.proofs.Lists.{Member, all_gives, any-++, any-map, any_gives, both, either, gives_all, gives_any, in_filter, member-++, member-map, of_filter, or_right}
 use Rattle.odb_integrity.specs.Settlement.{IsSupported, RowId, is_kept, is_supported, refers, row_ids, same_row, subsets}
 use Rattle.odb_schema.specs.Schema.{Schema, is_root_at}
-use Rattle.odb_atoms.specs.Uuid.{same_number-same}
+use Rattle.odb_integrity.proofs.Ids.{listed, member}
 use Rattle.odb_tables.specs.Database.{Db}
-
--- ---- rows
-
-same_row_equal : (x y : RowId) → same_row x y ≡ true → x ≡ y
-same_row_equal x y e = let h = both _ _ e in λ i. ((unsigned_Decides x.0 y.0).0 h.0 i, same_number-same x.1 y.1 ((unsigned_Decides x.1.number y.1.number).0 h.1) i)
-
-own_row : (x : RowId) → same_row x x ≡ true
-own_row x = λ i. (unsigned_Decides x.0 x.0).1 refl i && (unsigned_Decides x.1.number x.1.number).1 refl i
-
-listed : (x : RowId) (xs : List RowId) → Member x xs → list_any (same_row x) xs ≡ true
-listed x xs m = gives_any (same_row x) xs x m (own_row x)
-
-member : (x : RowId) (xs : List RowId) → list_any (same_row x) xs ≡ true → Member x xs
-member x xs e = let w = any_gives (same_row x) xs e in subst (λ y. Member y xs) (sym (same_row_equal x w.0 w.2)) w.1
 
 -- every choice of members is among the subsets, and these are of members alone
 some_subset : (p : RowId → Bool) (q : List RowId → Bool) (xs : List RowId) → q (filter p xs) ≡ true → list_any q (subsets xs) ≡ true

@@ -1,1 +1,12 @@
+pub mod Databases
+pub mod Ids
+pub mod KeepsTyped
 pub mod Kept
+pub mod Listings
+pub mod Named
+pub mod Prunings
+pub mod Referents
+pub mod Rounds
+pub mod Settled
+pub mod Twins
+pub mod Zipped

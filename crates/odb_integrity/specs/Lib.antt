@@ -1,1 +1,3 @@
+pub mod Represented
 pub mod Settlement
+pub mod Steps

@@ -12,7 +12,7 @@ use Rattle.odb_atoms.proofs.FinMaps.{get-combine, get-empty, get-entries, get-in
 use Rattle.odb_atoms.proofs.Rising.{equal, find-below, first, second, tied_before_all}
 use Rattle.odb_mutate.specs.Mutation.{delete_keys, delete_pairs, first_of, insert_pairs}
 
-get-from_entries : (es : List (Atom × Atom)) (q : Atom) → finite.get (finite.from_entries {R = atom_cmp} es) q ≡ find atom_cmp q es
+pub get-from_entries : (es : List (Atom × Atom)) (q : Atom) → finite.get (finite.from_entries {R = atom_cmp} es) q ≡ find atom_cmp q es
 get-from_entries [] q = get-empty atom_cmp q
 get-from_entries (e ∷ es) q = get-insert atom_cmp_total (finite.from_entries es) e.0 e.1 q ∙ ap (cond (same_atom q e.0) (Some e.1)) (get-from_entries es q)
 
@@ -52,7 +52,7 @@ keys_deleted-listed m s =
     ∙ sym (get-retain_keys m p q (λ x tied. ap p (sym (atom_cmp-IsAntisymmetric q x tied)))))
 
 -- some pairs of a list with rising keys
-find-pairs : (p : Atom × Atom → Bool) (q : Atom) (es : List (Atom × Atom)) → T (is_sorted atom_cmp es) → find atom_cmp q (filter p es) ≡ option_and_then (λ v. cond (p (q, v)) (Some v) None) (find atom_cmp q es)
+pub find-pairs : (p : Atom × Atom → Bool) (q : Atom) (es : List (Atom × Atom)) → T (is_sorted atom_cmp es) → find atom_cmp q (filter p es) ≡ option_and_then (λ v. cond (p (q, v)) (Some v) None) (find atom_cmp q es)
 find-pairs p q [] up = refl
 find-pairs p q (e ∷ es) up = by (same_atom q e.0) refl (p e) refl (find-pairs p q es (second _ _ up))
   where

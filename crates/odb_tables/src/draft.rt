@@ -76,6 +76,14 @@ impl<'a> Draft<'a> {
         })
     }
 
+    /// How many tables it has, now as before. O(1).
+    pub fn len(&self) -> usize
+        ensures now { result ≡ length self.now.now }
+        ensures old { result ≡ length self.now.old }
+    {
+        self.overlays.len()
+    }
+
     /// The row of an identifier as it is now, if the table has one. O(1), without memory.
     pub fn get(&self, table: TableId, uuid: Uuid) -> Option<&Row>
         ensures row { option_copied result ≡ finite.get (table_at self.now.now table) (uuid_of uuid) }

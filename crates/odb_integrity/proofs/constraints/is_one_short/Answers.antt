@@ -1,0 +1,11 @@
+use Rattle.std.proofs.Common.{sym, ap, ◌∙◌}
+use Rattle.std.specs.List.{list_any}
+use Rattle.std.proofs.lemmas.Slice.Zip.{either_empty_from_Zip}
+use Rattle.odb_integrity.specs.Settlement.{is_short}
+use Rattle.odb_integrity.proofs.Named.{zip_done}
+use Rattle.odb_integrity.proofs.constraints.is_one_short.Goals as goal
+
+pub returns : goal.returns
+returns c =
+    let done = zip_done _ _ (either_empty_from_Zip c.loop-column.column-iterator c.next.new.self c.next.result c.in-None.is c.next.ensures.steps) in
+    ap (list_any is_short) (sym done) ∙ c.loop-column.invariant

@@ -1,0 +1,56 @@
+//! Strong references to rows that aren't there (RFC 7047, section 3.2, `refType`).
+ghost use Rattle.std.specs.Prelude.{◌≡◌, not, IfOk};
+ghost use Rattle.std.specs.List.{list_any};
+ghost use Rattle.odb_integrity.specs.Settlement as model;
+ghost use Rattle.odb_integrity.specs.Settlement.{at_row, is_there, row_ids};
+
+use crate::references::strong_of_row;
+use crate::row_id::RowId;
+use odb_schema::Schema;
+use odb_tables::Draft;
+use std::alloc::{AllocError, Global};
+
+/// Whether a row has a strong reference to a row that isn't there. O(the rows and their atoms); an error
+/// says that memory was refused.
+pub(crate) fn has_dangling(
+    alloc: Global,
+    draft: &Draft,
+    schema: &Schema,
+    rows: &[RowId],
+) -> Result<bool, AllocError>
+    requires { rows.now ≡ row_ids draft.now.now }
+    ensures { IfOk result (λ dangling. dangling ≡ model.has_dangling schema.now draft.now.now) }
+{
+    for row in rows {
+        if dangles(alloc, draft, schema, *row)? {
+            return Ok(true);
+        }
+    }
+    Ok(false)
+}
+
+fn dangles(alloc: Global, draft: &Draft, schema: &Schema, id: RowId) -> Result<bool, AllocError>
+    ensures { IfOk result (λ dangling.
+        dangling ≡ at_row (model.dangles schema.now draft.now.now) draft.now.now id) }
+{
+    match draft.get(id.table(), id.uuid()) {
+        Some(row) => {
+            let referents = strong_of_row(alloc, schema, id, row)?;
+            Ok(is_one_missing(draft, &referents))
+        }
+        None => Ok(false),
+    }
+}
+
+fn is_one_missing(draft: &Draft, rows: &[RowId]) -> bool
+    ensures { result ≡ list_any (λ x. not (is_there draft.now.now x)) rows.now }
+{
+    rows.iter().any(|row| is_missing(draft, *row))
+}
+
+/// Whether the row isn't there. O(1).
+pub(crate) fn is_missing(draft: &Draft, row: RowId) -> bool
+    ensures { result ≡ not (is_there draft.now.now row) }
+{
+    draft.get(row.table(), row.uuid()).is_none()
+}

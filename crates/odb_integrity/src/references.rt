@@ -1,0 +1,180 @@
+//! What rows refer to (RFC 7047, section 3.2, `refTable` and `refType`).
+ghost use Rattle.std.specs.Prelude.{◌≡◌, ◌++◌, filter_map, map, IfOk, OnOk, option_to_list, Some};
+ghost use Rattle.odb_atoms.specs.Represented.Atom.{atom_of};
+ghost use Rattle.odb_atoms.specs.Represented.ColType.{base_of, type_of};
+ghost use Rattle.odb_integrity.specs.Settlement as model;
+ghost use Rattle.odb_atoms.specs.ColType as model_type;
+ghost use Rattle.odb_schema.specs.Schema.{columns_at};
+
+use crate::row_id::RowId;
+use odb_atoms::{Atom, Base, ColType, Entries, Row, Value};
+use odb_schema::{Column, Schema, TableId};
+use std::alloc::{AllocError, Global};
+
+/// The columns of the table. O(1).
+pub(crate) fn columns_of(schema: &Schema, table: TableId) -> &[Column]
+    ensures { result.now ≡ columns_at schema.now table }
+{
+    match schema.tables().get(table.place()) {
+        Some(table) => table.columns(),
+        None => &[],
+    }
+}
+
+/// The table to which atoms of the base type have references, strong ones or weak ones. O(log n) for n
+/// tables.
+pub(crate) fn strong_target(schema: &Schema, base: &Base) -> Option<TableId>
+    ensures { result ≡ model.strong_target schema.now (base_of base.now) }
+{
+    match &base.reference {
+        Some(reference) => {
+            if reference.weak {
+                None
+            } else {
+                schema.table(reference.table.as_str())
+            }
+        }
+        None => None,
+    }
+}
+
+/// The table to which atoms of the base type have weak references. O(log n) for n tables.
+pub(crate) fn weak_target(schema: &Schema, base: &Base) -> Option<TableId>
+    ensures { result ≡ model.weak_target schema.now (base_of base.now) }
+{
+    match &base.reference {
+        Some(reference) => {
+            if reference.weak {
+                schema.table(reference.table.as_str())
+            } else {
+                None
+            }
+        }
+        None => None,
+    }
+}
+
+/// The row of the table that an atom names. O(1).
+pub(crate) fn referent(target: TableId, atom: &Atom) -> Option<RowId>
+    ensures { result ≡ model.referent (Some target) (atom_of atom.now) }
+{
+    match atom {
+        Atom::Uuid(uuid) => Some(RowId::new(target, *uuid)),
+        _ => None,
+    }
+}
+
+/// The rows to which a row has strong references, in the order of its columns. O(atoms); an error says
+/// that memory was refused.
+pub(crate) fn strong_of_row(
+    alloc: Global,
+    schema: &Schema,
+    id: RowId,
+    row: &Row,
+) -> Result<Vec<RowId>, AllocError>
+    ensures { IfOk result (λ rows. rows.items ≡ model.strong_of_row schema.now id row.now) }
+{
+    let mut rows = Vec::new(alloc);
+    let columns = columns_of(schema, id.table());
+    for (column, value) in columns.iter().zip(row.columns()) {
+        append_value(schema, column.column_type(), value, &mut rows)?;
+    }
+    Ok(rows)
+}
+
+fn append_value(
+    schema: &Schema,
+    column: &ColType,
+    value: &Value,
+    rows: &mut Vec<RowId>,
+) -> Result<(), AllocError>
+    ensures { OnOk result
+        (rows.new.items
+        ≡ rows.old.items ++ model.strong_of_value schema.now (type_of column.now) value.now) }
+{
+    let keys = strong_target(schema, &column.key);
+    match value.entries() {
+        Entries::Set(elements) => append_elements(keys, elements, rows),
+        Entries::Map(pairs) => {
+            append_keys(keys, pairs, rows)?;
+            append_values(strong_target(schema, value_base(column)), pairs, rows)
+        }
+    }
+}
+
+/// The base type of a map's values, or of a set's elements. O(1).
+pub(crate) fn value_base(column: &ColType) -> &Base
+    ensures { base_of result.now ≡ model_type.value_base (type_of column.now) }
+{
+    match &column.value {
+        Some(base) => base,
+        None => &column.key,
+    }
+}
+
+fn append_referent(target: TableId, atom: &Atom, rows: &mut Vec<RowId>) -> Result<(), AllocError>
+    ensures { OnOk result
+        (rows.new.items
+        ≡ rows.old.items ++ option_to_list (model.referent (Some target) (atom_of atom.now))) }
+{
+    match referent(target, atom) {
+        Some(row) => {
+            rows.push(row)?;
+            Ok(())
+        }
+        None => Ok(()),
+    }
+}
+
+fn append_elements(
+    target: Option<TableId>,
+    elements: &[Atom],
+    rows: &mut Vec<RowId>,
+) -> Result<(), AllocError>
+    ensures { OnOk result
+        (rows.new.items ≡ rows.old.items ++ filter_map (model.referent target) (map atom_of elements.now)) }
+{
+    let Some(table) = target else {
+        return Ok(());
+    };
+    for atom in elements {
+        append_referent(table, atom, rows)?;
+    }
+    Ok(())
+}
+
+fn append_keys(
+    target: Option<TableId>,
+    pairs: &[(Atom, Atom)],
+    rows: &mut Vec<RowId>,
+) -> Result<(), AllocError>
+    ensures { OnOk result
+        (rows.new.items
+        ≡ rows.old.items ++ filter_map (model.referent target) (map (λ pair. atom_of pair.0) pairs.now)) }
+{
+    let Some(table) = target else {
+        return Ok(());
+    };
+    for pair in pairs {
+        append_referent(table, &pair.0, rows)?;
+    }
+    Ok(())
+}
+
+fn append_values(
+    target: Option<TableId>,
+    pairs: &[(Atom, Atom)],
+    rows: &mut Vec<RowId>,
+) -> Result<(), AllocError>
+    ensures { OnOk result
+        (rows.new.items
+        ≡ rows.old.items ++ filter_map (model.referent target) (map (λ pair. atom_of pair.1) pairs.now)) }
+{
+    let Some(table) = target else {
+        return Ok(());
+    };
+    for pair in pairs {
+        append_referent(table, &pair.1, rows)?;
+    }
+    Ok(())
+}
