@@ -2,13 +2,11 @@
 use Rattle.std.specs.Prelude.{◌≡◌, Bool, true, false, T}
 use mathlib.Core.Path.{refl, sym, ap, subst}
 use Rattle.std.specs.declared.cmp.Ordering.{Ordering}
-use Rattle.std.specs.declared.cmp.Ordering.TheVariants.{Less, Equal, Greater}
-use Rattle.std.specs.Ordering.{nat_cmp, int_cmp, bool_cmp, is_eq, on, then_cmp, ordering_then}
-use Rattle.std.specs.Cmp.{IsTotalOrder, on_total, then_total, nat_cmp_total, int_cmp_total, bool_cmp_total}
-use Rattle.std.specs.Cmp.Lexicographic.{nat_list_cmp_total}
+use Rattle.std.specs.declared.cmp.Ordering.TheVariants.{Equal}
+use Rattle.std.specs.Ordering.{bool_cmp, is_eq}
+use Rattle.std.specs.Cmp.{IsTotalOrder, on_total, nat_cmp_total}
 use Rattle.std.specs.FinMap.{IsAntisymmetric, nat_cmp-IsAntisymmetric, int_cmp-IsAntisymmetric, slice_cmp-IsAntisymmetric}
-use Rattle.odb_atoms.specs.Atom.{Atom, atom_cmp, boolean, integer, text, to_parts, uuid}
-use Rattle.odb_atoms.specs.Text.{text_cmp}
+use Rattle.odb_atoms.specs.Atom.{atom_cmp, boolean, integer, text, uuid}
 use Rattle.odb_atoms.specs.Uuid.{uuid_cmp, same_number-same}
 
 pub uuid_cmp_total : IsTotalOrder uuid_cmp

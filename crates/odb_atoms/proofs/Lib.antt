@@ -1,5 +1,6 @@
 pub mod Atoms
 pub mod Differences
+pub mod EachEntry
 pub mod Equal
 pub mod Examples
 pub mod FinMaps

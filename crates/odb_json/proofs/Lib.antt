@@ -4,4 +4,5 @@ pub mod Maps
 pub mod Sets
 pub mod Shapes
 pub mod Triples
+pub mod Suited
 pub mod Written

@@ -5,6 +5,7 @@ ghost use Rattle.serde_json.specs.View.{members_view, view};
 ghost use Rattle.odb_schema.specs.Json.{get_member, if_given};
 ghost use Rattle.odb_json.specs.Operation as model;
 ghost use Rattle.odb_json.specs.Represented.Fault.{Gives, Reads};
+ghost use Rattle.odb_json.specs.Suited.{IsFor};
 ghost use Rattle.odb_json.specs.Represented.Operation.{on_table_of, op_of, table_reader, until_of, verb_of};
 
 use crate::atom::SYNTAX;
@@ -433,8 +434,18 @@ fn read_members(
 /// place of any of these.
 ///
 /// O(log n) comparisons of names for each name, and what `read_columns` and the values take.
-#[tactic(auto, unfolding(crate::specs::Operation::read_op))]
+///
+/// What was read is of the schema: its table is there, the values that it writes are of their
+/// columns' kinds, and its mutations are ones that their columns have.
 pub fn read_op(alloc: Global, value: &Value, schema: &Schema, names: &Names) -> Result<Op, OpFault>
+    ensures reads { Reads op_of result (model.read_op schema.now names.now (view value.now)) }
+    ensures suits { IfOk result (λ op. IsFor schema.now (op_of op)) }
+{
+    read_whole(alloc, value, schema, names)
+}
+
+#[tactic(auto, unfolding(crate::specs::Operation::read_op))]
+fn read_whole(alloc: Global, value: &Value, schema: &Schema, names: &Names) -> Result<Op, OpFault>
     ensures { Reads op_of result (model.read_op schema.now names.now (view value.now)) }
 {
     let members = read_object(value)?;

@@ -3,3 +3,4 @@ pub mod Drafts
 pub mod Fits
 pub mod Rewrites
 pub mod Rows
+pub mod Typed

@@ -5,3 +5,4 @@ mod Keys
 mod Overlays
 mod SameValues
 mod TableChanges
+pub mod TypedDatabases
