@@ -1,5 +1,5 @@
 -- Rows of which each value is of its column's kind, and mutations of them.
-use Rattle.std.proofs.Common.{◌≡◌, ℕ, zero, suc, ◌==◌, arith, Bool, true, false, List, [], ◌∷◌, length, slice_get, slice_set, unwrap_or, Result, Ok, Err, sym, ap, subst, ◌∙◌, refl}
+use Rattle.std.proofs.Common.{◌≡◌, ℕ, zero, suc, ◌==◌, arith, true, List, [], ◌∷◌, length, slice_get, unwrap_or, Result, Ok, Err, sym, ap, subst, ◌∙◌, refl}
 use Rattle.std.proofs.lemmas.Bool.{false≢true}
 use Rattle.std.proofs.lemmas.Bool.Decides.{nat_tests}
 use Rattle.odb_atoms.specs.FinMap as map

@@ -1,6 +1,5 @@
 -- What the code's functions make of a draft, as parts of the definitions.
-use Rattle.std.specs.Prelude.{◌≡◌, ℕ, Bool, true, not, List, [], ◌∷◌, ◌++◌, codes, slice_set, Option, Some, None, option_and_then, option_to_list}
-use Rattle.std.specs.List.{list_all}
+use Rattle.std.specs.Prelude.{◌≡◌, ℕ, true, not, List, [], ◌∷◌, ◌++◌, codes, slice_set, Option, Some, None, option_and_then, option_to_list}
 use Rattle.std.specs.Result.{result_err, result_ok}
 use Rattle.odb_atoms.specs.FinMap as map
 use Rattle.odb_atoms.specs.FinSet as set
@@ -11,12 +10,11 @@ use Rattle.odb_atoms.specs.Uuid.{Uuid}
 use Rattle.odb_atoms.specs.Value.{Value}
 use Rattle.odb_cond.specs.Condition.{Clause}
 use Rattle.odb_mutate.specs.Mutation.{Mutation}
-use Rattle.odb_mutate.specs.Taken.{takes}
 use Rattle.odb_ops.specs.Execution.{all_admit, count, faults, first_fault, has_used, mutated_or_same, new_row, on_matching}
 use Rattle.odb_ops.specs.Represented.Draft.{begun}
 use Rattle.odb_schema.specs.Json.{Data, object_of}
 use Rattle.odb_schema.specs.Notation.{write_uuid}
-use Rattle.odb_schema.specs.Schema.{Column, column_type}
+use Rattle.odb_schema.specs.Schema.{Column}
 use Rattle.odb_tables.specs.Database.{Table, table_at}
 use Rattle.odb_tables.specs.Draft.{Draft, removed_at, without_row}
 use Rattle.odb_tables.specs.Matching.{matching}
@@ -57,10 +55,6 @@ all_rewritten f t (u ∷ us) d = all_rewritten f t us (rewritten f t u d)
 
 -- ---- mutate
 
--- mutations that the columns have
-abbrev pub are_taken : List Column → List Mutation → Bool
-are_taken cs ms = list_all (λ m. takes (column_type cs m.column) m.mutator m.value) ms
-
 -- each row has for each column a value of its kind
 abbrev pub AllFit : List Column → Table → Type 0
 AllFit cs table = (u : Uuid) (r : Row) → map.get table u ≡ Some r → fits cs r ≡ true
@@ -73,7 +67,7 @@ abbrev pub all_faults : (Row → Result Row Error) → ℕ → List Uuid → Dra
 all_faults f t [] d = []
 all_faults f t (u ∷ us) d = option_to_list (row_fault f (map.get (table_at d.now t) u)) ++ all_faults f t us (rewritten (λ r. result_ok (f r)) t u d)
 
-abbrev or_error : {A : Type 0} → Option Error → A → Result A Error
+abbrev pub or_error : {A : Type 0} → Option Error → A → Result A Error
 or_error None x = Ok x
 or_error (Some e) x = Err e
 
