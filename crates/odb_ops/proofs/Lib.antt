@@ -1,3 +1,4 @@
+pub mod Bindings
 pub mod Deletes
 pub mod Drafts
 pub mod Faults

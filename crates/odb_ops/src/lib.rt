@@ -7,6 +7,7 @@ mod execution;
 mod fresh;
 mod insert;
 mod mutate;
+mod names;
 mod results;
 mod select;
 mod update;
