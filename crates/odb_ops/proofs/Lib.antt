@@ -1,6 +1,9 @@
+pub mod Bindings
 pub mod Deletes
 pub mod Drafts
+pub mod Faults
 pub mod Fits
+pub mod Mutates
 pub mod Rewrites
 pub mod RowSets
 pub mod Rows

@@ -28,12 +28,12 @@ abbrev pub AreApart : List Uuid → Type 0
 AreApart [] = Unit {0}
 AreApart (u ∷ us) = (list_any (eq_by_cmp uuid_cmp u) us ≡ false) × AreApart us
 
-less_is_other : (o : Ordering) → T (is_lt o) → is_eq o ≡ false
+pub less_is_other : (o : Ordering) → T (is_lt o) → is_eq o ≡ false
 less_is_other Less h = refl
 less_is_other Equal h = absurd h
 less_is_other Greater h = absurd h
 
-halves : (a b : Bool) → T (a && b) → T a × T b
+pub halves : (a b : Bool) → T (a && b) → T a × T b
 halves true b h = (tt, h)
 halves false b h = absurd h
 
@@ -80,7 +80,7 @@ module _ (f : Row → Option Row) where
       by None _ true e = ap (map.get table) (same_key uuid_cmp-IsAntisymmetric q u e) ∙ is
       by None _ false e = refl
 
-  get-touched : (table : Table) (u q : Uuid) → map.get (touched u table) q ≡ cond (eq_by_cmp uuid_cmp q u) (option_map or_same (map.get table q)) (map.get table q)
+  pub get-touched : (table : Table) (u q : Uuid) → map.get (touched u table) q ≡ cond (eq_by_cmp uuid_cmp q u) (option_map or_same (map.get table q)) (map.get table q)
   get-touched table u q = get-insert_if table u q (eq_by_cmp uuid_cmp q u) refl (map.get table u) refl ∙ at (eq_by_cmp uuid_cmp q u) refl
     where
       at : (b : Bool) → eq_by_cmp uuid_cmp q u ≡ b → cond b (option_map or_same (map.get table u)) (map.get table q) ≡ cond b (option_map or_same (map.get table q)) (map.get table q)

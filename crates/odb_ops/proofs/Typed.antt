@@ -99,7 +99,7 @@ mutate_kind cs m v =
     P : Value → Type 0
     P w = has_kind (column_type cs m.column) w ≡ true
 
-mutated_fits : (cs : List Column) (ms : List Mutation) (r : Row) → Fits cs r → Holds (Fits cs) (model.mutated cs ms r)
+pub mutated_fits : (cs : List Column) (ms : List Mutation) (r : Row) → Fits cs r → Holds (Fits cs) (model.mutated cs ms r)
 mutated_fits cs [] r h = read_in Error (Fits cs) r h
 mutated_fits cs (m ∷ ms) r h =
     with_holds (λ w. has_kind (column_type cs m.column) w ≡ true) (Fits cs) (mutate m.mutator m.value (column_type cs m.column) (cell zero_uuid r (Selector.declared m.column))) _

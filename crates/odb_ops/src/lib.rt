@@ -9,6 +9,7 @@ mod execution;
 mod fresh;
 mod insert;
 mod mutate;
+mod names;
 mod results;
 mod select;
 mod update;

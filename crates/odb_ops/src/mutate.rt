@@ -4,18 +4,21 @@ ghost use Rattle.std.specs.Result.{result_ok};
 ghost use Rattle.serde_json.specs.View.{view};
 ghost use Rattle.odb_atoms.specs.ColType.{has_kind, scalar};
 ghost use Rattle.odb_atoms.specs.Atom.{uuids};
+ghost use Rattle.odb_atoms.specs.FinMap as finite;
 ghost use Rattle.odb_atoms.specs.FinSet as set;
 ghost use Rattle.odb_atoms.specs.Represented.Atom.{uuid_of};
 ghost use Rattle.odb_atoms.specs.Represented.ColType.{type_of};
+ghost use Rattle.odb_atoms.specs.Represented.Error as error;
 ghost use Rattle.odb_atoms.specs.Row.{cell, declared};
 ghost use Rattle.odb_atoms.specs.Uuid.{zero_uuid};
 ghost use Rattle.odb_atoms.specs.Value.{set_of};
 ghost use Rattle.odb_json.specs.Represented.Fault.{Reads};
+ghost use Rattle.odb_json.specs.Suited.{are_taken};
 ghost use Rattle.odb_mutate.specs.Mutation as model;
 ghost use Rattle.odb_mutate.specs.Represented.Mutation.{answered, error_of};
 ghost use Rattle.odb_mutate.specs.Taken.{takes};
 ghost use Rattle.odb_ops.specs.Execution.{first_fault, mutated};
-ghost use Rattle.odb_ops.specs.Represented.Parts.{AllFit, all_faults, all_rewritten, are_taken, mutate_rows, rewritten, row_fault, with_value};
+ghost use Rattle.odb_ops.specs.Represented.Parts.{AllFit, all_faults, all_rewritten, mutate_rows, rewritten, row_fault, with_value};
 ghost use Rattle.odb_schema.specs.Schema.{column_type};
 ghost use Rattle.odb_tables.specs.Database.{table_at};
 ghost use Rattle.odb_tables.specs.Typed.{fits};
@@ -26,7 +29,7 @@ use odb_atoms::{ColType, Error, Kind, Row, Value};
 use odb_cond::Where;
 use odb_json::OpFault;
 use odb_mutate::{Mutation, MutationFault};
-use odb_schema::{Column, ColumnId, TableId};
+use odb_schema::{Column, ColumnId, TableId, TableSchema};
 use odb_tables::Draft;
 use std::alloc::{AllocError, Global};
 use uuid::Uuid;
@@ -115,4 +118,116 @@ fn mutated_row(
         }
     }
     Ok(Ok(row))
+}
+
+/// Of two faults the one that the operation has before the other.
+fn earlier(fault: Option<MutationFault>, other: Option<MutationFault>) -> Option<MutationFault>
+    ensures { option_map error_of result
+        ≡ first_fault (option_to_list (option_map error_of fault)
+        ++ option_to_list (option_map error_of other)) }
+{
+    match (fault, other) {
+        (None, other) => other,
+        (fault, None) => fault,
+        (Some(fault), Some(other)) => Some(fault.min(other)),
+    }
+}
+
+/// Mutates the row of an identifier, if the table has it. A row that has a fault stays as it is.
+fn mutate_one(
+    alloc: Global,
+    draft: &mut Draft,
+    table: TableId,
+    uuid: Uuid,
+    columns: &[Column],
+    mutations: &[Mutation],
+) -> Result<Option<MutationFault>, AllocError>
+    requires inside { table < length draft.old.old }
+    requires fit { AllFit columns.now (table_at draft.old.now table) }
+    requires suit { are_taken columns.now mutations.now ≡ true }
+    ensures row { OnOk result (draft.new
+        ≡ rewritten (λ r. result_ok (mutated columns.now mutations.now r)) table (uuid_of uuid)
+        draft.old) }
+    ensures fault { IfOk result (λ fault. option_map error_of fault
+        ≡ row_fault (mutated columns.now mutations.now)
+        (finite.get (table_at draft.old.now table) (uuid_of uuid))) }
+    ensures base { draft.new.old ≡ draft.old.old }
+{
+    let Some(row) = draft.get(table, uuid) else {
+        return Ok(None);
+    };
+    match mutated_row(alloc, row, columns, mutations)? {
+        Ok(row) => {
+            draft.put(table, uuid, row)?;
+            Ok(None)
+        }
+        Err(fault) => Ok(Some(fault)),
+    }
+}
+
+/// The same for each of these rows; the fault that the operation has, if some row has one.
+fn mutate_all(
+    alloc: Global,
+    draft: &mut Draft,
+    table: TableId,
+    uuids: &[Uuid],
+    columns: &[Column],
+    mutations: &[Mutation],
+) -> Result<Option<MutationFault>, AllocError>
+    requires inside { table < length draft.old.old }
+    requires fit { AllFit columns.now (table_at draft.old.now table) }
+    requires suit { are_taken columns.now mutations.now ≡ true }
+    ensures rows { OnOk result (draft.new
+        ≡ all_rewritten (λ r. result_ok (mutated columns.now mutations.now r)) table
+        (map uuid_of uuids.now) draft.old) }
+    ensures fault { IfOk result (λ fault. option_map error_of fault
+        ≡ first_fault
+        (all_faults (mutated columns.now mutations.now) table (map uuid_of uuids.now) draft.old)) }
+    ensures base { draft.new.old ≡ draft.old.old }
+{
+    let mut first = None;
+    for uuid in uuids {
+        let fault = mutate_one(alloc, draft, table, *uuid, columns, mutations)?;
+        first = earlier(first, fault);
+    }
+    Ok(first)
+}
+
+/// The error that a fault of a mutation is to its operation.
+fn error_in(fault: MutationFault) -> Error
+    ensures { error.error_of result ≡ error_of fault }
+{
+    match fault {
+        MutationFault::DomainError => Error::DomainError,
+        MutationFault::RangeError => Error::RangeError,
+        MutationFault::ResourcesExhausted => Error::ResourcesExhausted,
+        MutationFault::ConstraintViolation => Error::ConstraintViolation,
+    }
+}
+
+/// Makes the mutations of each row that matches; the result is how many they are.
+///
+/// Where rows have faults, the first of them in this order is the answer: `domain error`, `range
+/// error`, `resources exhausted`, `constraint violation`. The draft isn't of use then.
+pub fn mutate(
+    alloc: Global,
+    draft: &mut Draft,
+    table: TableId,
+    schema: &TableSchema,
+    conditions: &Where,
+    mutations: &[Mutation],
+) -> Result<serde_json::Value, OpFault>
+    requires inside { table < length draft.old.old }
+    requires fit { AllFit schema.now.columns (table_at draft.old.now table) }
+    requires suit { are_taken schema.now.columns mutations.now ≡ true }
+    ensures rows { Reads (λ v. (draft.new, view v)) result
+        (mutate_rows schema.now.columns table conditions.now mutations.now draft.old) }
+    ensures base { draft.new.old ≡ draft.old.old }
+{
+    let found = draft.matching(table, conditions)?;
+    let uuids = found.as_slice();
+    match mutate_all(alloc, draft, table, uuids, schema.columns(), mutations)? {
+        None => Ok(results::count(alloc, uuids)?),
+        Some(fault) => Err(OpFault::Failed(error_in(fault))),
+    }
 }

@@ -1,22 +1,22 @@
 -- What the code's functions make of a draft, as parts of the definitions.
-use Rattle.std.specs.Prelude.{◌≡◌, ℕ, Bool, true, not, List, [], ◌∷◌, ◌++◌, codes, slice_set, Option, Some, None, option_and_then, option_to_list}
-use Rattle.std.specs.List.{list_all}
+use Rattle.std.specs.Prelude.{◌≡◌, ℕ, true, cond, not, List, [], ◌∷◌, ◌++◌, codes, slice_set, Option, Some, None, option_and_then, option_to_list}
+use Rattle.std.specs.List.{list_any}
 use Rattle.std.specs.Result.{result_err, result_ok}
 use Rattle.odb_atoms.specs.FinMap as map
 use Rattle.odb_atoms.specs.FinSet as set
-use Rattle.odb_atoms.specs.Error.{Error, constraint_violation, duplicate_uuid}
+use Rattle.odb_atoms.specs.Error.{Error, constraint_violation, duplicate_uuid, duplicate_uuid_name}
 use Rattle.odb_atoms.specs.First.{Err, Ok, Result, demand, ◌>>◌}
 use Rattle.odb_atoms.specs.Row.{Row}
+use Rattle.odb_atoms.specs.Text.{same_text}
 use Rattle.odb_atoms.specs.Uuid.{Uuid}
 use Rattle.odb_atoms.specs.Value.{Value}
 use Rattle.odb_cond.specs.Condition.{Clause}
 use Rattle.odb_mutate.specs.Mutation.{Mutation}
-use Rattle.odb_mutate.specs.Taken.{takes}
 use Rattle.odb_ops.specs.Execution.{all_admit, count, faults, first_fault, has_used, mutated_or_same, new_row, on_matching}
 use Rattle.odb_ops.specs.Represented.Draft.{begun}
 use Rattle.odb_schema.specs.Json.{Data, object_of}
-use Rattle.odb_schema.specs.Notation.{write_uuid}
-use Rattle.odb_schema.specs.Schema.{Column, column_type}
+use Rattle.odb_schema.specs.Notation.{Names, write_uuid}
+use Rattle.odb_schema.specs.Schema.{Column}
 use Rattle.odb_tables.specs.Database.{Table, table_at}
 use Rattle.odb_tables.specs.Draft.{Draft, removed_at, without_row}
 use Rattle.odb_tables.specs.Matching.{matching}
@@ -57,10 +57,6 @@ all_rewritten f t (u ∷ us) d = all_rewritten f t us (rewritten f t u d)
 
 -- ---- mutate
 
--- mutations that the columns have
-abbrev pub are_taken : List Column → List Mutation → Bool
-are_taken cs ms = list_all (λ m. takes (column_type cs m.column) m.mutator m.value) ms
-
 -- each row has for each column a value of its kind
 abbrev pub AllFit : List Column → Table → Type 0
 AllFit cs table = (u : Uuid) (r : Row) → map.get table u ≡ Some r → fits cs r ≡ true
@@ -73,7 +69,7 @@ abbrev pub all_faults : (Row → Result Row Error) → ℕ → List Uuid → Dra
 all_faults f t [] d = []
 all_faults f t (u ∷ us) d = option_to_list (row_fault f (map.get (table_at d.now t) u)) ++ all_faults f t us (rewritten (λ r. result_ok (f r)) t u d)
 
-abbrev or_error : {A : Type 0} → Option Error → A → Result A Error
+abbrev pub or_error : {A : Type 0} → Option Error → A → Result A Error
 or_error None x = Ok x
 or_error (Some e) x = Err e
 
@@ -82,3 +78,21 @@ abbrev pub mutate_rows : List Column → ℕ → List Clause → List Mutation �
 mutate_rows cs t clauses ms d =
     let found = matching clauses (table_at d.now t) in
     or_error (first_fault (faults cs ms found)) (with_rows t (on_matching clauses (mutated_or_same cs ms) (table_at d.now t)) d, count found)
+
+-- ---- names
+
+-- the name stands for the identifier, unless it stands for another
+abbrev pub bound : Option (List ℕ) → Uuid → Names → Names
+bound None u names = names
+bound (Some name) u names = cond (map.contains_key names name) names (map.insert names name u)
+
+-- the name of an insert is taken, unless it was taken
+abbrev pub claimed : Option (List ℕ) → Uuid → Names → Result Names Error
+claimed None u taken = Ok taken
+claimed (Some name) u taken = do
+  demand (not (map.contains_key taken name)) duplicate_uuid_name
+  Ok (map.insert taken name u)
+
+-- these are the names that inserts have had
+abbrev pub AreTaken : Names → List (List ℕ) → Type 0
+AreTaken taken named = (q : List ℕ) → map.contains_key taken q ≡ list_any (same_text q) named

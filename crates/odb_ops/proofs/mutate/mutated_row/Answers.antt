@@ -2,7 +2,7 @@ use Rattle.std.proofs.Common.{rules, ◌≡◌, ◌+◌, ◌<◌, List, [], ◌�
 use Rattle.std.proofs.lemmas.List.{drop_more}
 use Rattle.odb_mutate.specs.Mutation.{Mutation}
 use Rattle.odb_ops.specs.Execution.{mutated}
-use Rattle.odb_ops.proofs.Fits.{mutated_fits, mutated_more}
+use Rattle.odb_ops.proofs.Fits.{mutated_fit, mutated_more}
 use Rattle.odb_ops.proofs.mutate.mutated_row.Goals as goal
 
 pub loop-mutation-preserved : goal.loop-mutation-preserved
@@ -17,4 +17,4 @@ loop-mutation-preserved c =
     let here : m ≡ get_or ms i m = search rules in
     let rest : drop i ms ≡ m ∷ drop (i + 1) ms = drop_more ms i m inside ∙ ap (λ x. x ∷ drop (i + 1) ms) (sym here) in
     let one : mutated cs (m ∷ []) r ≡ Ok new = search rules in
-    (mutated_fits cs (m ∷ []) r new c.loop-mutation.invariant.0 one, sym (mutated_more cs m (drop (i + 1) ms) r new one) ∙ ap (λ ns. mutated cs ns r) (sym rest) ∙ c.loop-mutation.invariant.1)
+    (mutated_fit cs (m ∷ []) r new c.loop-mutation.invariant.0 one, sym (mutated_more cs m (drop (i + 1) ms) r new one) ∙ ap (λ ns. mutated cs ns r) (sym rest) ∙ c.loop-mutation.invariant.1)
