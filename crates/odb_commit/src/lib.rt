@@ -1,2 +1,6 @@
-//! Transactions (RFC 7047, 4.1.3): operations, settlement and versions.
+//! Transactions (RFC 7047, section 4.1.3).
 #![tactic(auto)]
+
+mod transaction;
+
+pub use transaction::{Outcome, transact};

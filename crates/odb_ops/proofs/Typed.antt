@@ -1,5 +1,5 @@
 -- Operations keep databases of their schema.
-use Rattle.std.specs.Prelude.{◌≡◌, ℕ, Bool, true, false, cond, not, ◌&&◌, ◌==◌, List, [], ◌∷◌, length, map as map_list, is_none, slice_set, unwrap_or, Option, Some, None, option_and_then, Result, Ok, Err}
+use Rattle.std.specs.Prelude.{◌≡◌, ℕ, Bool, true, false, cond, not, ◌&&◌, ◌==◌, List, [], ◌∷◌, length, map as map_list, is_none, ⊤, slice_set, unwrap_or, Option, Some, None, option_and_then, Result, Ok, Err}
 use Rattle.std.specs.List.{enumerate_from}
 use Rattle.std.specs.Result.{result_ok}
 use Rattle.std.specs.Ordering.{eq_by_cmp}
@@ -19,13 +19,15 @@ use Rattle.odb_atoms.proofs.Atoms.{uuid_cmp-IsAntisymmetric}
 use Rattle.odb_atoms.proofs.FinMaps.{get-insert, get-map_entries, get-retain_keys}
 use Rattle.odb_atoms.proofs.Lists.{both}
 use Rattle.odb_cond.specs.Condition.{Clause, holds_all}
-use Rattle.odb_json.specs.Operation.{Op}
+use Rattle.odb_json.specs.Operation.{Op, read_op}
+use Rattle.odb_json.proofs.Suited.{op_suits}
 use Rattle.odb_json.specs.Suited.{IsFor, are_of_kind}
 use Rattle.odb_mutate.specs.Mutation.{Mutation, mutate, result_of}
 use Rattle.odb_ops.specs.Execution as model
-use Rattle.odb_ops.specs.Execution.{Context, Draft, Stop}
-use Rattle.odb_schema.proofs.Holds.{Holds, none_read, passed_holds, read_in, tested_holds, then_holds, with_holds}
+use Rattle.odb_ops.specs.Execution.{Context, Draft, Ran, Stop}
+use Rattle.odb_schema.proofs.Holds.{Holds, in_read, none_read, passed_holds, read_in, tested_holds, then_holds, with_holds}
 use Rattle.odb_schema.specs.Json.{Data}
+use Rattle.odb_schema.specs.Notation.{Names}
 use Rattle.odb_schema.specs.Schema.{Column, Schema, column_type, columns_at}
 use Rattle.odb_tables.specs.Database.{Table, table_at}
 use Rattle.odb_tables.specs.Represented.Key.{uuid_cmp_total}
@@ -154,3 +156,38 @@ perform_typed s c u d (Op.commit durable) suits h = goes_on s (not durable) d _ 
 perform_typed s c u d Op.abort suits h = none_read (λ p. IsTyped s p.0.db) _
 perform_typed s c u d Op.comment suits h = read_in Stop (λ p. IsTyped s p.0.db) _ h
 perform_typed s c u d (Op.assert lock) suits h = goes_on s (c.owns lock) d _ h
+
+-- ---- lists of operations
+
+-- what went through is of the schema
+abbrev pub EndsTyped : Schema → Ran → Type 0
+EndsTyped s (model.finished d results) = IsTyped s d.db
+EndsTyped s (model.failed results) = ⊤
+EndsTyped s (model.must_wait moment) = ⊤
+
+read_typed : (s : Schema) (c : Context) (names : Names) (u : Uuid) (d : Draft) (op : Data) → IsTyped s d.db → KeepsTyped s (model.read_and_perform s c names u d op)
+read_typed s c names u d op h =
+    with_holds (IsFor s) (λ p. IsTyped s p.0.db) (model.or_stop (read_op s names op)) _ (or_stop_holds (IsFor s) (read_op s names op) (op_suits s names op)) (λ o suits. perform_typed s c u d o suits h)
+
+with_result_typed : (s : Schema) (result : Data) (r : Ran) → EndsTyped s r → EndsTyped s (model.with_result result r)
+with_result_typed s result (model.finished d results) h = h
+with_result_typed s result (model.failed results) h = h
+with_result_typed s result (model.must_wait moment) h = h
+
+stopped_typed : (s : Schema) (stop : Stop) (later : ℕ) → EndsTyped s (model.stopped stop later)
+stopped_typed s (model.fails e) later = tt
+stopped_typed s (model.waits moment) later = tt
+
+run_from_typed : (s : Schema) (c : Context) (names : Names) (fresh : List Uuid) (d : Draft) (ops : List Data) → IsTyped s d.db → EndsTyped s (model.run_from s c names fresh d ops)
+run_from_typed s c names fresh d [] h = h
+run_from_typed s c names fresh d (op ∷ ops) h =
+    by (model.read_and_perform s c names (model.first_fresh fresh) d op) (read_typed s c names (model.first_fresh fresh) d op h) (λ e g. run_from_typed s c names (model.fresh_after op fresh) e ops g)
+  where
+    by : (r : Result (Draft × Data) Stop) → KeepsTyped s r → ((e : Draft) → IsTyped s e.db → EndsTyped s (model.run_from s c names (model.fresh_after op fresh) e ops))
+        → EndsTyped s (elim r as (λ _. Ran) [ | Ok p ↦ model.with_result p.1 (model.run_from s c names (model.fresh_after op fresh) p.0 ops) | Err stop ↦ model.stopped stop (length ops) ])
+    by (Ok p) g rest = with_result_typed s p.1 _ (rest p.0 (in_read Stop (λ p. IsTyped s p.0.db) p g))
+    by (Err stop) g rest = stopped_typed s stop (length ops)
+
+pub run_typed : (s : Schema) (c : Context) (d : Draft) (ops : List Data) → IsTyped s d.db → EndsTyped s (model.run s c d ops)
+unfolding model.run
+run_typed s c d ops h = run_from_typed s c (model.names_of ops c.fresh) c.fresh d ops h

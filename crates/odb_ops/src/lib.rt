@@ -17,3 +17,4 @@ mod wait;
 
 pub use context::Context;
 pub use execution::{Ran, run};
+pub use results::failure;

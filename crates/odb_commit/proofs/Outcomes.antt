@@ -1,0 +1,60 @@
+-- What operations and their settlement come to.
+use Rattle.std.specs.Prelude.{◌≡◌, ℕ, List, Option, Result, Ok, Err, Vec}
+use Rattle.std.specs.declared.alloc.Global.{Global}
+use mathlib.Core.Path.{refl, sym, ap, subst, ◌∙◌}
+use Rattle.odb_atoms.specs.Uuid.{uuid_from}
+use Rattle.odb_commit.specs.Transaction as model
+use Rattle.odb_commit.specs.Represented.Outcome.{Answers}
+use Rattle.odb_commit.specs.declared.transaction.Outcome.TheVariants as outcome
+use Rattle.odb_commit.proofs.Typed.{stamped_typed}
+use Rattle.odb_integrity.specs.Settlement.{settle}
+use Rattle.odb_integrity.proofs.KeepsTyped.{settled_typed}
+use Rattle.odb_ops.specs.Execution as ops
+use Rattle.odb_ops.specs.Represented.Ran as answered
+use Rattle.odb_ops.specs.Represented.Ran.{results_of}
+use Rattle.odb_ops.specs.declared.execution.Ran.TheVariants as ran
+use Rattle.odb_ops.proofs.Typed.{EndsTyped}
+use Rattle.odb_schema.specs.Json.{Data}
+use Rattle.odb_schema.specs.Schema.{Schema}
+use Rattle.odb_tables.specs.Change.{Changes, change_between}
+use Rattle.odb_tables.specs.Database.{Db}
+use Rattle.odb_tables.specs.Installing.{IsChangeOf}
+use Rattle.odb_tables.specs.Stamped.{stamped}
+use Rattle.odb_tables.specs.Typed.{IsTyped}
+use Rattle.serde_json.specs.declared.value.Value.{Value}
+
+module _ (s : Schema) (max_rows number : ℕ) (old now : Db) where
+  -- it was settled
+  pub done : (results : Vec Value Global) (change : List Changes) (new : Db) → IsTyped s old → IsTyped s now → settle s max_rows now ≡ Ok new
+      → change ≡ change_between old (stamped (uuid_from number) old new) → IsChangeOf old change
+      → Answers s old (outcome.Done results change) (model.settled number old (results_of results) (settle s max_rows now))
+  done results change new h g e is of =
+      subst (λ r. Answers s old (outcome.Done results change) (model.settled number old (results_of results) r)) (sym e)
+      (refl, is, of, stamped_typed s (uuid_from number) old new h (settled_typed s max_rows now new e g))
+
+  -- all operations went through
+  pub went_typed : (results : Vec Value Global) (r : ops.Ran) → answered.Answers (ran.Finished results) now r → EndsTyped s r → IsTyped s now
+  went_typed results (ops.finished d rs) h typed = subst (IsTyped s) h.0 typed
+  went_typed results (ops.failed rs) h typed = absurd h
+  went_typed results (ops.must_wait moment) h typed = absurd h
+
+  pub went : (results : Vec Value Global) (r : ops.Ran) → answered.Answers (ran.Finished results) now r → model.outcome s max_rows number old r ≡ model.settled number old (results_of results) (settle s max_rows now)
+  went results (ops.finished d rs) h = λ i. model.settled number old (h.1 i) (settle s max_rows (h.0 i))
+  went results (ops.failed rs) h = absurd h
+  went results (ops.must_wait moment) h = absurd h
+
+  -- one failed, or a `wait` has to wait
+  pub failed : (results : Vec Value Global) (r : ops.Ran) → answered.Answers (ran.Failed results) now r → Answers s old (outcome.Failed results) (model.outcome s max_rows number old r)
+  failed results (ops.finished d rs) h = absurd h
+  failed results (ops.failed rs) h = h
+  failed results (ops.must_wait moment) h = absurd h
+
+  pub parked : (deadline : Option ℕ) (r : ops.Ran) → answered.Answers (ran.MustWait deadline) now r → Answers s old (outcome.Parked deadline) (model.outcome s max_rows number old r)
+  parked deadline (ops.finished d rs) h = absurd h
+  parked deadline (ops.failed rs) h = absurd h
+  parked deadline (ops.must_wait moment) h = h
+
+-- a transaction in its two parts
+pub in_parts : (s : Schema) (max_rows number : ℕ) (c : ops.Context) (db : Db) (operations : List Data) → model.transact s max_rows number c db operations ≡ model.outcome s max_rows number db (ops.run s c (ops.draft_of db) operations)
+unfolding model.transact
+in_parts s max_rows number c db operations = refl

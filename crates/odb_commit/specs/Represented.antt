@@ -1,0 +1,2 @@
+-- What the outcomes of the code stand for.
+pub mod Outcome
