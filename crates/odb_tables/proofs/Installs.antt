@@ -212,3 +212,8 @@ pub length-each_table : (f : Option Row → Sides → Option Row) (db : Db) (cs 
 length-each_table f [] cs = refl
 length-each_table f (t ∷ ts) [] = refl
 length-each_table f (t ∷ ts) (c ∷ cs) = ap suc (length-each_table f ts cs)
+
+pub length-changed : (db : Db) (cs : List Changes) → IsChangeOf db cs → length (all_changed_by db cs) ≡ length db
+length-changed [] cs h = refl
+length-changed (t ∷ ts) [] h = absurd (omega (arith, h.0))
+length-changed (t ∷ ts) (c ∷ cs) h = ap suc (length-changed ts cs (tail_of t ts c cs h))

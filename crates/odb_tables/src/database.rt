@@ -88,12 +88,14 @@ impl Db {
     }
 
     /// Makes the whole change, or none: where memory is refused the database is as it was, and the change
-    /// comes back. The old sides of the change have to be what the database has. O(rows changed).
+    /// comes back. The old sides of the change have to be what the database has. O(rows changed) and
+    /// O(tables).
     pub fn install(&mut self, change: ChangeSet) -> Result<(), AllocFailed<ChangeSet>>
         requires { IsChangeOf self.old change }
         ensures ok { OnOk result (self.new ≡ all_changed_by self.old change) }
         ensures err { OnErr result (self.new ≡ self.old) }
         ensures handed_back { IfErr result (λ refused. refused.value ≡ change) }
+        ensures same_tables { length self.new ≡ length self.old }
     {
         if put_in(&mut self.tables, change.tables()).is_err() {
             take_back(&mut self.tables, change.tables());
