@@ -1,12 +1,12 @@
 -- Settlement keeps databases of their schema.
-use Rattle.std.specs.Prelude.{◌≡◌, ℕ, Bool, true, false, cond, not, ◌&&◌, ◌||◌, ◌==◌, List, [], ◌∷◌, filter, length, map as map_list, zip, nat_le, is_some, Option, Some, None, option_and_then}
+use Rattle.std.specs.Prelude.{◌≡◌, ℕ, zero, suc, ◌<◌, replicate, slice_set, Bool, true, false, cond, not, ◌&&◌, ◌||◌, ◌==◌, List, [], ◌∷◌, filter, length, map as map_list, zip, nat_le, is_some, Option, Some, None, option_and_then}
 use Rattle.std.specs.List.{list_all, list_any}
 use Rattle.std.specs.Cmp.{unsigned_Decides}
 use mathlib.Core.Path.{refl, sym, ap, subst, ◌∙◌}
 use mathlib.Core.Bool.{true≢false}
 use Rattle.std.proofs.Common.{arith}
 use Rattle.odb_atoms.proofs.Atoms.{atom_cmp-IsAntisymmetric}
-use Rattle.odb_atoms.proofs.FinMaps.{get-entries, get-map_entries}
+use Rattle.odb_atoms.proofs.FinMaps.{get-empty, get-entries, get-map_entries}
 use Rattle.odb_atoms.proofs.Lists.{Member, all_gives, both, gives_all}
 use Rattle.odb_atoms.specs.Atom.{Atom, atom_cmp}
 use Rattle.odb_atoms.specs.ColType.{ColType, has_kind, is_a, value_base}
@@ -15,15 +15,18 @@ use Rattle.odb_atoms.specs.First.{Ok, Result, demand, ◌>>◌}
 use Rattle.odb_atoms.specs.FinMap as map
 use Rattle.odb_atoms.specs.FinSet as set
 use Rattle.odb_atoms.specs.Row.{Row}
-use Rattle.odb_atoms.specs.Uuid.{Uuid}
+use Rattle.odb_atoms.specs.Uuid.{Uuid, uuid_cmp}
 use Rattle.odb_atoms.specs.Value.{Atoms, Pairs, Value, map_of, set_of}
 use Rattle.odb_atoms.specs.Represented.AtomOrder.{atom_cmp_total}
 use Rattle.odb_mutate.proofs.Each.{all-filter, filter-map}
 use Rattle.odb_schema.specs.Schema.{Column, Schema, columns_at}
 use Rattle.odb_tables.specs.Database.{Db, Table, table_at}
 use Rattle.odb_tables.specs.Typed.{IsTyped, fits}
-use Rattle.odb_integrity.specs.Settlement.{RowId, any_row, constrained, has_dangling, has_duplicates, has_too_few, is_stale, kept, pruned, pruned_row, pruned_value, row_count, row_of, settle, weak_target, within_max_rows}
-use Rattle.odb_integrity.proofs.Databases.{length-each_row, row_of-each_row}
+use Rattle.odb_integrity.specs.Settlement.{RowId, any_row, constrained, has_dangling, has_duplicates, has_too_few, is_stale, kept, pruned, pruned_row, pruned_value, row_count, row_of, same_row, settle, weak_target, within_max_rows}
+use Rattle.odb_integrity.proofs.Databases.{length-each_row, row_of-each_row, row_of-put}
+use Rattle.odb_integrity.proofs.Ids.{same_row_equal}
+use Rattle.std.proofs.Math.ListN.{length-set}
+use Rattle.std.proofs.lemmas.List.{length-replicate}
 use Rattle.odb_integrity.proofs.Listings.{entry_found}
 use Rattle.odb_integrity.proofs.Prunings.{found_member}
 use Rattle.odb_integrity.proofs.Settled.{kept_typed}
@@ -112,3 +115,24 @@ settled_is s max_rows db new e =
 
 pub settled_typed : (s : Schema) (max_rows : ℕ) (db new : Db) → settle s max_rows db ≡ Ok new → IsTyped s db → IsTyped s new
 settled_typed s max_rows db new e typed = subst (IsTyped s) (sym (settled_is s max_rows db new e)) (pruned_typed s (kept s db) (kept_typed s db typed))
+
+-- ---- drafts of databases of their schema
+
+none_at : (n k : ℕ) → table_at (replicate n map.empty) k ≡ map.empty
+none_at zero zero = refl
+none_at zero (suc k) = refl
+none_at (suc n) zero = refl
+none_at (suc n) (suc k) = none_at n k
+
+pub empty_typed : (s : Schema) → IsTyped s (replicate (length s.tables) map.empty)
+empty_typed s = (length-replicate (length s.tables) map.empty, λ k u r e. absurd (true≢false (sym (ap is_some (sym (ap (λ t. map.get t u) (none_at (length s.tables) k) ∙ get-empty uuid_cmp u) ∙ e)))))
+
+pub put_typed : (s : Schema) (db : Db) (t : ℕ) (u : Uuid) (r : Row) → IsTyped s db → t < length db → fits (columns_at s t) r ≡ true → IsTyped s (slice_set db t (map.insert (table_at db t) u r))
+put_typed s db t u r typed low fit = (length-set db t _ ∙ typed.0, λ k v q e. by k v q (same_row (k, v) (t, u)) refl (sym (row_of-put db t u r (k, v) low) ∙ e))
+  where
+    by : (k : ℕ) (v : Uuid) (q : Row) (b : Bool) → same_row (k, v) (t, u) ≡ b → cond b (Some r) (row_of db (k, v)) ≡ Some q → fits (columns_at s k) q ≡ true
+    by k v q true same e =
+        let place : k ≡ t = ap (λ (x : RowId). x.0) (same_row_equal (k, v) (t, u) same) in
+        let there : q ≡ r = cc in
+        (λ i. fits (columns_at s (place i)) (there i)) ∙ fit
+    by k v q false same e = typed.1 k v q e

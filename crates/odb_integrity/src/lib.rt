@@ -12,3 +12,6 @@ mod rows;
 mod settlement;
 
 pub use settlement::settle;
+
+#[cfg(test)]
+mod tests;

@@ -81,7 +81,7 @@ impl<'a> Draft<'a> {
         ensures now { result ≡ length self.now.now }
         ensures old { result ≡ length self.now.old }
     {
-        self.overlays.len()
+        self.base.len()
     }
 
     /// The row of an identifier as it is now, if the table has one. O(1), without memory.

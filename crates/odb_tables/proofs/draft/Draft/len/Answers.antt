@@ -15,5 +15,5 @@ pub returns-clause-now : goal.returns-clause-now
 returns-clause-now c =
     let db : Db = c.self.inside.base.now in
     let os : List Touched = c.self.inside.overlays.items in
-    let count : c.len.result ≡ length os = search rules in
-    count ∙ c.self.invariant ∙ sym (length-all_overlaid db os c.self.invariant) ∙ ap (λ (d : Draft). length d.now) c.self.view_is
+    let count : c.len.result ≡ length db = search rules in
+    count ∙ sym (length-all_overlaid db os c.self.invariant) ∙ ap (λ (d : Draft). length d.now) c.self.view_is
