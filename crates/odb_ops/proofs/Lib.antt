@@ -3,6 +3,7 @@ pub mod Deletes
 pub mod Drafts
 pub mod Faults
 pub mod Fits
+pub mod Inserts
 pub mod Mutates
 pub mod Rewrites
 pub mod Rows
