@@ -7,4 +7,5 @@ pub mod Inserts
 pub mod Mutates
 pub mod Rewrites
 pub mod Rows
+pub mod Runs
 pub mod Typed

@@ -67,6 +67,14 @@ impl<'a> Draft<'a> {
         })
     }
 
+    /// How many tables its database has, as it was and as it is now. O(1).
+    pub fn len(&self) -> usize
+        ensures old { result ≡ length self.now.old }
+        ensures now { result ≡ length self.now.now }
+    {
+        self.overlays.len()
+    }
+
     /// The row of an identifier as it is now, if the table has one. O(1), without memory.
     pub fn get(&self, table: TableId, uuid: Uuid) -> Option<&Row>
         ensures row { option_copied result ≡ finite.get (table_at self.now.now table) (uuid_of uuid) }
