@@ -3,10 +3,12 @@ pub mod Deletes
 pub mod Drafts
 pub mod Faults
 pub mod Fits
+pub mod Inserts
 pub mod Mutates
 pub mod Rewrites
 pub mod RowSets
 pub mod Rows
+pub mod Runs
 pub mod Selected
 pub mod Typed
 pub mod Written

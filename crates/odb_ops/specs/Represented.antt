@@ -4,3 +4,4 @@ pub mod Context
 pub mod Draft
 pub mod Parts
 pub mod Ran
+pub mod Stop

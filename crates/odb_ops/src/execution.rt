@@ -1,17 +1,30 @@
 //! Transactions: their operations, one after another, on a draft (RFC 7047, sections 4.1.3 and 5.2).
-ghost use Rattle.std.specs.Prelude.{◌≡◌, IfOk, map};
+ghost use Rattle.std.specs.Prelude.{◌≡◌, ◌<◌, ◌+◌, ◌++◌, ◌∷◌, [], IfOk, List, length, map, replicate, ℕ};
 ghost use Rattle.serde_json.specs.View.{view};
+ghost use Rattle.odb_atoms.specs.Represented.Atom.{uuid_of};
+ghost use Rattle.odb_atoms.specs.Represented.Error.{error_of};
 ghost use Rattle.odb_ops.specs.Execution as model;
 ghost use Rattle.odb_ops.specs.Represented.Context.{context_of};
-ghost use Rattle.odb_ops.specs.Represented.Draft.{begun};
-ghost use Rattle.odb_ops.specs.Represented.Ran.{Answers};
+ghost use Rattle.odb_ops.specs.Represented.Draft.{begun, naming};
+ghost use Rattle.odb_ops.specs.Represented.Parts.{AreTaken};
+ghost use Rattle.odb_ops.specs.Represented.Ran.{Answers, Ends};
+ghost use Rattle.odb_ops.specs.Represented.Stop.{Carried, stop_of};
+ghost use Rattle.odb_schema.specs.Json.{null};
 ghost use Rattle.odb_tables.specs.Typed.{IsTyped};
 
 use crate::context::Context;
+use crate::fresh::{behind, first};
+use crate::names::names_of;
+use crate::operation::perform;
+use crate::results;
+use crate::stop::Stop;
+use odb_atoms::Error;
+use odb_json::{Names, read_op};
 use odb_schema::Schema;
 use odb_tables::Draft;
 use serde_json::Value;
 use std::alloc::{AllocError, Global};
+use uuid::Uuid;
 
 /// What became of a transaction's operations, with their results.
 #[derive(Debug, Drop)]
@@ -24,7 +37,99 @@ pub enum Ran {
     MustWait(Option<u64>),
 }
 
+/// Reads an operation, whole, and carries it out.
+fn read_and_perform(
+    alloc: Global,
+    draft: &mut Draft,
+    schema: &Schema,
+    context: &Context,
+    names: &Names,
+    taken: &mut Names,
+    uuid: Uuid,
+    operation: &Value,
+) -> Result<Value, Stop>
+    requires tables { length draft.old.old ≡ length schema.now.tables }
+    requires typed { IsTyped schema.now draft.old.now }
+    ensures ran { (named : List (List ℕ)) → AreTaken taken.old named
+        → Carried schema.now result taken.new draft.new
+        (model.read_and_perform schema.now (context_of context.entry.now) names.now (uuid_of uuid)
+        (naming named draft.old) (view operation.now)) }
+    ensures base { draft.new.old ≡ draft.old.old }
+{
+    let op = read_op(alloc, operation, schema, names)?;
+    perform(alloc, draft, schema, context, taken, uuid, op)
+}
+
+/// So many nulls behind the results.
+fn with_nulls(mut results: Vec<Value>, nulls: usize) -> Result<Vec<Value>, AllocError>
+    ensures { IfOk result (λ v. map view v.items
+        ≡ map view results.items ++ replicate nulls null) }
+{
+    for _ in 0..nulls {
+        results.push(Value::Null)?;
+    }
+    Ok(results)
+}
+
+/// The results with the error of the operation that failed, and null for each later one.
+fn with_failure(
+    alloc: Global,
+    mut results: Vec<Value>,
+    error: Error,
+    later: usize,
+) -> Result<Vec<Value>, AllocError>
+    ensures { IfOk result (λ v. map view v.items
+        ≡ map view results.items ++ (model.error_result (error_of error) ∷ replicate later null)) }
+{
+    results.push(results::failure(alloc, error)?)?;
+    with_nulls(results, later)
+}
+
+/// What a transaction comes to where an operation doesn't go through, and so many are behind it.
+fn stopped(alloc: Global, results: Vec<Value>, stop: Stop, later: usize) -> Result<Ran, AllocError>
+    ensures { IfOk result (λ ran. Ends ran (map view results.items) (stop_of stop) later) }
+{
+    match stop {
+        Stop::Memory => Err(AllocError),
+        Stop::Fails(error) => Ok(Ran::Failed(with_failure(alloc, results, error, later)?)),
+        Stop::Waits(moment) => Ok(Ran::MustWait(moment)),
+    }
+}
+
+/// Carries the operations out, where the names stand for these identifiers.
+fn run_all(
+    alloc: Global,
+    draft: &mut Draft,
+    schema: &Schema,
+    operations: &[Value],
+    context: &Context,
+    names: &Names,
+) -> Result<Ran, AllocError>
+    requires tables { length draft.old.old ≡ length schema.now.tables }
+    requires typed { IsTyped schema.now draft.old.now }
+    ensures ran { IfOk result (λ ran. Answers ran draft.new.now
+        (model.run_from schema.now (context_of context.entry.now) names.now
+        (map uuid_of context.entry.now.fresh.now) (begun draft.old) (map view operations.now))) }
+    ensures base { draft.new.old ≡ draft.old.old }
+{
+    let mut taken = Names::new(alloc);
+    let mut left = context.fresh;
+    let mut results = Vec::with_capacity(alloc, operations.len())?;
+    for (place, operation) in operations.iter().enumerate() {
+        let uuid = first(left);
+        left = behind(operation, left);
+        match read_and_perform(
+            alloc, draft, schema, context, names, &mut taken, uuid, operation,
+        ) {
+            Ok(result) => results.push(result)?,
+            Err(stop) => return stopped(alloc, results, stop, operations.len() - 1 - place),
+        }
+    }
+    Ok(Ran::Finished(results))
+}
+
 /// Carries the operations out on the draft, one after another (RFC 7047, section 5.2).
+#[tactic(auto, unfolding(crate::specs::Execution::run))]
 pub fn run(
     alloc: Global,
     draft: &mut Draft,
@@ -34,9 +139,12 @@ pub fn run(
 ) -> Result<Ran, AllocError>
     requires typed { IsTyped schema.now draft.old.now }
     ensures ran { IfOk result (λ ran. Answers ran draft.new.now
-        (model.run schema.now (context_of context.entry.now) (begun draft.old) (map view operations.now))) }
+        (model.run schema.now (context_of context.entry.now) (begun draft.old)
+        (map view operations.now))) }
     ensures base { draft.new.old ≡ draft.old.old }
 {
-    let _results: Vec<Value> = Vec::with_capacity(alloc, operations.len())?;
-    Err(AllocError)
+    let names = names_of(alloc, operations, context.fresh)?;
+    // It has as many tables as its database had, which is what each operation rests on.
+    let _tables = draft.len();
+    run_all(alloc, draft, schema, operations, context, &names)
 }

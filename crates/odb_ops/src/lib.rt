@@ -4,14 +4,17 @@
 mod cells;
 mod contents;
 mod context;
+mod deadline;
 mod delete;
 mod execution;
 mod fresh;
 mod insert;
 mod mutate;
 mod names;
+mod operation;
 mod results;
 mod select;
+mod stop;
 mod update;
 mod wait;
 

@@ -89,6 +89,12 @@ set-removed [] k o = refl
 set-removed (x ∷ os) zero o = refl
 set-removed (x ∷ os) (suc k) o = ap (λ ts. taken_out x ∷ ts) (set-removed os k o)
 
+pub length-all_overlaid : (db : Db) (os : List Touched) → length os ≡ length db → length (all_overlaid db os) ≡ length db
+length-all_overlaid [] [] e = refl
+length-all_overlaid [] (o ∷ os) e = refl
+length-all_overlaid (t ∷ db) [] e = absurd (omega (arith, e))
+length-all_overlaid (t ∷ db) (o ∷ os) e = ap suc (length-all_overlaid db os (omega (arith, e)))
+
 -- nothing is touched
 pub all_untouched : (db : Db) → all_overlaid db (replicate (length db) finite.empty) ≡ db
 all_untouched [] = refl

@@ -1,7 +1,7 @@
 -- Databases whose rows are of their schema: what keeps them so.
-use Rattle.std.specs.Prelude.{◌≡◌, ℕ, zero, suc, Bool, true, false, ◌&&◌, ◌==◌, List, [], ◌∷◌, length, slice_get, slice_set, zip, unwrap_or, Option, Some, None}
+use Rattle.std.specs.Prelude.{◌≡◌, ℕ, zero, suc, true, ◌&&◌, ◌==◌, List, [], ◌∷◌, length, slice_set, zip, Some}
 use Rattle.std.specs.List.{list_all}
-use mathlib.Core.Path.{refl, sym, ap, subst, ◌∙◌}
+use mathlib.Core.Path.{refl, ap, ◌∙◌}
 use Rattle.odb_atoms.specs.FinMap as map
 use Rattle.odb_atoms.specs.ColType.{has_kind}
 use Rattle.odb_atoms.specs.Row.{Row}

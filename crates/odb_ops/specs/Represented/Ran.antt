@@ -1,12 +1,13 @@
 -- When the code's answer is the one of the definitions.
-use Rattle.std.specs.Prelude.{◌≡◌, List, map, Vec}
+use Rattle.std.specs.Prelude.{◌≡◌, ℕ, List, ◌∷◌, ◌++◌, map, replicate, Option, Some, Vec}
 use Rattle.std.specs.declared.alloc.Global.{Global}
 use Rattle.serde_json.specs.View.{view}
 use Rattle.serde_json.specs.declared.value.Value.{Value}
 use Rattle.odb_ops.specs.Execution as model
+use Rattle.odb_ops.specs.Execution.{error_result}
 use Rattle.odb_ops.specs.declared.execution.Ran.{Ran}
 use Rattle.odb_ops.specs.declared.execution.Ran.TheVariants as ran
-use Rattle.odb_schema.specs.Json.{Data}
+use Rattle.odb_schema.specs.Json.{Data, null}
 use Rattle.odb_tables.specs.Database.{Db}
 
 abbrev pub results_of : Vec Value Global → List Data
@@ -18,3 +19,9 @@ Answers (ran.Finished results) db (model.finished d answer) = (d.db ≡ db) × (
 Answers (ran.Failed results) db (model.failed answer) = answer ≡ results_of results
 Answers (ran.MustWait moment) db (model.must_wait answer) = answer ≡ moment
 Answers r db answer = ⊥
+
+-- what was answered where an operation stopped with so many behind it
+abbrev pub Ends : Ran → List Data → Option model.Stop → ℕ → Type 0
+Ends (ran.Failed results) before (Some (model.fails e)) later = results_of results ≡ before ++ (error_result e ∷ replicate later null)
+Ends (ran.MustWait moment) before (Some (model.waits answer)) later = moment ≡ answer
+Ends r before stop later = ⊥

@@ -1,0 +1,43 @@
+use Rattle.std.proofs.Common.{rules, ◌≡◌, ◌++◌, List, ℕ, Ok, Option, Result, option_map, string_bytes, sym, ap, subst, ◌∙◌}
+use Rattle.serde_json.specs.View.{view}
+use Rattle.odb_atoms.specs.Error.{Error}
+use Rattle.odb_atoms.specs.Represented.Atom.{uuid_of}
+use Rattle.odb_json.specs.Represented.Fault.{Reads}
+use Rattle.odb_ops.specs.Execution as model
+use Rattle.odb_ops.specs.Represented.Draft.{naming}
+use Rattle.odb_ops.specs.Represented.Parts.{AreTaken, claimed, insert_row}
+use Rattle.odb_ops.proofs.Inserts.{claimed_free, inserted_is, reads_renamed, renamed}
+use Rattle.odb_schema.specs.Json.{Data}
+use Rattle.odb_schema.specs.Notation.{Names}
+use Rattle.odb_schema.specs.Schema.{columns_at}
+use Rattle.odb_tables.specs.Draft.{Draft}
+use Rattle.odb_ops.proofs.operation.insert_named.Goals as goal
+
+pub returns-clause-ran : goal.returns-clause-ran
+returns-clause-ran c = λ named h.
+    let s = c.args.schema.now in
+    let d : Draft = c.args.draft.now in
+    let new : Draft = c.insert.new.draft in
+    let t = c.args.table in
+    let u = uuid_of c.args.uuid in
+    let given = c.args.row.items in
+    let name : Option (List ℕ) = option_map string_bytes c.args.name in
+    let taken : Names = c.args.taken.now in
+    let after : Names = c.claim.new.taken in
+    let claim : claimed name u taken ≡ Ok after = search rules in
+    let columns : c.table_in.result.now.columns ≡ columns_at s t = search rules in
+    let free = claimed_free taken after named name u d h claim in
+    let named_after = model.name_list name ++ named in
+    let reads = reads_renamed named_after (λ v. (new, view v)) c.insert.result (insert_row c.table_in.result.now.columns t u given d) c.insert.ensures.row in
+    let same : renamed named_after (insert_row c.table_in.result.now.columns t u given d) ≡ model.inserted s (naming named d) u t given name = ap (λ cs. renamed named_after (insert_row cs t u given d)) columns ∙ sym (inserted_is s d named u t given name free.0) in
+    subst (λ (r : Result (model.Draft × Data) Error). Reads (λ v. (naming named_after new, view v)) c.insert.result r) same reads
+
+pub returns-clause-taken : goal.returns-clause-taken
+returns-clause-taken c =
+    let u = uuid_of c.args.uuid in
+    let name : Option (List ℕ) = option_map string_bytes c.args.name in
+    let taken : Names = c.args.taken.now in
+    let after : Names = c.claim.new.taken in
+    let claim : claimed name u taken ≡ Ok after = search rules in
+    let all : (named : List (List ℕ)) → AreTaken taken named → AreTaken after (model.name_list name ++ named) = λ named h. (claimed_free taken after named name u c.args.draft.now h claim).1 in
+    search (rules, all)

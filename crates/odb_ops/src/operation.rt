@@ -1,0 +1,196 @@
+//! Operations (RFC 7047, section 5.2), carried out on a draft.
+ghost use Rattle.std.specs.Prelude.{◌≡◌, ◌<◌, ◌++◌, List, OnOk, Some, length, map, option_map, string_bytes, ℕ};
+ghost use Rattle.std.specs.List.{list_any};
+ghost use Rattle.serde_json.specs.View.{view};
+ghost use Rattle.odb_atoms.specs.Represented.Atom.{uuid_of};
+ghost use Rattle.odb_atoms.specs.Text.{same_text};
+ghost use Rattle.odb_json.specs.Represented.Fault.{Reads};
+ghost use Rattle.odb_json.specs.Represented.Operation.{op_of};
+ghost use Rattle.odb_json.specs.Suited.{IsFor};
+ghost use Rattle.odb_ops.specs.Execution as model;
+ghost use Rattle.odb_ops.specs.Represented.Context.{context_of, is_named};
+ghost use Rattle.odb_ops.specs.Represented.Draft.{naming};
+ghost use Rattle.odb_ops.specs.Represented.Parts.{AreTaken};
+ghost use Rattle.odb_ops.specs.Represented.Stop.{Performs, named_after, stop_of};
+ghost use Rattle.odb_schema.specs.Schema.{columns_at};
+ghost use Rattle.odb_tables.specs.Typed.{IsTyped};
+
+use crate::context::Context;
+use crate::deadline::unmet;
+use crate::delete::delete;
+use crate::insert::insert;
+use crate::mutate::mutate;
+use crate::names::claim;
+use crate::results;
+use crate::select::select;
+use crate::stop::Stop;
+use crate::update::update;
+use crate::wait::wait;
+use odb_atoms::Error;
+use odb_json::{Names, Op, OpFault};
+use odb_schema::{ColumnId, Schema, TableId, TableSchema};
+use odb_tables::Draft;
+use serde_json::Value;
+use std::alloc::Global;
+use uuid::Uuid;
+
+/// The result of an operation that goes on where a test holds.
+fn go_on(alloc: Global, holds: bool, stop: Stop) -> Result<Value, Stop>
+    ensures { (d : model.Draft) (s : model.Stop) → stop_of stop ≡ Some s
+        → Performs (λ v. (d, view v)) result (model.go_on holds d s) }
+{
+    if holds {
+        Ok(results::nothing(alloc))
+    } else {
+        Err(stop)
+    }
+}
+
+/// A table of the schema.
+fn table_in(schema: &Schema, table: TableId) -> &TableSchema
+    requires { table < length schema.now.tables }
+    ensures { result.now.columns ≡ columns_at schema.now table }
+{
+    &schema.tables()[table.place()]
+}
+
+/// `insert`, whose name is taken first.
+fn insert_named(
+    alloc: Global,
+    draft: &mut Draft,
+    schema: &Schema,
+    taken: &mut Names,
+    table: TableId,
+    uuid: Uuid,
+    row: Vec<(ColumnId, odb_atoms::Value)>,
+    name: Option<String>,
+) -> Result<Value, OpFault>
+    requires inside { table < length draft.old.old }
+    requires in_schema { table < length schema.now.tables }
+    ensures ran { (named : List (List ℕ)) → AreTaken taken.old named
+        → Reads (λ v. (
+          naming (model.name_list (option_map string_bytes name) ++ named) draft.new,
+          view v,
+        )) result
+        (model.inserted schema.now (naming named draft.old) (uuid_of uuid) table row.items
+        (option_map string_bytes name)) }
+    ensures taken { OnOk result ((named : List (List ℕ)) → AreTaken taken.old named
+        → AreTaken taken.new (model.name_list (option_map string_bytes name) ++ named)) }
+    ensures base { draft.new.old ≡ draft.old.old }
+{
+    claim(taken, name, uuid)?;
+    insert(alloc, draft, table, table_in(schema, table), uuid, row)
+}
+
+/// The result of a `wait` that is met or isn't.
+fn wait_or_go_on(
+    alloc: Global,
+    context: &Context,
+    reached: bool,
+    timeout: Option<u64>,
+) -> Result<Value, Stop>
+    ensures { (d : model.Draft) → Performs (λ v. (d, view v)) result
+        (model.go_on reached d (model.unmet (context_of context.entry.now)
+        (model.deadline (context_of context.entry.now) timeout))) }
+{
+    go_on(alloc, reached, unmet(context, timeout))
+}
+
+/// Whether the name is among them.
+fn is_among(names: &[&str], name: &str) -> bool
+    ensures { result ≡ list_any (λ other. same_text name.now other.now) names.now }
+{
+    names.iter().any(|other| name == *other)
+}
+
+/// Whether the session owns the lock.
+fn owns(context: &Context, lock: &str) -> bool
+    ensures { result ≡ (context_of context.entry.now).owns lock.now }
+{
+    is_among(context.owned, lock)
+}
+
+/// Carries an operation out on the draft; its result. An insert has the identifier `uuid`, and its
+/// name may not be among those `taken`, to which it is added.
+#[tactic(auto, unfolding(crate::specs::Execution::perform))]
+pub fn perform(
+    alloc: Global,
+    draft: &mut Draft,
+    schema: &Schema,
+    context: &Context,
+    taken: &mut Names,
+    uuid: Uuid,
+    op: Op,
+) -> Result<Value, Stop>
+    requires tables { length draft.old.old ≡ length schema.now.tables }
+    requires typed { IsTyped schema.now draft.old.now }
+    requires suits { IsFor schema.now (op_of op) }
+    ensures ran { (named : List (List ℕ)) → AreTaken taken.old named
+        → Performs (λ v. (naming (named_after (op_of op) named) draft.new, view v)) result
+        (model.perform schema.now (context_of context.entry.now) (uuid_of uuid)
+        (naming named draft.old) (op_of op)) }
+    ensures taken { OnOk result ((named : List (List ℕ)) → AreTaken taken.old named
+        → AreTaken taken.new (named_after (op_of op) named)) }
+    ensures base { draft.new.old ≡ draft.old.old }
+{
+    match op {
+        Op::Insert { table, row, name } => {
+            let inserted = insert_named(alloc, draft, schema, taken, table, uuid, row, name)?;
+            Ok(inserted)
+        }
+        Op::Select {
+            table,
+            conditions,
+            columns,
+        } => {
+            let schema = table_in(schema, table);
+            let columns = columns.as_slice();
+            Ok(select(alloc, draft, table, schema, &conditions, columns)?)
+        }
+        Op::Update {
+            table,
+            conditions,
+            row,
+        } => Ok(update(alloc, draft, table, &conditions, row.as_slice())?),
+        Op::Mutate {
+            table,
+            conditions,
+            mutations,
+        } => {
+            let schema = table_in(schema, table);
+            let mutations = mutations.as_slice();
+            Ok(mutate(alloc, draft, table, schema, &conditions, mutations)?)
+        }
+        Op::Delete { table, conditions } => Ok(delete(alloc, draft, table, &conditions)?),
+        Op::Wait {
+            table,
+            conditions,
+            columns,
+            until,
+            rows,
+            timeout,
+        } => {
+            let schema = table_in(schema, table);
+            let columns = columns.as_slice();
+            let rows = rows.as_slice();
+            let reached = wait(
+                alloc,
+                draft,
+                table,
+                schema,
+                &conditions,
+                columns,
+                until,
+                rows,
+            )?;
+            wait_or_go_on(alloc, context, reached, timeout)
+        }
+        Op::Commit { durable } => go_on(alloc, !durable, Stop::Fails(Error::NotSupported)),
+        Op::Abort => Err(Stop::Fails(Error::Aborted)),
+        Op::Comment => Ok(results::nothing(alloc)),
+        Op::Assert { lock } => {
+            let owns = owns(context, lock.as_str());
+            go_on(alloc, owns, Stop::Fails(Error::NotOwner))
+        }
+    }
+}
