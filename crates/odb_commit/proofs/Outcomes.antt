@@ -16,7 +16,7 @@ use Rattle.odb_ops.specs.declared.execution.Ran.TheVariants as ran
 use Rattle.odb_ops.proofs.Typed.{EndsTyped}
 use Rattle.odb_schema.specs.Json.{Data}
 use Rattle.odb_schema.specs.Schema.{Schema}
-use Rattle.odb_tables.specs.Change.{Changes, change_between}
+use Rattle.odb_tables.specs.Change.{Changes, all_changed_by, change_between}
 use Rattle.odb_tables.specs.Database.{Db}
 use Rattle.odb_tables.specs.Installing.{IsChangeOf}
 use Rattle.odb_tables.specs.Stamped.{stamped}
@@ -26,11 +26,11 @@ use Rattle.serde_json.specs.declared.value.Value.{Value}
 module _ (s : Schema) (max_rows number : ℕ) (old now : Db) where
   -- it was settled
   pub done : (results : Vec Value Global) (change : List Changes) (new : Db) → IsTyped s old → IsTyped s now → settle s max_rows now ≡ Ok new
-      → change ≡ change_between old (stamped (uuid_from number) old new) → IsChangeOf old change
+      → change ≡ change_between old (stamped (uuid_from number) old new) → IsChangeOf old change → all_changed_by old change ≡ stamped (uuid_from number) old new
       → Answers s old (outcome.Done results change) (model.settled number old (results_of results) (settle s max_rows now))
-  done results change new h g e is of =
+  done results change new h g e is of leads =
       subst (λ r. Answers s old (outcome.Done results change) (model.settled number old (results_of results) r)) (sym e)
-      (refl, is, of, stamped_typed s (uuid_from number) old new h (settled_typed s max_rows now new e g))
+      (refl, is, of, leads, stamped_typed s (uuid_from number) old new h (settled_typed s max_rows now new e g))
 
   -- all operations went through
   pub went_typed : (results : Vec Value Global) (r : ops.Ran) → answered.Answers (ran.Finished results) now r → EndsTyped s r → IsTyped s now

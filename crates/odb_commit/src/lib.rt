@@ -4,3 +4,6 @@
 mod transaction;
 
 pub use transaction::{Outcome, transact};
+
+#[cfg(test)]
+mod tests;

@@ -4,7 +4,7 @@ use Rattle.odb_atoms.specs.Uuid.{Uuid, uuid_from}
 use Rattle.odb_integrity.specs.Settlement.{settle}
 use Rattle.odb_commit.proofs.Outcomes.{done}
 use Rattle.odb_commit.proofs.transaction.finish.Goals as goal
-use Rattle.odb_tables.specs.Change.{change_between}
+use Rattle.odb_tables.specs.Change.{all_changed_by, change_between}
 use Rattle.odb_tables.specs.Database.{Db}
 use Rattle.odb_tables.specs.Installing.{IsChangeOf}
 use Rattle.odb_tables.specs.Stamped.{stamped}
@@ -19,3 +19,4 @@ returns-in_ok-commit-in-Ok c =
     done c.args.schema.now c.args.max_rows c.args.number old c.args.draft.now c.args.results c.in_ok-commit-in-Ok.field-0 new c.requires.old c.requires.now settled
     (c.in_ok-commit-in-Ok.ensures.changes ∙ (λ i. change_between (base i) (stamped (version i) (base i) new)))
     (subst (λ db. IsChangeOf db c.in_ok-commit-in-Ok.field-0) base c.in_ok-commit-in-Ok.ensures.change_of)
+    (sym (ap (λ db. all_changed_by db c.in_ok-commit-in-Ok.field-0) base) ∙ c.in_ok-commit-in-Ok.ensures.leads_to ∙ (λ i. stamped (version i) (base i) new))
