@@ -11,7 +11,6 @@ use odb_tables::{ChangeSet, Db};
 use serde_json::Value;
 use std::alloc::{AllocError, Global};
 use std::hash::RandomState;
-use std::process::Abort;
 use std::test::Fail;
 use uuid::Uuid;
 
@@ -112,43 +111,42 @@ fn answer(
     Ok(Value::from(results).to_string(alloc)?)
 }
 
-/// Transactions and their results. The commits have the numbers 10, 20 and so on, and the identifiers of the
-/// inserts of each go on from its number.
-fn exchange(
-    rt: &impl Abort,
+/// Transactions and their results: which one first has others. The commits have the numbers 10, 20 and so
+/// on, and the identifiers of the inserts of each go on from its number.
+fn first_wrong(
     alloc: Global,
     db: &mut Db,
     schema: &Schema,
     steps: &[(&str, &str)],
-) -> Result<(), Fail>
+) -> Result<Option<u64>, Fail>
     requires { IsTyped schema.now db.old }
 {
     let mut number = 0u64;
     for (operations, results) in steps {
         number = number.wrapping_add(10);
         let got = answer(alloc, db, schema, operations, number)?;
-        assert_eq!(rt; got, quoted(alloc, results)?, "{operations}");
+        if got != quoted(alloc, results)? {
+            return Ok(Some(number));
+        }
     }
-    Ok(())
+    Ok(None)
 }
 
 /// The same, from a database of the schema without rows.
 fn converse(
-    rt: &impl Abort,
     alloc: Global,
     hashing: RandomState,
     schema: &str,
     steps: &[(&str, &str)],
-) -> Result<(), Fail> {
+) -> Result<Option<u64>, Fail> {
     let schema = Schema::read(alloc, quoted(alloc, schema)?.as_bytes())?;
     let mut db = empty(alloc, &schema, hashing)?;
-    exchange(rt, alloc, &mut db, &schema, steps)
+    first_wrong(alloc, &mut db, &schema, steps)
 }
 
 #[test]
 fn rows_are_inserted_settled_and_stamped(rt: HostRuntime) -> Result<(), Fail> {
-    converse(
-        &rt,
+    let wrong = converse(
         rt.alloc(),
         RandomState::new(&rt)?,
         NET,
@@ -198,13 +196,14 @@ fn rows_are_inserted_settled_and_stamped(rt: HostRuntime) -> Result<(), Fail> {
                 "[{'rows':[]}]",
             ),
         ],
-    )
+    )?;
+    assert_eq!(rt; wrong, None);
+    Ok(())
 }
 
 #[test]
 fn each_operation_has_its_result(rt: HostRuntime) -> Result<(), Fail> {
-    converse(
-        &rt,
+    let wrong = converse(
         rt.alloc(),
         RandomState::new(&rt)?,
         CNT,
@@ -264,13 +263,14 @@ fn each_operation_has_its_result(rt: HostRuntime) -> Result<(), Fail> {
             ),
             ("[]", "[]"),
         ],
-    )
+    )?;
+    assert_eq!(rt; wrong, None);
+    Ok(())
 }
 
 #[test]
 fn rows_that_nothing_keeps_go_out(rt: HostRuntime) -> Result<(), Fail> {
-    converse(
-        &rt,
+    let wrong = converse(
         rt.alloc(),
         RandomState::new(&rt)?,
         LNK,
@@ -298,5 +298,7 @@ fn rows_that_nothing_keeps_go_out(rt: HostRuntime) -> Result<(), Fail> {
                 "[{'rows':[{'next':['uuid','00000000-0000-4000-8000-00000000003d']},{'next':['uuid','00000000-0000-4000-8000-00000000003c']}]}]",
             ),
         ],
-    )
+    )?;
+    assert_eq!(rt; wrong, None);
+    Ok(())
 }

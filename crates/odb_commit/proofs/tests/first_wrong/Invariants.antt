@@ -1,4 +1,4 @@
-use Rattle.odb_commit.proofs.tests.exchange.Given as goal
+use Rattle.odb_commit.proofs.tests.first_wrong.Given as goal
 use Rattle.odb_tables.specs.Typed.{IsTyped}
 
 abbrev pub invariant-loop-operations : goal.invariant-loop-operations
