@@ -18,3 +18,6 @@ mod wait;
 
 pub use context::Context;
 pub use execution::{Ran, run};
+
+#[cfg(test)]
+mod tests;
