@@ -21,3 +21,6 @@ mod wait;
 pub use context::Context;
 pub use execution::{Ran, run};
 pub use results::failure;
+
+#[cfg(test)]
+mod tests;

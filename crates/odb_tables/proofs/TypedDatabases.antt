@@ -1,12 +1,14 @@
 -- Databases whose rows are of their schema: what keeps them so.
-use Rattle.std.specs.Prelude.{◌≡◌, ℕ, zero, suc, true, ◌&&◌, ◌==◌, List, [], ◌∷◌, length, slice_set, zip, Some}
+use Rattle.std.specs.Prelude.{replicate, ◌≡◌, ℕ, zero, suc, true, ◌&&◌, ◌==◌, List, [], ◌∷◌, length, slice_set, zip, Some}
 use Rattle.std.specs.List.{list_all}
-use mathlib.Core.Path.{refl, ap, ◌∙◌}
+use Rattle.std.proofs.lemmas.Option.{none-some}
+use mathlib.Core.Path.{refl, sym, ap, ◌∙◌}
 use Rattle.odb_atoms.specs.FinMap as map
 use Rattle.odb_atoms.specs.ColType.{has_kind}
 use Rattle.odb_atoms.specs.Row.{Row}
-use Rattle.odb_atoms.specs.Uuid.{Uuid}
+use Rattle.odb_atoms.specs.Uuid.{Uuid, uuid_cmp}
 use Rattle.odb_atoms.specs.Value.{Value}
+use Rattle.odb_atoms.proofs.FinMaps.{get-empty}
 use Rattle.odb_atoms.proofs.Lists.{both}
 use Rattle.odb_schema.specs.Schema.{Column, Schema, column_type, columns_at}
 use Rattle.odb_tables.specs.Database.{Db, Table, table_at}
@@ -52,3 +54,17 @@ pub fits_with : (cs : List Column) (r : Row) (i : ℕ) (v : Value) → fits cs r
 fits_with cs r i v h g =
     let parts : ((length r.columns == length cs) ≡ true) × AreOfKind cs r.columns = both (length r.columns == length cs) _ h in
     λ j. (ap (λ n. n == length cs) (length-slice_set r.columns i v) ∙ parts.0) j && kinds_with cs r.columns i v parts.1 g j
+
+-- ---- databases without rows
+
+no_rows : (n t : ℕ) → table_at (replicate n map.empty) t ≡ map.empty
+no_rows zero t = refl
+no_rows (suc n) zero = refl
+no_rows (suc n) (suc t) = no_rows n t
+
+length-tables : (n : ℕ) (table : Table) → length (replicate n table) ≡ n
+length-tables zero table = refl
+length-tables (suc n) table = ap suc (length-tables n table)
+
+pub without_rows_typed : (s : Schema) → IsTyped s (replicate (length s.tables) map.empty)
+without_rows_typed s = (length-tables (length s.tables) map.empty, λ t u r e. absurd (none-some r (sym (get-empty uuid_cmp u) ∙ sym (ap (λ table. map.get table u) (no_rows (length s.tables) t)) ∙ e)))
