@@ -8,7 +8,7 @@ use Rattle.std.proofs.Common.{arith}
 use Rattle.odb_atoms.proofs.Atoms.{atom_cmp-IsAntisymmetric}
 use Rattle.odb_atoms.proofs.FinMaps.{get-empty, get-entries, get-map_entries}
 use Rattle.odb_atoms.proofs.Lists.{Member, all_gives, both, gives_all}
-use Rattle.odb_atoms.specs.Atom.{Atom, atom_cmp}
+use Rattle.odb_atoms.specs.Atom.{Atom}
 use Rattle.odb_atoms.specs.ColType.{ColType, has_kind, is_a, value_base}
 use Rattle.odb_atoms.specs.Error.{Error, constraint_violation, referential_integrity_violation, resources_exhausted}
 use Rattle.odb_atoms.specs.First.{Ok, Result, demand, ◌>>◌}
@@ -20,9 +20,9 @@ use Rattle.odb_atoms.specs.Value.{Atoms, Pairs, Value, map_of, set_of}
 use Rattle.odb_atoms.specs.Represented.AtomOrder.{atom_cmp_total}
 use Rattle.odb_mutate.proofs.Each.{all-filter, filter-map}
 use Rattle.odb_schema.specs.Schema.{Column, Schema, columns_at}
-use Rattle.odb_tables.specs.Database.{Db, Table, table_at}
+use Rattle.odb_tables.specs.Database.{Db, table_at}
 use Rattle.odb_tables.specs.Typed.{IsTyped, fits}
-use Rattle.odb_integrity.specs.Settlement.{RowId, any_row, constrained, has_dangling, has_duplicates, has_too_few, is_stale, kept, pruned, pruned_row, pruned_value, row_count, row_of, same_row, settle, weak_target, within_max_rows}
+use Rattle.odb_integrity.specs.Settlement.{RowId, any_row, has_dangling, has_duplicates, has_too_few, is_stale, kept, pruned, pruned_row, pruned_value, row_count, row_of, same_row, settle, weak_target, within_max_rows}
 use Rattle.odb_integrity.proofs.Databases.{length-each_row, row_of-each_row, row_of-put}
 use Rattle.odb_integrity.proofs.Ids.{same_row_equal}
 use Rattle.std.proofs.Math.ListN.{length-set}
