@@ -184,7 +184,7 @@ run_from_typed s c names fresh d (op ∷ ops) h =
     by (model.read_and_perform s c names (model.first_fresh fresh) d op) (read_typed s c names (model.first_fresh fresh) d op h) (λ e g. run_from_typed s c names (model.fresh_after op fresh) e ops g)
   where
     by : (r : Result (Draft × Data) Stop) → KeepsTyped s r → ((e : Draft) → IsTyped s e.db → EndsTyped s (model.run_from s c names (model.fresh_after op fresh) e ops))
-        → EndsTyped s (elim r as (λ _. Ran) [ | Ok p ↦ model.with_result p.1 (model.run_from s c names (model.fresh_after op fresh) p.0 ops) | Err stop ↦ model.stopped stop (length ops) ])
+        → EndsTyped s (elim r as (λ _. Ran) [ Ok p ↦ model.with_result p.1 (model.run_from s c names (model.fresh_after op fresh) p.0 ops) | Err stop ↦ model.stopped stop (length ops) ])
     by (Ok p) g rest = with_result_typed s p.1 _ (rest p.0 (in_read Stop (λ p. IsTyped s p.0.db) p g))
     by (Err stop) g rest = stopped_typed s stop (length ops)
 
