@@ -21,8 +21,7 @@ pub(crate) fn columns_of(schema: &Schema, table: TableId) -> &[Column]
     }
 }
 
-/// The table to which atoms of the base type have references, strong ones or weak ones. O(log n) for n
-/// tables.
+/// The table to which atoms of the base type have strong references. O(log n) for n tables.
 pub(crate) fn strong_target(schema: &Schema, base: &Base) -> Option<TableId>
     ensures { result ≡ model.strong_target schema.now (base_of base.now) }
 {
