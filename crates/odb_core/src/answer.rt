@@ -72,3 +72,54 @@ fn called_text(
         Call::PassedOver => Ok(None),
     }
 }
+
+/// The same for a call that was read already. `None` where there is no answer, and for a call that isn't
+/// over at once. O(n) for an answer of n bytes.
+pub(crate) fn answer_at_once(
+    alloc: Global,
+    served: &ServedSchema,
+    request: &Request,
+    call: Result<Call<'_>, CallFault>,
+) -> Result<Option<Finished>, AllocError>
+    requires { call_view served.now.schema.name (write_schema served.now.schema) (request_data request.now) call
+        ≡ call_at served.now.schema (request_data request.now) }
+    ensures { IfOk result (λ item. (found : Option Data)
+        → at_once (call_at served.now.schema (request_data request.now)) ≡ Some found
+        → option_map item_of item ≡ option_map (said (request_data request.now)) found) }
+{
+    todo
+}
+
+/// The reply of a success, with this result (RFC 7047, 4). O(n) for a text of n bytes.
+pub(crate) fn replied(
+    alloc: Global,
+    request: &Request,
+    value: &Value,
+) -> Result<Finished, AllocError>
+    requires id { has_left_out (id_of (request_data request.now)) ≡ false }
+    requires value { has_float (view value.now) ≡ false }
+    ensures { IfOk result (λ item. item_of item
+        ≡ say (to (request_data request.now)) (reply (id_of (request_data request.now)) (view value.now))) }
+{
+    todo
+}
+
+/// The reply of a failure (RFC 7047, 4). O(n) for a text of n bytes.
+pub(crate) fn failed(
+    alloc: Global,
+    request: &Request,
+    why: Failure,
+) -> Result<Finished, AllocError>
+    requires id { has_left_out (id_of (request_data request.now)) ≡ false }
+    ensures { IfOk result (λ item. item_of item
+        ≡ say (to (request_data request.now)) (failure (id_of (request_data request.now)) (failure_of why))) }
+{
+    todo
+}
+
+/// The notices as they are sent (RFC 7047, 4.1.9 and 4.1.10), in their order. O(n) for texts of n bytes.
+pub(crate) fn notices(alloc: Global, notices: &[Notice]) -> Result<Vec<Post>, AllocError>
+    ensures { IfOk result (λ posts. map post_of posts.items ≡ map told_of (notices_of notices.now)) }
+{
+    todo
+}

@@ -4,11 +4,13 @@
 mod answer;
 mod meaning;
 mod out;
+mod post;
 mod queue;
 mod refused;
 mod served_schema;
 mod server;
 mod session;
+mod sessions;
 #[cfg(test)]
 mod tests;
 

@@ -87,4 +87,29 @@ impl Queue {
         }
         Some(item)
     }
+
+    /// Takes the newest item out, if there is one. O(1).
+    pub(crate) fn pop_newest(&mut self) -> Option<Finished>
+        ensures { self.old ≡ self.new ++ option_to_list (option_map item_of result) }
+    {
+        let item = self.items.pop_back()?;
+        if item.is_reply {
+            self.replies -= 1;
+        }
+        Some(item)
+    }
+
+    /// An equal queue. O(bytes queued); an error says that memory was refused.
+    pub(crate) fn try_copy(&self, alloc: Global) -> Result<Queue, AllocError>
+        ensures { IfOk result (λ copy. copy ≡ self.now) }
+    {
+        let mut items = VecDeque::with_capacity(alloc, self.items.len())?;
+        for item in &self.items {
+            items.push_back(item.try_copy()?)?;
+        }
+        Ok(Queue {
+            items,
+            replies: self.replies,
+        })
+    }
 }

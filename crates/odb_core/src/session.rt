@@ -1,10 +1,10 @@
 //! A session of the core.
 
-ghost use Rattle.std.specs.Prelude.{◌≡◌, ◌&&◌, not, nat_lt, [], Some, IsSome, OnOk, OnErr, option_map};
+ghost use Rattle.std.specs.Prelude.{◌≡◌, ◌+◌, ◌&&◌, not, nat_lt, [], ◌∷◌, Some, IsSome, OnOk, OnErr, option_map};
 ghost use Rattle.odb_wire.specs.Shown.{request_data};
 
 use crate::answer::finished;
-use crate::queue::Queue;
+use crate::queue::{Finished, Queue};
 use crate::served_schema::ServedSchema;
 use odb_rpc::has_reply;
 use odb_wire::Request;
@@ -33,7 +33,9 @@ impl Model for Session {
 }
 
 impl Session {
-    ghost use Rattle.odb_core.specs.Represented.Item.{text_of};
+    ghost use Rattle.odb_core.specs.Represented.Item.{item_of, text_of};
+    ghost use Rattle.odb_core.specs.Represented.Sessions.{ended_in, without_last};
+    ghost use Rattle.odb_core.specs.World.{push};
     ghost use Rattle.odb_core.specs.Service.{Service};
     ghost use Rattle.odb_tables.specs.Database.{Db};
     ghost use Rattle.odb_core.specs.Represented.Answer.{answered_with, at_once, call_at};
@@ -76,6 +78,30 @@ impl Session {
         Ok(())
     }
 
+    /// Whether the request has a reply while the session is owed as many as it may be; `waiting` of them
+    /// are replies of its transactions that wait. O(1).
+    pub(crate) fn owes_too_many(&self, request: &Request, waiting: usize) -> bool
+        ensures { (schema : Schema) → result ≡ (has_reply (call_at schema (request_data request.now)) && not (nat_lt (replies_in self.now.queue + waiting) max_owed)) }
+    {
+        has_reply(request) && self.queue.replies().saturating_add(waiting) >= MAX_OWED
+    }
+
+    /// Puts an item at the end of the queue. Where memory is refused, nothing changes.
+    pub(crate) fn push(&mut self, item: Finished) -> Result<(), AllocError>
+        ensures ok { OnOk result (self.new ≡ push (item_of item ∷ []) self.old) }
+        ensures monitors { OnOk result ((h : Service) → self.new ≡ ended_in h (item_of item) self.old) }
+        ensures err { OnErr result (self.new ≡ self.old) }
+    {
+        self.queue.push(item)
+    }
+
+    /// Takes the newest item of the queue out, if there is one. O(1), without memory.
+    pub(crate) fn take_back(&mut self)
+        ensures { self.new ≡ without_last self.old }
+    {
+        drop(self.queue.pop_newest());
+    }
+
     /// Takes the next message, if there is one. O(1), without memory.
     pub(crate) fn take(&mut self) -> Option<Vec<u8>>
         ensures message { (h : Service) (db : Db) → option_map (λ text. text.items) result ≡ option_map text_of (take h db self.old).0 }
@@ -83,5 +109,18 @@ impl Session {
     {
         let item = self.queue.pop()?;
         Some(item.text)
+    }
+}
+
+impl Clone for Session {
+    ghost use Rattle.std.specs.Prelude.{◌≡◌};
+
+    ghost is_clone = { λ x y. y ≡ x };
+
+    /// An equal session. O(bytes queued); an error says that memory was refused.
+    fn clone(&self) -> Result<Session, AllocError> {
+        Ok(Session {
+            queue: self.queue.clone()?,
+        })
     }
 }

@@ -28,6 +28,14 @@ pub enum Call<'a> {
     GetSchema,
     /// `echo` (RFC 7047, 4.1.11): the result is these `params`, an array.
     Echo(Printable<'a>),
+    /// `transact` on the database (RFC 7047, 4.1.3): these are its operations.
+    Transact(&'a [Value]),
+    /// `lock` of this name (RFC 7047, 4.1.8), which is an id (3.1).
+    Lock(&'a str),
+    /// `steal` of this name (RFC 7047, 4.1.8), which is an id.
+    Steal(&'a str),
+    /// `unlock` of this name (RFC 7047, 4.1.8), which is an id.
+    Unlock(&'a str),
     /// The notification `cancel` of the request with this id (RFC 7047, 4.1.4).
     Cancel(Printable<'a>),
     /// Any other notification, a faulty `cancel` among them: nothing is done.

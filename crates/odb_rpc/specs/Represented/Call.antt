@@ -1,11 +1,12 @@
 -- What a reading of a request stands for.
-use Rattle.std.specs.Prelude.{ℕ, List, [], ◌∷◌, codes, Result, Ok, Err}
+use Rattle.std.specs.Prelude.{ℕ, List, [], ◌∷◌, codes, map, Result, Ok, Err}
 use Rattle.serde_json.specs.Data.{Data, string}
+use Rattle.serde_json.specs.View.{view}
 use Rattle.odb_schema.specs.Json.{array_of}
 use Rattle.odb_atoms.specs.Error.{syntax_error}
 use Rattle.odb_wire.specs.Message.{id_of}
 use Rattle.odb_rpc.specs.Message as model
-use Rattle.odb_rpc.specs.Message.{answered, cancel, fault, passed_over, reply, reply_id, unknown_method, unknown_database, failed}
+use Rattle.odb_rpc.specs.Message.{answered, cancel, fault, lock, passed_over, reply, reply_id, steal, transact, unlock, unknown_method, unknown_database, failed}
 use Rattle.odb_rpc.specs.Represented.Printable.{printable_data}
 use Rattle.odb_rpc.specs.declared.call.Call.{Call}
 use Rattle.odb_rpc.specs.declared.call.Call.TheVariants as call
@@ -38,6 +39,10 @@ module _ (db : List ℕ) (schema id : Data) where
   called call.ListDatabases = answered (reply id (array_of (string db ∷ [])))
   called call.GetSchema = answered (reply id schema)
   called (call.Echo params) = answered (reply id (printable_data params))
+  called (call.Transact operations) = transact id (map view operations.now)
+  called (call.Lock name) = lock id name.now
+  called (call.Steal name) = steal id name.now
+  called (call.Unlock name) = unlock id name.now
   called (call.Cancel canceled) = cancel (printable_data canceled)
   called call.PassedOver = passed_over
 

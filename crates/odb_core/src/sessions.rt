@@ -1,0 +1,168 @@
+//! The sessions of a core.
+
+ghost use Rattle.std.specs.Prelude.{◌≡◌, map, option_map, IfOk, OnErr, OnOk};
+ghost use Rattle.std.specs.Option.{option_copied};
+ghost use Rattle.odb_core.specs.Represented.Item.{item_of};
+ghost use Rattle.odb_core.specs.Represented.Post.{post_of};
+
+use crate::post::Post;
+use crate::queue::Finished;
+use crate::server::SessionId;
+use crate::session::Session;
+use std::alloc::{AllocError, Global};
+use std::collections::BTreeMap;
+use std::marker::Model;
+
+/// The open sessions by their numbers. What is posted to sessions can be taken back, so that a call which
+/// is refused later leaves them as they were.
+#[derive(Drop)]
+pub(crate) struct Sessions {
+    alloc: Global,
+    sessions: BTreeMap<SessionId, Session>,
+}
+
+impl Model for Sessions {
+    ghost use Rattle.std.specs.Coded.{coded_ℕ};
+    ghost use Rattle.odb_atoms.specs.FinMap as finite;
+    ghost use Rattle.odb_core.specs.WorldCode.{session_code};
+    ghost use Rattle.odb_core.specs.Represented.Core.{sessions_in};
+    ghost use Rattle.odb_core.specs.Represented.Sessions as model;
+
+    ghost Value = { model.Sessions };
+
+    ghost coded = { finite.code coded_ℕ session_code };
+
+    ghost view = { λ s. sessions_in s.sessions };
+}
+
+impl Sessions {
+    ghost use Rattle.odb_atoms.specs.FinMap.{empty, get, insert, len, remove};
+    ghost use Rattle.odb_core.specs.Service.{Service};
+    ghost use Rattle.odb_core.specs.Session.{take};
+    ghost use Rattle.odb_core.specs.Represented.Sessions.{all_posted, at_session, ended_in};
+    ghost use Rattle.odb_core.specs.Represented.Sessions.{fresh_session, taken_back, text_taken};
+    ghost use Rattle.odb_tables.specs.Database.{Db};
+
+    /// No session is open. It takes no memory.
+    pub(crate) fn new(alloc: Global) -> Sessions
+        ensures { result ≡ empty }
+    {
+        Sessions {
+            alloc,
+            sessions: BTreeMap::new(alloc),
+        }
+    }
+
+    /// How many are open. O(1).
+    pub(crate) fn len(&self) -> usize
+        ensures { result ≡ len self.now }
+    {
+        self.sessions.len()
+    }
+
+    /// A session, if it is open. O(log n).
+    pub(crate) fn get(&self, session: SessionId) -> Option<&Session>
+        ensures { option_copied result ≡ get self.now session }
+    {
+        self.sessions.get(&session)
+    }
+
+    /// Opens a session, for which nothing is queued. O(log n); where memory is refused nothing changes.
+    pub(crate) fn open(&mut self, session: SessionId) -> Result<(), AllocError>
+        ensures ok { OnOk result (self.new ≡ insert self.old session fresh_session) }
+        ensures err { OnErr result (self.new ≡ self.old) }
+    {
+        drop(self.sessions.insert(session, Session::new(self.alloc))?);
+        Ok(())
+    }
+
+    /// Ends a session, if it is open. O(log n), without memory.
+    pub(crate) fn close(&mut self, session: SessionId)
+        ensures { self.new ≡ remove self.old session }
+    {
+        self.sessions.remove(&session);
+    }
+
+    /// Posts each item to its session, and answers the sessions that it was queued for, by which
+    /// `take_back` undoes it. Where memory is refused nothing changes. O(log n) for each.
+    pub(crate) fn post_all(&mut self, posts: Vec<Post>) -> Result<Vec<SessionId>, AllocError>
+        ensures ok { IfOk result (λ told. self.new ≡ all_posted self.old (map post_of posts.items)) }
+        ensures back { IfOk result (λ told. taken_back told.items self.new ≡ self.old) }
+        ensures err { OnErr result (self.new ≡ self.old) }
+    {
+        let mut told = Vec::with_capacity(self.alloc, posts.len())?;
+        for post in posts {
+            match self.post(post.session, post.item) {
+                Ok(true) => told.push_reserved(post.session),
+                Ok(false) => {}
+                Err(refused) => {
+                    self.take_back(told);
+                    return Err(refused);
+                }
+            }
+        }
+        Ok(told)
+    }
+
+    /// Posts the reply of a transaction that ended, as a commit wants it: behind a sync for each of the
+    /// session's monitors. It answers as `post_all` does. O(log n + monitors).
+    pub(crate) fn post_end(
+        &mut self,
+        session: SessionId,
+        reply: Finished,
+    ) -> Result<Vec<SessionId>, AllocError>
+        ensures ok { IfOk result (λ told. (h : Service)
+            → self.new ≡ at_session (ended_in h (item_of reply)) self.old session) }
+        ensures back { IfOk result (λ told. taken_back told.items self.new ≡ self.old) }
+        ensures err { OnErr result (self.new ≡ self.old) }
+    {
+        let mut told = Vec::with_capacity(self.alloc, 1)?;
+        if self.post(session, reply)? {
+            told.push_reserved(session);
+        }
+        Ok(told)
+    }
+
+    /// Queues an item for a session, and answers whether it is open.
+    fn post(&mut self, session: SessionId, item: Finished) -> Result<bool, AllocError>
+    {
+        let Some(to) = self.sessions.get_mut(&session) else {
+            return Ok(false);
+        };
+        to.push(item)?;
+        Ok(true)
+    }
+
+    /// The newest item of each of these sessions' queues goes, that of the last session first. O(log n)
+    /// for each, without memory.
+    pub(crate) fn take_back(&mut self, told: Vec<SessionId>)
+        ensures { self.new ≡ taken_back told.items self.old }
+    {
+        let mut told = told;
+        while let Some(session) = told.pop() {
+            if let Some(of) = self.sessions.get_mut(&session) {
+                of.take_back();
+            }
+        }
+    }
+
+    /// Takes the next message of a session, if it is open and has one. O(log n), without memory.
+    pub(crate) fn take(&mut self, session: SessionId) -> Option<Vec<u8>>
+        ensures text { (h : Service) (db : Db)
+            → option_map (λ t. t.items) result ≡ text_taken h db (get self.old session) }
+        ensures sessions { (h : Service) (db : Db)
+            → self.new ≡ at_session (λ x. (take h db x).1) self.old session }
+    {
+        self.sessions.get_mut(&session)?.take()
+    }
+
+    /// Equal sessions. O(bytes queued); an error says that memory was refused.
+    pub(crate) fn try_copy(&self, alloc: Global) -> Result<Sessions, AllocError>
+        ensures { IfOk result (λ copy. copy ≡ self.now) }
+    {
+        Ok(Sessions {
+            alloc,
+            sessions: self.sessions.clone()?,
+        })
+    }
+}
