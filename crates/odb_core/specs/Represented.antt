@@ -1,7 +1,9 @@
 pub mod Answer
 pub mod Core
 pub mod Item
+pub mod Locking
 pub mod Out
+pub mod Parked
 pub mod Post
 pub mod Reason
 pub mod Sessions

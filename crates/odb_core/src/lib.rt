@@ -4,6 +4,7 @@
 mod answer;
 mod meaning;
 mod out;
+mod parked;
 mod post;
 mod queue;
 mod refused;
@@ -11,6 +12,7 @@ mod served_schema;
 mod server;
 mod session;
 mod sessions;
+mod state;
 #[cfg(test)]
 mod tests;
 

@@ -1,6 +1,6 @@
 //! The server as a machine over events.
 
-ghost use Rattle.std.specs.Prelude.{◌≡◌, ◌≤◌, ◌↔◌, [], ◌∷◌, map, length, max, option_to_list, Ok, OnOk, OnErr, IfOk, IfErr, IsErrOf};
+ghost use Rattle.std.specs.Prelude.{◌≡◌, ◌≤◌, ◌↔◌, [], ◌∷◌, map, length, option_to_list, Ok, OnOk, OnErr, IfOk, IfErr, IsErrOf};
 ghost use Rattle.odb_atoms.specs.FinMap.{len};
 ghost use Rattle.odb_atoms.specs.Represented.Atom.{uuid_of};
 ghost use Rattle.odb_wire.specs.Message.{inserts_of};
@@ -11,11 +11,11 @@ ghost use Rattle.odb_core.specs.declared.refused.Refused.TheVariants as refused;
 use crate::out::Out;
 use crate::refused::Refused;
 use crate::served_schema::ServedSchema;
-use crate::session::Session;
+use crate::state::State;
 use odb_schema::Schema;
 use odb_wire::Request;
 use std::alloc::{AllocError, Global};
-use std::collections::{BTreeMap, BTreeSet};
+use std::collections::BTreeSet;
 use std::hash::RandomState;
 use std::marker::Model;
 use uuid::Uuid;
@@ -29,27 +29,27 @@ const MAX_SESSIONS: usize = 4_096;
 /// The server of RFC 7047 as a machine over events: sessions open and close, submit requests, and are
 /// given messages by rounds. Contracts see it as the state of the service machine
 /// (`specs/World.antt`), and each call is that machine's step. A call that is refused changes nothing.
+///
+/// In the costs below `n` sessions are open, and `w` transactions wait.
 #[derive(Drop)]
 pub struct Core {
     alloc: Global,
     served: ServedSchema,
-    hashing: RandomState,
-    now: u64,
     opened: usize,
-    sessions: BTreeMap<SessionId, Session>,
+    state: State,
 }
 
 impl Model for Core {
     ghost use Rattle.odb_core.specs.Server.{Server, server_code};
-    ghost use Rattle.odb_core.specs.Represented.Core.{AreUnused, sessions_in, world_of};
+    ghost use Rattle.odb_core.specs.Represented.Core.{IsSound};
 
     ghost Value = { Server };
 
     ghost coded = { server_code };
 
-    ghost view = { λ c. record { schema = c.served.schema; world = world_of c.served.schema c.now (sessions_in c.sessions); opened = c.opened } };
+    ghost view = { λ c. record { schema = c.served.schema; world = c.state; opened = c.opened } };
 
-    ghost invariant = { λ c. AreUnused c.sessions c.opened };
+    ghost invariant = { λ c. IsSound c.served.schema c.state c.opened };
 }
 
 impl Core {
@@ -68,14 +68,16 @@ impl Core {
         ensures ok { IfOk result (λ core. core ≡ new_server schema) }
         ensures err { IfErr result (λ back. (back.0 ≡ schema) × (back.1 ≡ hashing)) }
     {
+        let state = match State::new(alloc, schema.tables().len(), hashing) {
+            Ok(state) => state,
+            Err(refused) => return Err((schema, hashing, refused)),
+        };
         match ServedSchema::new(alloc, schema) {
             Ok(served) => Ok(Core {
                 alloc,
                 served,
-                hashing,
-                now: 0,
                 opened: 0,
-                sessions: BTreeMap::new(alloc),
+                state,
             }),
             Err((schema, refused)) => Err((schema, hashing, refused)),
         }
@@ -83,36 +85,37 @@ impl Core {
 
     /// Opens a session, and answers its number, which no session had before: they are numbered from 0
     /// in order of opening. It is refused with `TooMany` where 4,096 sessions are open, and with
-    /// `Memory`, also where 2^64-1 sessions were opened and no number is left. O(log n) for n open
-    /// sessions.
+    /// `Memory`, also where 2^64-1 sessions were opened and no number is left. O(log n).
     pub fn open(&mut self) -> Result<SessionId, Refused>
         ensures number { IfOk result (λ session. session ≡ self.old.opened) }
         ensures ok { IfOk result (λ session. serve (opened session) self.old ≡ Ok (self.new, [])) }
         ensures too_many { IsErrOf result refused.TooMany ↔ (max_sessions ≤ len self.old.world.sessions) }
         ensures err { OnErr result (self.new ≡ self.old) }
     {
-        if self.sessions.len() >= MAX_SESSIONS {
+        if self.state.sessions.len() >= MAX_SESSIONS {
             return Err(Refused::TooMany);
         }
         let number = self.opened;
         if number == usize::MAX {
             return Err(Refused::Memory);
         }
-        drop(self.sessions.insert(number, Session::new(self.alloc))?);
+        self.state.sessions.open(number)?;
         self.opened += 1;
         Ok(number)
     }
 
-    /// Ends a session: its queue is dropped. It is refused with `Gone` where no such session is open,
-    /// and with `Memory`.
+    /// Ends a session: its claims are released, with the notices to those that own now, its transactions
+    /// that wait and its queue are dropped. It is refused with `Gone` where no such session is open, and
+    /// with `Memory`. O(log n + w + its claims).
     pub fn close(&mut self, session: SessionId) -> Result<(), Refused>
         ensures ok { OnOk result (serve (closed session) self.old ≡ Ok (self.new, [])) }
         ensures why { IfErr result (λ why. IsReason why (serve (closed session) self.old)) }
         ensures err { OnErr result (self.new ≡ self.old) }
     {
-        if self.sessions.remove(&session).is_none() {
+        if self.state.sessions.get(session).is_none() {
             return Err(Refused::Gone);
         }
+        self.state.close(session)?;
         Ok(())
     }
 
@@ -120,7 +123,8 @@ impl Core {
     /// used nowhere yet, at least as many as `request.inserts()`; `now` is the moment in
     /// milliseconds, and one before an earlier one counts as that. It is refused with `Gone` where no
     /// such session is open, with `Busy` where the request has a reply and the session is owed 256, and
-    /// with `Memory`; the request is handed back then.
+    /// with `Memory`; the request is handed back then. A commit while transactions wait goes over all
+    /// rows; any other call costs what its request asks for, and O(log n + w).
     pub fn submit(
         &mut self,
         session: SessionId,
@@ -136,34 +140,29 @@ impl Core {
         ensures err { OnErr result (self.new ≡ self.old) }
         ensures request_back { IfErr result (λ back. back.0 ≡ request) }
     {
-        let Some(asking) = self.sessions.get_mut(&session) else {
-            return Err((request, Refused::Gone));
-        };
-        if asking.is_busy(&request) {
-            return Err((request, Refused::Busy));
+        if let Some(why) = self.state.refusal(session, &request) {
+            return Err((request, why));
         }
-        match asking.answer(self.alloc, &self.served, &request) {
-            Ok(()) => {
-                drop(request);
-                self.now = later(self.now, now);
-                Ok(())
-            }
-            Err(_) => Err((request, Refused::Memory)),
+        match self.state.take_in(&self.served, session, request, fresh, now) {
+            Ok(()) => Ok(()),
+            Err((request, _)) => Err((request, Refused::Memory)),
         }
     }
 
-    /// The moment is `now` in milliseconds, or stays where an earlier call named a later one. O(1).
+    /// The moment is `now` in milliseconds, or stays where an earlier call named a later one. Then the
+    /// transactions that wait and whose deadline has come are tried once each, in order of arrival. An
+    /// error says that memory was refused, and nothing changed then. O(w), and over all rows where a
+    /// deadline has come.
     pub fn tick(&mut self, now: u64) -> Result<(), AllocError>
         ensures ok { OnOk result (serve (ticked now) self.old ≡ Ok (self.new, [])) }
         ensures err { OnErr result (self.new ≡ self.old) }
     {
-        self.now = later(self.now, now);
-        Ok(())
+        self.state.tick(&self.served.schema, now)
     }
 
     /// Gives each session of the list that is open its next message, if it has one: one message at
     /// most for a session, in the order in which the list first names them. An error says that memory
-    /// was refused, and nothing was taken then. For a list of n sessions O(n log n).
+    /// was refused, and nothing was taken then. For a list of k sessions O(k log k + k log n).
     pub fn round(&mut self, ready: &[SessionId]) -> Result<Vec<Out>, AllocError>
         ensures ok { IfOk result (λ outs. serve (round ready.now) self.old
             ≡ Ok (self.new, map sent_in outs.items)) }
@@ -179,16 +178,29 @@ impl Core {
         Ok(outs)
     }
 
-    /// The next message of a session, if it is open and has one. O(1), without memory.
+    /// The next message of a session, if it is open and has one. O(log n), without memory.
     fn take(&mut self, session: SessionId) -> Option<Out>
         ensures { takes (session ∷ []) self.old ≡ (self.new, map sent_in (option_to_list result)) }
     {
-        let text = self.sessions.get_mut(&session)?.take()?;
+        let text = self.state.sessions.take(session)?;
         Some(Out {
             session,
             before: text,
             body: None,
             after: Vec::new(self.alloc),
+        })
+    }
+
+    /// An equal core: the same state, whose rows and waiting transactions are shared with this one. O(rows
+    /// + w + claims + bytes queued); an error says that memory was refused.
+    pub fn try_copy(&self) -> Result<Core, AllocError>
+        ensures { IfOk result (λ copy. copy ≡ self.now) }
+    {
+        Ok(Core {
+            alloc: self.alloc,
+            served: self.served.try_copy(self.alloc)?,
+            opened: self.opened,
+            state: self.state.try_copy()?,
         })
     }
 }
@@ -205,10 +217,4 @@ fn once(alloc: Global, ready: &[SessionId]) -> Result<Vec<SessionId>, AllocError
         }
     }
     Ok(listed)
-}
-
-fn later(one: u64, other: u64) -> u64
-    ensures { result ≡ max one other }
-{
-    one.max(other)
 }

@@ -1,0 +1,35 @@
+-- What the transactions of the code stand for.
+use Rattle.std.specs.Prelude.{ℕ, ◌+◌, map, Option, Some, None}
+use Rattle.std.specs.Arc.{arc_value}
+use Rattle.odb_atoms.specs.Represented.Atom.{uuid_of}
+use Rattle.odb_commit.specs.Transaction as transaction
+use Rattle.odb_commit.specs.Transaction.{transact}
+use Rattle.odb_locks.specs.Locks.{owns}
+use Rattle.odb_ops.specs.Execution.{Context}
+use Rattle.odb_rpc.specs.Message.{operations_of}
+use Rattle.odb_schema.specs.Schema.{Schema}
+use Rattle.odb_wire.specs.Shown.{request_data}
+use Rattle.odb_core.specs.Service.{max_rows}
+use Rattle.odb_core.specs.World as model
+use Rattle.odb_core.specs.World.{World}
+use Rattle.odb_core.specs.declared.parked.Parked.{Parked}
+use Rattle.odb_core.specs.declared.parked.Submitted.{Submitted}
+use Rattle.odb_core.specs.declared.parked.Tried.{Tried}
+use Rattle.odb_core.specs.declared.parked.Tried.TheVariants as tried
+
+-- a transaction that waits until this deadline, tried at this number of commits
+abbrev pub parked_as : Submitted → Option ℕ → ℕ → model.Parked
+parked_as a deadline tried = record { session = a.session; request = request_data a.request; operations = operations_of (request_data a.request); fresh = map uuid_of a.fresh.items; arrival = a.arrival; deadline = deadline; tried = tried }
+
+-- what the world gives a transaction
+abbrev pub context_in : World → Submitted → Context
+context_in w a = record { fresh = map uuid_of a.fresh.items; arrival = a.arrival; now = w.now; owns = owns w.locks a.session }
+
+-- what the transaction comes to in the world, for the schema
+abbrev pub outcome_in : Schema → World → Submitted → transaction.Outcome
+outcome_in s w a = transact s max_rows (w.commits + 1) (context_in w a) w.db (operations_of (request_data a.request))
+
+-- the transaction that waits behind a try
+abbrev pub waiting : Tried → Submitted → ℕ → Option model.Parked
+waiting tried.Ended a commits = None
+waiting (tried.Waits deadline) a commits = Some (parked_as a deadline commits)

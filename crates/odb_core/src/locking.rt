@@ -1,0 +1,161 @@
+//! The calls on locks (RFC 7047, 4.1.8 to 4.1.10).
+
+ghost use Rattle.std.specs.Prelude.{◌≡◌, false, IfOk, IsSome, OnErr, OnOk, Some};
+ghost use Rattle.serde_json.specs.View.{view};
+ghost use Rattle.serde_json.specs.Written.{has_float};
+ghost use Rattle.odb_locks.specs.Locks as model;
+ghost use Rattle.odb_locks.specs.Represented.Notice.{notices_of};
+ghost use Rattle.odb_wire.specs.Message.{has_left_out, id_of};
+ghost use Rattle.odb_wire.specs.Shown.{request_data};
+ghost use Rattle.odb_core.specs.Represented.Sessions.{taken_back};
+ghost use Rattle.odb_core.specs.Service.{Service};
+ghost use Rattle.odb_core.specs.Session.{no_result};
+ghost use Rattle.odb_core.specs.World.{fail, lock_error, locked, on_lock, post_notices, succeed};
+ghost use Rattle.odb_core.specs.Represented.Locking.{fault_of};
+ghost use Rattle.odb_rpc.specs.Message.{failed};
+
+use crate::answer::{failed, notices, replied};
+use crate::post::Post;
+use crate::server::SessionId;
+use crate::state::State;
+use odb_locks::{LockFault, Notice};
+use odb_rpc::{Error, Failure};
+use odb_wire::Request;
+use serde_json::{Map, Value};
+use std::alloc::{AllocError, Global};
+
+impl State {
+    /// `lock` of a name (RFC 7047, 4.1.8). Where memory is refused nothing changes. O(log n + c) for n
+    /// names and c claims of this one.
+    pub(crate) fn lock(
+        &mut self,
+        session: SessionId,
+        request: &Request,
+        name: &str,
+    ) -> Result<(), AllocError>
+        requires { has_left_out (id_of (request_data request.now)) ≡ false }
+        ensures ok { OnOk result ((h : Service)
+            → on_lock h session (request_data request.now) locked (model.lock self.old.locks session name.now) self.old ≡ self.new) }
+        ensures rest { self.new ≡ record (self.old) { locks = self.new.locks; sessions = self.new.sessions } }
+        ensures err { OnErr result (self.new ≡ self.old) }
+    {
+        let taken = match self.locks.preview_lock(session, name) {
+            Ok(taken) => taken,
+            Err(fault) => return self.refuse(session, request, fault),
+        };
+        let result = locked(self.alloc, taken.owns)?;
+        let told = self.answer_lock(session, request, &result, &taken.notices)?;
+        if self.locks.lock(session, name).is_err() {
+            self.sessions.take_back(told);
+            return Err(AllocError);
+        }
+        Ok(())
+    }
+
+    /// `steal` of a name (RFC 7047, 4.1.8). Where memory is refused nothing changes. O(log n + c).
+    pub(crate) fn steal(
+        &mut self,
+        session: SessionId,
+        request: &Request,
+        name: &str,
+    ) -> Result<(), AllocError>
+        requires { has_left_out (id_of (request_data request.now)) ≡ false }
+        ensures ok { OnOk result ((h : Service)
+            → on_lock h session (request_data request.now) locked (model.steal self.old.locks session name.now) self.old ≡ self.new) }
+        ensures rest { self.new ≡ record (self.old) { locks = self.new.locks; sessions = self.new.sessions } }
+        ensures err { OnErr result (self.new ≡ self.old) }
+    {
+        let taken = match self.locks.preview_steal(session, name) {
+            Ok(taken) => taken,
+            Err(fault) => return self.refuse(session, request, fault),
+        };
+        let result = locked(self.alloc, taken.owns)?;
+        let told = self.answer_lock(session, request, &result, &taken.notices)?;
+        if self.locks.steal(session, name).is_err() {
+            self.sessions.take_back(told);
+            return Err(AllocError);
+        }
+        Ok(())
+    }
+
+    /// `unlock` of a name (RFC 7047, 4.1.8). Where memory is refused nothing changes. O(log n + c).
+    pub(crate) fn unlock(
+        &mut self,
+        session: SessionId,
+        request: &Request,
+        name: &str,
+    ) -> Result<(), AllocError>
+        requires { has_left_out (id_of (request_data request.now)) ≡ false }
+        ensures ok { OnOk result ((h : Service)
+            → on_lock h session (request_data request.now) (λ b. no_result) (model.unlock self.old.locks session name.now) self.old ≡ self.new) }
+        ensures rest { self.new ≡ record (self.old) { locks = self.new.locks; sessions = self.new.sessions } }
+        ensures err { OnErr result (self.new ≡ self.old) }
+    {
+        let notices = match self.locks.preview_unlock(session, name) {
+            Ok(notices) => notices,
+            Err(fault) => return self.refuse(session, request, fault),
+        };
+        let result = Value::Object(Map::new(self.alloc));
+        let told = self.answer_lock(session, request, &result, &notices)?;
+        if self.locks.unlock(session, name).is_err() {
+            self.sessions.take_back(told);
+            return Err(AllocError);
+        }
+        Ok(())
+    }
+
+    /// Queues the notices and then the reply, and answers which sessions they were queued for.
+    fn answer_lock(
+        &mut self,
+        session: SessionId,
+        request: &Request,
+        value: &Value,
+        told: &[Notice],
+    ) -> Result<Vec<SessionId>, AllocError>
+        requires id { has_left_out (id_of (request_data request.now)) ≡ false }
+        requires value { has_float (view value.now) ≡ false }
+        ensures ok { IfOk result (λ queued.
+            succeed session (request_data request.now) (view value.now) (post_notices (notices_of told.now) self.old) ≡ self.new) }
+        ensures rest { self.new ≡ record (self.old) { sessions = self.new.sessions } }
+        ensures back { IfOk result (λ queued. taken_back queued.items self.new.sessions ≡ self.old.sessions) }
+        ensures err { OnErr result (self.new ≡ self.old) }
+    {
+        let mut posts = notices(self.alloc, told)?;
+        let item = replied(self.alloc, request, value)?;
+        posts.push(Post { session, item })?;
+        self.sessions.post_all(posts)
+    }
+
+    /// Answers a call that the locks refuse.
+    fn refuse(
+        &mut self,
+        session: SessionId,
+        request: &Request,
+        fault: LockFault,
+    ) -> Result<(), AllocError>
+        requires { has_left_out (id_of (request_data request.now)) ≡ false }
+        ensures ok { OnOk result ((e : model.LockFault) → fault_of fault ≡ Some e
+            → fail session (request_data request.now) (failed (lock_error e)) self.old ≡ self.new) }
+        ensures memory { OnOk result (IsSome (fault_of fault)) }
+        ensures rest { self.new ≡ record (self.old) { sessions = self.new.sessions } }
+        ensures err { OnErr result (self.new ≡ self.old) }
+    {
+        let why = match fault {
+            LockFault::OutOfTurn => Error::SyntaxError,
+            LockFault::TooMany => Error::ResourcesExhausted,
+            LockFault::Memory => return Err(AllocError),
+        };
+        let reply = failed(self.alloc, request, Failure::Failed(why))?;
+        self.post(session, reply)
+    }
+}
+
+/// The result of `lock` and `steal` (RFC 7047, 4.1.8).
+fn locked(alloc: Global, owns: bool) -> Result<Value, AllocError>
+    ensures value { IfOk result (λ value. view value ≡ locked owns) }
+    ensures float { IfOk result (λ value. has_float (view value) ≡ false) }
+{
+    let mut members = Map::new(alloc);
+    members.insert(String::from_str(alloc, "locked")?, Value::Bool(owns))?;
+    Ok(Value::Object(members))
+}

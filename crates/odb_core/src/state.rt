@@ -1,0 +1,354 @@
+//! The state of the service: what it does with requests, moments and sessions that close.
+
+ghost use Rattle.std.specs.Prelude.{◌≡◌, ◌+◌, ◌==◌, [], ◌∷◌, false, length, map, max, replicate, IfErr, IfOk, None, Some, OnErr, OnOk};
+ghost use Rattle.serde_json.specs.Has.{has_float};
+ghost use Rattle.serde_json.specs.View.{view};
+ghost use Rattle.odb_atoms.specs.FinMap as finite;
+ghost use Rattle.odb_atoms.specs.Represented.Atom.{uuid_of};
+ghost use Rattle.odb_commit.specs.Represented.Outcome.{Answers};
+ghost use Rattle.odb_ops.specs.Represented.Ran.{results_of};
+ghost use Rattle.odb_rpc.specs.Represented.Printable.{printable_data};
+ghost use Rattle.odb_schema.specs.Json.{array_of};
+ghost use Rattle.odb_tables.specs.Change.{all_changed_by};
+ghost use Rattle.odb_tables.specs.Installing.{IsChangeOf};
+ghost use Rattle.odb_tables.specs.Typed.{IsTyped};
+ghost use Rattle.odb_wire.specs.Message.{has_left_out, id_of};
+ghost use Rattle.odb_wire.specs.Shown.{request_data};
+ghost use Rattle.odb_core.specs.Service.{Service};
+ghost use Rattle.odb_core.specs.Server.{served_by};
+ghost use Rattle.odb_core.specs.Session.{say, to};
+ghost use Rattle.odb_core.specs.Represented.Parked.{outcome_in, parked_as, waiting};
+
+use crate::answer::{failed, notices, replied};
+use crate::parked::{Parked, Submitted, Tried};
+use crate::post::Post;
+use crate::queue::Finished;
+use crate::server::SessionId;
+use crate::sessions::Sessions;
+use odb_commit::{Outcome, transact};
+use odb_locks::Locks;
+use odb_ops::Context;
+use odb_rpc::{Failure, Printable};
+use odb_schema::Schema;
+use odb_tables::{ChangeSet, Db};
+use odb_wire::Request;
+use serde_json::Value;
+use std::alloc::{AllocError, Global};
+use std::hash::RandomState;
+use std::marker::Model;
+use std::mem;
+
+/// The rows that a database may have.
+const MAX_ROWS: usize = 1_000_000;
+
+/// The database with its commits, the moment, the transactions that wait in order of arrival, the locks,
+/// and the open sessions. Contracts see it as the state of the service machine (`specs/World.antt`).
+#[derive(Drop)]
+pub(crate) struct State {
+    alloc: Global,
+    db: Db,
+    commits: u64,
+    now: u64,
+    parked: Vec<Parked>,
+    locks: Locks,
+    sessions: Sessions,
+}
+
+impl Model for State {
+    ghost use Rattle.odb_core.specs.World.{World};
+    ghost use Rattle.odb_core.specs.WorldCode.{world_code};
+
+    ghost Value = { World };
+
+    ghost coded = { world_code };
+
+    ghost view = { λ s. record { db = s.db; commits = s.commits; now = s.now; parked = s.parked.items; locks = s.locks; sessions = s.sessions } };
+}
+
+impl State {
+    ghost use Rattle.odb_core.specs.World.{attempt, end_transaction, retry_all, succeed, try_due, try_one, untried, with_parked};
+
+    /// What a transaction comes to now, as the next commit. Nothing is changed.
+    fn outcome(&self, schema: &Schema, asked: &Submitted) -> Result<Outcome, AllocError>
+        requires { IsTyped schema.now self.now.db }
+        ensures { IfOk result (λ outcome. Answers schema.now self.now.db outcome (outcome_in schema.now self.now asked.now)) }
+    {
+        let owned = self.locks.owned(self.alloc, asked.session)?;
+        let context = Context {
+            fresh: asked.fresh.as_slice(),
+            arrival: asked.arrival,
+            now: self.now,
+            owned: owned.as_slice(),
+        };
+        let number = self.commits.checked_add(1).ok_or(AllocError)?;
+        transact(self.alloc, &self.db, schema, asked.operations(), number, MAX_ROWS, &context)
+    }
+
+    /// Queues the reply of a transaction that changes nothing. Where memory is refused nothing changes.
+    fn reply(&mut self, asked: &Submitted, results: Vec<Value>) -> Result<(), AllocError>
+        requires { has_float (array_of (results_of results)) ≡ false }
+        ensures ok { OnOk result ((h : Service)
+            → end_transaction h asked.now.session (request_data asked.now.request) (array_of (results_of results)) None self.old ≡ self.new) }
+        ensures err { OnErr result (self.new ≡ self.old) }
+    {
+        let reply = replied(self.alloc, &asked.request, &Value::from(results))?;
+        self.post(asked.session, reply)
+    }
+
+    /// Queues an item for a session, if it is open. Where memory is refused nothing changes.
+    fn post(&mut self, session: SessionId, item: Finished) -> Result<(), AllocError>
+        ensures ok { OnOk result (post session (item_of item ∷ []) self.old ≡ self.new) }
+        ensures err { OnErr result (self.new ≡ self.old) }
+    {
+        let mut posts = Vec::with_capacity(self.alloc, 1)?;
+        posts.push_reserved(Post { session, item });
+        drop(self.sessions.post_all(posts)?);
+        Ok(())
+    }
+
+    /// Makes the change as the next commit and queues the reply. Where memory is refused nothing changes.
+    fn commit(
+        &mut self,
+        asked: &Submitted,
+        results: Vec<Value>,
+        change: ChangeSet,
+    ) -> Result<(), AllocError>
+        requires float { has_float (array_of (results_of results)) ≡ false }
+        requires change { IsChangeOf self.old.db change }
+        ensures ok { OnOk result ((h : Service)
+            → end_transaction h asked.now.session (request_data asked.now.request) (array_of (results_of results)) (Some (all_changed_by self.old.db change)) self.old ≡ self.new) }
+        ensures err { OnErr result (self.new ≡ self.old) }
+    {
+        let number = self.commits.checked_add(1).ok_or(AllocError)?;
+        let reply = replied(self.alloc, &asked.request, &Value::from(results))?;
+        let told = self.sessions.post_end(asked.session, reply)?;
+        match self.db.install(change) {
+            Ok(()) => {
+                self.commits = number;
+                Ok(())
+            }
+            Err(_) => {
+                self.sessions.take_back(told);
+                Err(AllocError)
+            }
+        }
+    }
+
+    /// Carries out what a transaction came to. Where memory is refused nothing changes.
+    fn conclude(
+        &mut self,
+        schema: &Schema,
+        asked: &Submitted,
+        outcome: Outcome,
+    ) -> Result<Tried, AllocError>
+        requires typed { IsTyped schema.now self.old.db }
+        requires outcome { Answers schema.now self.old.db outcome (outcome_in schema.now self.old asked.now) }
+        ensures ok { IfOk result (λ tried. (deadline : Option ℕ) → (n : ℕ)
+            → attempt (served_by schema.now) (parked_as asked.now deadline n) self.old ≡ (self.new, waiting tried asked.now self.old.commits)) }
+        ensures typed { IsTyped schema.now self.new.db }
+        ensures err { OnErr result (self.new ≡ self.old) }
+    {
+        match outcome {
+            Outcome::Done { results, change } => {
+                if changes_rows(&change) {
+                    self.commit(asked, results, change)?;
+                } else {
+                    self.reply(asked, results)?;
+                }
+                Ok(Tried::Ended)
+            }
+            Outcome::Failed { results } => {
+                self.reply(asked, results)?;
+                Ok(Tried::Ended)
+            }
+            Outcome::Parked { deadline } => Ok(Tried::Waits { deadline }),
+        }
+    }
+
+    /// Tries a transaction that waited: it ends, or waits again.
+    fn retried(&mut self, schema: &Schema, parked: Parked) -> Result<Option<Parked>, AllocError>
+        requires { IsTyped schema.now self.old.db }
+        ensures ok { IfOk result (λ left. attempt (served_by schema.now) parked self.old ≡ (self.new, left)) }
+        ensures typed { IsTyped schema.now self.new.db }
+    {
+        let outcome = self.outcome(schema, parked.submitted())?;
+        match self.conclude(schema, parked.submitted(), outcome)? {
+            Tried::Ended => Ok(None),
+            Tried::Waits { deadline } => Ok(Some(parked.tried_again(deadline, self.commits))),
+        }
+    }
+
+    /// Where the earliest transaction stands that wasn't tried since the newest commit. O(waiting).
+    fn first_untried(&self) -> Option<usize>
+        ensures { result ≡ position (is_untried self.now.commits) self.now.parked }
+    {
+        self.parked
+            .iter()
+            .position(|parked| parked.is_untried(self.commits))
+    }
+
+    /// Tries the transaction that waits at this place again: where it has to wait it stays there.
+    fn try_at(&mut self, schema: &Schema, place: usize) -> Result<(), AllocError>
+        requires typed { IsTyped schema.now self.old.db }
+        requires place { place < length self.old.parked }
+        ensures ok { OnOk result ((t : Split) → split_at self.old.parked place ≡ Some t
+            → try_one (served_by schema.now) t self.old ≡ self.new) }
+        ensures typed { IsTyped schema.now self.new.db }
+    {
+        let parked = self.parked.remove(place);
+        if let Some(parked) = self.retried(schema, parked)? {
+            self.parked.insert(place, parked)?;
+        }
+        Ok(())
+    }
+
+    /// Tries each transaction that waits and wasn't tried since the newest commit, the earliest first,
+    /// until there is none (RFC 7047, 5.2.6). After an error the state is of no further use.
+    fn retry_all(&mut self, schema: &Schema) -> Result<(), AllocError>
+        requires { IsTyped schema.now self.old.db }
+        ensures ok { OnOk result (retry_all (served_by schema.now) self.old ≡ self.new) }
+        ensures tried { OnOk result ((h : Service) → untried h self.new ≡ None) }
+        ensures typed { IsTyped schema.now self.new.db }
+    {
+        while let Some(place) = self.first_untried() {
+            self.try_at(schema, place)?;
+        }
+        Ok(())
+    }
+
+    /// Tries each transaction whose deadline has come, in order of arrival. After an error the state is of
+    /// no further use.
+    fn try_due(&mut self, schema: &Schema) -> Result<(), AllocError>
+        requires { IsTyped schema.now self.old.db }
+        ensures ok { OnOk result (try_due (served_by schema.now) self.old.parked (record (self.old) { parked = [] }) ≡ self.new) }
+        ensures typed { IsTyped schema.now self.new.db }
+    {
+        let waiting = mem::replace(&mut self.parked, Vec::new(self.alloc));
+        for parked in waiting {
+            self.try_if_due(schema, parked)?;
+        }
+        Ok(())
+    }
+
+    fn try_if_due(&mut self, schema: &Schema, parked: Parked) -> Result<(), AllocError>
+        requires { IsTyped schema.now self.old.db }
+        ensures ok { OnOk result ((ps : List model.Parked) → try_due (served_by schema.now) (parked ∷ ps) self.old ≡ try_due (served_by schema.now) ps self.new) }
+        ensures typed { IsTyped schema.now self.new.db }
+    {
+        if !parked.is_due(self.now) {
+            self.parked.push(parked)?;
+            return Ok(());
+        }
+        if let Some(parked) = self.retried(schema, parked)? {
+            self.parked.push(parked)?;
+        }
+        Ok(())
+    }
+
+    /// Carries out what a new transaction came to, and tries those that wait again where it was a commit.
+    /// Where memory is refused nothing changes. A commit while transactions wait works on a copy, O(rows);
+    /// every other costs what it changes.
+    fn conclude_new(
+        &mut self,
+        schema: &Schema,
+        asked: &Submitted,
+        outcome: Outcome,
+    ) -> Result<Tried, AllocError>
+        requires typed { IsTyped schema.now self.old.db }
+        requires tried { (h : Service) → untried h self.old ≡ None }
+        requires outcome { Answers schema.now self.old.db outcome (outcome_in schema.now self.old asked.now) }
+        ensures ok { IfOk result (λ tried. (deadline : Option ℕ) → (n : ℕ)
+            → retried (served_by schema.now) (attempt (served_by schema.now) (parked_as asked.now deadline n) self.old) ≡ (self.new, waiting tried asked.now self.old.commits)) }
+        ensures typed { IsTyped schema.now self.new.db }
+        ensures tried { (h : Service) → untried h self.new ≡ None }
+        ensures err { OnErr result (self.new ≡ self.old) }
+    {
+        if self.parked.is_empty() || !is_commit(&outcome) {
+            return self.conclude(schema, asked, outcome);
+        }
+        let mut copy = self.try_copy()?;
+        let tried = copy.conclude(schema, asked, outcome)?;
+        copy.retry_all(schema)?;
+        *self = copy;
+        Ok(tried)
+    }
+
+    /// A new transaction (RFC 7047, 4.1.3): it ends, or waits behind the others. Where memory is refused
+    /// nothing changes, and it comes back.
+    fn transact(
+        &mut self,
+        schema: &Schema,
+        asked: Submitted,
+    ) -> Result<(), (Submitted, AllocError)>
+        requires typed { IsTyped schema.now self.old.db }
+        requires tried { (h : Service) → untried h self.old ≡ None }
+        ensures ok { OnOk result (run_transaction (served_by schema.now) (parked_as asked None self.old.commits) self.old ≡ self.new) }
+        ensures typed { IsTyped schema.now self.new.db }
+        ensures tried { (h : Service) → untried h self.new ≡ None }
+        ensures err { OnErr result (self.new ≡ self.old) }
+        ensures back { IfErr result (λ back. back.0 ≡ asked) }
+    {
+        match self.try_new(schema, &asked) {
+            Ok(Tried::Ended) => {
+                drop(asked);
+                Ok(())
+            }
+            Ok(Tried::Waits { deadline }) => self.park(asked, deadline),
+            Err(refused) => Err((asked, refused)),
+        }
+    }
+
+    fn try_new(&mut self, schema: &Schema, asked: &Submitted) -> Result<Tried, AllocError>
+        requires typed { IsTyped schema.now self.old.db }
+        requires tried { (h : Service) → untried h self.old ≡ None }
+        ensures ok { IfOk result (λ tried. (deadline : Option ℕ) → (n : ℕ)
+            → retried (served_by schema.now) (attempt (served_by schema.now) (parked_as asked.now deadline n) self.old) ≡ (self.new, waiting tried asked.now self.old.commits)) }
+        ensures typed { IsTyped schema.now self.new.db }
+        ensures tried { (h : Service) → untried h self.new ≡ None }
+        ensures err { OnErr result (self.new ≡ self.old) }
+    {
+        let outcome = self.outcome(schema, asked)?;
+        self.conclude_new(schema, asked, outcome)
+    }
+
+    /// Puts a transaction behind those that wait. Where memory is refused it comes back.
+    fn park(
+        &mut self,
+        asked: Submitted,
+        deadline: Option<u64>,
+    ) -> Result<(), (Submitted, AllocError)>
+        ensures ok { OnOk result (self.new ≡ record (self.old) { parked = self.old.parked ++ parked_as asked deadline self.old.commits ∷ [] }) }
+        ensures err { OnErr result (self.new ≡ self.old) }
+        ensures back { IfErr result (λ back. back.0 ≡ asked) }
+    {
+        if self.parked.reserve(1).is_err() {
+            return Err((asked, AllocError));
+        }
+        let parked = Parked::new(self.alloc, asked, deadline, self.commits)?;
+        self.parked.push_reserved(parked);
+        Ok(())
+    }
+
+    /// An equal state. O(rows + waiting transactions + claims + bytes queued); an error says that memory was
+    /// refused.
+    pub(crate) fn try_copy(&self) -> Result<State, AllocError>
+        ensures { IfOk result (λ copy. copy ≡ self.now) }
+    {
+        Ok(State {
+            alloc: self.alloc,
+            db: self.db.try_copy(self.alloc)?,
+            commits: self.commits,
+            now: self.now,
+            parked: self.parked.clone()?,
+            locks: self.locks.try_copy(self.alloc)?,
+            sessions: self.sessions.try_copy(self.alloc)?,
+        })
+    }
+}
+
+/// Whether the change has a row.
+fn changes_rows(change: &ChangeSet) -> bool
+    ensures { result ≡ list_any (λ c. nat_lt 0 (finite.len c)) change.now }
+{
+    change.tables().iter().any(|table| !table.rows().is_empty())
+}
