@@ -1,3 +1,4 @@
+pub mod AtOnce
 pub mod Busy
 pub mod Calls
 pub mod Committed
@@ -9,13 +10,16 @@ pub mod Listed
 pub mod Opened
 pub mod Owed
 pub mod Pictures
+pub mod Posts
 pub mod Reading
 pub mod Results
 pub mod Retried
 pub mod Rounds
 pub mod Runs
+pub mod Said
+pub mod Serving
 pub mod SessionMaps
-pub mod Sessions
+pub mod SessionsIn
 pub mod Splits
 pub mod Steps
 pub mod Taking
@@ -23,7 +27,6 @@ pub mod Takings
 pub mod Told
 pub mod Updates
 pub mod Waiting
+pub mod Wells
 pub mod Whole
 pub mod Worlds
-pub mod SessionsIn
-pub mod Serving

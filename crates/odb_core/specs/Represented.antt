@@ -4,6 +4,9 @@ pub mod Item
 pub mod Locking
 pub mod Out
 pub mod Parked
+pub mod Places
 pub mod Post
 pub mod Reason
+pub mod Requests
+pub mod Retries
 pub mod Sessions

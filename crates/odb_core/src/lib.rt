@@ -2,12 +2,14 @@
 #![tactic(auto)]
 
 mod answer;
+mod locking;
 mod meaning;
 mod out;
 mod parked;
 mod post;
 mod queue;
 mod refused;
+mod requests;
 mod served_schema;
 mod server;
 mod session;

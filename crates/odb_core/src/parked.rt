@@ -35,6 +35,7 @@ pub(crate) struct Submitted {
 }
 
 /// What a try of a transaction came to.
+#[derive(Clone, Copy, Debug)]
 pub(crate) enum Tried {
     /// It went through or failed, and its reply is queued.
     Ended,
@@ -90,6 +91,13 @@ impl Submitted {
             }),
             Err(refused) => Err((request, refused)),
         }
+    }
+
+    /// The request, by value.
+    pub(crate) fn into_request(self) -> Request
+        ensures { result ≡ self.request }
+    {
+        self.request
     }
 
     /// Its operations (RFC 7047, 4.1.3).

@@ -9,7 +9,8 @@ ghost use Rattle.odb_rpc.specs.Represented.Call.{call_view};
 ghost use Rattle.odb_schema.specs.SchemaText.{write_schema};
 ghost use Rattle.odb_tables.specs.Typed.{IsTyped};
 ghost use Rattle.odb_wire.specs.Shown.{request_data};
-ghost use Rattle.odb_core.specs.Represented.Answer.{asks_transaction, call_at};
+ghost use Rattle.odb_core.specs.Represented.Answer.{call_at};
+ghost use Rattle.odb_core.specs.Represented.Requests.{asks_transaction};
 ghost use Rattle.odb_core.specs.Server.{served_by};
 ghost use Rattle.odb_core.specs.Service.{Service};
 ghost use Rattle.odb_core.specs.World.{at_moment, cancel, close, handle, untried};
@@ -20,6 +21,7 @@ use crate::served_schema::ServedSchema;
 use crate::server::SessionId;
 use crate::state::State;
 use odb_rpc::{Call, CallFault, Failure, Printable};
+use odb_schema::Schema;
 use odb_wire::Request;
 use std::alloc::AllocError;
 use uuid::Uuid;
@@ -51,6 +53,27 @@ impl State {
             self.now = before;
         }
         taken
+    }
+
+    /// Whether a message has a reply while its session is owed as many as it may be. `None` where the
+    /// session isn't open. O(log n + waiting transactions) for n sessions.
+    pub(crate) fn is_busy(&self, session: SessionId, request: &Request) -> Option<bool>
+        ensures { (h : Service) (s : Schema) → result ≡ option_map (λ x. has_reply (call_at s (request_data request.now))
+            && not (nat_lt (owed_replies h session x self.now) max_owed)) (get self.now.sessions session) }
+    {
+        let waiting = self.waiting_of(session);
+        let asking = self.sessions.get(session)?;
+        Some(asking.owes_too_many(request, waiting))
+    }
+
+    /// How many transactions of the session wait.
+    fn waiting_of(&self, session: SessionId) -> usize
+        ensures { result ≡ count_by (λ p. p.session == session) self.now.parked }
+    {
+        self.parked
+            .iter()
+            .filter(|parked| parked.is_by(session))
+            .count()
     }
 
     fn handle(

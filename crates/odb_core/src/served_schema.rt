@@ -25,4 +25,14 @@ impl ServedSchema {
             Err(refused) => Err((schema, refused)),
         }
     }
+
+    /// An equal one. O(bytes of the schema); an error says that memory was refused.
+    pub(crate) fn try_copy(&self, alloc: Global) -> Result<ServedSchema, AllocError>
+        ensures { IfOk result (λ copy. copy.schema ≡ self.now.schema) }
+    {
+        Ok(ServedSchema {
+            schema: self.schema.try_copy(alloc)?,
+            text: self.text.clone()?,
+        })
+    }
 }

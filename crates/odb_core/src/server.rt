@@ -140,8 +140,10 @@ impl Core {
         ensures err { OnErr result (self.new ≡ self.old) }
         ensures request_back { IfErr result (λ back. back.0 ≡ request) }
     {
-        if let Some(why) = self.state.refusal(session, &request) {
-            return Err((request, why));
+        match self.state.is_busy(session, &request) {
+            None => return Err((request, Refused::Gone)),
+            Some(true) => return Err((request, Refused::Busy)),
+            Some(false) => {}
         }
         match self.state.take_in(&self.served, session, request, fresh, now) {
             Ok(()) => Ok(()),

@@ -1,6 +1,6 @@
 //! The sessions of a core.
 
-ghost use Rattle.std.specs.Prelude.{◌≡◌, map, option_map, IfOk, OnErr, OnOk};
+ghost use Rattle.std.specs.Prelude.{◌≡◌, [], ◌∷◌, if◌then◌else◌, map, option_map, IfOk, OnErr, OnOk};
 ghost use Rattle.std.specs.Option.{option_copied};
 ghost use Rattle.odb_core.specs.Represented.Item.{item_of};
 ghost use Rattle.odb_core.specs.Represented.Post.{post_of};
@@ -39,7 +39,7 @@ impl Sessions {
     ghost use Rattle.odb_atoms.specs.FinMap.{empty, get, insert, len, remove};
     ghost use Rattle.odb_core.specs.Service.{Service};
     ghost use Rattle.odb_core.specs.Session.{take};
-    ghost use Rattle.odb_core.specs.Represented.Sessions.{all_posted, at_session, ended_in};
+    ghost use Rattle.odb_core.specs.Represented.Sessions.{all_posted, at_session, ended_in, posted};
     ghost use Rattle.odb_core.specs.Represented.Sessions.{fresh_session, taken_back, text_taken};
     ghost use Rattle.odb_tables.specs.Database.{Db};
 
@@ -123,8 +123,15 @@ impl Sessions {
         Ok(told)
     }
 
-    /// Queues an item for a session, and answers whether it is open.
+    /// Queues an item for a session, and answers whether it is open. Where memory is refused nothing
+    /// changes. O(log n).
     fn post(&mut self, session: SessionId, item: Finished) -> Result<bool, AllocError>
+        ensures ok { OnOk result (self.new ≡ posted self.old (session, item_of item)) }
+        ensures monitors { OnOk result ((h : Service)
+            → self.new ≡ at_session (ended_in h (item_of item)) self.old session) }
+        ensures back { IfOk result (λ queued.
+            taken_back (if queued then session ∷ [] else []) self.new ≡ self.old) }
+        ensures err { OnErr result (self.new ≡ self.old) }
     {
         let Some(to) = self.sessions.get_mut(&session) else {
             return Ok(false);

@@ -1,7 +1,7 @@
 //! The state of the service: what it does with requests, moments and sessions that close.
 
 ghost use Rattle.std.specs.Prelude.{◌≡◌, ◌+◌, ◌==◌, [], ◌∷◌, false, length, map, max, replicate, IfErr, IfOk, None, Some, OnErr, OnOk};
-ghost use Rattle.serde_json.specs.Has.{has_float};
+ghost use Rattle.serde_json.specs.Written.{has_float};
 ghost use Rattle.serde_json.specs.View.{view};
 ghost use Rattle.odb_atoms.specs.FinMap as finite;
 ghost use Rattle.odb_atoms.specs.Represented.Atom.{uuid_of};
@@ -45,13 +45,13 @@ const MAX_ROWS: usize = 1_000_000;
 /// and the open sessions. Contracts see it as the state of the service machine (`specs/World.antt`).
 #[derive(Drop)]
 pub(crate) struct State {
-    alloc: Global,
-    db: Db,
-    commits: u64,
-    now: u64,
-    parked: Vec<Parked>,
-    locks: Locks,
-    sessions: Sessions,
+    pub(crate) alloc: Global,
+    pub(crate) db: Db,
+    pub(crate) commits: u64,
+    pub(crate) now: u64,
+    pub(crate) parked: Vec<Parked>,
+    pub(crate) locks: Locks,
+    pub(crate) sessions: Sessions,
 }
 
 impl Model for State {
@@ -66,7 +66,34 @@ impl Model for State {
 }
 
 impl State {
-    ghost use Rattle.odb_core.specs.World.{attempt, end_transaction, retry_all, succeed, try_due, try_one, untried, with_parked};
+    ghost use Rattle.std.specs.Prelude.{ℕ, List, ◌<◌};
+    ghost use Rattle.std.specs.List.{position};
+    ghost use Rattle.odb_core.specs.World as model;
+    ghost use Rattle.odb_core.specs.World.{attempt, end_transaction, is_untried, post, retry_all};
+    ghost use Rattle.odb_core.specs.World.{run_transaction, try_due, try_one, untried};
+    ghost use Rattle.odb_core.specs.Represented.Item.{item_of};
+    ghost use Rattle.odb_core.specs.Represented.Core.{empty_world};
+    ghost use Rattle.odb_core.specs.Represented.Places.{split_at};
+    ghost use Rattle.odb_core.specs.Represented.Retries.{with_retries};
+
+    /// Empty tables, at moment 0, with no commit and no session. An error says that memory was refused.
+    pub(crate) fn new(
+        alloc: Global,
+        tables: usize,
+        hashing: RandomState,
+    ) -> Result<State, AllocError>
+        ensures { IfOk result (λ state. state ≡ empty_world tables) }
+    {
+        Ok(State {
+            alloc,
+            db: Db::new(alloc, tables, hashing)?,
+            commits: 0,
+            now: 0,
+            parked: Vec::new(alloc),
+            locks: Locks::new(alloc),
+            sessions: Sessions::new(alloc),
+        })
+    }
 
     /// What a transaction comes to now, as the next commit. Nothing is changed.
     fn outcome(&self, schema: &Schema, asked: &Submitted) -> Result<Outcome, AllocError>
@@ -96,7 +123,7 @@ impl State {
     }
 
     /// Queues an item for a session, if it is open. Where memory is refused nothing changes.
-    fn post(&mut self, session: SessionId, item: Finished) -> Result<(), AllocError>
+    pub(crate) fn post(&mut self, session: SessionId, item: Finished) -> Result<(), AllocError>
         ensures ok { OnOk result (post session (item_of item ∷ []) self.old ≡ self.new) }
         ensures err { OnErr result (self.new ≡ self.old) }
     {
@@ -191,7 +218,7 @@ impl State {
     fn try_at(&mut self, schema: &Schema, place: usize) -> Result<(), AllocError>
         requires typed { IsTyped schema.now self.old.db }
         requires place { place < length self.old.parked }
-        ensures ok { OnOk result ((t : Split) → split_at self.old.parked place ≡ Some t
+        ensures ok { OnOk result ((t : List model.Parked × model.Parked × List model.Parked) → split_at self.old.parked place ≡ Some t
             → try_one (served_by schema.now) t self.old ≡ self.new) }
         ensures typed { IsTyped schema.now self.new.db }
     {
@@ -204,7 +231,7 @@ impl State {
 
     /// Tries each transaction that waits and wasn't tried since the newest commit, the earliest first,
     /// until there is none (RFC 7047, 5.2.6). After an error the state is of no further use.
-    fn retry_all(&mut self, schema: &Schema) -> Result<(), AllocError>
+    pub(crate) fn retry_all(&mut self, schema: &Schema) -> Result<(), AllocError>
         requires { IsTyped schema.now self.old.db }
         ensures ok { OnOk result (retry_all (served_by schema.now) self.old ≡ self.new) }
         ensures tried { OnOk result ((h : Service) → untried h self.new ≡ None) }
@@ -218,7 +245,7 @@ impl State {
 
     /// Tries each transaction whose deadline has come, in order of arrival. After an error the state is of
     /// no further use.
-    fn try_due(&mut self, schema: &Schema) -> Result<(), AllocError>
+    pub(crate) fn try_due(&mut self, schema: &Schema) -> Result<(), AllocError>
         requires { IsTyped schema.now self.old.db }
         ensures ok { OnOk result (try_due (served_by schema.now) self.old.parked (record (self.old) { parked = [] }) ≡ self.new) }
         ensures typed { IsTyped schema.now self.new.db }
@@ -275,7 +302,7 @@ impl State {
 
     /// A new transaction (RFC 7047, 4.1.3): it ends, or waits behind the others. Where memory is refused
     /// nothing changes, and it comes back.
-    fn transact(
+    pub(crate) fn transact(
         &mut self,
         schema: &Schema,
         asked: Submitted,
@@ -343,6 +370,14 @@ impl State {
             locks: self.locks.try_copy(self.alloc)?,
             sessions: self.sessions.try_copy(self.alloc)?,
         })
+    }
+}
+
+/// Whether the outcome changes a row.
+fn is_commit(outcome: &Outcome) -> bool {
+    match outcome {
+        Outcome::Done { change, .. } => changes_rows(change),
+        _ => false,
     }
 }
 

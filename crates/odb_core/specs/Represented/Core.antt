@@ -1,36 +1,42 @@
 -- What the parts of a core stand for.
 use Rattle.std.specs.Prelude.{◌≡◌, ◌≤◌, ℕ, List, [], None, length, map, replicate}
 use Rattle.std.specs.Ordering.{nat_cmp}
-use Rattle.std.specs.BTreeMap.{BTreeMap, get}
+use Rattle.std.specs.BTreeMap.{BTreeMap}
 use Rattle.odb_atoms.specs.FinMap as finite
 use Rattle.odb_core.specs.Run.{take_each}
 use Rattle.odb_core.specs.Server.{Server, printed, served_by}
+use Rattle.odb_core.specs.Service.{Service}
 use Rattle.odb_core.specs.Session.{Session}
-use Rattle.odb_core.specs.World.{World}
+use Rattle.odb_core.specs.World.{World, untried}
 use Rattle.odb_schema.specs.Schema.{Schema}
+use Rattle.odb_tables.specs.Typed.{IsTyped}
 
 -- the sessions by their numbers
 abbrev pub sessions_in : BTreeMap ℕ Session → finite.FinMap nat_cmp Session
 sessions_in s = finite.from_entries s.entries
 
 -- no session has this number or a later one
-abbrev pub AreUnused : BTreeMap ℕ Session → ℕ → Type 0
-AreUnused s opened = (q : ℕ) → opened ≤ q → get nat_cmp s q ≡ None
+abbrev pub AreUnused : finite.FinMap nat_cmp Session → ℕ → Type 0
+AreUnused s opened = (q : ℕ) → opened ≤ q → finite.get s q ≡ None
 
--- empty tables, no commit, no waiting transaction and no lock, at this moment with these sessions
-abbrev pub world_of : Schema → ℕ → finite.FinMap nat_cmp Session → World
-world_of schema now sessions = record {
-  db = replicate (length schema.tables) finite.empty;
+-- rows are of the schema, each waiting transaction was tried since the newest commit, and numbers of sessions stay below those to come
+abbrev pub IsSound : Schema → World → ℕ → Type 0
+IsSound s w opened = IsTyped s w.db × ((h : Service) → untried h w ≡ None) × AreUnused w.sessions opened
+
+-- empty tables, no commit, no waiting transaction, no lock and no session
+abbrev pub empty_world : ℕ → World
+empty_world tables = record {
+  db = replicate tables finite.empty;
   commits = 0;
-  now = now;
+  now = 0;
   parked = [];
   locks = finite.empty;
-  sessions = sessions;
+  sessions = finite.empty;
 }
 
 -- a server of the schema with no session
 abbrev pub new_server : Schema → Server
-new_server schema = record { schema = schema; world = world_of schema 0 finite.empty; opened = 0 }
+new_server schema = record { schema = schema; world = empty_world (length schema.tables); opened = 0 }
 
 -- one taking for each of these sessions that is open, and what they are sent as it is printed
 abbrev pub takes : List ℕ → Server → Server × List (ℕ × List ℕ)
