@@ -1,5 +1,5 @@
 -- Replies, notifications and calls of JSON-RPC 1.0 (RFC 7047, 4).
-use Rattle.std.specs.Prelude.{ℕ, Bool, true, false, if◌then◌else◌, List, [], ◌∷◌, Option, Some, None, codes, bytes_eq}
+use Rattle.std.specs.Prelude.{ℕ, Bool, true, false, if◌then◌else◌, List, [], ◌∷◌, Option, Some, None, codes, bytes_eq, drop}
 use Rattle.odb_atoms.specs.Error.{Error, error_name, syntax_error}
 use Rattle.odb_atoms.specs.Text.{is_id}
 use Rattle.odb_schema.specs.Json.{Data, null, boolean, number, string, array, object, no_members, member, array_of, items_list, as_str, as_array}
@@ -149,6 +149,10 @@ module _ (db : List ℕ) (schema : Data) (serves : List ℕ → Bool) where
             else (if has_left_out d then fault (reply_id id) (failed syntax_error)
             else of_request id m (params_of d)))
       ]
+
+-- the operations of a `transact`: what is behind the first of its `params`
+abbrev pub operations_of : Data → List Data
+operations_of d = elim (as_array (params_of d)) [ None ↦ [] | Some ds ↦ drop 1 (items_list ds) ]
 
 -- whether a call has a reply
 abbrev pub has_reply : Call → Bool

@@ -1,11 +1,12 @@
 -- What a reading of a request stands for.
-use Rattle.std.specs.Prelude.{ℕ, List, [], ◌∷◌, codes, Result, Ok, Err}
+use Rattle.std.specs.Prelude.{ℕ, List, [], ◌∷◌, codes, map, Result, Ok, Err}
 use Rattle.serde_json.specs.Data.{Data, string}
+use Rattle.serde_json.specs.View.{view}
 use Rattle.odb_schema.specs.Json.{array_of}
 use Rattle.odb_atoms.specs.Error.{syntax_error}
 use Rattle.odb_wire.specs.Message.{id_of}
 use Rattle.odb_rpc.specs.Message as model
-use Rattle.odb_rpc.specs.Message.{answered, cancel, fault, passed_over, reply, reply_id, unknown_method, unknown_database, failed}
+use Rattle.odb_rpc.specs.Message.{answered, cancel, fault, lock, passed_over, reply, reply_id, steal, transact, unlock, unknown_method, unknown_database, failed}
 use Rattle.odb_rpc.specs.Represented.Printable.{printable_data}
 use Rattle.odb_rpc.specs.declared.call.Call.{Call}
 use Rattle.odb_rpc.specs.declared.call.Call.TheVariants as call
@@ -30,6 +31,10 @@ failure_by fault_is.UnknownDatabase = unknown_database
 abbrev pub name_of : Method → List ℕ
 name_of method.ListDatabases = codes "list_dbs"
 name_of method.GetSchema = codes "get_schema"
+name_of method.Transact = codes "transact"
+name_of method.Lock = codes "lock"
+name_of method.Steal = codes "steal"
+name_of method.Unlock = codes "unlock"
 name_of method.Echo = codes "echo"
 
 -- what is to be done for a call, for the database of this name with this JSON of its schema, under this id of the reply
@@ -38,6 +43,10 @@ module _ (db : List ℕ) (schema id : Data) where
   called call.ListDatabases = answered (reply id (array_of (string db ∷ [])))
   called call.GetSchema = answered (reply id schema)
   called (call.Echo params) = answered (reply id (printable_data params))
+  called (call.Transact operations) = transact id (map view operations.now)
+  called (call.Lock name) = lock id name.now
+  called (call.Steal name) = steal id name.now
+  called (call.Unlock name) = unlock id name.now
   called (call.Cancel canceled) = cancel (printable_data canceled)
   called call.PassedOver = passed_over
 
@@ -54,3 +63,8 @@ call_view db schema d r = outcome db schema (reply_id (id_of d)) r
 abbrev pub unless : Data → model.Call → Result (Unit {0}) CallFault → model.Call
 unless id c (Ok _) = c
 unless id c (Err f) = fault id (failure_by f)
+
+-- the call of the lock whose name was read, unless there is none
+abbrev pub of_name : {S : Type 0} → (S → List ℕ) → Data → (List ℕ → model.Call) → Result S CallFault → model.Call
+of_name text id call (Ok name) = call (text name)
+of_name text id call (Err f) = fault id (failure_by f)
