@@ -1,4 +1,5 @@
 pub mod Answered
+pub mod Asked
 pub mod LeftOut
 pub mod Requests
 pub mod Texts

@@ -1,5 +1,5 @@
 -- What a message with a method asks, by the tests in their order.
-use Rattle.std.proofs.Common.{◌≡◌, ℕ, Bool, true, false, cond, List, [], ◌∷◌, map, Option, Some, None, codes, refl, sym, ap, ◌∙◌, if◌then◌else◌}
+use Rattle.std.proofs.Common.{◌≡◌, ℕ, Bool, true, false, cond, List, [], ◌∷◌, drop, map, Option, Some, None, codes, refl, sym, ap, ◌∙◌, if◌then◌else◌}
 use Rattle.std.proofs.lemmas.Option.{same_Some}
 use Rattle.serde_json.specs.Data.{Data, null, boolean, number, string, array, object, Items, no_items, item}
 use Rattle.serde_json.specs.Find.{as_array}
@@ -8,14 +8,14 @@ use Rattle.serde_json.specs.declared.value.Value.{Value}
 use Rattle.odb_atoms.specs.Error.{syntax_error}
 use Rattle.odb_schema.specs.Json.{array_of, items_list, items_of}
 use Rattle.odb_wire.specs.Message.{id_of, is_notification, is_null, method_of, params_of, has_left_out}
-use Rattle.odb_rpc.specs.Message.{Call, answered, reply, passed_over, of_cancel, by_method, call_of, failed, fault, of_db, of_none, of_notification, of_one, of_request, reply_id, unknown_method, with_params}
+use Rattle.odb_rpc.specs.Message.{Call, answered, reply, passed_over, of_cancel, by_method, call_of, failed, fault, of_db, of_lock, of_none, of_notification, of_one, of_request, of_transact, lock, steal, unlock, reply_id, unknown_method, with_params}
 use Rattle.odb_rpc.specs.Served.{served}
 use Rattle.odb_rpc.specs.Represented.Call.{name_of, called}
 use Rattle.odb_rpc.specs.declared.call.Call.TheVariants as call
 use Rattle.odb_rpc.specs.declared.call.Method.{Method}
-use Rattle.odb_rpc.specs.declared.call.Method.TheVariants.{ListDatabases, GetSchema, Echo}
+use Rattle.odb_rpc.specs.declared.call.Method.TheVariants.{ListDatabases, GetSchema, Transact, Lock, Steal, Unlock, Echo}
 use Rattle.odb_rpc.proofs.Answered.{call_of-method, is_null-method, requested}
-use Rattle.odb_rpc.proofs.LeftOut.{whole-at_key}
+use Rattle.odb_rpc.proofs.Asked.{own_id}
 
 -- ---- a method that is served, and one that isn't
 
@@ -45,11 +45,8 @@ module _ (db : List ℕ) (schema : Data) (d : Data) (m : List ℕ) (e : Some m �
   pub left_out-call_of : is_notification d ≡ false → has_left_out d ≡ true → fault (reply_id (id_of d)) (failed syntax_error) ≡ call_of db schema served d
   left_out-call_of is left = sym (is_requested true is left)
 
-  own_id : has_left_out d ≡ false → reply_id (id_of d) ≡ id_of d
-  own_id left = ap (λ t. cond t null (id_of d)) (whole-at_key (codes "id") d left)
-
   pub of_request-call_of : is_notification d ≡ false → has_left_out d ≡ false → of_request db schema served (reply_id (id_of d)) m (params_of d) ≡ call_of db schema served d
-  of_request-call_of is left = ap (λ i. of_request db schema served i m (params_of d)) (own_id left) ∙ sym (is_requested false is left)
+  of_request-call_of is left = ap (λ i. of_request db schema served i m (params_of d)) (own_id d left) ∙ sym (is_requested false is left)
 
   -- the same for a method that isn't served, and for one that is, under its name
   pub unknown-call_of : is_notification d ≡ false → has_left_out d ≡ false → None ≡ (if served m then Some m else None) → fault (reply_id (id_of d)) unknown_method ≡ call_of db schema served d
@@ -66,6 +63,10 @@ module _ (db : List ℕ) (schema : Data) (d : Data) (m : List ℕ) (e : Some m �
 abbrev pub by_name : List ℕ → Data → Data → Method → List Data → Call
 by_name db schema id ListDatabases = of_none id (called db schema id call.ListDatabases)
 by_name db schema id GetSchema = of_one id (λ name. of_db db id name (called db schema id call.GetSchema))
+by_name db schema id Transact = of_transact db id
+by_name db schema id Lock = of_one id (of_lock id (lock id))
+by_name db schema id Steal = of_one id (of_lock id (steal id))
+by_name db schema id Unlock = of_one id (of_lock id (unlock id))
 by_name db schema id Echo = λ params. answered (reply id (array_of params))
 
 listed : (xs : List Value) → items_list (items_view xs) ≡ map view xs
@@ -76,6 +77,10 @@ module _ (db : List ℕ) (schema id : Data) where
   of_method : (k : Method) (params : Data) → with_params id (by_name db schema id k) params ≡ of_request db schema served id (name_of k) params
   of_method ListDatabases params = refl
   of_method GetSchema params = refl
+  of_method Transact params = refl
+  of_method Lock params = refl
+  of_method Steal params = refl
+  of_method Unlock params = refl
   of_method Echo params = refl
 
   pub no_array : (k : Method) (params : Data) → None ≡ as_array params → fault id (failed syntax_error) ≡ of_request db schema served id (name_of k) params
@@ -109,3 +114,8 @@ not_cancel b c e = ap (λ t. cond t c passed_over) (sym e)
 
 pub cancel_by : (o : Option Items) (xs : List Value) → Some (items_view xs) ≡ o → of_cancel (map view xs) ≡ elim o as (λ _. Call) [ None ↦ passed_over | Some ds ↦ of_cancel (items_list ds) ]
 cancel_by o xs e = ap of_cancel (sym (listed xs)) ∙ ap (λ p. elim p as (λ _. Call) [ None ↦ passed_over | Some ds ↦ of_cancel (items_list ds) ]) e
+
+-- ---- the operations of a `transact`
+
+pub operations_by : (o : Option Items) (xs : List Value) → Some (items_view xs) ≡ o → drop 1 (map view xs) ≡ elim o as (λ _. List Data) [ None ↦ [] | Some ds ↦ drop 1 (items_list ds) ]
+operations_by o xs e = ap (drop 1) (sym (listed xs)) ∙ ap (λ p. elim p as (λ _. List Data) [ None ↦ [] | Some ds ↦ drop 1 (items_list ds) ]) e

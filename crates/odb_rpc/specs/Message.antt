@@ -150,7 +150,7 @@ module _ (db : List ℕ) (schema : Data) (serves : List ℕ → Bool) where
             else of_request id m (params_of d)))
       ]
 
--- the operations of a `transact`: what stands behind the first of `params`
+-- the operations of a `transact`: what is behind the first of its `params`
 abbrev pub operations_of : Data → List Data
 operations_of d = elim (as_array (params_of d)) [ None ↦ [] | Some ds ↦ drop 1 (items_list ds) ]
 

@@ -1,5 +1,13 @@
 -- The methods of requests that are served (RFC 7047, 4.1).
 use Rattle.std.specs.Prelude.{ℕ, Bool, ◌||◌, List, codes, bytes_eq}
 
+-- all but the four of monitors: `monitor`, `monitor_cond`, `monitor_cond_change` and `monitor_cancel`
 abbrev pub served : List ℕ → Bool
-served m = bytes_eq m (codes "list_dbs") || (bytes_eq m (codes "get_schema") || bytes_eq m (codes "echo"))
+served m =
+    bytes_eq m (codes "list_dbs")
+    || (bytes_eq m (codes "get_schema")
+    || (bytes_eq m (codes "transact")
+    || (bytes_eq m (codes "lock")
+    || (bytes_eq m (codes "steal")
+    || (bytes_eq m (codes "unlock")
+    || bytes_eq m (codes "echo"))))))

@@ -1,21 +1,22 @@
 //! Calls: what a request or a notification asks (RFC 7047, 4.1).
-ghost use Rattle.std.specs.Prelude.{◌≡◌, ℕ, List, Bool, Some, None, false, map, option_map, if◌then◌else◌};
+ghost use Rattle.std.specs.Prelude.{◌≡◌, ℕ, List, Bool, Some, None, false, drop, map, option_map, if◌then◌else◌};
 ghost use Rattle.serde_json.specs.Data.{Data};
 ghost use Rattle.serde_json.specs.View.{view};
 ghost use Rattle.odb_wire.specs.Message.{has_left_out, id_of, method_of, params_of};
 ghost use Rattle.odb_wire.specs.Shown.{request_data};
 ghost use Rattle.odb_rpc.specs.Message as message;
-ghost use Rattle.odb_rpc.specs.Message.{call_of, has_reply, of_cancel, of_db, of_none, of_notification};
-ghost use Rattle.odb_rpc.specs.Message.{of_one, of_request, reply_id};
+ghost use Rattle.odb_rpc.specs.Message.{call_of, has_reply, of_cancel, of_db, of_lock, of_none};
+ghost use Rattle.odb_rpc.specs.Message.{of_notification, of_one, of_request, of_transact, operations_of};
+ghost use Rattle.odb_rpc.specs.Message.{reply_id};
 ghost use Rattle.odb_rpc.specs.Served.{served};
-ghost use Rattle.odb_rpc.specs.Represented.Call.{call_view, called, name_of, number_of, outcome};
-ghost use Rattle.odb_rpc.specs.Represented.Call.{unless};
+ghost use Rattle.odb_rpc.specs.Represented.Call.{call_view, called, name_of, number_of};
+ghost use Rattle.odb_rpc.specs.Represented.Call.{of_name, outcome, unless};
 ghost use Rattle.odb_rpc.specs.Represented.Printable.{printable_data};
 
 use crate::error::Failure;
 use crate::printable::Printable;
 use odb_atoms::Error;
-use odb_schema::Schema;
+use odb_schema::{Schema, is_id};
 use odb_wire::Request;
 use serde_json::Value;
 
@@ -50,7 +51,7 @@ pub enum CallFault {
     #[error("unknown method")]
     UnknownMethod,
     /// A left-out number anywhere in the request; or `params` that are absent, no array, of another
-    /// length, or have a member of another JSON kind.
+    /// length, or have a member of another JSON kind; or the name of a lock that is no id.
     #[error("syntax error")]
     Syntax,
     /// `params` name another database.
@@ -63,6 +64,10 @@ pub enum CallFault {
 enum Method {
     ListDatabases,
     GetSchema,
+    Transact,
+    Lock,
+    Steal,
+    Unlock,
     Echo,
 }
 
@@ -166,6 +171,10 @@ impl Method {
         match name {
             "list_dbs" => Some(Method::ListDatabases),
             "get_schema" => Some(Method::GetSchema),
+            "transact" => Some(Method::Transact),
+            "lock" => Some(Method::Lock),
+            "steal" => Some(Method::Steal),
+            "unlock" => Some(Method::Unlock),
             "echo" => Some(Method::Echo),
             _ => None,
         }
@@ -182,6 +191,10 @@ impl Method {
         match self {
             Method::ListDatabases => list_databases(items.as_slice()),
             Method::GetSchema => get_schema(items.as_slice(), database),
+            Method::Transact => transact(items.as_slice(), database),
+            Method::Lock => lock(items.as_slice()),
+            Method::Steal => steal(items.as_slice()),
+            Method::Unlock => unlock(items.as_slice()),
             Method::Echo => Ok(Call::Echo(Printable::known(params))),
         }
     }
@@ -211,6 +224,75 @@ fn get_schema<'a>(params: &[Value], database: &str) -> Result<Call<'a>, CallFaul
     }
 }
 
+fn transact<'a>(params: &'a [Value], database: &str) -> Result<Call<'a>, CallFault>
+    ensures { (json id : Data) → outcome database.now json id result
+        ≡ of_transact database.now id (map view params.now) }
+{
+    let [name, operations @ ..] = params else {
+        return Err(CallFault::Syntax);
+    };
+    match check_database(name, database) {
+        Ok(()) => Ok(Call::Transact(operations)),
+        Err(fault) => Err(fault),
+    }
+}
+
+fn lock<'a>(params: &'a [Value]) -> Result<Call<'a>, CallFault>
+    ensures { (db : List ℕ) → (json id : Data) → outcome db json id result
+        ≡ of_one id (of_lock id (message.lock id)) (map view params.now) }
+{
+    match lock_name(params) {
+        Ok(name) => Ok(Call::Lock(name)),
+        Err(fault) => Err(fault),
+    }
+}
+
+fn steal<'a>(params: &'a [Value]) -> Result<Call<'a>, CallFault>
+    ensures { (db : List ℕ) → (json id : Data) → outcome db json id result
+        ≡ of_one id (of_lock id (message.steal id)) (map view params.now) }
+{
+    match lock_name(params) {
+        Ok(name) => Ok(Call::Steal(name)),
+        Err(fault) => Err(fault),
+    }
+}
+
+fn unlock<'a>(params: &'a [Value]) -> Result<Call<'a>, CallFault>
+    ensures { (db : List ℕ) → (json id : Data) → outcome db json id result
+        ≡ of_one id (of_lock id (message.unlock id)) (map view params.now) }
+{
+    match lock_name(params) {
+        Ok(name) => Ok(Call::Unlock(name)),
+        Err(fault) => Err(fault),
+    }
+}
+
+/// The one member of `params`, the name of a lock.
+fn lock_name(params: &[Value]) -> Result<&str, CallFault>
+    ensures { (id : Data) → (call : List ℕ → message.Call)
+        → of_name (λ name. name.now) id call result ≡ of_one id (of_lock id call) (map view params.now) }
+{
+    match params {
+        [name] => id_in(name),
+        _ => Err(CallFault::Syntax),
+    }
+}
+
+/// The id that the JSON is (RFC 7047, 3.1).
+fn id_in(name: &Value) -> Result<&str, CallFault>
+    ensures { (id : Data) → (call : List ℕ → message.Call)
+        → of_name (λ name. name.now) id call result ≡ of_lock id call (view name.now) }
+{
+    let Some(name) = name.as_str() else {
+        return Err(CallFault::Syntax);
+    };
+    if is_id(name) {
+        Ok(name)
+    } else {
+        Err(CallFault::Syntax)
+    }
+}
+
 fn check_database(name: &Value, database: &str) -> Result<(), CallFault>
     ensures { (id : Data) → (c : message.Call)
         → unless id c result ≡ of_db database.now id (view name.now) c }
@@ -225,7 +307,28 @@ fn check_database(name: &Value, database: &str) -> Result<(), CallFault>
     }
 }
 
-/// Whether requests of the method are served: `list_dbs`, `get_schema` and `echo` are. O(1).
+/// The operations of a `transact` (RFC 7047, 4.1.3): the members of `params` behind the first; none
+/// where `params` are no array, or empty. O(1), without memory.
+pub fn operations(request: &Request) -> &[Value]
+    ensures { map view result.now ≡ operations_of (request_data request.now) }
+{
+    match request.params().and_then(Value::as_array) {
+        Some(params) => behind_first(params.as_slice()),
+        None => &[],
+    }
+}
+
+fn behind_first(params: &[Value]) -> &[Value]
+    ensures { map view result.now ≡ drop 1 (map view params.now) }
+{
+    match params {
+        [_, rest @ ..] => rest,
+        [] => &[],
+    }
+}
+
+/// Whether requests of the method are served: all of RFC 7047, 4.1 but `monitor` and
+/// `monitor_cancel` are, and none of ovsdb-server(7)'s. O(1).
 pub fn is_served(method: &str) -> bool
     ensures { result ≡ served method.now }
 {

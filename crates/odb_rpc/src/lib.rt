@@ -8,7 +8,7 @@ mod printable;
 mod tests;
 mod text;
 
-pub use call::{Call, CallFault, has_reply, is_served, reply_id};
+pub use call::{Call, CallFault, has_reply, is_served, operations, reply_id};
 pub use error::Failure;
 pub use odb_atoms::Error;
 pub use printable::Printable;

@@ -2,7 +2,7 @@
 
 use crate::{
     Call, CallFault, Error, Failure, Printable, array_of_one, failure, has_reply, is_served,
-    notice, reply, reply_id, reply_printed,
+    notice, operations, reply, reply_id, reply_printed,
 };
 use odb_wire::{Message, Request, read_pieces};
 use serde_json::Value;
@@ -138,6 +138,105 @@ fn the_method_comes_before_params_and_their_kinds_before_the_name(
     Ok(())
 }
 
+/// What the request asks, for the database `net`: the number of operations or the name of the lock,
+/// or the number of its fault.
+fn asked(alloc: Global, text: &[u8]) -> Result<String, Fail> {
+    let (messages, _) = read_pieces(alloc, &[text])?;
+    let Some(Message::Request(request)) = messages.first() else {
+        return Ok(String::new(alloc));
+    };
+    match Call::for_database(request, "net") {
+        Ok(Call::Transact(operations)) => Ok(format!(in alloc; "transact {}", operations.len())?),
+        Ok(Call::Lock(name)) => Ok(format!(in alloc; "lock {name}")?),
+        Ok(Call::Steal(name)) => Ok(format!(in alloc; "steal {name}")?),
+        Ok(Call::Unlock(name)) => Ok(format!(in alloc; "unlock {name}")?),
+        Ok(_) => Ok(String::new(alloc)),
+        Err(fault) => Ok(format!(in alloc; "fault {}", fault.number())?),
+    }
+}
+
+#[test]
+fn transactions_are_read(rt: HostRuntime) -> Result<(), Fail> {
+    let table = [
+        (&b"[\"net\"]"[..], "transact 0"),
+        (b"[\"net\",{\"op\":\"abort\"},7]", "transact 2"),
+        (b"[\"net\",1.5]", "fault 3"),
+        (b"[]", "fault 3"),
+        (b"[1,{}]", "fault 3"),
+        (b"{}", "fault 3"),
+        (b"[\"x\",1.5]", "fault 3"),
+        (b"[\"x\",{}]", "fault 4"),
+    ];
+    for (params, wanted) in table {
+        let mut text = Vec::from_slice(
+            rt.alloc(),
+            b"{\"method\":\"transact\",\"id\":1,\"params\":",
+        )?;
+        text.extend_from_slice(params)?;
+        text.push(b'}')?;
+        assert_eq!(rt; asked(rt.alloc(), &text)?.as_str(), wanted);
+    }
+    Ok(())
+}
+
+#[test]
+fn names_of_locks_are_ids(rt: HostRuntime) -> Result<(), Fail> {
+    let table = [
+        (
+            &b"{\"method\":\"lock\",\"params\":[\"L\"],\"id\":1}"[..],
+            "lock L",
+        ),
+        (
+            b"{\"method\":\"steal\",\"params\":[\"_a1\"],\"id\":1}",
+            "steal _a1",
+        ),
+        (
+            b"{\"method\":\"unlock\",\"params\":[\"L\"],\"id\":1}",
+            "unlock L",
+        ),
+        (
+            b"{\"method\":\"lock\",\"params\":[\"1a\"],\"id\":1}",
+            "fault 3",
+        ),
+        (
+            b"{\"method\":\"lock\",\"params\":[\"\"],\"id\":1}",
+            "fault 3",
+        ),
+        (b"{\"method\":\"steal\",\"params\":[7],\"id\":1}", "fault 3"),
+        (b"{\"method\":\"unlock\",\"params\":[],\"id\":1}", "fault 3"),
+        (
+            b"{\"method\":\"unlock\",\"params\":[\"L\",\"M\"],\"id\":1}",
+            "fault 3",
+        ),
+        (b"{\"method\":\"unlock\",\"id\":1}", "fault 3"),
+        (b"{\"method\":\"locks\",\"id\":1}", "fault 2"),
+    ];
+    for (text, wanted) in table {
+        assert_eq!(rt; asked(rt.alloc(), text)?.as_str(), wanted);
+    }
+    Ok(())
+}
+
+/// How many operations the messages of a text have.
+fn operations_in(alloc: Global, text: &[u8]) -> Result<usize, Fail> {
+    let (messages, _) = read_pieces(alloc, &[text])?;
+    match messages.first() {
+        Some(Message::Request(request)) => Ok(operations(request).len()),
+        _ => Ok(0),
+    }
+}
+
+#[test]
+fn operations_stand_behind_the_first_of_params(rt: HostRuntime) -> Result<(), Fail> {
+    let two = b"{\"method\":\"transact\",\"params\":[\"net\",{},{}],\"id\":1}";
+    assert_eq!(rt; operations_in(rt.alloc(), two)?, 2);
+    let none = b"{\"method\":\"transact\",\"params\":[],\"id\":1}";
+    assert_eq!(rt; operations_in(rt.alloc(), none)?, 0);
+    let absent = b"{\"method\":\"transact\",\"id\":1}";
+    assert_eq!(rt; operations_in(rt.alloc(), absent)?, 0);
+    Ok(())
+}
+
 /// The id that a notification cancels, if it does.
 fn canceled(alloc: Global, text: &[u8]) -> Result<Option<Vec<u8>>, Fail> {
     let (messages, _) = read_pieces(alloc, &[text])?;
@@ -189,7 +288,8 @@ fn requests_are_answered(rt: HostRuntime) -> Result<(), Fail> {
         }
     }
     assert!(rt; is_served("echo"));
-    assert!(rt; !is_served("transact"));
+    assert!(rt; is_served("transact"));
+    assert!(rt; !is_served("monitor"));
     assert_eq!(rt; CallFault::UnknownDatabase.number(), 4);
     Ok(())
 }

@@ -31,6 +31,10 @@ failure_by fault_is.UnknownDatabase = unknown_database
 abbrev pub name_of : Method → List ℕ
 name_of method.ListDatabases = codes "list_dbs"
 name_of method.GetSchema = codes "get_schema"
+name_of method.Transact = codes "transact"
+name_of method.Lock = codes "lock"
+name_of method.Steal = codes "steal"
+name_of method.Unlock = codes "unlock"
 name_of method.Echo = codes "echo"
 
 -- what is to be done for a call, for the database of this name with this JSON of its schema, under this id of the reply
@@ -59,3 +63,8 @@ call_view db schema d r = outcome db schema (reply_id (id_of d)) r
 abbrev pub unless : Data → model.Call → Result (Unit {0}) CallFault → model.Call
 unless id c (Ok _) = c
 unless id c (Err f) = fault id (failure_by f)
+
+-- the call of the lock whose name was read, unless there is none
+abbrev pub of_name : {S : Type 0} → (S → List ℕ) → Data → (List ℕ → model.Call) → Result S CallFault → model.Call
+of_name text id call (Ok name) = call (text name)
+of_name text id call (Err f) = fault id (failure_by f)
