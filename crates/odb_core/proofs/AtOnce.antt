@@ -1,12 +1,15 @@
 -- Of the methods that are served so far each call is over at once.
-use Rattle.std.proofs.Common.{◌≡◌, ℕ, Bool, true, false, cond, List, [], ◌∷◌, Option, Some, None, IsSome, refl, sym, subst, codes}
+use Rattle.std.proofs.Common.{◌≡◌, ℕ, Bool, true, false, cond, ◌||◌, List, [], ◌∷◌, Option, Some, None, IsSome, Result, Ok, Err, IfOk, option_map, refl, sym, ap, subst, codes, true≢false}
 use Rattle.std.specs.Prelude.{bytes_eq}
 use Rattle.std.proofs.lemmas.Slice.Eq.{bytes_eq-Decides}
 use Rattle.serde_json.specs.Data.{Data, null, boolean, number, string, array, object, Items}
 use Rattle.serde_json.specs.Find.{as_array}
 use Rattle.odb_atoms.specs.Error.{syntax_error}
-use Rattle.odb_core.specs.Represented.Answer.{at_once, call_at}
-use Rattle.odb_rpc.specs.Message.{Call, answered, cancel, failed, fault, of_cancel, of_db, of_none, of_notification, of_one, of_request, passed_over, reply, reply_id, unknown_database, with_params}
+use Rattle.std.specs.declared.alloc.AllocError.{AllocError}
+use Rattle.odb_core.specs.Represented.Answer.{at_once, call_at, said}
+use Rattle.odb_core.specs.Represented.Item.{item_of}
+use Rattle.odb_core.specs.declared.queue.Finished.{Finished}
+use Rattle.odb_rpc.specs.Message.{Call, answered, by_method, cancel, failed, fault, of_cancel, of_db, of_none, of_notification, of_one, of_request, passed_over, reply, reply_id, unknown_database, unknown_method, with_params}
 use Rattle.odb_rpc.specs.Served.{served}
 use Rattle.odb_schema.specs.Json.{array_of, items_list}
 use Rattle.odb_schema.specs.Schema.{Schema}
@@ -61,8 +64,9 @@ module _ (db : List ℕ) (schema id : Data) where
   requests : (m : List ℕ) (params : Data) → IsOver (of_request db schema served id m params)
   requests m params = by (bytes_eq m (codes "list_dbs")) refl (bytes_eq m (codes "get_schema")) refl (bytes_eq m (codes "echo")) refl
     where
-      abbrev Over : List ℕ → Type 0
+      Over : List ℕ → Type 0
       Over n = IsOver (of_request db schema served id n params)
+
       by : (a : Bool) → bytes_eq m (codes "list_dbs") ≡ a → (b : Bool) → bytes_eq m (codes "get_schema") ≡ b → (c : Bool) → bytes_eq m (codes "echo") ≡ c → Over m
       by true e b f c g =
           subst Over (sym ((bytes_eq-Decides m (codes "list_dbs")).0 e)) (params_read (of_none id (answered (reply id (array_of (string db ∷ []))))) (with_none (answered (reply id (array_of (string db ∷ [])))) refl) params)
@@ -70,7 +74,9 @@ module _ (db : List ℕ) (schema id : Data) where
           subst Over (sym ((bytes_eq-Decides m (codes "get_schema")).0 f)) (params_read (of_one id (λ name. of_db db id name (answered (reply id schema)))) (with_one (λ name. of_db db id name (answered (reply id schema))) (in_db (answered (reply id schema)) refl)) params)
       by false e false f true g =
           subst Over (sym ((bytes_eq-Decides m (codes "echo")).0 g)) (params_read (λ params. answered (reply id (array_of params))) (λ _. refl) params)
-      by false e false f false g = rw (e, f, g) refl
+      by false e false f false g =
+          let off : served m ≡ false = λ i. e i || (f i || g i) in
+          subst (λ b. IsOver (elim (cond b (by_method db schema id m) None) as (λ _. Call) [ None ↦ fault id unknown_method | Some call ↦ with_params id call params ])) (sym off) refl
 
 module _ (s : Schema) (d : Data) where
   abbrev with_method : Option (List ℕ) → Call
@@ -87,3 +93,9 @@ module _ (s : Schema) (d : Data) where
 
   pub over_at_once : IsSome (at_once (call_at s d))
   over_at_once = methods (method_of d)
+
+-- what is queued for a call that is over at once
+pub over_item : (d : Data) (o : Option (Option Data)) → IsSome o → (r : Result (Option Finished) AllocError) → IfOk r (λ item. (found : Option Data) → o ≡ Some found → option_map item_of item ≡ option_map (said d) found) → IfOk r (λ item. option_map (option_map (said d)) o ≡ Some (option_map item_of item))
+over_item d None over r h = absurd (true≢false (sym over))
+over_item d (Some found) over (Ok item) h = ap Some (sym (h found refl))
+over_item d (Some found) over (Err e) h = tt

@@ -1,5 +1,6 @@
 -- A table of sessions changes at one session as the finite map that it stands for, and posts are taken back.
-use Rattle.std.proofs.Common.{◌≡◌, ℕ, Bool, true, false, cond, List, [], ◌∷◌, ◌++◌, Option, Some, None, refl, sym, ap, ◌∙◌}
+use Rattle.std.proofs.Common.{◌≡◌, ℕ, Bool, true, false, cond, List, [], ◌∷◌, ◌++◌, Option, Some, None, Result, Ok, Err, refl, sym, ap, ◌∙◌}
+use Rattle.std.specs.Prelude.{OnErr}
 use Rattle.std.specs.BTreeMap as tree
 use Rattle.std.specs.BTreeMap.{BTreeMap}
 use Rattle.std.specs.List.{AllZip}
@@ -67,6 +68,11 @@ module _ (old : BTreeMap ℕ Session) (s : ℕ) where
   taken_off new x y i there changed is =
       ap (λ (m : Sessions). at_session without_last m s) (inserted old new s y changed)
       ∙ undone without_last (sessions_in old) s x y (get-sessions_in old s ∙ there) (ap without_last is ∙ pushed_back i x)
+
+-- what holds whatever the result holds of an error
+pub whatever : {A E : Type 0} (P : Type 0) (r : Result A E) → P → OnErr r P
+whatever P (Ok x) p = tt
+whatever P (Err e) p = p
 
 -- ---- copies
 

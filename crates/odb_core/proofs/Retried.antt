@@ -7,7 +7,7 @@ use Rattle.odb_core.specs.Session.{Item, Session}
 use Rattle.odb_core.specs.World.{Parked, World, is_untried, on_outcome, post_to, retry, retry_all, split_first, try_one, untried, with_parked}
 use Rattle.odb_monitor.proofs.Views.{some_is}
 
-abbrev Split : Type 0
+abbrev pub Split : Type 0
 Split = List Parked × Parked × List Parked
 
 -- how many pass the test
@@ -28,7 +28,7 @@ left-length p (x ∷ xs) =
     elim (p x) as (λ b. cond b (1 + left p xs) (left p xs) ≤ suc (length xs)) [ true ↦ omega (arith, ih) | false ↦ omega (arith, ih) ]
 
 -- what a split says of the list
-record IsSplit (p : Parked → Bool) (xs : List Parked) (t : Split) : Type 0 where
+pub record IsSplit (p : Parked → Bool) (xs : List Parked) (t : Split) : Type 0 where
   long : length xs ≡ length t.0 + suc (length t.2)
   none : left p t.0 ≡ 0
   count : left p xs ≡ suc (left p t.2)
@@ -45,7 +45,7 @@ later p x xs t isnt (Some s) ih e =
       count = ap (λ b. cond b (1 + left p xs) (left p xs)) isnt ∙ k.count;
     })
 
-split : (p : Parked → Bool) (xs : List Parked) (t : Split) → split_first p xs ≡ Some t → IsSplit p xs t
+pub split : (p : Parked → Bool) (xs : List Parked) (t : Split) → split_first p xs ≡ Some t → IsSplit p xs t
 split p [] t e = absurd (true≢false (sym (ap is_some e)))
 split p (x ∷ xs) t e =
     elim (p x) as (λ b. p x ≡ b → cond b (Some (let s : Split = ([], x, xs) in s)) (option_map (λ t. let s : Split = (x ∷ t.0, t.1, t.2) in s) (split_first p xs)) ≡ Some t → IsSplit p (x ∷ xs) t) [
@@ -53,7 +53,7 @@ split p (x ∷ xs) t e =
       | false ↦ λ isnt e. later p x xs t isnt (split_first p xs) (λ s is. split p xs s is) e
     ] refl e
 
-abbrev measure : World → ℕ
+abbrev pub measure : World → ℕ
 measure w = length w.parked * (length w.parked + 1) + left (is_untried w.commits) w.parked
 
 post_commits : (s : ℕ) (is : List Item) (o : Option Session) (w : World) → (post_to s is o w).commits ≡ w.commits
@@ -93,7 +93,7 @@ kept_left test xs ys p none isnt =
     omega (arith, left-append test (xs ++ p ∷ []) ys, left-append test xs (p ∷ []), none, one)
 
 module _ (h : Service) where
-  less : (t : Split) (o : Outcome) (w : World) → IsSplit (is_untried w.commits) w.parked t
+  pub less : (t : Split) (o : Outcome) (w : World) → IsSplit (is_untried w.commits) w.parked t
       → measure (with_parked h (λ ps q. t.0 ++ option_to_list q ++ t.2) w.parked (on_outcome h t.1 o w)) < measure w
   less t (ended r changed) w k =
       conclude (length (t.0 ++ [] ++ t.2)) (length w.parked) (left (is_untried w.commits) w.parked) (left (is_untried (on_outcome h t.1 (ended r changed) w).0.commits) (t.0 ++ [] ++ t.2))
@@ -119,3 +119,45 @@ module _ (h : Service) where
   all_tried w =
       let l : left (is_untried w.commits) w.parked ≤ length w.parked = left-length (is_untried w.commits) w.parked in
       retry_enough ((length w.parked + 1) * (length w.parked + 1)) w (omega (arith, l))
+
+  -- with nothing to try a retrying changes nothing
+  retry_none : (n : ℕ) (w : World) → untried h w ≡ None → retry h n w ≡ w
+  retry_none zero w e = refl
+  retry_none (suc n) w e = ap (λ o. elim o as (λ _. World) [ None ↦ w | Some t ↦ retry h n (try_one h t w) ]) e
+
+  pub retried_none : (w : World) → untried h w ≡ None → retry_all h w ≡ w
+  retried_none w e = retry_none ((length w.parked + 1) * (length w.parked + 1)) w e
+
+  -- rounds that are enough give the same, however many they are
+  same_step : (n m : ℕ) (w : World) → measure w < suc n → measure w < suc m → ((v : World) → measure v < n → measure v < m → retry h n v ≡ retry h m v) → (o : Option Split) → untried h w ≡ o
+      → (elim o as (λ _. World) [ None ↦ w | Some t ↦ retry h n (try_one h t w) ]) ≡ (elim o as (λ _. World) [ None ↦ w | Some t ↦ retry h m (try_one h t w) ])
+  same_step n m w a b ih None is = refl
+  same_step n m w a b ih (Some t) is =
+      let l : measure (try_one h t w) < measure w = less t _ w (split (is_untried w.commits) w.parked t is) in
+      ih (try_one h t w) (omega (arith, l, a)) (omega (arith, l, b))
+
+  enough : (n m : ℕ) (w : World) → measure w < n → measure w < m → retry h n w ≡ retry h m w
+  enough zero m w a b = absurd (omega arith)
+  enough (suc n) zero w a b = absurd (omega arith)
+  enough (suc n) (suc m) w a b = same_step n m w a b (λ v c d. enough n m v c d) (untried h w) refl
+
+  abbrev rounds : World → ℕ
+  rounds w = (length w.parked + 1) * (length w.parked + 1)
+
+  are_enough : (w : World) → measure w < rounds w
+  are_enough w =
+      let l : left (is_untried w.commits) w.parked ≤ length w.parked = left-length (is_untried w.commits) w.parked in
+      omega (arith, l)
+
+  -- a retrying begins with the first that wasn't tried
+  pub retried_next : (w : World) (t : Split) → untried h w ≡ Some t → retry_all h w ≡ retry_all h (try_one h t w)
+  retried_next w t e =
+      let v : World = try_one h t w in
+      let n : ℕ = rounds w in
+      let m : ℕ = rounds v in
+      let l : measure v < measure w = less t _ w (split (is_untried w.commits) w.parked t e) in
+      let a : measure w < n = are_enough w in
+      let b : measure v < m = are_enough v in
+      enough n (suc (n + m)) w a (omega (arith, a))
+      ∙ ap (λ o. elim o as (λ _. World) [ None ↦ w | Some t ↦ retry h (n + m) (try_one h t w) ]) e
+      ∙ enough (n + m) m v (omega (arith, l, a)) b

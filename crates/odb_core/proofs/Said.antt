@@ -10,9 +10,12 @@ use Rattle.odb_core.specs.Represented.Item.{item_of}
 use Rattle.odb_core.specs.Represented.Sessions.{all_but_last, without_last}
 use Rattle.odb_core.specs.declared.queue.Finished.{Finished}
 
-pub asks_nothing : (h : Service) (fs : List Finished) → asked_after h (map item_of fs) [] ≡ []
+asks_nothing : (h : Service) (fs : List Finished) → asked_after h (map item_of fs) [] ≡ []
 asks_nothing h [] = refl
 asks_nothing h (f ∷ fs) = asks_nothing h fs
+
+pub asks_nothing_of : (fs : List Finished) (is : List Item) → map item_of fs ≡ is → (h : Service) → asked_after h is [] ≡ []
+asks_nothing_of fs is e h = ap (λ is. asked_after h is []) (sym e) ∙ asks_nothing h fs
 
 last_dropped : (is : List Item) (i : Item) → all_but_last (is ++ i ∷ []) ≡ is
 last_dropped [] i = refl

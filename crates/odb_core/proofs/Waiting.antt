@@ -33,7 +33,7 @@ use Rattle.odb_rpc.specs.Message.{Failure, failed, unknown_monitor, canceled}
 
 -- ---- no element that passes
 
-none_passes : {A : Type 0} (p : A → Bool) (xs : List A) → split_first p xs ≡ None → Each (λ x. p x ≡ false) xs
+pub none_passes : {A : Type 0} (p : A → Bool) (xs : List A) → split_first p xs ≡ None → Each (λ x. p x ≡ false) xs
 none_passes p [] e = tt
 none_passes {A} p (x ∷ xs) e =
     elim (p x) as (λ b. p x ≡ b → cond b (Some (let s : Split A = ([], x, xs) in s)) (option_map (λ t. let s : Split A = (x ∷ t.0, t.1, t.2) in s) (split_first p xs)) ≡ None → Each (λ x. p x ≡ false) (x ∷ xs)) [
@@ -45,7 +45,7 @@ none_passes {A} p (x ∷ xs) e =
     unmapped None f = refl
     unmapped (Some t) f = absurd (true≢false (ap is_some f))
 
-no_split : {A : Type 0} (p : A → Bool) (xs : List A) → Each (λ x. p x ≡ false) xs → split_first p xs ≡ None
+pub no_split : {A : Type 0} (p : A → Bool) (xs : List A) → Each (λ x. p x ≡ false) xs → split_first p xs ≡ None
 no_split p [] k = refl
 no_split {A} p (x ∷ xs) k =
     ap (λ b. cond b (Some (let s : Split A = ([], x, xs) in s)) (option_map (λ t. let s : Split A = (x ∷ t.0, t.1, t.2) in s) (split_first p xs))) k.0

@@ -1,5 +1,5 @@
 //! Answers to requests, and notices, as they are queued.
-ghost use Rattle.std.specs.Prelude.{◌≡◌, false, map, Option, Some, IsSome, IfOk, option_map};
+ghost use Rattle.std.specs.Prelude.{◌≡◌, false, if◌then◌else◌, codes, map, Option, Some, IsSome, IfOk, option_map};
 ghost use Rattle.serde_json.specs.Data.{Data};
 ghost use Rattle.serde_json.specs.View.{view};
 ghost use Rattle.serde_json.specs.Written.{compact_text, has_float};
@@ -22,8 +22,10 @@ use crate::post::Post;
 use crate::queue::Finished;
 use crate::served_schema::ServedSchema;
 use odb_locks::Notice;
-use odb_rpc::{Call, CallFault, Failure, Printable};
-use odb_rpc::{array_of_one, failure, notice, reply, reply_id, reply_printed};
+use odb_rpc::{
+    Call, CallFault, Failure, Printable, array_of_one, failure, notice, reply, reply_id,
+    reply_printed,
+};
 use odb_wire::Request;
 use serde_json::Value;
 use std::alloc::{AllocError, Global};
@@ -128,11 +130,7 @@ pub(crate) fn replied(
 }
 
 /// The reply of a failure (RFC 7047, 4). O(n) for a text of n bytes.
-pub(crate) fn failed(
-    alloc: Global,
-    request: &Request,
-    why: Failure,
-) -> Result<Finished, AllocError>
+pub(crate) fn failed(alloc: Global, request: &Request, why: Failure) -> Result<Finished, AllocError>
     requires id { has_left_out (id_of (request_data request.now)) ≡ false }
     ensures { IfOk result (λ item. item_of item
         ≡ say (to (request_data request.now)) (message.failure (id_of (request_data request.now)) (failure_of why))) }
@@ -164,12 +162,17 @@ fn noticed(alloc: Global, told: &Notice) -> Result<Finished, AllocError>
     ensures { IfOk result (λ item. item_of item
         ≡ say no_request (world.notice_of (notice_of told.now))) }
 {
-    let method = if told.stolen { "stolen" } else { "locked" };
     let params = array_of_one(alloc, told.name.as_str())?;
-    let text = notice(alloc, method, params.as_slice())?;
+    let text = notice(alloc, method(told), params.as_slice())?;
     Ok(Finished {
         text,
         is_reply: false,
         meaning: Meaning::of_notice(told),
     })
+}
+
+fn method(told: &Notice) -> &'static str
+    ensures { result.now ≡ (if told.now.stolen then codes "stolen" else codes "locked") }
+{
+    if told.stolen { "stolen" } else { "locked" }
 }

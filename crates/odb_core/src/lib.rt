@@ -15,6 +15,7 @@ mod server;
 mod session;
 mod sessions;
 mod state;
+mod submitted;
 #[cfg(test)]
 mod tests;
 

@@ -35,7 +35,7 @@ impl State {
     ) -> Result<(), AllocError>
         requires { has_left_out (id_of (request_data request.now)) ≡ false }
         ensures ok { OnOk result ((h : Service)
-            → on_lock h session (request_data request.now) locked (model.lock self.old.locks session name.now) self.old ≡ self.new) }
+            → on_lock h session (request_data request.now) (locked h) (model.lock self.old.locks session name.now) self.old ≡ self.new) }
         ensures rest { self.new ≡ record (self.old) { locks = self.new.locks; sessions = self.new.sessions } }
         ensures err { OnErr result (self.new ≡ self.old) }
     {
@@ -61,7 +61,7 @@ impl State {
     ) -> Result<(), AllocError>
         requires { has_left_out (id_of (request_data request.now)) ≡ false }
         ensures ok { OnOk result ((h : Service)
-            → on_lock h session (request_data request.now) locked (model.steal self.old.locks session name.now) self.old ≡ self.new) }
+            → on_lock h session (request_data request.now) (locked h) (model.steal self.old.locks session name.now) self.old ≡ self.new) }
         ensures rest { self.new ≡ record (self.old) { locks = self.new.locks; sessions = self.new.sessions } }
         ensures err { OnErr result (self.new ≡ self.old) }
     {
@@ -152,7 +152,7 @@ impl State {
 
 /// The result of `lock` and `steal` (RFC 7047, 4.1.8).
 fn locked(alloc: Global, owns: bool) -> Result<Value, AllocError>
-    ensures value { IfOk result (λ value. view value ≡ locked owns) }
+    ensures value { IfOk result (λ value. (h : Service) → view value ≡ locked h owns) }
     ensures float { IfOk result (λ value. has_float (view value) ≡ false) }
 {
     let mut members = Map::new(alloc);

@@ -1,38 +1,14 @@
 //! Transactions that are tried, and those that wait (RFC 7047, 4.1.3 and 5.2.6).
 
-ghost use Rattle.std.specs.Prelude.{◌≡◌, Some, false, ◌==◌, map, IfErr, IfOk, option_map};
-ghost use Rattle.serde_json.specs.View.{view};
+ghost use Rattle.std.specs.Prelude.{◌≡◌, ◌==◌, IfErr, IfOk};
 ghost use Rattle.serde_json.specs.Written.{compact_text};
-ghost use Rattle.odb_atoms.specs.Represented.Atom.{uuid_of};
-ghost use Rattle.odb_rpc.specs.Message.{operations_of};
-ghost use Rattle.odb_wire.specs.Message.{has_left_out, id_of};
-ghost use Rattle.odb_wire.specs.Shown.{request_data};
 ghost use Rattle.odb_core.specs.Represented.Parked.{parked_as};
 
 use crate::server::SessionId;
-use odb_rpc::{operations, reply_id};
-use odb_wire::Request;
-use serde_json::Value;
+use crate::submitted::Submitted;
 use std::alloc::{AllocError, Global};
 use std::marker::Model;
 use std::sync::Arc;
-use uuid::Uuid;
-
-/// A transaction as it was submitted.
-#[derive(Drop)]
-pub(crate) struct Submitted {
-    /// Who asked for it.
-    pub(crate) session: SessionId,
-    pub(crate) request: Request,
-    /// The text of the request's id.
-    pub(crate) id: Vec<u8>,
-    /// Identifiers for its inserts.
-    pub(crate) fresh: Vec<Uuid>,
-    /// When it arrived, in milliseconds.
-    pub(crate) arrival: u64,
-    ghost whole: { has_left_out (id_of (request_data request)) ≡ false },
-    ghost printed: { id.items ≡ compact_text (id_of (request_data request)) },
-}
 
 /// What a try of a transaction came to.
 #[derive(Clone, Copy, Debug)]
@@ -64,70 +40,12 @@ impl Model for Parked {
     ghost view = { λ p. parked_as (arc_value p.submitted) p.deadline p.tried };
 }
 
-impl Submitted {
-    /// A request of a session with identifiers for its inserts. Where memory is refused the request comes
-    /// back.
-    pub(crate) fn new(
-        alloc: Global,
-        session: SessionId,
-        request: Request,
-        fresh: &[Uuid],
-        arrival: u64,
-    ) -> Result<Submitted, (Request, AllocError)>
-        requires { has_left_out (id_of (request_data request)) ≡ false }
-        ensures session { IfOk result (λ s. s.session ≡ session) }
-        ensures request { IfOk result (λ s. s.request ≡ request) }
-        ensures fresh { IfOk result (λ s. s.fresh.items ≡ fresh.now) }
-        ensures arrival { IfOk result (λ s. s.arrival ≡ arrival) }
-        ensures err { IfErr result (λ back. back.0 ≡ request) }
-    {
-        match parts(alloc, &request, fresh) {
-            Ok((id, fresh)) => Ok(Submitted {
-                session,
-                request,
-                id,
-                fresh,
-                arrival,
-            }),
-            Err(refused) => Err((request, refused)),
-        }
-    }
-
-    /// The request, by value.
-    pub(crate) fn into_request(self) -> Request
-        ensures { result ≡ self.request }
-    {
-        self.request
-    }
-
-    /// Its operations (RFC 7047, 4.1.3).
-    pub(crate) fn operations(&self) -> &[Value]
-        ensures { map view result.now ≡ operations_of (request_data self.now.request) }
-    {
-        operations(&self.request)
-    }
-}
-
-/// The text of the request's id, and a copy of the identifiers.
-fn parts(
-    alloc: Global,
-    request: &Request,
-    fresh: &[Uuid],
-) -> Result<(Vec<u8>, Vec<Uuid>), AllocError>
-    requires { has_left_out (id_of (request_data request.now)) ≡ false }
-    ensures id { IfOk result (λ parts. parts.0.items ≡ compact_text (id_of (request_data request.now))) }
-    ensures fresh { IfOk result (λ parts. parts.1.items ≡ fresh.now) }
-{
-    let id = reply_id(request).to_vec(alloc)?;
-    let fresh = Vec::from_slice(alloc, fresh)?;
-    Ok((id, fresh))
-}
-
 impl Parked {
     ghost use Rattle.std.specs.Arc.{arc_value};
     ghost use Rattle.serde_json.specs.Data.{Data};
     ghost use Rattle.odb_schema.specs.Schema.{Schema};
     ghost use Rattle.odb_core.specs.Server.{served_by};
+    ghost use Rattle.odb_core.specs.Service.{Service};
     ghost use Rattle.odb_core.specs.World.{is_due, is_of, is_untried};
 
     /// A transaction that waits until the deadline, in milliseconds, and was tried at this number of
@@ -171,7 +89,7 @@ impl Parked {
 
     /// Whether its deadline has come by this moment. O(1).
     pub(crate) fn is_due(&self, now: u64) -> bool
-        ensures { result ≡ is_due now self.now.deadline }
+        ensures { (h : Service) → result ≡ is_due h now self.now.deadline }
     {
         match self.deadline {
             Some(deadline) => deadline <= now,

@@ -1,7 +1,14 @@
 //! What the service does with a request, and with a session that closes (RFC 7047, 4.1).
 
-ghost use Rattle.std.specs.Prelude.{◌≡◌, [], false, max, map, None, IfErr, IfOk, OnErr, OnOk};
-ghost use Rattle.std.specs.Prelude.{Some, true};
+ghost use Rattle.std.specs.Prelude.{◌≡◌, ◌==◌, ◌&&◌, [], count_by, false, List, max, map, nat_lt, not, None, Option};
+ghost use Rattle.std.specs.Prelude.{option_map, option_to_list, IfErr, IfOk, OnErr, OnOk, Some, true};
+ghost use Rattle.std.specs.List.{list_any, position};
+ghost use Rattle.serde_json.specs.Data.{Data};
+ghost use Rattle.odb_atoms.specs.FinMap.{get};
+ghost use Rattle.odb_atoms.specs.Uuid as identifiers;
+ghost use Rattle.odb_rpc.specs.Message.{has_reply};
+ghost use Rattle.odb_schema.specs.Schema.{Schema};
+ghost use Rattle.odb_core.specs.Run.{max_owed};
 ghost use Rattle.serde_json.specs.Written.{compact_text};
 ghost use Rattle.odb_atoms.specs.Represented.Atom.{uuid_of};
 ghost use Rattle.odb_rpc.specs.Represented.Printable.{printable_data};
@@ -9,17 +16,17 @@ ghost use Rattle.odb_rpc.specs.Represented.Call.{call_view};
 ghost use Rattle.odb_schema.specs.SchemaText.{write_schema};
 ghost use Rattle.odb_tables.specs.Typed.{IsTyped};
 ghost use Rattle.odb_wire.specs.Shown.{request_data};
-ghost use Rattle.odb_core.specs.Represented.Answer.{call_at};
+ghost use Rattle.odb_core.specs.Represented.Answer.{at_once, call_at, said};
 ghost use Rattle.odb_core.specs.Represented.Requests.{asks_transaction};
 ghost use Rattle.odb_core.specs.Server.{served_by};
 ghost use Rattle.odb_core.specs.Service.{Service};
-ghost use Rattle.odb_core.specs.World.{at_moment, cancel, close, handle, untried};
+ghost use Rattle.odb_core.specs.World.{at_moment, cancel, close, handle, is_due, is_of, owed_replies, post, tick, untried};
 
 use crate::answer::{answer_at_once, failed, notices};
-use crate::parked::{Parked, Submitted};
 use crate::served_schema::ServedSchema;
 use crate::server::SessionId;
 use crate::state::State;
+use crate::submitted::Submitted;
 use odb_rpc::{Call, CallFault, Failure, Printable};
 use odb_schema::Schema;
 use odb_wire::Request;
@@ -59,7 +66,7 @@ impl State {
     /// session isn't open. O(log n + waiting transactions) for n sessions.
     pub(crate) fn is_busy(&self, session: SessionId, request: &Request) -> Option<bool>
         ensures { (h : Service) (s : Schema) → result ≡ option_map (λ x. has_reply (call_at s (request_data request.now))
-            && not (nat_lt (owed_replies h session x self.now) max_owed)) (get self.now.sessions session) }
+            && not (nat_lt (owed_replies h session x self.entry.now) max_owed)) (get self.entry.now.sessions session) }
     {
         let waiting = self.waiting_of(session);
         let asking = self.sessions.get(session)?;
@@ -68,7 +75,7 @@ impl State {
 
     /// How many transactions of the session wait.
     fn waiting_of(&self, session: SessionId) -> usize
-        ensures { result ≡ count_by (λ p. p.session == session) self.now.parked }
+        ensures { result ≡ count_by (λ p. p.session == session) self.entry.now.parked }
     {
         self.parked
             .iter()
@@ -136,7 +143,7 @@ impl State {
         request: &Request,
     ) -> Result<(), AllocError>
         requires { asks_transaction (call_at served.now.schema (request_data request.now)) ≡ false }
-        ensures ok { OnOk result ((fresh : List Uuid) → handle (served_by served.now.schema) session (request_data request.now) fresh
+        ensures ok { OnOk result ((fresh : List identifiers.Uuid) → handle (served_by served.now.schema) session (request_data request.now) fresh
             (call_at served.now.schema (request_data request.now)) self.old ≡ self.new) }
         ensures database { self.new.db ≡ self.old.db }
         ensures tried { (h : Service) → untried h self.old ≡ None → untried h self.new ≡ None }
@@ -159,6 +166,12 @@ impl State {
         request: &Request,
         call: Result<Call<'_>, CallFault>,
     ) -> Result<(), AllocError>
+        requires { call_view served.now.schema.name (write_schema served.now.schema) (request_data request.now) call
+            ≡ call_at served.now.schema (request_data request.now) }
+        ensures ok { OnOk result ((found : Option Data) → at_once (call_at served.now.schema (request_data request.now)) ≡ Some found
+            → post session (option_to_list (option_map (said (request_data request.now)) found)) self.old ≡ self.new) }
+        ensures rest { self.new ≡ record (self.old) { sessions = self.new.sessions } }
+        ensures err { OnErr result (self.new ≡ self.old) }
     {
         match answer_at_once(self.alloc, served, request, call)? {
             Some(item) => self.post(session, item),
@@ -187,7 +200,7 @@ impl State {
 
     /// Where the session's earliest waiting transaction of this id stands.
     fn place_of(&self, session: SessionId, id: &[u8]) -> Option<usize>
-        ensures { (s : Schema) (d : Data) → id.now ≡ compact_text d → result ≡ position (is_of (served_by s) session d) self.now.parked }
+        ensures { (s : Schema) (d : Data) → id.now ≡ compact_text d → result ≡ position (is_of (served_by s) session d) self.entry.now.parked }
     {
         self.parked
             .iter()
@@ -236,7 +249,7 @@ impl State {
 
     /// Whether the deadline of a transaction has come by this moment. O(waiting transactions).
     fn has_due(&self, moment: u64) -> bool
-        ensures { result ≡ list_any (λ p. is_due moment p.deadline) self.now.parked }
+        ensures { (h : Service) → result ≡ list_any (λ p. is_due h moment p.deadline) self.entry.now.parked }
     {
         self.parked.iter().any(|parked| parked.is_due(moment))
     }
@@ -246,8 +259,5 @@ impl State {
 fn asks_transaction(request: &Request, served: &ServedSchema) -> bool
     ensures { result ≡ asks_transaction (call_at served.now.schema (request_data request.now)) }
 {
-    matches!(
-        Call::read(request, &served.schema),
-        Ok(Call::Transact(_))
-    )
+    matches!(Call::read(request, &served.schema), Ok(Call::Transact(_)))
 }

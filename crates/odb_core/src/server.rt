@@ -145,7 +145,10 @@ impl Core {
             Some(true) => return Err((request, Refused::Busy)),
             Some(false) => {}
         }
-        match self.state.take_in(&self.served, session, request, fresh, now) {
+        match self
+            .state
+            .take_in(&self.served, session, request, fresh, now)
+        {
             Ok(()) => Ok(()),
             Err((request, _)) => Err((request, Refused::Memory)),
         }

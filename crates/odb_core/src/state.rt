@@ -1,6 +1,7 @@
 //! The state of the service: what it does with requests, moments and sessions that close.
 
-ghost use Rattle.std.specs.Prelude.{◌≡◌, ◌+◌, ◌==◌, [], ◌∷◌, false, length, map, max, replicate, IfErr, IfOk, None, Some, OnErr, OnOk};
+ghost use Rattle.std.specs.Prelude.{◌≡◌, ◌+◌, ◌++◌, ◌==◌, [], ◌∷◌, false, length, map, max, nat_lt, replicate, IfErr, IfOk, None, Option, Some, OnErr, OnOk};
+ghost use Rattle.std.specs.List.{list_any};
 ghost use Rattle.serde_json.specs.Written.{has_float};
 ghost use Rattle.serde_json.specs.View.{view};
 ghost use Rattle.odb_atoms.specs.FinMap as finite;
@@ -20,11 +21,12 @@ ghost use Rattle.odb_core.specs.Session.{say, to};
 ghost use Rattle.odb_core.specs.Represented.Parked.{outcome_in, parked_as, waiting};
 
 use crate::answer::{failed, notices, replied};
-use crate::parked::{Parked, Submitted, Tried};
+use crate::parked::{Parked, Tried};
 use crate::post::Post;
 use crate::queue::Finished;
 use crate::server::SessionId;
 use crate::sessions::Sessions;
+use crate::submitted::Submitted;
 use odb_commit::{Outcome, transact};
 use odb_locks::Locks;
 use odb_ops::Context;
@@ -98,7 +100,7 @@ impl State {
     /// What a transaction comes to now, as the next commit. Nothing is changed.
     fn outcome(&self, schema: &Schema, asked: &Submitted) -> Result<Outcome, AllocError>
         requires { IsTyped schema.now self.now.db }
-        ensures { IfOk result (λ outcome. Answers schema.now self.now.db outcome (outcome_in schema.now self.now asked.now)) }
+        ensures { IfOk result (λ outcome. Answers schema.now self.entry.now.db outcome (outcome_in schema.now self.entry.now asked.now)) }
     {
         let owned = self.locks.owned(self.alloc, asked.session)?;
         let context = Context {
@@ -108,7 +110,15 @@ impl State {
             owned: owned.as_slice(),
         };
         let number = self.commits.checked_add(1).ok_or(AllocError)?;
-        transact(self.alloc, &self.db, schema, asked.operations(), number, MAX_ROWS, &context)
+        transact(
+            self.alloc,
+            &self.db,
+            schema,
+            asked.operations(),
+            number,
+            MAX_ROWS,
+            &context,
+        )
     }
 
     /// Queues the reply of a transaction that changes nothing. Where memory is refused nothing changes.
@@ -207,7 +217,7 @@ impl State {
 
     /// Where the earliest transaction stands that wasn't tried since the newest commit. O(waiting).
     fn first_untried(&self) -> Option<usize>
-        ensures { result ≡ position (is_untried self.now.commits) self.now.parked }
+        ensures { result ≡ position (is_untried self.entry.now.commits) self.entry.now.parked }
     {
         self.parked
             .iter()
@@ -285,7 +295,7 @@ impl State {
         requires tried { (h : Service) → untried h self.old ≡ None }
         requires outcome { Answers schema.now self.old.db outcome (outcome_in schema.now self.old asked.now) }
         ensures ok { IfOk result (λ tried. (deadline : Option ℕ) → (n : ℕ)
-            → retried (served_by schema.now) (attempt (served_by schema.now) (parked_as asked.now deadline n) self.old) ≡ (self.new, waiting tried asked.now self.old.commits)) }
+            → with_retries (served_by schema.now) (attempt (served_by schema.now) (parked_as asked.now deadline n) self.old) ≡ (self.new, waiting tried asked.now self.old.commits)) }
         ensures typed { IsTyped schema.now self.new.db }
         ensures tried { (h : Service) → untried h self.new ≡ None }
         ensures err { OnErr result (self.new ≡ self.old) }
@@ -329,7 +339,7 @@ impl State {
         requires typed { IsTyped schema.now self.old.db }
         requires tried { (h : Service) → untried h self.old ≡ None }
         ensures ok { IfOk result (λ tried. (deadline : Option ℕ) → (n : ℕ)
-            → retried (served_by schema.now) (attempt (served_by schema.now) (parked_as asked.now deadline n) self.old) ≡ (self.new, waiting tried asked.now self.old.commits)) }
+            → with_retries (served_by schema.now) (attempt (served_by schema.now) (parked_as asked.now deadline n) self.old) ≡ (self.new, waiting tried asked.now self.old.commits)) }
         ensures typed { IsTyped schema.now self.new.db }
         ensures tried { (h : Service) → untried h self.new ≡ None }
         ensures err { OnErr result (self.new ≡ self.old) }
@@ -359,7 +369,7 @@ impl State {
     /// An equal state. O(rows + waiting transactions + claims + bytes queued); an error says that memory was
     /// refused.
     pub(crate) fn try_copy(&self) -> Result<State, AllocError>
-        ensures { IfOk result (λ copy. copy ≡ self.now) }
+        ensures { IfOk result (λ copy. copy ≡ self.entry.now) }
     {
         Ok(State {
             alloc: self.alloc,

@@ -12,8 +12,7 @@ use Rattle.odb_wire.specs.Shown.{request_data}
 use Rattle.odb_core.specs.Service.{max_rows}
 use Rattle.odb_core.specs.World as model
 use Rattle.odb_core.specs.World.{World}
-use Rattle.odb_core.specs.declared.parked.Parked.{Parked}
-use Rattle.odb_core.specs.declared.parked.Submitted.{Submitted}
+use Rattle.odb_core.specs.declared.submitted.Submitted.{Submitted}
 use Rattle.odb_core.specs.declared.parked.Tried.{Tried}
 use Rattle.odb_core.specs.declared.parked.Tried.TheVariants as tried
 

@@ -62,12 +62,13 @@ module _ {M : Type 1} {𝓤 : Ura M} (𝓛 : Logic 𝓤) (at_mem : Memory → SP
         returns ! (look_at ! 0 refl) $ free_all ! refl $
         suffices ! _ (ends_at 𝓛 F.ended stayed held z (vstruct vnil) made (tt, tt) (tt, tt)) $ says ! (refl, refl) $
         pure_i ! (Meaning.the_row.own_val made (vstruct vnil ∷ [])) ((λ vss. (tt, tt)), tt) ((tt, (refl, tt)), tt) $
-        nothing ! $ nothing ! $ fjoin ! $ nothing ! $ move ! (1 ∷ 0 ∷ []) $ done !))
+        nothing ! $ nothing ! $ fjoin ! $ move ! (2 ∷ 0 ∷ 1 ∷ []) $ done !))
 
   meets : (𝓣 : Tables 𝓤 H) → Meets 𝓛 (F.ended).signature (WpFn 𝓤 H 𝓣.C 𝓣.Λ code.function) (closing 𝓛 F.ended held)
   meets 𝓣 =
       walk_Meets 𝓛 F.ended stayed (
-        Goes-dropped 𝓛 1 (RefOf (0 ∷ []) tt (plain (λ _. Meaning.the_row)) (λ _. tt)) yes (λ κs x f. refl), tt,
+        Goes-dropped 𝓛 1 (RefOf (0 ∷ []) tt (plain (λ _. Meaning.the_row)) (λ _. tt)) yes (λ κs x f. refl),
+        tt,
       ) held
       (WpFn 𝓤 H 𝓣.C 𝓣.Λ code.function) (WpFn-mono 𝓤 H 𝓛.laws 𝓣 code.function) (walks 𝓣.C 𝓣.Λ)
 
