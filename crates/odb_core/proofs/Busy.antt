@@ -9,7 +9,7 @@ use Rattle.serde_json.specs.Data.{Data}
 use Rattle.odb_atoms.specs.FinMap.{get}
 use Rattle.odb_core.proofs.Counted.{Raises, asks_for, close_raises, count, count-alike, count-all, count-append, count-is, from_label, handle_raises, in_label, load, none_waits, outs, owed_label, queued, reached_balanced, tick_raises, waiting}
 use Rattle.odb_core.proofs.SessionMaps.{get-empty, get-insert, same_key}
-use Rattle.odb_core.proofs.Sessions.{Each}
+use Rattle.odb_core.proofs.Wells.{Each}
 use Rattle.odb_core.proofs.Steps.{Stepped, opened_world, reached_has}
 use Rattle.odb_core.proofs.Waiting.{IsSettled, begins_settled, open_of, step_settles}
 use Rattle.odb_core.specs.Headline.{HoldsAlways}

@@ -12,7 +12,7 @@ use Rattle.odb_cond.specs.Filter.{Filter}
 use Rattle.odb_core.proofs.Calls.{reads, replies}
 use Rattle.odb_core.proofs.Runs.{other, sent_to-append, sent_to_itself, sent_to_other}
 use Rattle.odb_core.proofs.SessionMaps.{get-empty, get-insert, get-remove, same_key}
-use Rattle.odb_core.proofs.Sessions.{Each}
+use Rattle.odb_core.proofs.Wells.{Each}
 use Rattle.odb_core.proofs.Splits.{Split, split_parts}
 use Rattle.odb_core.proofs.Steps.{Stepped, opened_world, reached_has}
 use Rattle.odb_core.proofs.Updates.{change_to, message_of}

@@ -6,7 +6,7 @@ use Rattle.serde_json.specs.Data.{Data}
 use Rattle.odb_cond.specs.Filter.{Filter}
 use Rattle.odb_core.proofs.Pictures.{client_item, is_now, new_found, pictured_seen}
 use Rattle.odb_core.proofs.Runs.{reached_good}
-use Rattle.odb_core.proofs.Sessions.{Goes, IsShiftOf, IsSyncOf, IsWell, leaves-asks, seen, texts, with_new}
+use Rattle.odb_core.proofs.Wells.{Goes, IsShiftOf, IsSyncOf, IsWell, leaves-asks, seen, texts, with_new}
 use Rattle.odb_core.proofs.Taking.{next_well}
 use Rattle.odb_core.proofs.Updates.{change_to, message_of}
 use Rattle.odb_core.proofs.Whole.{stay_now}

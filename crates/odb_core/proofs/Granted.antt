@@ -9,7 +9,7 @@ use Rattle.odb_atoms.specs.FinMap.{FinMap, get, insert, remove}
 use Rattle.odb_cond.specs.Filter.{Filter}
 use Rattle.odb_core.proofs.Runs.{other}
 use Rattle.odb_core.proofs.SessionMaps.{get-insert, get-remove, same_key}
-use Rattle.odb_core.proofs.Sessions.{leaves-asks}
+use Rattle.odb_core.proofs.Wells.{leaves-asks}
 use Rattle.odb_core.proofs.Splits.{Split}
 use Rattle.odb_core.proofs.Steps.{Stepped, next_is, opened_world}
 use Rattle.odb_core.proofs.Taking.{rest_watch}

@@ -7,7 +7,7 @@ use Rattle.odb_core.proofs.Committed.{all_stays, behind, none_left}
 use Rattle.odb_core.proofs.Owed.{all_owe_nothing}
 use Rattle.odb_core.proofs.Runs.{reached_good}
 use Rattle.odb_core.proofs.SessionMaps.{get-insert, key-itself}
-use Rattle.odb_core.proofs.Sessions.{leaves-asks, texts}
+use Rattle.odb_core.proofs.Wells.{leaves-asks, texts}
 use Rattle.odb_core.proofs.Steps.{Stepped, next_is}
 use Rattle.odb_core.proofs.Worlds.{asked_distinct}
 use Rattle.odb_core.specs.Headline.{ReadsNamed}

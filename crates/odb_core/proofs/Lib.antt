@@ -1,3 +1,4 @@
+pub mod AtOnce
 pub mod Busy
 pub mod Calls
 pub mod Committed
@@ -15,7 +16,7 @@ pub mod Retried
 pub mod Rounds
 pub mod Runs
 pub mod SessionMaps
-pub mod Sessions
+pub mod Wells
 pub mod Splits
 pub mod Steps
 pub mod Taking
@@ -27,3 +28,5 @@ pub mod Whole
 pub mod Worlds
 pub mod SessionsIn
 pub mod Serving
+pub mod Posts
+pub mod Said

@@ -6,7 +6,7 @@ use Rattle.std.proofs.lemmas.Slice.Eq.{bytes_eq-Decides}
 use Rattle.serde_json.specs.Data.{Data}
 use Rattle.odb_cond.specs.Filter.{Filter}
 use Rattle.odb_core.proofs.Runs.{client_from-append, client_from-one, sent_follow}
-use Rattle.odb_core.proofs.Sessions.{Each, IsKept, IsSound, IsThere, seen, texts, with_new}
+use Rattle.odb_core.proofs.Wells.{Each, IsKept, IsSound, IsThere, seen, texts, with_new}
 use Rattle.odb_core.proofs.Taking.{item_heard}
 use Rattle.odb_core.specs.Client.{client, client_from, is_id_of}
 use Rattle.odb_core.specs.Headline.{AllSent, pictured}

@@ -6,7 +6,7 @@ use borrow.Author.Tests.{eqb-true, eq-eqb}
 use Rattle.odb_atoms.specs.FinMap.{FinMap, get}
 use Rattle.odb_core.proofs.Calls.{reads}
 use Rattle.odb_core.proofs.SessionMaps.{get-empty, get-insert, key-itself, same_key}
-use Rattle.odb_core.proofs.Sessions.{leaves-asks, seen}
+use Rattle.odb_core.proofs.Wells.{leaves-asks, seen}
 use Rattle.odb_core.proofs.Steps.{Stepped, opened_world, reached_has}
 use Rattle.odb_core.proofs.Taking.{from_heard, from_well, heard, owed_heard}
 use Rattle.odb_core.proofs.Told.{from_tells, stands_after}

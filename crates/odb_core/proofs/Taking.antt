@@ -7,7 +7,7 @@ use Rattle.std.proofs.lemmas.Slice.Eq.{bytes_eq-Decides}
 use Rattle.serde_json.specs.Data.{Data, null}
 use Rattle.odb_cond.specs.Filter.{Filter}
 use Rattle.odb_core.proofs.Calls.{reply_heard}
-use Rattle.odb_core.proofs.Sessions.{Each, IsKept, IsSound, IsThere, IsWell, StayDistinct, each_append, each_at_first, each_drop_first, followed-refilter, leaves-asks, map-append, order_rest, seen, seen-new, shapes-refilter, texts, with_new}
+use Rattle.odb_core.proofs.Wells.{Each, IsKept, IsSound, IsThere, IsWell, StayDistinct, each_append, each_at_first, each_drop_first, followed-refilter, leaves-asks, map-append, order_rest, seen, seen-new, shapes-refilter, texts, with_new}
 use Rattle.odb_core.proofs.Updates.{IsLike, begun_kept, brought-followed, brought-unseen, brought_kept, change_to, first_heard, message_of, update-heard}
 use Rattle.odb_core.specs.Client.{Picture, client_from, client_step, follow, is_id_of, on_granted, refiltered, try_drop, try_first, with_changes}
 use Rattle.odb_core.specs.Service.{Service}

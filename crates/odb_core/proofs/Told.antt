@@ -3,7 +3,7 @@ use Rattle.std.proofs.Common.{◌≡◌, ℕ, Bool, true, false, cond, List, [],
 use Rattle.std.specs.Prelude.{bytes_eq, option_and_then, option_to_list, find}
 use Rattle.serde_json.specs.Data.{Data}
 use Rattle.odb_cond.specs.Filter.{Filter}
-use Rattle.odb_core.proofs.Sessions.{Goes, InOrder, IsShiftOf, IsSyncOf, order_rest}
+use Rattle.odb_core.proofs.Wells.{Goes, InOrder, IsShiftOf, IsSyncOf, order_rest}
 use Rattle.odb_core.proofs.Updates.{change_to, message_of}
 use Rattle.odb_core.proofs.Worlds.{StandsAfter}
 use Rattle.odb_core.specs.Headline.{WasLast, updated}

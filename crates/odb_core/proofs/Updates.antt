@@ -6,7 +6,7 @@ use Rattle.odb_atoms.specs.FinMap as finmap
 use Rattle.odb_atoms.specs.FinMap.{FinMap, combine, get, map_entries}
 use Rattle.odb_atoms.specs.Row.{Row}
 use Rattle.odb_core.proofs.Calls.{reply_heard}
-use Rattle.odb_core.proofs.Sessions.{IsKept, IsSound, picture, seen, with_view}
+use Rattle.odb_core.proofs.Wells.{IsKept, IsSound, picture, seen, with_view}
 use Rattle.odb_core.specs.Client.{Picture, added, can_follow, client_step, follow, followed, is_id_of, is_of_notation, on_granted, try_first}
 use Rattle.odb_core.specs.Service.{Service}
 use Rattle.odb_core.specs.Session.{Monitor, Out, Watch, begun, brought, first_out, method_of, no_request, shapes, start}

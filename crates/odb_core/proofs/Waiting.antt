@@ -11,7 +11,7 @@ use Rattle.odb_core.proofs.Owed.{eq_turned}
 use Rattle.odb_core.proofs.Retried.{all_tried}
 use Rattle.odb_core.proofs.Rounds.{apart_keys}
 use Rattle.odb_core.proofs.SessionMaps.{get-insert, get-remove, same_key}
-use Rattle.odb_core.proofs.Sessions.{Each, each_append}
+use Rattle.odb_core.proofs.Wells.{Each, each_append}
 use Rattle.odb_core.proofs.Splits.{Split, split_parts}
 use Rattle.odb_core.proofs.Steps.{Stepped, opened_world, reached_has}
 use Rattle.odb_core.proofs.Worlds.{each_before, each_behind, each_filter}

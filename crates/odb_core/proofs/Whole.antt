@@ -8,7 +8,7 @@ use Rattle.odb_cond.specs.Filter.{Filter}
 use Rattle.odb_core.proofs.Pictures.{client_item, is_now, new_found, pictured_seen, same_found}
 use Rattle.odb_core.proofs.Rounds.{IsIn, Took, each_db, each_other, not_in_once, once_once, take_once}
 use Rattle.odb_core.proofs.Runs.{reached_good, step_good}
-use Rattle.odb_core.proofs.Sessions.{Each, Goes, IsSound, IsWell, StayDistinct, followed-refilter, leaves-asks, seen, texts, with_new}
+use Rattle.odb_core.proofs.Wells.{Each, Goes, IsSound, IsWell, StayDistinct, followed-refilter, leaves-asks, seen, texts, with_new}
 use Rattle.odb_core.proofs.Steps.{Stepped, next_is}
 use Rattle.odb_core.proofs.Taking.{IsAway, found_away, itself_like, next_well, refilter_like, rest_away}
 use Rattle.odb_core.proofs.Told.{update_about}

@@ -10,7 +10,7 @@ use Rattle.odb_atoms.specs.FinMap.{FinMap, get, insert, remove}
 use Rattle.odb_cond.specs.Filter.{Filter}
 use Rattle.odb_core.proofs.Calls.{Asks, IsHarmless, IsPlain, Reads, failure_harmless, plain_reply}
 use Rattle.odb_core.proofs.SessionMaps.{get-insert, get-remove, same_key}
-use Rattle.odb_core.proofs.Sessions.{Begins, Each, InOrder, IsSound, IsWell, StayDistinct, at_first-map, drop_first-map, each_append, map-append, order_append, seen, texts}
+use Rattle.odb_core.proofs.Wells.{Begins, Each, InOrder, IsSound, IsWell, StayDistinct, at_first-map, drop_first-map, each_append, map-append, order_append, seen, texts}
 use Rattle.odb_core.proofs.Splits.{Split, split_parts}
 use Rattle.odb_core.specs.Client.{Picture, adds, answer_id, changes, client, client_step, drops}
 use Rattle.odb_core.specs.Headline.{ReadsNamed, WasLast, about}

@@ -19,6 +19,23 @@ pub(crate) struct Finished {
     ghost counted: { is_reply ≡ is_answer meaning.answers },
 }
 
+impl Clone for Finished {
+    ghost use Rattle.std.specs.Prelude.{◌≡◌};
+    ghost use Rattle.odb_core.specs.Represented.Item.{item_of};
+
+    ghost is_clone = { λ x y. item_of y ≡ item_of x };
+
+    /// The same text with the same meaning. O(bytes); an error says that memory was refused.
+    fn clone(&self) -> Result<Finished, AllocError> {
+        let text = self.text.clone()?;
+        Ok(Finished {
+            text,
+            is_reply: self.is_reply,
+            meaning: self.meaning.copy(),
+        })
+    }
+}
+
 /// A session's items, the earliest first, with the count of replies among them.
 #[derive(Drop)]
 pub(crate) struct Queue {
@@ -43,7 +60,8 @@ impl Model for Queue {
 }
 
 impl Queue {
-    ghost use Rattle.odb_core.specs.Session.{replies_in};
+    ghost use Rattle.odb_core.specs.Service.{Service};
+    ghost use Rattle.odb_core.specs.Session.{asked_after, replies_in};
     ghost use Rattle.odb_core.specs.Represented.Item.{item_of};
 
     /// Nothing is queued. It takes no memory.
@@ -63,9 +81,11 @@ impl Queue {
         self.replies
     }
 
-    /// Puts an item at the end. Where memory is refused, nothing changes.
+    /// Puts an item at the end. Where memory is refused, nothing changes. What is queued asks for no
+    /// monitors.
     pub(crate) fn push(&mut self, item: Finished) -> Result<(), AllocError>
         ensures ok { OnOk result (self.new ≡ self.old ++ item_of item ∷ []) }
+        ensures monitors { (h : Service) → asked_after h self.old [] ≡ [] }
         ensures err { OnErr result (self.new ≡ self.old) }
     {
         let is_reply = item.is_reply;
@@ -90,7 +110,8 @@ impl Queue {
 
     /// Takes the newest item out, if there is one. O(1).
     pub(crate) fn pop_newest(&mut self) -> Option<Finished>
-        ensures { self.old ≡ self.new ++ option_to_list (option_map item_of result) }
+        ensures last { self.old ≡ self.new ++ option_to_list (option_map item_of result) }
+        ensures none { IfNone result (self.old ≡ []) }
     {
         let item = self.items.pop_back()?;
         if item.is_reply {
@@ -98,17 +119,17 @@ impl Queue {
         }
         Some(item)
     }
+}
+
+impl Clone for Queue {
+    ghost use Rattle.std.specs.Prelude.{◌≡◌};
+
+    ghost is_clone = { λ x y. y ≡ x };
 
     /// An equal queue. O(bytes queued); an error says that memory was refused.
-    pub(crate) fn try_copy(&self, alloc: Global) -> Result<Queue, AllocError>
-        ensures { IfOk result (λ copy. copy ≡ self.now) }
-    {
-        let mut items = VecDeque::with_capacity(alloc, self.items.len())?;
-        for item in &self.items {
-            items.push_back(item.try_copy()?)?;
-        }
+    fn clone(&self) -> Result<Queue, AllocError> {
         Ok(Queue {
-            items,
+            items: self.items.clone()?,
             replies: self.replies,
         })
     }

@@ -39,8 +39,8 @@ impl Sessions {
     ghost use Rattle.odb_atoms.specs.FinMap.{empty, get, insert, len, remove};
     ghost use Rattle.odb_core.specs.Service.{Service};
     ghost use Rattle.odb_core.specs.Session.{take};
-    ghost use Rattle.odb_core.specs.Represented.Sessions.{all_posted, at_session, ended_in};
-    ghost use Rattle.odb_core.specs.Represented.Sessions.{fresh_session, taken_back, text_taken};
+    ghost use Rattle.odb_core.specs.Represented.Sessions.{all_posted, at_session, ended_in, posted};
+    ghost use Rattle.odb_core.specs.Represented.Sessions.{fresh_session, taken_back, text_taken, without_last};
     ghost use Rattle.odb_tables.specs.Database.{Db};
 
     /// No session is open. It takes no memory.
@@ -90,15 +90,11 @@ impl Sessions {
         ensures back { IfOk result (λ told. taken_back told.items self.new ≡ self.old) }
         ensures err { OnErr result (self.new ≡ self.old) }
     {
-        let mut told = Vec::with_capacity(self.alloc, posts.len())?;
+        let mut told = Vec::new(self.alloc);
         for post in posts {
-            match self.post(post.session, post.item) {
-                Ok(true) => told.push_reserved(post.session),
-                Ok(false) => {}
-                Err(refused) => {
-                    self.take_back(told);
-                    return Err(refused);
-                }
+            if let Err(refused) = self.post(&mut told, post.session, post.item) {
+                self.take_back(told);
+                return Err(refused);
             }
         }
         Ok(told)
@@ -116,21 +112,33 @@ impl Sessions {
         ensures back { IfOk result (λ told. taken_back told.items self.new ≡ self.old) }
         ensures err { OnErr result (self.new ≡ self.old) }
     {
-        let mut told = Vec::with_capacity(self.alloc, 1)?;
-        if self.post(session, reply)? {
-            told.push_reserved(session);
-        }
+        let mut told = Vec::new(self.alloc);
+        self.post(&mut told, session, reply)?;
         Ok(told)
     }
 
-    /// Queues an item for a session, and answers whether it is open.
-    fn post(&mut self, session: SessionId, item: Finished) -> Result<bool, AllocError>
+    /// Queues an item for a session, if it is open, and then adds the session to `told`. Where memory is
+    /// refused nothing changes. O(log n).
+    fn post(
+        &mut self,
+        told: &mut Vec<SessionId>,
+        session: SessionId,
+        item: Finished,
+    ) -> Result<(), AllocError>
+        ensures ok { OnOk result (self.new ≡ posted self.old (session, item_of item)) }
+        ensures monitors { OnOk result ((h : Service)
+            → self.new ≡ at_session (ended_in h (item_of item)) self.old session) }
+        ensures back { OnOk result (taken_back told.new.items self.new ≡ taken_back told.old.items self.old) }
+        ensures err { OnErr result (self.new ≡ self.old) }
+        ensures told { OnErr result (told.new.items ≡ told.old.items) }
     {
+        told.reserve(1)?;
         let Some(to) = self.sessions.get_mut(&session) else {
-            return Ok(false);
+            return Ok(());
         };
         to.push(item)?;
-        Ok(true)
+        told.push_reserved(session);
+        Ok(())
     }
 
     /// The newest item of each of these sessions' queues goes, that of the last session first. O(log n)
@@ -140,10 +148,17 @@ impl Sessions {
     {
         let mut told = told;
         while let Some(session) = told.pop() {
-            if let Some(of) = self.sessions.get_mut(&session) {
-                of.take_back();
-            }
+            self.take_newest_back(session);
         }
+    }
+
+    fn take_newest_back(&mut self, session: SessionId)
+        ensures { self.new ≡ at_session without_last self.old session }
+    {
+        let Some(of) = self.sessions.get_mut(&session) else {
+            return;
+        };
+        of.take_back();
     }
 
     /// Takes the next message of a session, if it is open and has one. O(log n), without memory.

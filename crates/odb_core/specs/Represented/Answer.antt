@@ -24,9 +24,13 @@ at_once (unlock id name) = None
 at_once (cancel id) = Some None
 at_once passed_over = Some None
 
+-- the answer of a call that is over at once, if it has one
+abbrev pub answer_of : Call → Option Data
+answer_of c = unwrap_or (at_once c) None
+
 -- the answer that a request gets at once, null where it gets none
 abbrev pub answer_to : Schema → Data → Data
-answer_to s d = unwrap_or (unwrap_or (at_once (call_at s d)) None) null
+answer_to s d = unwrap_or (answer_of (call_at s d)) null
 
 -- the item that a finished answer is
 abbrev pub said : Data → Data → Item

@@ -1,4 +1,4 @@
-use Rattle.std.proofs.Common.{rules, ◌≡◌, ◌∷◌, [], Some, sym, ap, ◌∙◌}
+use Rattle.std.proofs.Common.{rules, ◌≡◌, ◌∷◌, [], Some, ap, ◌∙◌}
 use Rattle.serde_json.specs.Written.{compact_text}
 use Rattle.odb_rpc.specs.Message.{reply}
 use Rattle.odb_rpc.specs.Represented.Printable.{printable_data}
@@ -12,4 +12,4 @@ returns-in_ok-reply_printed-in-ListDatabases c =
     let named : c.name.result.now ≡ c.args.served.now.schema.name = search rules in
     let printed : c.as_slice.result.now ≡ compact_text names = c.as_slice.ensures.value ∙ listed ∙ ap (λ n. compact_text (array_of (string n ∷ []))) named in
     let text : (d : Data) → c.as_slice.result.now ≡ compact_text d → c.in_ok-reply_printed-in-ListDatabases.field-0.items ≡ compact_text (reply (printable_data c.args.id) d) = search rules in
-    rw c.in-ListDatabases.is (ap (λ t. Some (Some t)) (sym (text names printed)))
+    rw c.in-ListDatabases.is (ap Some (text names printed))

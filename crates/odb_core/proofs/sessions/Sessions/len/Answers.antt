@@ -1,0 +1,10 @@
+use Rattle.std.proofs.Common.{rules, ◌≡◌, sym, ap, ◌∙◌}
+use Rattle.std.specs.BTreeMap.{btree_map_len}
+use Rattle.odb_atoms.specs.FinMap.{len}
+use Rattle.odb_core.proofs.SessionsIn.{len-sessions_in}
+use Rattle.odb_core.proofs.sessions.Sessions.len.Goals as goal
+
+pub returns : goal.returns
+returns c =
+    let counted : c.len.result ≡ btree_map_len c.self.inside.sessions = search rules in
+    counted ∙ sym (len-sessions_in c.self.inside.sessions c.len.ensures.ordered) ∙ ap len c.self.view_is

@@ -1,0 +1,12 @@
+use Rattle.std.proofs.Common.{rules, ◌≡◌, [], ◌∷◌, ◌++◌, sym, ap, ◌∙◌}
+use Rattle.odb_core.specs.Represented.Sessions.{at_session, taken_back, without_last}
+use Rattle.odb_core.proofs.Posts.{taken_back-append}
+use Rattle.odb_core.proofs.sessions.Sessions.take_back.Goals as goal
+
+pub loop-session-preserved : goal.loop-session-preserved
+loop-session-preserved c =
+    let left = c.pop.new.self.items in
+    let popped : c.loop-session.told.items ≡ left ++ c.in-Some.session ∷ [] = search rules in
+    let taken : c.take_newest_back.new.self ≡ at_session without_last c.loop-session.self c.in-Some.session = search rules in
+    ap (taken_back left) taken ∙ sym (taken_back-append left c.in-Some.session c.loop-session.self)
+    ∙ ap (λ ts. taken_back ts c.loop-session.self) (sym popped) ∙ c.loop-session.invariant
