@@ -1,2 +1,3 @@
+pub mod NoFloats
 pub mod Outcomes
 pub mod Typed

@@ -1,5 +1,4 @@
 pub mod AtOnce
-pub mod Attempts
 pub mod Busy
 pub mod Calls
 pub mod Closing
@@ -24,7 +23,7 @@ pub mod Runs
 pub mod Said
 pub mod Serving
 pub mod SessionMaps
-pub mod SessionsIn
+pub mod Wells
 pub mod Splits
 pub mod Steps
 pub mod Taking
@@ -35,3 +34,7 @@ pub mod Waiting
 pub mod Wells
 pub mod Whole
 pub mod Worlds
+pub mod SessionsIn
+pub mod Serving
+pub mod Posts
+pub mod Said

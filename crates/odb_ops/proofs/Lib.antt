@@ -5,6 +5,7 @@ pub mod Faults
 pub mod Fits
 pub mod Inserts
 pub mod Mutates
+pub mod NoFloats
 pub mod Rewrites
 pub mod RowSets
 pub mod Rows
