@@ -63,16 +63,16 @@ module _ (h : Service) where
   either_false true b e = absurd (true≢false e)
   either_false false b e = (refl, e)
 
-  nothing_due : (ps : List Parked) (w : World) → list_any (λ p. is_due h w.now p.deadline) ps ≡ false → try_due h ps w ≡ record w { parked = w.parked ++ ps }
+  nothing_due : (ps : List Parked) (w : World) → list_any (λ p. is_due w.now p.deadline) ps ≡ false → try_due h ps w ≡ record w { parked = w.parked ++ ps }
   nothing_due [] w none = ap (λ qs. record w { parked = qs }) (sym (append-nil w.parked))
   nothing_due (p ∷ ps) w none =
-      let e : (is_due h w.now p.deadline ≡ false) × (list_any (λ p. is_due h w.now p.deadline) ps ≡ false) = either_false _ _ none in
+      let e : (is_due w.now p.deadline ≡ false) × (list_any (λ p. is_due w.now p.deadline) ps ≡ false) = either_false _ _ none in
       let v : World = record w { parked = w.parked ++ p ∷ [] } in
       ap (λ b. try_due h ps (cond b (with_parked h (λ ps o. ps ++ option_to_list o) w.parked (attempt h p w)) v)) e.0
       ∙ nothing_due ps v e.1 ∙ ap (λ qs. record w { parked = qs }) (append_assoc w.parked (p ∷ []) ps)
 
   -- where no deadline has come and each was tried, the moment alone changes
-  pub ticks_idly : (now : ℕ) (w : World) → list_any (λ p. is_due h (at_moment h now w).now p.deadline) w.parked ≡ false → untried h w ≡ None → tick h now w ≡ at_moment h now w
+  pub ticks_idly : (now : ℕ) (w : World) → list_any (λ p. is_due (at_moment h now w).now p.deadline) w.parked ≡ false → untried h w ≡ None → tick h now w ≡ at_moment h now w
   ticks_idly now w none tried =
       ap (retry_all h) (nothing_due w.parked (record (at_moment h now w) { parked = [] }) none) ∙ retried_none h (at_moment h now w) tried
 

@@ -251,7 +251,7 @@ module _ (h : Service) (q : Data → Bool) where
   due_raises : (ps : List Parked) (w : World) → Raises (λ s. waiting s ps) w (try_due h ps w)
   due_raises [] w = stays_raised w
   due_raises (p ∷ ps) w =
-      elim (is_due h w.now p.deadline) as (λ b. Raises (λ s. waiting s (p ∷ ps)) w (try_due h ps (cond b (with_parked h (λ ps o. ps ++ option_to_list o) w.parked (attempt h p w)) (record w { parked = w.parked ++ p ∷ [] })))) [
+      elim (is_due w.now p.deadline) as (λ b. Raises (λ s. waiting s (p ∷ ps)) w (try_due h ps (cond b (with_parked h (λ ps o. ps ++ option_to_list o) w.parked (attempt h p w)) (record w { parked = w.parked ++ p ∷ [] })))) [
         | true ↦ first (with_parked h (λ ps o. ps ++ option_to_list o) w.parked (attempt h p w)) (parks_raise p w) (due_raises ps (with_parked h (λ ps o. ps ++ option_to_list o) w.parked (attempt h p w)))
         | false ↦ first (record w { parked = w.parked ++ p ∷ [] }) (more_wait p w) (due_raises ps (record w { parked = w.parked ++ p ∷ [] }))
       ]

@@ -138,7 +138,7 @@ module _ (h : Service) where
   dues : (ps : List Parked) (w : World) → Same w (try_due h ps w)
   dues [] w = stays w
   dues (p ∷ ps) w =
-      elim (is_due h w.now p.deadline) as (λ b. Same w (try_due h ps (cond b (with_parked h (λ ps o. ps ++ option_to_list o) w.parked (attempt h p w)) (record w { parked = w.parked ++ p ∷ [] })))) [
+      elim (is_due w.now p.deadline) as (λ b. Same w (try_due h ps (cond b (with_parked h (λ ps o. ps ++ option_to_list o) w.parked (attempt h p w)) (record w { parked = w.parked ++ p ∷ [] })))) [
         | true ↦ (let v : World = with_parked h (λ ps o. ps ++ option_to_list o) w.parked (attempt h p w) in asks_then (λ s ks. ks) w v (try_due h ps v) (attempts p w) (dues ps v))
         | false ↦ dues ps (record w { parked = w.parked ++ p ∷ [] })
       ]

@@ -63,7 +63,7 @@ module _ (h : Service) where
 
   -- ---- who is open
 
-  abbrev Same : World → World → Type 0
+  abbrev pub Same : World → World → Type 0
   Same w v = (s : ℕ) → is_some (get v.sessions s) ≡ is_some (get w.sessions s)
 
   by_rest : (w v : World) → rest v ≡ rest w → Same w v
@@ -95,19 +95,19 @@ module _ (h : Service) where
   dues : (ps : List Parked) (w : World) → Same w (try_due h ps w)
   dues [] w = λ s. refl
   dues (p ∷ ps) w =
-      elim (is_due h w.now p.deadline) as (λ b. Same w (try_due h ps (cond b (with_parked h (λ ps o. ps ++ option_to_list o) w.parked (attempt h p w)) (record w { parked = w.parked ++ p ∷ [] })))) [
+      elim (is_due w.now p.deadline) as (λ b. Same w (try_due h ps (cond b (with_parked h (λ ps o. ps ++ option_to_list o) w.parked (attempt h p w)) (record w { parked = w.parked ++ p ∷ [] })))) [
         | true ↦ λ s. dues ps (with_parked h (λ ps o. ps ++ option_to_list o) w.parked (attempt h p w)) s ∙ attempts p w s
         | false ↦ λ s. dues ps (record w { parked = w.parked ++ p ∷ [] }) s
       ]
 
-  ticks : (now : ℕ) (w : World) → Same w (tick h now w)
+  pub ticks : (now : ℕ) (w : World) → Same w (tick h now w)
   ticks now w s = let w0 : World = record (at_moment h now w) { parked = [] } in retries_all (try_due h w.parked w0) s ∙ dues w.parked w0 s
 
   cancelled : (s : ℕ) (o : Option (Split Parked)) (w : World) → Same w (cancel_one h s o w)
   cancelled s None w = λ s. refl
   cancelled s (Some t) w = let w0 : World = record w { parked = t.0 ++ t.2 } in (λ u. ap (λ (r : Rest). r.3 u) (fails h s t.1.request canceled w0))
 
-  handles : (s : ℕ) (d : Data) (fresh : List Uuid) (c : Call) (w : World) → Same w (handle h s d fresh c w)
+  pub handles : (s : ℕ) (d : Data) (fresh : List Uuid) (c : Call) (w : World) → Same w (handle h s d fresh c w)
   handles s d fresh (message.answered m) w = (λ u. ap (λ (r : Rest). r.3 u) (answers h s d m w))
   handles s d fresh (message.transact id ops) w =
       let p : Parked = record { session = s; request = d; operations = ops; fresh = fresh; arrival = w.now; deadline = None; tried = w.commits } in

@@ -1,13 +1,14 @@
 -- What posts make of the world's sessions.
 use Rattle.std.proofs.Common.{◌≡◌, ℕ, Bool, true, false, cond, not, List, [], ◌∷◌, ◌++◌, map, Option, Some, None, refl, sym, ◌∙◌, ap, subst}
-use Rattle.std.specs.Prelude.{fold}
+use Rattle.std.specs.Prelude.{fold, option_to_list}
+use Rattle.std.proofs.lemmas.List.{append-nil}
 use Rattle.std.specs.Ordering.{eq_by_cmp, nat_cmp}
 use Rattle.odb_atoms.specs.FinMap.{get, insert, remove}
 use Rattle.odb_locks.specs.Locks.{Notice}
 use Rattle.odb_core.proofs.Attempts.{post_as}
 use Rattle.odb_core.proofs.SessionMaps.{get-insert, get-remove, key-itself, same_key, same_map}
 use Rattle.odb_core.specs.Session.{Item, Session, no_request, say}
-use Rattle.odb_core.specs.World.{World, notice_of, post, post_notices, push}
+use Rattle.odb_core.specs.World.{World, notice_of, post, post_notices, post_to, push}
 use Rattle.odb_core.specs.Represented.Post.{told_of}
 use Rattle.odb_core.specs.Represented.Sessions.{Sessions, all_posted, at_session, posted}
 
@@ -68,3 +69,24 @@ removed_posted m p s = by (eq_by_cmp nat_cmp p.0 s) refl
 pub removed_all : (m : Sessions) (ps : List (ℕ × Item)) (s : ℕ) → remove (all_posted m ps) s ≡ all_posted (remove m s) ps
 removed_all m [] s = refl
 removed_all m (p ∷ ps) s = removed_all (posted m p) ps s ∙ ap (λ n. all_posted n ps) (removed_posted m p s)
+
+-- ---- nothing that is posted
+
+reinserted : (m : Sessions) (k : ℕ) (x : Session) → get m k ≡ Some x → insert m k x ≡ m
+reinserted m k x e = same_map _ _ (λ q. get-insert m k x q ∙ by (eq_by_cmp nat_cmp q k) q refl)
+  where
+    by : (b : Bool) (q : ℕ) → eq_by_cmp nat_cmp q k ≡ b → cond b (Some x) (get m q) ≡ get m q
+    by true q is = sym e ∙ ap (get m) (sym (same_key q k is))
+    by false q is = refl
+
+pub nothing_posted : (n : ℕ) (w : World) → post n [] w ≡ w
+nothing_posted n w = by (get w.sessions n) refl
+  where
+    by : (o : Option Session) → get w.sessions n ≡ o → post_to n [] o w ≡ w
+    by None e = refl
+    by (Some x) e =
+        let same : push [] x ≡ x = λ i. record { queue = append-nil x.queue i; monitors = x.monitors } in
+        ap (λ m. record w { sessions = m }) (ap (insert w.sessions n) same ∙ reinserted w.sessions n x e)
+
+pub none_posted : (n : ℕ) (is : Option Item) (w : World) → None ≡ is → post n (option_to_list is) w ≡ w
+none_posted n is w e = ap (λ o. post n (option_to_list o) w) (sym e) ∙ nothing_posted n w

@@ -13,7 +13,7 @@ use Rattle.std.specs.Ordering.{eq_by_cmp, is_lt, nat_cmp}
 use Rattle.std.proofs.lemmas.Option.{none-some}
 use Rattle.odb_atoms.specs.FinMap as finite
 use Rattle.odb_core.specs.Session.{Session}
-use Rattle.odb_core.specs.Represented.Core.{AreUnused, sessions_in}
+use Rattle.odb_core.specs.Represented.Core.{sessions_in}
 use Rattle.odb_core.proofs.SessionMaps.{get-empty, get-insert, get-remove, same_key, same_map, turned_about}
 
 get-from_entries : (es : List (ℕ × Session)) (q : ℕ) → finite.get (finite.from_entries {R = nat_cmp} es) q ≡ lookup (is_at (nat_cmp q)) es
@@ -68,32 +68,3 @@ removed old new key changed = same_map _ _ (λ q. after old new key None changed
 
 pub none_in : (m : BTreeMap ℕ Session) → m.entries ≡ [] → sessions_in m ≡ finite.empty
 none_in m none = ap (finite.from_entries {R = nat_cmp}) none
-
--- ---- numbers that are not used yet
-
-pub unused_in_none : (m : BTreeMap ℕ Session) → m.entries ≡ [] → AreUnused m 0
-unused_in_none m none q _ = ap (lookup (is_at (nat_cmp q))) none
-
--- a number that is above them stays unused where another one changes
-pub unused_still : (old new : BTreeMap ℕ Session) (key opened more : ℕ) (slot : Option Session) → Updates old new key slot → AreUnused old opened → opened ≤ more → key < more → AreUnused new more
-unused_still old new key opened more slot changed unused grows lies q above =
-    changed.2 q (by (eq_by_cmp nat_cmp key q) refl) ∙ unused q (omega (arith, above, grows))
-  where
-    by : (b : Bool) → eq_by_cmp nat_cmp key q ≡ b → eq_by_cmp nat_cmp key q ≡ false
-    by true e = absurd (omega (arith, above, lies, same_key key q e))
-    by false e = e
-
--- nor is one used where a session that is there changes
-pub unused_kept : (old new : BTreeMap ℕ Session) (key opened : ℕ) (x : Session) (slot : Option Session) → tree.get nat_cmp old key ≡ Some x → Updates old new key slot → AreUnused old opened → AreUnused new opened
-unused_kept old new key opened x slot there changed unused q above = changed.2 q (by (eq_by_cmp nat_cmp key q) refl) ∙ unused q above
-  where
-    by : (b : Bool) → eq_by_cmp nat_cmp key q ≡ b → eq_by_cmp nat_cmp key q ≡ false
-    by true e = absurd (none-some x (sym (unused q above) ∙ ap (tree.get nat_cmp old) (sym (same_key key q e)) ∙ there))
-    by false e = e
-
-pub unused_removed : (old new : BTreeMap ℕ Session) (key opened : ℕ) → Updates old new key None → AreUnused old opened → AreUnused new opened
-unused_removed old new key opened changed unused q above = changed.0 q ∙ ap (cond (eq_by_cmp nat_cmp key q) None) (unused q above) ∙ same (eq_by_cmp nat_cmp key q)
-  where
-    same : (b : Bool) → cond {A = Option Session} b None None ≡ None
-    same true = refl
-    same false = refl

@@ -213,7 +213,7 @@ module _ (h : Service) where
   dues : (ps : List Parked) (w : World) → AllSoFar w w.parked → AllSoFar w ps → AllSoFar (try_due h ps w) (try_due h ps w).parked
   dues [] w k l = k
   dues (p ∷ ps) w k l =
-      elim (is_due h w.now p.deadline) as (λ b. AllSoFar (try_due h ps (cond b (with_parked h (λ ps o. ps ++ option_to_list o) w.parked (attempt h p w)) (record w { parked = w.parked ++ p ∷ [] }))) (try_due h ps (cond b (with_parked h (λ ps o. ps ++ option_to_list o) w.parked (attempt h p w)) (record w { parked = w.parked ++ p ∷ [] }))).parked) [
+      elim (is_due w.now p.deadline) as (λ b. AllSoFar (try_due h ps (cond b (with_parked h (λ ps o. ps ++ option_to_list o) w.parked (attempt h p w)) (record w { parked = w.parked ++ p ∷ [] }))) (try_due h ps (cond b (with_parked h (λ ps o. ps ++ option_to_list o) w.parked (attempt h p w)) (record w { parked = w.parked ++ p ∷ [] }))).parked) [
         | true ↦ dues ps (with_parked h (λ ps o. ps ++ option_to_list o) w.parked (attempt h p w)) (parks p w l.0.0 k) (attempts p w ps l.0.0 l.1).0
         | false ↦ dues ps (record w { parked = w.parked ++ p ∷ [] }) (each_append (SoFar w.db w.commits w.now (opens w)) w.parked (p ∷ []) k (l.0, tt)) l.1
       ]

@@ -269,7 +269,7 @@ module _ (h : Service) where
   due_keeps : (ps : List Parked) (w : World) → Each WaitsPlainly ps → Keeps w (try_due h ps w)
   due_keeps [] w plain = λ f k. k
   due_keeps (p ∷ ps) w plain =
-      elim (is_due h w.now p.deadline) as (λ b. Keeps w (try_due h ps (cond b (with_parked h (λ ps o. ps ++ option_to_list o) w.parked (attempt h p w)) (record w { parked = w.parked ++ p ∷ [] })))) [
+      elim (is_due w.now p.deadline) as (λ b. Keeps w (try_due h ps (cond b (with_parked h (λ ps o. ps ++ option_to_list o) w.parked (attempt h p w)) (record w { parked = w.parked ++ p ∷ [] })))) [
         | true ↦ λ f k. due_keeps ps (with_parked h (λ ps o. ps ++ option_to_list o) w.parked (attempt h p w)) plain.1 f (parks_behind p w plain.0 f k)
         | false ↦ λ f k. due_keeps ps (record w { parked = w.parked ++ p ∷ [] }) plain.1 f (k.0, each_append WaitsPlainly w.parked (p ∷ []) k.1 (plain.0, tt))
       ]

@@ -73,6 +73,11 @@ split_first p (x ∷ xs) = if p x then Some ([], x, xs) else option_map (λ t. (
 abbrev pub is_untried : ℕ → Parked → Bool
 is_untried commits p = not (p.tried == commits)
 
+-- a deadline that has come
+abbrev pub is_due : ℕ → Option ℕ → Bool
+is_due now None = false
+is_due now (Some t) = nat_le t now
+
 -- what a refused lock is answered
 abbrev pub lock_error : LockFault → Error
 lock_error out_of_turn = syntax_error
@@ -126,10 +131,6 @@ module _ (h : Service) where
   run_transaction p w = retry_all (with_parked (λ ps o. ps ++ option_to_list o) w.parked (attempt p w))
 
   -- the ones whose deadline has come are tried once each, in order of arrival
-  abbrev pub is_due : ℕ → Option ℕ → Bool
-  is_due now None = false
-  is_due now (Some t) = nat_le t now
-
   abbrev pub try_due : List Parked → World → World
   try_due [] w = w
   try_due (p ∷ ps) w =

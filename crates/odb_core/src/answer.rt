@@ -30,22 +30,7 @@ use odb_wire::Request;
 use serde_json::Value;
 use std::alloc::{AllocError, Global};
 
-/// The answer that a request gets at once, if it gets one. O(n) for an answer of n bytes, and a look
-/// at the whole request.
-pub(crate) fn finished(
-    alloc: Global,
-    served: &ServedSchema,
-    request: &Request,
-) -> Result<Option<Finished>, AllocError>
-    ensures item { IfOk result (λ item. option_map (option_map (said (request_data request.now))) (at_once (call_at served.now.schema (request_data request.now)))
-        ≡ Some (option_map item_of item)) }
-    ensures over { IsSome (at_once (call_at served.now.schema (request_data request.now))) }
-{
-    let call = Call::read(request, &served.schema);
-    answer_at_once(alloc, served, request, call)
-}
-
-/// The same for a call that was read already. `None` where there is no answer, and for a call that isn't
+/// The answer of a call that is over at once. `None` where there is no answer, and for a call that isn't
 /// over at once. O(n) for an answer of n bytes.
 pub(crate) fn answer_at_once(
     alloc: Global,

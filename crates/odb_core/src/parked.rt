@@ -89,7 +89,7 @@ impl Parked {
 
     /// Whether its deadline has come by this moment. O(1).
     pub(crate) fn is_due(&self, now: u64) -> bool
-        ensures { (h : Service) → result ≡ is_due h now self.now.deadline }
+        ensures { result ≡ is_due now self.now.deadline }
     {
         match self.deadline {
             Some(deadline) => deadline <= now,

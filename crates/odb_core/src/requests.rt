@@ -249,7 +249,7 @@ impl State {
 
     /// Whether the deadline of a transaction has come by this moment. O(waiting transactions).
     fn has_due(&self, moment: u64) -> bool
-        ensures { (h : Service) → result ≡ list_any (λ p. is_due h moment p.deadline) self.entry.now.parked }
+        ensures { result ≡ list_any (λ p. is_due moment p.deadline) self.entry.now.parked }
     {
         self.parked.iter().any(|parked| parked.is_due(moment))
     }

@@ -1,11 +1,9 @@
 //! A session of the core.
 
-ghost use Rattle.std.specs.Prelude.{◌≡◌, ◌+◌, ◌&&◌, not, nat_lt, [], ◌∷◌, Some, IsSome, OnOk, OnErr, option_map};
+ghost use Rattle.std.specs.Prelude.{◌≡◌, ◌+◌, ◌&&◌, not, nat_lt, [], ◌∷◌, OnOk, OnErr, option_map};
 ghost use Rattle.odb_wire.specs.Shown.{request_data};
 
-use crate::answer::finished;
 use crate::queue::{Finished, Queue};
-use crate::served_schema::ServedSchema;
 use odb_rpc::has_reply;
 use odb_wire::Request;
 use std::alloc::{AllocError, Global};
@@ -38,7 +36,7 @@ impl Session {
     ghost use Rattle.odb_core.specs.World.{push};
     ghost use Rattle.odb_core.specs.Service.{Service};
     ghost use Rattle.odb_tables.specs.Database.{Db};
-    ghost use Rattle.odb_core.specs.Represented.Answer.{answered_with, at_once, call_at};
+    ghost use Rattle.odb_core.specs.Represented.Answer.{call_at};
     ghost use Rattle.odb_core.specs.Run.{max_owed};
     ghost use Rattle.odb_rpc.specs.Message.{has_reply};
     ghost use Rattle.odb_schema.specs.Schema.{Schema};
@@ -51,31 +49,6 @@ impl Session {
         Session {
             queue: Queue::new(alloc),
         }
-    }
-
-    /// Whether the request has a reply while the session is owed as many as it may be. O(1).
-    pub(crate) fn is_busy(&self, request: &Request) -> bool
-        ensures { (schema : Schema) → result ≡ (has_reply (call_at schema (request_data request.now)) && not (nat_lt (replies_in self.now.queue) max_owed)) }
-    {
-        has_reply(request) && self.queue.replies() >= MAX_OWED
-    }
-
-    /// Queues the answer that a request gets at once, if it gets one. Where memory is refused, nothing
-    /// changes.
-    pub(crate) fn answer(
-        &mut self,
-        alloc: Global,
-        served: &ServedSchema,
-        request: &Request,
-    ) -> Result<(), AllocError>
-        ensures ok { OnOk result (answered_with served.now.schema (request_data request.now) self.old ≡ Some self.new) }
-        ensures over { IsSome (at_once (call_at served.now.schema (request_data request.now))) }
-        ensures err { OnErr result (self.new ≡ self.old) }
-    {
-        if let Some(item) = finished(alloc, served, request)? {
-            self.queue.push(item)?;
-        }
-        Ok(())
     }
 
     /// Whether the request has a reply while the session is owed as many as it may be; `waiting` of them

@@ -19,6 +19,7 @@ ghost use Rattle.odb_core.specs.Service.{Service};
 ghost use Rattle.odb_core.specs.Server.{served_by};
 ghost use Rattle.odb_core.specs.Session.{say, to};
 ghost use Rattle.odb_core.specs.Represented.Parked.{outcome_in, parked_as, waiting};
+ghost use Rattle.odb_core.specs.Represented.Retries.{is_commit};
 
 use crate::answer::{failed, notices, replied};
 use crate::parked::{Parked, Tried};
@@ -32,7 +33,7 @@ use odb_locks::Locks;
 use odb_ops::Context;
 use odb_rpc::{Failure, Printable};
 use odb_schema::Schema;
-use odb_tables::{ChangeSet, Db};
+use odb_tables::{ChangeSet, Db, TableChange};
 use odb_wire::Request;
 use serde_json::Value;
 use std::alloc::{AllocError, Global};
@@ -384,16 +385,24 @@ impl State {
 }
 
 /// Whether the outcome changes a row.
-fn is_commit(outcome: &Outcome) -> bool {
+fn is_commit(outcome: &Outcome) -> bool
+    ensures { result ≡ is_commit outcome.now }
+{
     match outcome {
         Outcome::Done { change, .. } => changes_rows(change),
         _ => false,
     }
 }
 
-/// Whether the change has a row.
+/// Whether the change has a row. O(tables).
 fn changes_rows(change: &ChangeSet) -> bool
     ensures { result ≡ list_any (λ c. nat_lt 0 (finite.len c)) change.now }
 {
-    change.tables().iter().any(|table| !table.rows().is_empty())
+    change.tables().iter().any(|table| has_rows(table))
+}
+
+fn has_rows(table: &TableChange) -> bool
+    ensures { result ≡ nat_lt 0 (finite.len table.now) }
+{
+    !table.rows().is_empty()
 }

@@ -1,0 +1,11 @@
+use Rattle.std.proofs.Common.{rules, ◌≡◌, None, sym, ap, ◌∙◌}
+use Rattle.std.specs.Prelude.{option_map}
+use Rattle.odb_wire.specs.Shown.{request_data}
+use Rattle.odb_core.specs.Represented.Answer.{said}
+use Rattle.odb_core.proofs.Posting.{none_posted}
+use Rattle.odb_core.proofs.state.State.answer.Goals as goal
+
+pub returns-in-None-clause-ok : goal.returns-in-None-clause-ok
+returns-in-None-clause-ok c = λ found is.
+    let none : None ≡ option_map (said (request_data c.args.request.now)) found = search rules in
+    none_posted c.args.session _ c.self none
