@@ -29,6 +29,7 @@ pub mod Splits
 pub mod Steps
 pub mod Taking
 pub mod Takings
+pub mod Tellings
 pub mod Told
 pub mod Unused
 pub mod Updates
