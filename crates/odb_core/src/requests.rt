@@ -9,7 +9,6 @@ ghost use Rattle.odb_atoms.specs.Uuid as identifiers;
 ghost use Rattle.odb_rpc.specs.Message.{has_reply};
 ghost use Rattle.odb_schema.specs.Schema.{Schema};
 ghost use Rattle.odb_core.specs.Run.{max_owed};
-ghost use Rattle.serde_json.specs.Written.{compact_text};
 ghost use Rattle.odb_atoms.specs.Represented.Atom.{uuid_of};
 ghost use Rattle.odb_rpc.specs.Represented.Printable.{printable_data};
 ghost use Rattle.odb_rpc.specs.Represented.Call.{call_view};
@@ -17,10 +16,11 @@ ghost use Rattle.odb_schema.specs.SchemaText.{write_schema};
 ghost use Rattle.odb_tables.specs.Typed.{IsTyped};
 ghost use Rattle.odb_wire.specs.Shown.{request_data};
 ghost use Rattle.odb_core.specs.Represented.Answer.{at_once, call_at, said};
+ghost use Rattle.odb_core.specs.Represented.Parked.{is_named};
 ghost use Rattle.odb_core.specs.Represented.Requests.{asks_transaction};
 ghost use Rattle.odb_core.specs.Server.{served_by};
 ghost use Rattle.odb_core.specs.Service.{Service};
-ghost use Rattle.odb_core.specs.World.{at_moment, cancel, close, handle, is_due, is_of, owed_replies, post, tick, untried};
+ghost use Rattle.odb_core.specs.World.{at_moment, cancel, close, handle, is_due, owed_replies, post, tick, untried};
 
 use crate::answer::{answer_at_once, failed, notices};
 use crate::served_schema::ServedSchema;
@@ -200,7 +200,7 @@ impl State {
 
     /// Where the session's earliest waiting transaction of this id stands.
     fn place_of(&self, session: SessionId, id: &[u8]) -> Option<usize>
-        ensures { (s : Schema) (d : Data) → id.now ≡ compact_text d → result ≡ position (is_of (served_by s) session d) self.entry.now.parked }
+        ensures { result ≡ position (is_named session id.now) self.entry.now.parked }
     {
         self.parked
             .iter()
