@@ -1,6 +1,7 @@
 pub mod Attempts
 pub mod Busy
 pub mod Calls
+pub mod Canceled
 pub mod Changed
 pub mod Closing
 pub mod Committed
