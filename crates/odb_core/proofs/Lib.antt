@@ -15,6 +15,7 @@ pub mod Opened
 pub mod Owed
 pub mod Pictures
 pub mod Places
+pub mod Plain
 pub mod Posting
 pub mod Posts
 pub mod Reading
