@@ -27,6 +27,7 @@ pub mod Said
 pub mod Serving
 pub mod SessionMaps
 pub mod SessionsIn
+pub mod Soundness
 pub mod Splits
 pub mod Steps
 pub mod Taking
