@@ -23,7 +23,11 @@ use Rattle.odb_core.specs.Service.{Outcome, Service, outcome_of}
 use Rattle.odb_core.specs.Session.{Item, Session, say, sync, to}
 use Rattle.odb_core.specs.World.{Parked, World, asked_of, attempt, end_transaction, on_outcome, post, post_to, push}
 use Rattle.odb_core.specs.declared.submitted.Submitted.{Submitted}
-use Rattle.odb_core.specs.Represented.Parked.{outcome_in, parked_as}
+use Rattle.odb_core.specs.Represented.Parked.{context_in, outcome_in, parked_as}
+use Rattle.odb_commit.proofs.NoFloats.{done_whole, refused_whole}
+use Rattle.odb_rpc.specs.Message.{operations_of}
+use Rattle.serde_json.specs.Written.{has_float}
+use Rattle.odb_core.specs.Service.{max_rows}
 use Rattle.odb_core.specs.Represented.Sessions.{Sessions, at_session, ended_in}
 
 -- posting changes the sessions alone
@@ -103,3 +107,21 @@ module _ (s : Schema) (db : Db) (results : Vec Value Global) (change : List Chan
   done_is (transaction.done answer new) k = (k.2, subst (IsTyped s) (sym k.3) k.4)
   done_is (transaction.refused answer) k = absurd k
   done_is (transaction.parked t) k = absurd k
+
+-- results have no fractions
+module _ (s : Schema) (w : World) (a : Submitted) where
+  pub done_whole_results : (results : Vec Value Global) (change : List Changes) → Answers s w.db (outcome.Done results change) (outcome_in s w a) → has_float (array_of (results_of results)) ≡ false
+  done_whole_results results change k = by (outcome_in s w a) refl k
+    where
+      by : (m : transaction.Outcome) → outcome_in s w a ≡ m → Answers s w.db (outcome.Done results change) m → has_float (array_of (results_of results)) ≡ false
+      by (transaction.done answer new) e k = subst (λ r. has_float (array_of r) ≡ false) k.0 (done_whole s max_rows (w.commits + 1) (context_in w a) w.db (operations_of (request_data a.request)) answer new e)
+      by (transaction.refused answer) e k = absurd k
+      by (transaction.parked t) e k = absurd k
+
+  pub refused_whole_results : (results : Vec Value Global) → Answers s w.db (outcome.Failed results) (outcome_in s w a) → has_float (array_of (results_of results)) ≡ false
+  refused_whole_results results k = by (outcome_in s w a) refl k
+    where
+      by : (m : transaction.Outcome) → outcome_in s w a ≡ m → Answers s w.db (outcome.Failed results) m → has_float (array_of (results_of results)) ≡ false
+      by (transaction.done answer new) e k = absurd k
+      by (transaction.refused answer) e k = subst (λ r. has_float (array_of r) ≡ false) k (refused_whole s max_rows (w.commits + 1) (context_in w a) w.db (operations_of (request_data a.request)) answer e)
+      by (transaction.parked t) e k = absurd k

@@ -1,5 +1,6 @@
 -- A change of a table has rows where its list isn't empty.
-use Rattle.std.proofs.Common.{◌≡◌, ℕ, Bool, true, false, cond, not, nat_lt, List, [], ◌∷◌, length, Option, Some, None, refl, sym, ◌∙◌, ap}
+use Rattle.std.proofs.Common.{◌≡◌, ℕ, Bool, true, false, cond, not, nat_lt, List, [], ◌∷◌, length, Option, Some, None, refl, sym, ◌∙◌, ap, arith}
+use Rattle.std.proofs.lemmas.Bool.Decides.{nat_tests}
 use Rattle.std.specs.Cmp.{tied_itself}
 use Rattle.std.specs.FinMap.Entries.{find}
 use Rattle.std.specs.Ordering.{eq_by_cmp, is_eq}
@@ -20,19 +21,18 @@ there_is_one m k x e = by m.entries refl
   where
     by : (es : List (Uuid × Sides)) → m.entries ≡ es → nat_lt 0 (length m.entries) ≡ true
     by [] is = absurd (none-some x (sym (ap (find uuid_cmp k) is) ∙ e))
-    by (y ∷ ys) is = ap (λ es. nat_lt 0 (length es)) is
+    by (y ∷ ys) is =
+        let long : nat_lt 0 (length (y ∷ ys)) ≡ true = grind (arith, nat_tests) in
+        ap (λ es. nat_lt 0 (length es)) is ∙ long
 
 none_is_there : nat_lt 0 (finite.len (finite.from_entries {R = uuid_cmp} (let es : List (Uuid × Sides) = [] in es))) ≡ false
 unfolding finite.len finite.empty
 none_is_there = refl
 
--- whether a list has an element
-abbrev pub has_one : {A : Type 0} → List A → Bool
-has_one [] = false
-has_one (x ∷ xs) = true
-
-pub has_rows : (es : List (Uuid × Sides)) → nat_lt 0 (finite.len (finite.from_entries {R = uuid_cmp} es)) ≡ has_one es
+pub has_rows : (es : List (Uuid × Sides)) → nat_lt 0 (finite.len (finite.from_entries {R = uuid_cmp} es)) ≡ nat_lt 0 (length es)
 has_rows [] = none_is_there
 has_rows (e ∷ es) =
+    let long : nat_lt 0 (length (e ∷ es)) ≡ true = grind (arith, nat_tests) in
     there_is_one (finite.from_entries (e ∷ es)) e.0 e.1
     (get-insert uuid_cmp_total (finite.from_entries es) e.0 e.1 e.0 ∙ ap (λ b. cond b (Some e.1) (finite.get (finite.from_entries {R = uuid_cmp} es) e.0)) (ap is_eq (tied_itself uuid_cmp_total e.0)))
+    ∙ sym long

@@ -1,6 +1,6 @@
 -- What a request that is handled says of itself, and what becomes of a transaction.
-use Rattle.std.proofs.Common.{◌≡◌, ℕ, ◌+◌, Bool, true, false, cond, not, List, [], ◌∷◌, ◌++◌, codes, map, Option, Some, None, is_some, refl, sym, ◌∙◌, ap, subst, true≢false}
-use Rattle.std.specs.Prelude.{option_map, option_to_list}
+use Rattle.std.proofs.Common.{◌≡◌, ℕ, zero, suc, ◌<◌, length, take, drop, slice_index_or, ◌+◌, Bool, true, false, cond, not, List, [], ◌∷◌, ◌++◌, codes, map, Option, Some, None, is_some, refl, sym, ◌∙◌, ap, subst, true≢false}
+use Rattle.std.specs.Prelude.{option_map, option_to_list, slice_get}
 use Rattle.std.proofs.lemmas.List.{append-nil}
 use Rattle.serde_json.specs.Data.{Data}
 use Rattle.odb_atoms.specs.Uuid.{Uuid}
@@ -14,10 +14,15 @@ use Rattle.odb_wire.specs.Message.{has_left_out, id_of}
 use Rattle.odb_core.specs.Server.{served_by}
 use Rattle.odb_core.specs.Service.{Outcome, Service, ended, waits}
 use Rattle.odb_core.specs.Session.{Item, Session}
-use Rattle.odb_core.specs.World.{Parked, World, asked_of, attempt, end_transaction, handle, is_untried, on_outcome, post_to, retry_all, run_transaction, split_first, untried, with_parked}
+use Rattle.odb_core.specs.World.{Parked, World, asked_of, attempt, end_transaction, handle, is_untried, on_outcome, post_to, retry_all, run_transaction, split_first, try_one, untried, with_parked}
 use Rattle.odb_core.specs.Represented.Answer.{call_at}
 use Rattle.odb_core.specs.Represented.Requests.{asks_transaction}
-use Rattle.odb_core.specs.Represented.Retries.{with_retries}
+use Rattle.odb_core.specs.Represented.Places.{split_at}
+use Rattle.odb_core.proofs.Places.{put_back, split_parts_at}
+use Rattle.std.specs.List.{insert, remove}
+use Rattle.std.proofs.lemmas.Option.{none-some, same_Some}
+use Rattle.odb_atoms.specs.FinMap.{get}
+use Rattle.odb_locks.specs.Locks.{owns}
 use Rattle.odb_core.proofs.Retried.{retried_none}
 
 module _ (s : Schema) (d : Data) where
@@ -80,34 +85,69 @@ module _ (h : Service) where
   abbrev Tried : Type 0
   Tried = World × Option Parked
 
-  -- one that ends is followed by what it lets go on
-  pub runs_ended : (p : Parked) (w v : World) → with_retries h (attempt h p w) ≡ (v, None) → run_transaction h p w ≡ v
-  runs_ended p w v e = by (attempt h p w).1 refl
-    where
-      one : World
-      one = (attempt h p w).0
+  pub attempt_parked : (p : Parked) (w v : World) (o : Option Parked) → attempt h p w ≡ (v, o) → v.parked ≡ w.parked
+  attempt_parked p w v o e = ap (λ (t : Tried). t.0.parked) (sym e) ∙ still_parked p _ w
 
-      same : record one { parked = w.parked ++ [] } ≡ one
-      same = ap (λ ps. record one { parked = ps }) (append-nil w.parked ∙ sym (still_parked p _ w))
+  abbrev behind : List Parked → Option Parked → List Parked
+  behind ps o = ps ++ option_to_list o
 
-      by : (o : Option Parked) → (attempt h p w).1 ≡ o → run_transaction h p w ≡ v
-      by None is =
-          ap (λ o. retry_all h (record one { parked = w.parked ++ option_to_list o })) is
-          ∙ ap (retry_all h) same
-          ∙ ap (λ (t : Tried). t.0) (ap (λ o. elim o as (λ _. Tried) [ None ↦ (retry_all h one, None) | Some q ↦ (one, Some q) ]) (sym is) ∙ e)
-      by (Some q) is = absurd (true≢false (ap (λ (t : Tried). is_some t.1) (sym (ap (λ o. elim o as (λ _. Tried) [ None ↦ (retry_all h one, None) | Some q ↦ (one, Some q) ]) is) ∙ e)))
+  -- one that ends leaves those that wait, and one that doesn't stands behind them
+  pub behind_ended : (p : Parked) (w v : World) → attempt h p w ≡ (v, None) → with_parked h (λ ps o. ps ++ option_to_list o) w.parked (attempt h p w) ≡ v
+  behind_ended p w v e =
+      ap (λ (t : Tried). record (t.0) { parked = w.parked ++ option_to_list t.1 }) e
+      ∙ ap (λ ps. record v { parked = ps }) (append-nil w.parked ∙ sym (attempt_parked p w v None e))
 
-  -- one that has to wait stands behind the others
-  pub runs_waiting : (p q : Parked) (w v : World) → with_retries h (attempt h p w) ≡ (v, Some q) → untried h (record v { parked = w.parked ++ q ∷ [] }) ≡ None → run_transaction h p w ≡ record v { parked = w.parked ++ q ∷ [] }
-  runs_waiting p q w v e none = by (attempt h p w).1 refl
-    where
-      one : World
-      one = (attempt h p w).0
+  pub behind_waits : (p q : Parked) (w v : World) → attempt h p w ≡ (v, Some q) → with_parked h (λ ps o. ps ++ option_to_list o) w.parked (attempt h p w) ≡ record v { parked = v.parked ++ q ∷ [] }
+  behind_waits p q w v e =
+      ap (λ (t : Tried). record (t.0) { parked = w.parked ++ option_to_list t.1 }) e
+      ∙ ap (λ ps. record v { parked = ps ++ q ∷ [] }) (sym (attempt_parked p w v (Some q) e))
 
-      by : (o : Option Parked) → (attempt h p w).1 ≡ o → run_transaction h p w ≡ record v { parked = w.parked ++ q ∷ [] }
-      by None is = absurd (true≢false (ap (λ (t : Tried). is_some t.1) (sym e ∙ ap (λ o. elim o as (λ _. Tried) [ None ↦ (retry_all h one, None) | Some r ↦ (one, Some r) ]) is)))
-      by (Some r) is =
-          let at : (let t : Tried = (one, Some r) in t) ≡ (v, Some q) = sym (ap (λ o. elim o as (λ _. Tried) [ None ↦ (retry_all h one, None) | Some r ↦ (one, Some r) ]) is) ∙ e in
-          ap (λ o. retry_all h (record one { parked = w.parked ++ option_to_list o })) is
-          ∙ ap (λ (t : Tried). retry_all h (record (t.0) { parked = w.parked ++ option_to_list t.1 })) at
-          ∙ retried_none h (record v { parked = w.parked ++ q ∷ [] }) none
+  -- a new one is followed by what it lets go on
+  pub runs_ended : (p : Parked) (w v : World) → attempt h p w ≡ (v, None) → run_transaction h p w ≡ retry_all h v
+  runs_ended p w v e = ap (retry_all h) (behind_ended p w v e)
+
+  pub runs_alone : (p : Parked) (w v : World) → attempt h p w ≡ (v, None) → untried h v ≡ None → run_transaction h p w ≡ v
+  runs_alone p w v e none = runs_ended p w v e ∙ retried_none h v none
+
+  pub runs_waiting : (p q : Parked) (w : World) → attempt h p w ≡ (w, Some q) → untried h (record w { parked = w.parked ++ q ∷ [] }) ≡ None → run_transaction h p w ≡ record w { parked = w.parked ++ q ∷ [] }
+  runs_waiting p q w e none = ap (retry_all h) (behind_waits p q w w e) ∙ retried_none h (record w { parked = w.parked ++ q ∷ [] }) none
+
+  -- ---- a try at a place
+
+  -- what a try changes has nothing to do with those that wait
+  posted_beside : (n : ℕ) (is : List Item) (o : Option Session) (w : World) (ps : List Parked) → post_to n is o (record w { parked = ps }) ≡ record (post_to n is o w) { parked = ps }
+  posted_beside n is None w ps = refl
+  posted_beside n is (Some x) w ps = refl
+
+  beside : (p : Parked) (o : Outcome) (w : World) (ps : List Parked) → on_outcome h p o (record w { parked = ps }) ≡ (record ((on_outcome h p o w).0) { parked = ps }, (on_outcome h p o w).1)
+  beside p (ended r None) w ps = ap (λ v. let t : Tried = (v, None) in t) (posted_beside p.session _ (get w.sessions p.session) w ps)
+  beside p (ended r (Some db)) w ps = ap (λ v. let t : Tried = (v, None) in t) (posted_beside p.session _ (get w.sessions p.session) (record w { db = db; commits = w.commits + 1 }) ps)
+  beside p (waits moment) w ps = refl
+
+  abbrev Split : Type 0
+  Split = List Parked × Parked × List Parked
+
+  tries_as : (w : World) (k : ℕ) (t : Split) (v : World) (o : Option Parked) → attempt h t.1 (record w { parked = remove w.parked k }) ≡ (v, o) → try_one h t w ≡ record v { parked = t.0 ++ option_to_list o ++ t.2 }
+  tries_as w k t v o e =
+      ap (λ (r : Tried). record (r.0) { parked = t.0 ++ option_to_list r.1 ++ t.2 })
+      (sym (beside t.1 (h.transact w.db (w.commits + 1) t.1.operations (record { fresh = t.1.fresh; arrival = t.1.arrival; now = w.now; owns = owns w.locks t.1.session })) w (remove w.parked k)) ∙ e)
+
+  pub tries_ended : (w : World) (k : ℕ) (t : Split) (x : Parked) (v : World) → split_at w.parked k ≡ Some t → x ≡ t.1 → attempt h x (record w { parked = remove w.parked k }) ≡ (v, None) → try_one h t w ≡ v
+  tries_ended w k t x v at is e =
+      let e' : attempt h t.1 (record w { parked = remove w.parked k }) ≡ (v, None) = ap (λ p. attempt h p (record w { parked = remove w.parked k })) (sym is) ∙ e in
+      let parts : (t.0 ≡ take k w.parked) × (t.2 ≡ drop (suc k) w.parked) × (slice_get w.parked k ≡ Some t.1) = split_parts_at w.parked k t at in
+      tries_as w k t v None e'
+      ∙ ap (λ ps. record v { parked = ps }) (ap (λ ps. ps ++ t.2) (append-nil t.0) ∙ (λ i. parts.0 i ++ parts.1 i) ∙ sym (attempt_parked t.1 (record w { parked = remove w.parked k }) v None e'))
+
+  pub tries_waits : (w : World) (k : ℕ) (t : Split) (x y : Parked) (v : World) → split_at w.parked k ≡ Some t → x ≡ t.1 → k < length w.parked → attempt h x (record w { parked = remove w.parked k }) ≡ (v, Some y) → try_one h t w ≡ record v { parked = insert v.parked k y }
+  tries_waits w k t x y v at is below e =
+      let e' : attempt h t.1 (record w { parked = remove w.parked k }) ≡ (v, Some y) = ap (λ p. attempt h p (record w { parked = remove w.parked k })) (sym is) ∙ e in
+      let parts : (t.0 ≡ take k w.parked) × (t.2 ≡ drop (suc k) w.parked) × (slice_get w.parked k ≡ Some t.1) = split_parts_at w.parked k t at in
+      tries_as w k t v (Some y) e'
+      ∙ ap (λ ps. record v { parked = ps }) ((λ i. (parts.0 i ++ y ∷ []) ++ parts.1 i) ∙ sym (put_back w.parked k y below) ∙ ap (λ ps. insert ps k y) (sym (attempt_parked t.1 (record w { parked = remove w.parked k }) v (Some y) e')))
+
+-- what stands at a place
+pub index_is : {A : Type 0} (xs : List A) (k : ℕ) (x d : A) → slice_get xs k ≡ Some x → slice_index_or xs k d ≡ x
+index_is [] k x d e = absurd (none-some x e)
+index_is (y ∷ ys) zero x d e = same_Some y x e
+index_is (y ∷ ys) (suc k) x d e = index_is ys k x d e

@@ -13,7 +13,7 @@ use Rattle.odb_rpc.specs.Message.{has_reply}
 use Rattle.odb_core.specs.Represented.Answer.{call_at}
 use Rattle.odb_core.specs.Represented.Core.{takes}
 use Rattle.odb_core.specs.Represented.Item.{text_of}
-use Rattle.odb_core.specs.Represented.Sessions.{at_session, fresh_session, text_taken}
+use Rattle.odb_core.specs.Represented.Sessions.{Sessions, at_session, fresh_session, text_taken}
 
 abbrev pub at : Schema → World → ℕ → Server
 at schema w n = record { schema = schema; world = w; opened = n }
@@ -51,10 +51,22 @@ module _ (schema : Schema) (w : World) (n : ℕ) where
     texts None = refl
     texts (Some o) = refl
 
+    abbrev Taken : Type 0
+    Taken = Server × List (ℕ × List ℕ)
+
+    abbrev pub left_of : Option Session → Taken
+    left_of o = (at schema (record w { sessions = elim o as (λ _. Sessions) [ None ↦ w.sessions | Some x ↦ insert w.sessions s (take (served_by schema) w.db x).1 ] }) n, option_to_list (option_map (λ t. let p : ℕ × List ℕ = (s, t) in p) (text_taken (served_by schema) w.db o)))
+
     -- a taking of one session
     pub takes_as : takes (s ∷ []) (at schema w n) ≡ (at schema (record w { sessions = at_session (λ x. (take (served_by schema) w.db x).1) w.sessions s }) n, option_to_list (option_map (λ t. let p : ℕ × List ℕ = (s, t) in p) (text_taken (served_by schema) w.db (get w.sessions s))))
     takes_as = by (get w.sessions s) refl
       where
-        by : (o : Option Session) → get w.sessions s ≡ o → takes (s ∷ []) (at schema w n) ≡ (at schema (record w { sessions = at_session (λ x. (take (served_by schema) w.db x).1) w.sessions s }) n, option_to_list (option_map (λ t. let p : ℕ × List ℕ = (s, t) in p) (text_taken (served_by schema) w.db (get w.sessions s))))
-        by None e = rw e refl
-        by (Some x) e = rw e (ap (λ t. let p : Server × List (ℕ × List ℕ) = (at schema (record w { sessions = insert w.sessions s (take (served_by schema) w.db x).1 }) n, t) in p) (texts (take (served_by schema) w.db x).0))
+        by : (o : Option Session) → get w.sessions s ≡ o → takes (s ∷ []) (at schema w n) ≡ left_of (get w.sessions s)
+        by None e =
+            let none : takes (s ∷ []) (at schema w n) ≡ left_of None = rw e refl in
+            none ∙ ap left_of (sym e)
+        by (Some x) e =
+            let one : takes (s ∷ []) (at schema w n) ≡ (at schema (record w { sessions = insert w.sessions s (take (served_by schema) w.db x).1 }) n, map printed (sent s (take (served_by schema) w.db x).0 ++ [])) = rw e refl in
+            one
+            ∙ ap (λ t. let p : Taken = (at schema (record w { sessions = insert w.sessions s (take (served_by schema) w.db x).1 }) n, t) in p) (texts (take (served_by schema) w.db x).0)
+            ∙ ap left_of (sym e)

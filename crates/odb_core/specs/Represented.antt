@@ -8,5 +8,4 @@ pub mod Places
 pub mod Post
 pub mod Reason
 pub mod Requests
-pub mod Retries
 pub mod Sessions

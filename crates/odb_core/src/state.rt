@@ -1,6 +1,6 @@
 //! The state of the service: what it does with requests, moments and sessions that close.
 
-ghost use Rattle.std.specs.Prelude.{◌≡◌, ◌+◌, ◌++◌, ◌==◌, [], ◌∷◌, false, length, map, max, nat_lt, replicate, IfErr, IfOk, None, Option, Some, OnErr, OnOk};
+ghost use Rattle.std.specs.Prelude.{◌≡◌, ◌↔◌, IsOk, ◌+◌, ◌++◌, ◌==◌, [], ◌∷◌, false, length, map, max, nat_lt, replicate, IfErr, IfOk, None, Option, Some, OnErr, OnOk};
 ghost use Rattle.std.specs.List.{list_any};
 ghost use Rattle.serde_json.specs.Written.{has_float};
 ghost use Rattle.serde_json.specs.View.{view};
@@ -18,8 +18,7 @@ ghost use Rattle.odb_wire.specs.Shown.{request_data};
 ghost use Rattle.odb_core.specs.Service.{Service};
 ghost use Rattle.odb_core.specs.Server.{served_by};
 ghost use Rattle.odb_core.specs.Session.{say, to};
-ghost use Rattle.odb_core.specs.Represented.Parked.{outcome_in, parked_as, waiting};
-ghost use Rattle.odb_core.specs.Represented.Retries.{is_commit};
+ghost use Rattle.odb_core.specs.Represented.Parked.{outcome_in, parked_as, waiting, IsDone};
 
 use crate::answer::{failed, notices, replied};
 use crate::parked::{Parked, Tried};
@@ -77,7 +76,6 @@ impl State {
     ghost use Rattle.odb_core.specs.Represented.Item.{item_of};
     ghost use Rattle.odb_core.specs.Represented.Core.{empty_world};
     ghost use Rattle.odb_core.specs.Represented.Places.{split_at};
-    ghost use Rattle.odb_core.specs.Represented.Retries.{with_retries};
 
     /// Empty tables, at moment 0, with no commit and no session. An error says that memory was refused.
     pub(crate) fn new(
@@ -127,6 +125,7 @@ impl State {
         requires { has_float (array_of (results_of results)) ≡ false }
         ensures ok { OnOk result ((h : Service)
             → end_transaction h asked.now.session (request_data asked.now.request) (array_of (results_of results)) None self.old ≡ self.new) }
+        ensures rest { self.new ≡ record (self.old) { sessions = self.new.sessions } }
         ensures err { OnErr result (self.new ≡ self.old) }
     {
         let reply = replied(self.alloc, &asked.request, &Value::from(results))?;
@@ -136,6 +135,7 @@ impl State {
     /// Queues an item for a session, if it is open. Where memory is refused nothing changes.
     pub(crate) fn post(&mut self, session: SessionId, item: Finished) -> Result<(), AllocError>
         ensures ok { OnOk result (post session (item_of item ∷ []) self.old ≡ self.new) }
+        ensures rest { self.new ≡ record (self.old) { sessions = self.new.sessions } }
         ensures err { OnErr result (self.new ≡ self.old) }
     {
         let mut posts = Vec::with_capacity(self.alloc, 1)?;
@@ -155,6 +155,8 @@ impl State {
         requires change { IsChangeOf self.old.db change }
         ensures ok { OnOk result ((h : Service)
             → end_transaction h asked.now.session (request_data asked.now.request) (array_of (results_of results)) (Some (all_changed_by self.old.db change)) self.old ≡ self.new) }
+        ensures database { OnOk result (self.new.db ≡ all_changed_by self.old.db change) }
+        ensures waiting { self.new.parked ≡ self.old.parked }
         ensures err { OnErr result (self.new ≡ self.old) }
     {
         let number = self.commits.checked_add(1).ok_or(AllocError)?;
@@ -184,6 +186,7 @@ impl State {
         ensures ok { IfOk result (λ tried. (deadline : Option ℕ) → (n : ℕ)
             → attempt (served_by schema.now) (parked_as asked.now deadline n) self.old ≡ (self.new, waiting tried asked.now self.old.commits)) }
         ensures typed { IsTyped schema.now self.new.db }
+        ensures waiting { self.new.parked ≡ self.old.parked }
         ensures err { OnErr result (self.new ≡ self.old) }
     {
         match outcome {
@@ -283,36 +286,9 @@ impl State {
         Ok(())
     }
 
-    /// Carries out what a new transaction came to, and tries those that wait again where it was a commit.
-    /// Where memory is refused nothing changes. A commit while transactions wait works on a copy, O(rows);
-    /// every other costs what it changes.
-    fn conclude_new(
-        &mut self,
-        schema: &Schema,
-        asked: &Submitted,
-        outcome: Outcome,
-    ) -> Result<Tried, AllocError>
-        requires typed { IsTyped schema.now self.old.db }
-        requires tried { (h : Service) → untried h self.old ≡ None }
-        requires outcome { Answers schema.now self.old.db outcome (outcome_in schema.now self.old asked.now) }
-        ensures ok { IfOk result (λ tried. (deadline : Option ℕ) → (n : ℕ)
-            → with_retries (served_by schema.now) (attempt (served_by schema.now) (parked_as asked.now deadline n) self.old) ≡ (self.new, waiting tried asked.now self.old.commits)) }
-        ensures typed { IsTyped schema.now self.new.db }
-        ensures tried { (h : Service) → untried h self.new ≡ None }
-        ensures err { OnErr result (self.new ≡ self.old) }
-    {
-        if self.parked.is_empty() || !is_commit(&outcome) {
-            return self.conclude(schema, asked, outcome);
-        }
-        let mut copy = self.try_copy()?;
-        let tried = copy.conclude(schema, asked, outcome)?;
-        copy.retry_all(schema)?;
-        *self = copy;
-        Ok(tried)
-    }
-
     /// A new transaction (RFC 7047, 4.1.3): it ends, or waits behind the others. Where memory is refused
-    /// nothing changes, and it comes back.
+    /// nothing changes, and it comes back. A commit while transactions wait works on a copy, O(rows); every
+    /// other costs what it changes.
     pub(crate) fn transact(
         &mut self,
         schema: &Schema,
@@ -326,27 +302,50 @@ impl State {
         ensures err { OnErr result (self.new ≡ self.old) }
         ensures back { IfErr result (λ back. back.0 ≡ asked) }
     {
-        match self.try_new(schema, &asked) {
-            Ok(Tried::Ended) => {
-                drop(asked);
-                Ok(())
+        match self.outcome(schema, &asked) {
+            Ok(Outcome::Parked { deadline }) => self.park(asked, deadline),
+            Ok(Outcome::Failed { results }) => {
+                let ended = self.reply(&asked, results);
+                or_back(ended, asked)
             }
-            Ok(Tried::Waits { deadline }) => self.park(asked, deadline),
+            Ok(Outcome::Done { results, change }) => {
+                let ended = self.complete(schema, &asked, results, change);
+                or_back(ended, asked)
+            }
             Err(refused) => Err((asked, refused)),
         }
     }
 
-    fn try_new(&mut self, schema: &Schema, asked: &Submitted) -> Result<Tried, AllocError>
+    /// Makes a transaction's change, and tries those that wait again where it is a commit. Where memory is
+    /// refused nothing changes.
+    fn complete(
+        &mut self,
+        schema: &Schema,
+        asked: &Submitted,
+        results: Vec<Value>,
+        change: ChangeSet,
+    ) -> Result<(), AllocError>
         requires typed { IsTyped schema.now self.old.db }
         requires tried { (h : Service) → untried h self.old ≡ None }
-        ensures ok { IfOk result (λ tried. (deadline : Option ℕ) → (n : ℕ)
-            → with_retries (served_by schema.now) (attempt (served_by schema.now) (parked_as asked.now deadline n) self.old) ≡ (self.new, waiting tried asked.now self.old.commits)) }
+        requires outcome { IsDone schema.now self.old asked.now results change }
+        ensures ok { OnOk result (run_transaction (served_by schema.now) (parked_as asked.now None self.old.commits) self.old ≡ self.new) }
         ensures typed { IsTyped schema.now self.new.db }
         ensures tried { (h : Service) → untried h self.new ≡ None }
         ensures err { OnErr result (self.new ≡ self.old) }
     {
-        let outcome = self.outcome(schema, asked)?;
-        self.conclude_new(schema, asked, outcome)
+        if !changes_rows(&change) {
+            self.reply(asked, results)?;
+            return Ok(());
+        }
+        if self.parked.is_empty() {
+            self.commit(asked, results, change)?;
+            return Ok(());
+        }
+        let mut copy = self.try_copy()?;
+        copy.commit(asked, results, change)?;
+        copy.retry_all(schema)?;
+        *self = copy;
+        Ok(())
     }
 
     /// Puts a transaction behind those that wait. Where memory is refused it comes back.
@@ -384,13 +383,17 @@ impl State {
     }
 }
 
-/// Whether the outcome changes a row.
-fn is_commit(outcome: &Outcome) -> bool
-    ensures { result ≡ is_commit outcome.now }
+/// The transaction comes back where memory was refused.
+fn or_back(ended: Result<(), AllocError>, asked: Submitted) -> Result<(), (Submitted, AllocError)>
+    ensures ok { IsOk result ↔ IsOk ended }
+    ensures back { IfErr result (λ back. back.0 ≡ asked) }
 {
-    match outcome {
-        Outcome::Done { change, .. } => changes_rows(change),
-        _ => false,
+    match ended {
+        Ok(()) => {
+            drop(asked);
+            Ok(())
+        }
+        Err(refused) => Err((asked, refused)),
     }
 }
 

@@ -1,5 +1,10 @@
 -- What the transactions of the code stand for.
-use Rattle.std.specs.Prelude.{ℕ, ◌+◌, ◌==◌, ◌&&◌, Bool, List, bytes_eq, map, Option, Some, None}
+use Rattle.std.specs.Prelude.{ℕ, ◌+◌, ◌==◌, ◌&&◌, Bool, List, bytes_eq, map, Option, Some, None, Vec}
+use Rattle.std.specs.declared.alloc.Global.{Global}
+use Rattle.serde_json.specs.declared.value.Value.{Value}
+use Rattle.odb_commit.specs.Represented.Outcome.{Answers}
+use Rattle.odb_commit.specs.declared.transaction.Outcome.TheVariants as outcome
+use Rattle.odb_tables.specs.Change.{Changes}
 use Rattle.std.specs.Arc.{arc_value}
 use Rattle.serde_json.specs.Written.{compact_text}
 use Rattle.odb_atoms.specs.Represented.Atom.{uuid_of}
@@ -38,3 +43,7 @@ outcome_in s w a = transact s max_rows (w.commits + 1) (context_in w a) w.db (op
 abbrev pub waiting : Tried → Submitted → ℕ → Option model.Parked
 waiting tried.Ended a commits = None
 waiting (tried.Waits deadline) a commits = Some (parked_as a deadline commits)
+
+-- the transaction goes through with these results and this change
+abbrev pub IsDone : Schema → World → Submitted → Vec Value Global → List Changes → Type 0
+IsDone s w a results change = Answers s w.db (outcome.Done results change) (outcome_in s w a)

@@ -1,0 +1,76 @@
+use Rattle.std.proofs.Common.{rules, ◌≡◌, true, false, length, List, [], Option, Some, None, sym, ap, ◌∙◌}
+use Rattle.std.proofs.lemmas.List.{nil_from_length}
+use Rattle.odb_ops.specs.Represented.Ran.{results_of}
+use Rattle.odb_schema.specs.Json.{array_of}
+use Rattle.odb_tables.specs.Change.{all_changed_by}
+use Rattle.odb_wire.specs.Shown.{request_data}
+use Rattle.odb_core.specs.Server.{served_by}
+use Rattle.odb_core.specs.World.{Parked, World, attempt, end_transaction, is_untried, split_first, untried}
+use Rattle.odb_core.specs.Represented.Parked.{parked_as}
+use Rattle.odb_core.proofs.Attempts.{done_as, done_whole_results, has_rows}
+use Rattle.odb_core.proofs.Handling.{runs_alone, runs_ended}
+use Rattle.odb_core.proofs.state.State.complete.Goals as goal
+
+pub reply-requires : goal.reply-requires
+reply-requires c = done_whole_results c.args.schema.now c.args.self.now c.args.asked.now c.args.results c.args.change c.requires.outcome
+
+pub commit-requires-clause-float : goal.commit-requires-clause-float
+commit-requires-clause-float c = done_whole_results c.args.schema.now c.args.self.now c.args.asked.now c.args.results c.args.change c.requires.outcome
+
+pub commit-requires-2-clause-float : goal.commit-requires-2-clause-float
+commit-requires-2-clause-float c = done_whole_results c.args.schema.now c.args.self.now c.args.asked.now c.args.results c.args.change c.requires.outcome
+
+pub returns-then-not-changes_rows-clause-tried : goal.returns-then-not-changes_rows-clause-tried
+returns-then-not-changes_rows-clause-tried c = λ h. ap (untried h) c.reply.ensures.rest ∙ c.requires.tried h
+
+pub returns-then-not-changes_rows-clause-ok : goal.returns-then-not-changes_rows-clause-ok
+returns-then-not-changes_rows-clause-ok c =
+    let s = c.args.schema.now in
+    let w : World = c.args.self.now in
+    let a = c.args.asked.now in
+    let h = served_by s in
+    let v : World = c.reply.new.self in
+    let none : has_rows s w a None w.commits c.args.change ≡ false = search rules in
+    let ended : attempt h (parked_as a None w.commits) w ≡ (v, None) =
+        done_as s w a None w.commits c.args.results c.args.change false none c.requires.outcome
+        ∙ (λ i. let t : World × Option Parked = (c.in_ok-reply.ensures.ok h i, None) in t)
+    in
+    runs_alone h (parked_as a None w.commits) w v ended (ap (untried h) c.reply.ensures.rest ∙ c.requires.tried h)
+
+pub returns-then-is_empty-clause-ok : goal.returns-then-is_empty-clause-ok
+returns-then-is_empty-clause-ok c =
+    let s = c.args.schema.now in
+    let w : World = c.args.self.now in
+    let a = c.args.asked.now in
+    let h = served_by s in
+    let v : World = c.commit.new.self in
+    let some : has_rows s w a None w.commits c.args.change ≡ true = search rules in
+    let long : length c.self.inside.parked.items ≡ 0 = search rules in
+    let empty : w.parked ≡ [] = ap (λ (u : World). u.parked) (sym c.self.view_is) ∙ nil_from_length c.self.inside.parked.items long in
+    let ended : attempt h (parked_as a None w.commits) w ≡ (v, None) =
+        done_as s w a None w.commits c.args.results c.args.change true some c.requires.outcome
+        ∙ (λ i. let t : World × Option Parked = (c.in_ok-commit.ensures.ok h i, None) in t)
+    in
+    runs_alone h (parked_as a None w.commits) w v ended (ap (split_first (is_untried v.commits)) (c.commit.ensures.waiting ∙ empty))
+
+pub returns-in_err-reply-clause-tried : goal.returns-in_err-reply-clause-tried
+returns-in_err-reply-clause-tried c = λ h. ap (untried h) c.in_err-reply.ensures.err ∙ c.requires.tried h
+
+pub returns-clause-tried : goal.returns-clause-tried
+returns-clause-tried c = λ h. ap (untried h) c.copy-2.view_is ∙ c.in_ok-retry_all.ensures.tried h
+
+pub returns-clause-ok : goal.returns-clause-ok
+returns-clause-ok c =
+    let s = c.args.schema.now in
+    let w : World = c.args.self.now in
+    let a = c.args.asked.now in
+    let h = served_by s in
+    let v : World = c.commit-2.new.self in
+    let some : has_rows s w a None w.commits c.args.change ≡ true = search rules in
+    let same : c.in_ok-copy.copy ≡ w = search rules in
+    let ended : end_transaction h a.session (request_data a.request) (array_of (results_of c.args.results)) (Some (all_changed_by w.db c.args.change)) w ≡ v =
+        ap (λ (u : World). end_transaction h a.session (request_data a.request) (array_of (results_of c.args.results)) (Some (all_changed_by u.db c.args.change)) u) (sym same) ∙ c.in_ok-commit-2.ensures.ok h
+    in
+    runs_ended h (parked_as a None w.commits) w v
+    (done_as s w a None w.commits c.args.results c.args.change true some c.requires.outcome ∙ (λ i. let t : World × Option Parked = (ended i, None) in t))
+    ∙ c.in_ok-retry_all.ensures.ok ∙ sym c.copy-2.view_is
