@@ -19,5 +19,5 @@ returns-clause-ok c =
     let w : World = record { db = i.db; commits = i.commits; now = i.now; parked = i.parked.items; locks = i.locks; sessions = i.sessions } in
     let all : map post_of c.push.new.self.items ≡ answers_to ns s d r = search (rules, map-append) in
     IfOk-weaker c.post_all.result _ _ (λ queued h.
-        ap (λ w. succeed s d r (post_notices ns w)) (sym c.self.view_is)
-        ∙ answers_as ns s d r w (map post_of c.push.new.self.items) _ all h) c.post_all.ensures.ok
+    ap (λ w. succeed s d r (post_notices ns w)) (sym c.self.view_is)
+    ∙ answers_as ns s d r w (map post_of c.push.new.self.items) _ all h) c.post_all.ensures.ok
