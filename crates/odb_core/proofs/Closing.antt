@@ -50,9 +50,9 @@ module _ (h : Service) where
       → cancel h n id w ≡ record (post n (say (to x.request) (failure (id_of x.request) canceled) ∷ []) w) { parked = remove w.parked k }
   cancels_at n id w k x there at =
       let is : List Item = say (to x.request) (failure (id_of x.request) canceled) ∷ [] in
-      let v : World = record w { parked = remove w.parked k } in
+      let without : World → World = λ u. record u { parked = remove w.parked k } in
       ap (λ o. cancel_one h n o w) (first_at (is_of h n id) w.parked ∙ ap (option_and_then (split_at w.parked)) there ∙ ap (option_map (λ y. let t : Split = (take k w.parked, y, drop (suc k) w.parked) in t)) at)
-      ∙ post_as n is v ∙ sym (ap (λ u. record u { parked = remove w.parked k }) (post_as n is w))
+      ∙ post_as n is (without w) ∙ sym (ap without (post_as n is w))
 
   pub cancels_none : (n : ℕ) (id : Data) (w : World) → position (is_of h n id) w.parked ≡ None → cancel h n id w ≡ w
   cancels_none n id w none = ap (λ o. cancel_one h n o w) (first_at (is_of h n id) w.parked ∙ ap (option_and_then (split_at w.parked)) none)

@@ -1,6 +1,7 @@
 pub mod Attempts
 pub mod Busy
 pub mod Calls
+pub mod Canceled
 pub mod Changed
 pub mod Closing
 pub mod Committed
@@ -14,6 +15,7 @@ pub mod Opened
 pub mod Owed
 pub mod Pictures
 pub mod Places
+pub mod Plain
 pub mod Posting
 pub mod Posts
 pub mod Reading
@@ -25,10 +27,12 @@ pub mod Said
 pub mod Serving
 pub mod SessionMaps
 pub mod SessionsIn
+pub mod Soundness
 pub mod Splits
 pub mod Steps
 pub mod Taking
 pub mod Takings
+pub mod Tellings
 pub mod Told
 pub mod Unused
 pub mod Updates

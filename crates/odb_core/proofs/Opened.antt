@@ -129,7 +129,7 @@ module _ (h : Service) where
         | false ↦ λ apart. ap (λ b. b || is_some (get w.sessions s)) (sym (other s t apart))
       ] refl
 
-  closes : (t : ℕ) (w : World) (s : ℕ) → is_some (get (close h t w).sessions s) ≡ (not (t == s) && is_some (get w.sessions s))
+  pub closes : (t : ℕ) (w : World) (s : ℕ) → is_some (get (close h t w).sessions s) ≡ (not (t == s) && is_some (get w.sessions s))
   closes t w s =
       let v : World = record w { locks = (drop_session w.locks t).0; sessions = remove w.sessions t; parked = filter (λ p. not (p.session == t)) w.parked } in
       by_rest v (close h t w) (notes h (drop_session w.locks t).1 v) s

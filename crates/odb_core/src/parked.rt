@@ -1,8 +1,7 @@
 //! Transactions that are tried, and those that wait (RFC 7047, 4.1.3 and 5.2.6).
 
 ghost use Rattle.std.specs.Prelude.{◌≡◌, ◌==◌, IfErr, IfOk};
-ghost use Rattle.serde_json.specs.Written.{compact_text};
-ghost use Rattle.odb_core.specs.Represented.Parked.{parked_as};
+ghost use Rattle.odb_core.specs.Represented.Parked.{is_named, parked_as};
 
 use crate::server::SessionId;
 use crate::submitted::Submitted;
@@ -42,11 +41,7 @@ impl Model for Parked {
 
 impl Parked {
     ghost use Rattle.std.specs.Arc.{arc_value};
-    ghost use Rattle.serde_json.specs.Data.{Data};
-    ghost use Rattle.odb_schema.specs.Schema.{Schema};
-    ghost use Rattle.odb_core.specs.Server.{served_by};
-    ghost use Rattle.odb_core.specs.Service.{Service};
-    ghost use Rattle.odb_core.specs.World.{is_due, is_of, is_untried};
+    ghost use Rattle.odb_core.specs.World.{is_due, is_untried};
 
     /// A transaction that waits until the deadline, in milliseconds, and was tried at this number of
     /// commits. Where memory is refused it comes back.
@@ -113,7 +108,7 @@ impl Parked {
 
     /// Whether it is the session's, and its request has the id of this text. O(bytes of the id).
     pub(crate) fn is_of(&self, session: SessionId, id: &[u8]) -> bool
-        ensures { (s : Schema) (d : Data) → id.now ≡ compact_text d → result ≡ is_of (served_by s) session d self.now }
+        ensures { result ≡ is_named session id.now self.now }
     {
         self.submitted.session == session && self.submitted.id.as_slice() == id
     }

@@ -6,21 +6,22 @@ ghost use Rattle.std.specs.List.{list_any, position};
 ghost use Rattle.serde_json.specs.Data.{Data};
 ghost use Rattle.odb_atoms.specs.FinMap.{get};
 ghost use Rattle.odb_atoms.specs.Uuid as identifiers;
-ghost use Rattle.odb_rpc.specs.Message.{has_reply};
+ghost use Rattle.odb_rpc.specs.Message.{has_reply, reply_id};
 ghost use Rattle.odb_schema.specs.Schema.{Schema};
 ghost use Rattle.odb_core.specs.Run.{max_owed};
-ghost use Rattle.serde_json.specs.Written.{compact_text};
 ghost use Rattle.odb_atoms.specs.Represented.Atom.{uuid_of};
 ghost use Rattle.odb_rpc.specs.Represented.Printable.{printable_data};
-ghost use Rattle.odb_rpc.specs.Represented.Call.{call_view};
+ghost use Rattle.odb_rpc.specs.Represented.Call.{call_view, called};
 ghost use Rattle.odb_schema.specs.SchemaText.{write_schema};
 ghost use Rattle.odb_tables.specs.Typed.{IsTyped};
+ghost use Rattle.odb_wire.specs.Message.{id_of};
 ghost use Rattle.odb_wire.specs.Shown.{request_data};
 ghost use Rattle.odb_core.specs.Represented.Answer.{at_once, call_at, said};
+ghost use Rattle.odb_core.specs.Represented.Parked.{is_named};
 ghost use Rattle.odb_core.specs.Represented.Requests.{asks_transaction};
 ghost use Rattle.odb_core.specs.Server.{served_by};
 ghost use Rattle.odb_core.specs.Service.{Service};
-ghost use Rattle.odb_core.specs.World.{at_moment, cancel, close, handle, is_due, is_of, owed_replies, post, tick, untried};
+ghost use Rattle.odb_core.specs.World.{at_moment, cancel, close, handle, is_due, owed_replies, post, tick, untried};
 
 use crate::answer::{answer_at_once, failed, notices};
 use crate::served_schema::ServedSchema;
@@ -150,11 +151,33 @@ impl State {
         ensures err { OnErr result (self.new ≡ self.old) }
     {
         match Call::read(request, &served.schema) {
-            Ok(Call::Lock(name)) => self.lock(session, request, name),
-            Ok(Call::Steal(name)) => self.steal(session, request, name),
-            Ok(Call::Unlock(name)) => self.unlock(session, request, name),
-            Ok(Call::Cancel(id)) => self.cancel(session, id),
-            call => self.answer(served, session, request, call),
+            Ok(call) => self.carry_out(served, session, request, call),
+            Err(fault) => self.answer(served, session, request, Err(fault)),
+        }
+    }
+
+    fn carry_out(
+        &mut self,
+        served: &ServedSchema,
+        session: SessionId,
+        request: &Request,
+        call: Call<'_>,
+    ) -> Result<(), AllocError>
+        requires reads { called served.now.schema.name (write_schema served.now.schema) (reply_id (id_of (request_data request.now))) call
+            ≡ call_at served.now.schema (request_data request.now) }
+        requires asks { asks_transaction (call_at served.now.schema (request_data request.now)) ≡ false }
+        ensures ok { OnOk result ((fresh : List identifiers.Uuid) → handle (served_by served.now.schema) session (request_data request.now) fresh
+            (call_at served.now.schema (request_data request.now)) self.old ≡ self.new) }
+        ensures database { self.new.db ≡ self.old.db }
+        ensures tried { (h : Service) → untried h self.old ≡ None → untried h self.new ≡ None }
+        ensures err { OnErr result (self.new ≡ self.old) }
+    {
+        match call {
+            Call::Lock(name) => self.lock(session, request, name),
+            Call::Steal(name) => self.steal(session, request, name),
+            Call::Unlock(name) => self.unlock(session, request, name),
+            Call::Cancel(id) => self.cancel(session, id),
+            call => self.answer(served, session, request, Ok(call)),
         }
     }
 
@@ -200,7 +223,7 @@ impl State {
 
     /// Where the session's earliest waiting transaction of this id stands.
     fn place_of(&self, session: SessionId, id: &[u8]) -> Option<usize>
-        ensures { (s : Schema) (d : Data) → id.now ≡ compact_text d → result ≡ position (is_of (served_by s) session d) self.entry.now.parked }
+        ensures { result ≡ position (is_named session id.now) self.entry.now.parked }
     {
         self.parked
             .iter()

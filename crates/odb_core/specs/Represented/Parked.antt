@@ -1,11 +1,12 @@
 -- What the transactions of the code stand for.
-use Rattle.std.specs.Prelude.{ℕ, ◌+◌, List, map, Option, Some, None, Vec}
+use Rattle.std.specs.Prelude.{ℕ, ◌+◌, ◌==◌, ◌&&◌, Bool, List, bytes_eq, map, Option, Some, None, Vec}
 use Rattle.std.specs.declared.alloc.Global.{Global}
 use Rattle.serde_json.specs.declared.value.Value.{Value}
 use Rattle.odb_commit.specs.Represented.Outcome.{Answers}
 use Rattle.odb_commit.specs.declared.transaction.Outcome.TheVariants as outcome
 use Rattle.odb_tables.specs.Change.{Changes}
 use Rattle.std.specs.Arc.{arc_value}
+use Rattle.serde_json.specs.Written.{compact_text}
 use Rattle.odb_atoms.specs.Represented.Atom.{uuid_of}
 use Rattle.odb_commit.specs.Transaction as transaction
 use Rattle.odb_commit.specs.Transaction.{transact}
@@ -13,6 +14,7 @@ use Rattle.odb_locks.specs.Locks.{owns}
 use Rattle.odb_ops.specs.Execution.{Context}
 use Rattle.odb_rpc.specs.Message.{operations_of}
 use Rattle.odb_schema.specs.Schema.{Schema}
+use Rattle.odb_wire.specs.Message.{id_of}
 use Rattle.odb_wire.specs.Shown.{request_data}
 use Rattle.odb_core.specs.Service.{max_rows}
 use Rattle.odb_core.specs.World as model
@@ -24,6 +26,10 @@ use Rattle.odb_core.specs.declared.parked.Tried.TheVariants as tried
 -- a transaction that waits until this deadline, tried at this number of commits
 abbrev pub parked_as : Submitted → Option ℕ → ℕ → model.Parked
 parked_as a deadline tried = record { session = a.session; request = request_data a.request; operations = operations_of (request_data a.request); fresh = map uuid_of a.fresh.items; arrival = a.arrival; deadline = deadline; tried = tried }
+
+-- it is the session's, and its request has the id of this text
+abbrev pub is_named : ℕ → List ℕ → model.Parked → Bool
+is_named s text p = (p.session == s) && bytes_eq text (compact_text (id_of p.request))
 
 -- what the world gives a transaction
 abbrev pub context_in : World → Submitted → Context

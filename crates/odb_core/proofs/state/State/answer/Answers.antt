@@ -8,4 +8,4 @@ use Rattle.odb_core.proofs.state.State.answer.Goals as goal
 pub returns-in-None-clause-ok : goal.returns-in-None-clause-ok
 returns-in-None-clause-ok c = λ found is.
     let none : None ≡ option_map (said (request_data c.args.request.now)) found = search rules in
-    none_posted c.args.session _ c.self none
+    none_posted c.args.session _ c.args.self.now none
