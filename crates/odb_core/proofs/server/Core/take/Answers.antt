@@ -1,13 +1,13 @@
 use Rattle.std.proofs.Common.{rules, ◌≡◌, ℕ, List, [], ◌∷◌, ◌++◌, map, Option, Some, None, subst, sym, ap, ◌∙◌}
-use Rattle.std.specs.Prelude.{option_map, option_to_list}
+use Rattle.std.specs.Prelude.{option_to_list}
 use Rattle.odb_atoms.specs.FinMap.{get}
 use Rattle.odb_core.specs.Server.{Server, served_by}
 use Rattle.odb_core.specs.Session.{take}
 use Rattle.odb_core.specs.World.{World}
-use Rattle.odb_core.specs.Represented.Core.{AreUnused, IsSound, takes}
+use Rattle.odb_core.specs.Represented.Core.{IsSound, takes}
 use Rattle.odb_core.specs.Represented.Out.{sent_in}
 use Rattle.odb_core.specs.declared.out.Out.{Out}
-use Rattle.odb_core.specs.Represented.Sessions.{at_session, text_taken}
+use Rattle.odb_core.specs.Represented.Sessions.{text_taken}
 use Rattle.odb_core.proofs.Serving.{at}
 use Rattle.odb_core.proofs.Soundness.{taken_as, unused_at}
 use Rattle.odb_core.proofs.server.Core.take.Goals as goal

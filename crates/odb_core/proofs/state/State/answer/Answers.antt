@@ -1,4 +1,4 @@
-use Rattle.std.proofs.Common.{rules, ◌≡◌, None, sym, ap, ◌∙◌}
+use Rattle.std.proofs.Common.{rules, ◌≡◌, None}
 use Rattle.std.specs.Prelude.{option_map}
 use Rattle.odb_wire.specs.Shown.{request_data}
 use Rattle.odb_core.specs.Represented.Answer.{said}

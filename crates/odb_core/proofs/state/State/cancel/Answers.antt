@@ -1,4 +1,4 @@
-use Rattle.std.proofs.Common.{rules, ◌≡◌, [], ◌∷◌, Some, None, sym, ap, ◌∙◌, ◌<◌, length, arith}
+use Rattle.std.proofs.Common.{rules, ◌≡◌, [], ◌∷◌, Some, sym, ap, ◌∙◌, ◌<◌, length, arith}
 use Rattle.std.specs.Prelude.{slice_get, slice_index_or}
 use Rattle.std.specs.List.{position, remove}
 use Rattle.serde_json.specs.Written.{compact_text}
@@ -7,7 +7,7 @@ use Rattle.odb_rpc.specs.Represented.Printable.{printable_data}
 use Rattle.odb_wire.specs.Message.{id_of}
 use Rattle.odb_core.specs.Server.{served_by}
 use Rattle.odb_core.specs.Session.{say, to}
-use Rattle.odb_core.specs.World.{Parked, World, cancel, is_of, post, untried}
+use Rattle.odb_core.specs.World.{Parked, World, is_of, post}
 use Rattle.odb_core.specs.Represented.Item.{item_of}
 use Rattle.odb_core.specs.Represented.Parked.{is_named}
 use Rattle.odb_core.proofs.Attempts.{post_as}

@@ -1,11 +1,10 @@
-use Rattle.std.proofs.Common.{rules, ◌≡◌, refl, subst, sym, ap, ◌∙◌}
+use Rattle.std.proofs.Common.{◌≡◌, sym, ap}
 use Rattle.std.proofs.lemmas.Result.{on_ok_weaker}
 use Rattle.odb_rpc.specs.Represented.Call.{failure_by}
 use Rattle.odb_rpc.specs.Message.{fault, reply_id}
 use Rattle.odb_schema.specs.SchemaText.{write_schema}
 use Rattle.odb_wire.specs.Message.{id_of}
 use Rattle.odb_wire.specs.Shown.{request_data}
-use Rattle.odb_core.specs.World.{World}
 use Rattle.odb_core.specs.Represented.Answer.{call_at}
 use Rattle.odb_core.proofs.Plain.{is_plain, plain_as}
 use Rattle.odb_core.proofs.state.State.handle_call.Goals as goal
