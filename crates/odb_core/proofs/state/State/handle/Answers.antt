@@ -1,0 +1,7 @@
+use Rattle.odb_core.proofs.state.State.handle.Goals as goal
+
+pub returns-in-Ok-clause-tried : goal.returns-in-Ok-clause-tried
+returns-in-Ok-clause-tried c = λ h. c.handle_call.ensures.tried h (c.requires.tried h)
+
+pub returns-in-Err-clause-tried : goal.returns-in-Err-clause-tried
+returns-in-Err-clause-tried c = λ h. c.handle_call.ensures.tried h (c.requires.tried h)
