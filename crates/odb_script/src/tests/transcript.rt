@@ -161,15 +161,24 @@ fn is_word(text: &str) -> bool {
 fn command(alloc: Global, database: &str, line: &str) -> Result<String, AllocError> {
     let (name, rest) = word(line);
     let (method, rest) = word(rest);
-    let (id, params) = word(rest);
-    if !is_word(name) || !is_word(method) || params.is_empty() {
+    if !is_word(name) || !is_word(method) || rest.is_empty() {
         return format!(in alloc; "{line}\n");
     }
-    if method == "transact" {
-        return format!(in alloc;
-            "{name} {{\"method\":\"transact\",\"params\":[\"{database}\",{params}],\"id\":{id}}}\n"
-        );
+    let params = params(alloc, database, method, rest)?;
+    request(alloc, name, method, params.as_str())
+}
+
+/// The id and the params of a request, the name of the database among them where it is left out.
+fn params(alloc: Global, database: &str, method: &str, rest: &str) -> Result<String, AllocError> {
+    if method != "transact" {
+        return String::from_str(alloc, rest);
     }
+    let (id, operations) = word(rest);
+    format!(in alloc; "{id} [\"{database}\",{operations}]")
+}
+
+fn request(alloc: Global, name: &str, method: &str, rest: &str) -> Result<String, AllocError> {
+    let (id, params) = word(rest);
     format!(in alloc; "{name} {{\"method\":\"{method}\",\"params\":{params},\"id\":{id}}}\n")
 }
 

@@ -45,6 +45,20 @@ fn commits_wake_what_waits(rt: HostRuntime) -> Result<(), Fail> {
 < A reply 3 [{},{'uuid':['uuid','U1']}]
 < A reply 2 [{}]
 < A reply 4 [{}]",
+        "Those that wait again keep their places
+> A transact 1 {'op':'wait','table':'Bridge','where':[['name','==','c']],'columns':['name'],'until':'==','rows':[{'name':'c'}]}
+> A transact 2 {'op':'wait','table':'Bridge','where':[['name','==','c']],'columns':['name'],'until':'==','rows':[{'name':'c'}]}
+> B transact 1 {'op':'insert','table':'Bridge','row':{'name':'b'}}
+< B reply 1 [{'uuid':['uuid','U1']}]
+> B transact 2 {'op':'insert','table':'Bridge','row':{'name':'c'}}
+< A reply 1 [{}]
+< A reply 2 [{}]
+< B reply 2 [{'uuid':['uuid','U2']}]",
+        "One that is tried again keeps its identifiers
+> A transact 1 {'op':'wait','table':'Bridge','where':[],'columns':['name'],'until':'!=','rows':[]},{'op':'insert','table':'Bridge','row':{'name':'c'}},{'op':'insert','table':'Bridge','row':{'name':'d'}}
+> B transact 1 {'op':'insert','table':'Bridge','row':{'name':'b'}}
+< A reply 1 [{},{'uuid':['uuid','U1']},{'uuid':['uuid','U2']}]
+< B reply 1 [{'uuid':['uuid','U3']}]",
         "One that fails when it is tried again leaves its reply alone
 > A transact 1 {'op':'wait','table':'Bridge','where':[],'columns':['name'],'until':'!=','rows':[]},{'op':'insert','table':'Bridge','row':{'name':'b'}}
 > C transact 1 {'op':'wait','table':'Bridge','where':[],'columns':['name'],'until':'==','rows':[{'name':'b'},{'name':'c'}]}
