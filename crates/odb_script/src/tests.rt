@@ -1,5 +1,11 @@
 //! Whole scripts, and readers and writers that fail (RFC 7047, 4.1.1, 4.1.2 and 4.1.11).
 
+mod locks;
+mod sessions;
+mod transactions;
+mod transcript;
+mod waiting;
+
 use crate::{RunFault, Watched, run_script};
 use odb_schema::Schema;
 use std::alloc::{AllocError, Global};
