@@ -17,8 +17,9 @@ use Rattle.std.specs.String.{string_cmp}
 use Rattle.std.proofs.lemmas.List.Kept.{IsStrictlySortedBy-filter}
 use Rattle.std.proofs.lemmas.Map.Text.{is_eq-slice_cmp}
 use Rattle.odb_atoms.specs.FinMap as finite
+use Rattle.odb_atoms.specs.Text.{same_text}
 use Rattle.odb_atoms.proofs.FinMaps.{contains_key-keys}
-use Rattle.odb_locks.specs.Locks.{Claim, Lock, Locks, Notice, drop_names, drop_session, has_claim, lock_of, told_locked, without}
+use Rattle.odb_locks.specs.Locks.{Claim, Lock, Locks, Notice, drop_names, drop_session, has_claim, is_first, lock_of, owns, told_locked, without}
 use Rattle.odb_locks.specs.Represented.Lock.{next_of}
 use Rattle.odb_locks.specs.Represented.Notice.{notice_to}
 use Rattle.odb_locks.specs.Represented.Locks.{all_released, all_told, released, told_of_release}
@@ -223,6 +224,47 @@ drop_session-set l s names up are = drop_session-names l s (map string_bytes nam
 pub drop_session-none : (l : Locks) (s : ℕ) → ((q : List ℕ) → false ≡ has_claim s (lock_of l q)) → drop_session l s ≡ (l, [])
 unfolding IsStrictlySortedBy
 drop_session-none l s are = drop_session-names l s [] tt are
+
+-- ---- the locks that a session owns
+
+-- who owns has a claim
+owner_claims : (s : ℕ) (k : Lock) → is_first s k.claims ≡ true → has_claim s k ≡ true
+owner_claims s k e = by k.claims e
+  where
+    by : (cs : List Claim) → is_first s cs ≡ true → (list_any (λ c. c.session == s) cs || list_any (λ t. t == s) k.robbed) ≡ true
+    by [] h = absurd (subst T (sym h) tt)
+    by (c ∷ cs) h = ap (λ b. (b || list_any (λ d. d.session == s) cs) || list_any (λ t. t == s) k.robbed) h
+
+filter-narrow : (p q : List ℕ → Bool) → ((n : List ℕ) → p n ≡ true → q n ≡ true) → (ns : List (List ℕ)) → filter p (filter q ns) ≡ filter p ns
+filter-narrow p q then_too [] = refl
+filter-narrow p q then_too (n ∷ ns) = by (filter-narrow p q then_too ns) (p n) refl (q n) refl
+  where
+    by : filter p (filter q ns) ≡ filter p ns → (a : Bool) → p n ≡ a → (b : Bool) → q n ≡ b → filter p (cond b (n ∷ filter q ns) (filter q ns)) ≡ cond (p n) (n ∷ filter p ns) (filter p ns)
+    by rest a is true e = ap (cond (p n) (n ∷ filter p (filter q ns))) rest ∙ ap (λ ms. cond (p n) (n ∷ ms) (filter p ns)) rest
+    by rest true is false e = absurd (subst T (sym (then_too n is) ∙ e) tt)
+    by rest false is false e = rest ∙ ap (λ b. cond b (n ∷ filter p ns) (filter p ns)) (sym is)
+
+owned_names : (l : Locks) (s : ℕ) (names : List (List ℕ)) → filter (λ n. has_claim s (lock_of l n)) (finite.keys l) ≡ names → filter (owns l s) names ≡ filter (owns l s) (finite.keys l)
+owned_names l s names are = ap (filter (owns l s)) (sym are) ∙ filter-narrow (owns l s) (λ n. has_claim s (lock_of l n)) (λ n e. owner_claims s (lock_of l n) e) (finite.keys l)
+
+pub owned-set : (l : Locks) (s : ℕ) (names : BTreeSet (String Global)) → IsOrdered string_cmp names → ((q : List ℕ) → contains_text names q ≡ has_claim s (lock_of l q)) → filter (owns l s) (map string_bytes names.keys) ≡ filter (owns l s) (finite.keys l)
+owned-set l s names up are = owned_names l s (map string_bytes names.keys) (claimed_names l s (map string_bytes names.keys) (rising-texts names.keys up) (λ q. any-texts q names.keys ∙ are q))
+
+pub owned-none : (l : Locks) (s : ℕ) → ((q : List ℕ) → false ≡ has_claim s (lock_of l q)) → [] ≡ filter (owns l s) (finite.keys l)
+unfolding IsStrictlySortedBy
+owned-none l s are = owned_names l s [] (claimed_names l s [] tt are)
+
+owned_there : (s : ℕ) (o : Option Lock) → (is_first s (unwrap_or o (record { claims = []; robbed = [] })).claims && is_some o) ≡ is_first s (unwrap_or o (record { claims = []; robbed = [] })).claims
+owned_there s None = refl
+owned_there s (Some k) = and-true (is_first s k.claims)
+
+-- a name is among them just when the session owns its lock
+pub owned-any : (l : Locks) (s : ℕ) (q : List ℕ) → list_any (same_text q) (filter (owns l s) (finite.keys l)) ≡ owns l s q
+owned-any l s q =
+    (λ i. list_any (λ n. sym (is_eq-slice_cmp q n) i) (filter (owns l s) (finite.keys l)))
+    ∙ any-filter (owns l s) q (finite.keys l)
+    ∙ ap (λ b. owns l s q && b) (sym (contains_key-keys l q))
+    ∙ owned_there s (finite.get l q)
 
 twice : (x a b h : Bool) → cond (x && a) false (cond (x && b) false h) ≡ cond (x && (b || a)) false h
 twice true true true h = refl

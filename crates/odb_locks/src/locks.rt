@@ -1,11 +1,13 @@
 //! The locks that sessions claim by `lock` and `steal`, and give back by `unlock`.
 
-ghost use Rattle.std.specs.Prelude.{◌≡◌, ◌↔◌, false, IfOk, OnErr, IsErrOf};
-ghost use Rattle.odb_atoms.specs.FinMap as map;
+ghost use Rattle.std.specs.Prelude.{◌≡◌, ◌↔◌, ℕ, List, false, filter, map, IfOk, OnErr, IsErrOf};
+ghost use Rattle.std.specs.List.{list_any};
+ghost use Rattle.odb_atoms.specs.FinMap as finite;
+ghost use Rattle.odb_atoms.specs.Text.{same_text};
 ghost use Rattle.odb_locks.specs.Locks as model;
 ghost use Rattle.odb_locks.specs.Locks.{out_of_turn, too_many_names};
 ghost use Rattle.odb_locks.specs.declared.locks.LockFault.TheVariants.{Memory};
-ghost use Rattle.odb_locks.specs.Represented.Locks.{claim_by};
+ghost use Rattle.odb_locks.specs.Represented.Locks.{answer_of, claim_by, claimed};
 ghost use Rattle.odb_locks.specs.Represented.Notice.{notices_of};
 
 use crate::index::Index;
@@ -87,7 +89,7 @@ impl Model for Locks {
 impl Locks {
     /// No locks. O(1), without memory.
     pub fn new(alloc: Global) -> Locks
-        ensures { result ≡ map.empty }
+        ensures { result ≡ finite.empty }
     {
         Locks {
             alloc,
@@ -100,7 +102,7 @@ impl Locks {
     pub fn owns(&self, session: SessionId, name: &str) -> bool
         ensures { result ≡ model.owns self.now session name.now }
     {
-        self.table.owner(name) == Some(session)
+        self.table.is_owned_by(name, session)
     }
 
     /// `lock` (RFC 7047, 4.1.8): the session's claim joins the end, and owns if it's alone. It
@@ -141,6 +143,56 @@ impl Locks {
             ↔ (claim_by stolen self.old session name.now ≡ Err too_many_names) }
         ensures err { OnErr result (self.new ≡ self.old) }
     {
+        let taken = self.preview_claim(session, name, stolen)?;
+        self.index.insert(self.alloc, session, name)?;
+        let claim = Claim::new(session, stolen);
+        match self.table.claim(self.alloc, name, claim) {
+            Ok(()) => Ok(taken),
+            // The index was first, and goes back.
+            Err(refused) => {
+                self.index.remove(session, name);
+                Err(LockFault::from(refused))
+            }
+        }
+    }
+
+    /// What `lock` would answer now, without doing it. O(log n + c).
+    pub fn preview_lock(&self, session: SessionId, name: &str) -> Result<Taken, LockFault>
+        ensures ok { IfOk result (λ taken. answer_of (model.lock self.now session name.now)
+            ≡ Ok (notices_of taken.notices.items, taken.owns)) }
+        ensures out_of_turn { IsErrOf result LockFault.OutOfTurn
+            ↔ (model.lock self.now session name.now ≡ Err out_of_turn) }
+        ensures too_many { IsErrOf result LockFault.TooMany
+            ↔ (model.lock self.now session name.now ≡ Err too_many_names) }
+    {
+        self.preview_claim(session, name, false)
+    }
+
+    /// What `steal` would answer now, without doing it. O(log n + c).
+    pub fn preview_steal(&self, session: SessionId, name: &str) -> Result<Taken, LockFault>
+        ensures ok { IfOk result (λ taken. answer_of (model.steal self.now session name.now)
+            ≡ Ok (notices_of taken.notices.items, taken.owns)) }
+        ensures out_of_turn { IsErrOf result LockFault.OutOfTurn
+            ↔ (model.steal self.now session name.now ≡ Err out_of_turn) }
+        ensures too_many { IsErrOf result LockFault.TooMany
+            ↔ (model.steal self.now session name.now ≡ Err too_many_names) }
+    {
+        self.preview_claim(session, name, true)
+    }
+
+    fn preview_claim(
+        &self,
+        session: SessionId,
+        name: &str,
+        stolen: bool,
+    ) -> Result<Taken, LockFault>
+        ensures ok { IfOk result (λ taken. claim_by stolen self.now session name.now
+            ≡ Ok (claimed stolen self.now session name.now, notices_of taken.notices.items, taken.owns)) }
+        ensures out_of_turn { IsErrOf result LockFault.OutOfTurn
+            ↔ (claim_by stolen self.now session name.now ≡ Err out_of_turn) }
+        ensures too_many { IsErrOf result LockFault.TooMany
+            ↔ (claim_by stolen self.now session name.now ≡ Err too_many_names) }
+    {
         if self.table.has_claim(name, session) {
             return Err(LockFault::OutOfTurn);
         }
@@ -152,19 +204,10 @@ impl Locks {
         if stolen {
             tell(&mut notices, self.alloc, owner, true, name)?;
         }
-        self.index.insert(self.alloc, session, name)?;
-        let claim = Claim::new(session, stolen);
-        match self.table.claim(self.alloc, name, claim) {
-            Ok(()) => Ok(Taken {
-                owns: stolen || owner.is_none(),
-                notices,
-            }),
-            // The index was first, and goes back.
-            Err(refused) => {
-                self.index.remove(session, name);
-                Err(LockFault::from(refused))
-            }
-        }
+        Ok(Taken {
+            owns: stolen || owner.is_none(),
+            notices,
+        })
     }
 
     /// `unlock` (RFC 7047, 4.1.8): the session's claim goes, or its having been robbed. If it owned
@@ -178,14 +221,27 @@ impl Locks {
             ↔ (model.unlock self.old session name.now ≡ Err too_many_names) }
         ensures err { OnErr result (self.new ≡ self.old) }
     {
+        let notices = self.preview_unlock(session, name)?;
+        self.index.remove(session, name);
+        self.table.release(name, session);
+        Ok(notices)
+    }
+
+    /// What `unlock` would answer now, without doing it. O(log n + c).
+    pub fn preview_unlock(&self, session: SessionId, name: &str) -> Result<Vec<Notice>, LockFault>
+        ensures ok { IfOk result (λ notices. answer_of (model.unlock self.now session name.now)
+            ≡ Ok (notices_of notices.items, false)) }
+        ensures out_of_turn { IsErrOf result LockFault.OutOfTurn
+            ↔ (model.unlock self.now session name.now ≡ Err out_of_turn) }
+        ensures too_many { IsErrOf result LockFault.TooMany
+            ↔ (model.unlock self.now session name.now ≡ Err too_many_names) }
+    {
         if !self.table.has_claim(name, session) {
             return Err(LockFault::OutOfTurn);
         }
         let mut notices = Vec::new(self.alloc);
         let next = self.table.next_owner(name, session);
         tell(&mut notices, self.alloc, next, false, name)?;
-        self.index.remove(session, name);
-        self.table.release(name, session);
         Ok(notices)
     }
 
@@ -197,14 +253,49 @@ impl Locks {
             ≡ (self.new, notices_of notices.items)) }
         ensures err { OnErr result (self.new ≡ self.old) }
     {
-        let Some(names) = self.index.names(session) else {
-            return Ok(Vec::new(self.alloc));
-        };
         // The notices take memory, so all are made before the first claim goes.
-        let notices = self.table.notices_of_release(self.alloc, names, session)?;
+        let notices = self.preview_drop(session)?;
+        self.forget_session(session);
+        Ok(notices)
+    }
+
+    /// The notices of `drop_session`, without doing it. For each name that the session has a claim
+    /// of O(log n + c); an error says that memory was refused.
+    pub fn preview_drop(&self, session: SessionId) -> Result<Vec<Notice>, AllocError>
+        ensures { IfOk result (λ notices.
+            (model.drop_session self.now session).1 ≡ notices_of notices.items) }
+    {
+        match self.index.names(session) {
+            Some(names) => self.table.notices_of_release(self.alloc, names, session),
+            None => Ok(Vec::new(self.alloc)),
+        }
+    }
+
+    /// Takes back all of a session's claims, as `drop_session` does, and tells nobody. For each name
+    /// that it has a claim of O(log n + c), without memory.
+    pub fn forget_session(&mut self, session: SessionId)
+        ensures { self.new ≡ (model.drop_session self.old session).0 }
+    {
+        let Some(names) = self.index.names(session) else {
+            return;
+        };
         self.table.release_all(names, session);
         self.index.forget(session);
-        Ok(notices)
+    }
+
+    /// The names of the locks that the session owns, has the first claim of, by ascending bytes. For
+    /// each name that it has a claim of O(log n); an error says that memory was refused.
+    pub fn owned(&self, alloc: Global, session: SessionId) -> Result<Vec<&str>, AllocError>
+        ensures ascending { IfOk result (λ names. map (λ name. name.now) names.items
+            ≡ filter (model.owns self.now session) (finite.keys self.now)) }
+        ensures owned { IfOk result (λ names. (name : List ℕ)
+            → list_any (same_text name) (map (λ n. n.now) names.items)
+            ≡ model.owns self.now session name) }
+    {
+        match self.index.names(session) {
+            Some(names) => self.table.owned_among(alloc, names, session),
+            None => Ok(Vec::new(alloc)),
+        }
     }
 
     /// Equal locks. O(the bytes copied); an error says that memory was refused.

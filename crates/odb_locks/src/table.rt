@@ -1,11 +1,11 @@
 //! The locks by their names.
 
-ghost use Rattle.std.specs.Prelude.{◌≡◌, map, string_bytes, IfOk, OnOk, OnErr};
+ghost use Rattle.std.specs.Prelude.{◌≡◌, filter, map, string_bytes, IfOk, OnOk, OnErr};
 ghost use Rattle.std.specs.BTreeSet.{IsOrdered};
 ghost use Rattle.std.specs.Option.{option_copied};
 ghost use Rattle.std.specs.String.{string_cmp};
 ghost use Rattle.odb_atoms.specs.FinMap as finite;
-ghost use Rattle.odb_locks.specs.Locks.{has_claim, is_free, lock_of, put_lock, without};
+ghost use Rattle.odb_locks.specs.Locks.{has_claim, is_free, lock_of, owns, put_lock, without};
 ghost use Rattle.odb_locks.specs.Represented.Lock.{first_of, next_of, with_claim};
 ghost use Rattle.odb_locks.specs.Represented.Locks.{all_released, all_told};
 ghost use Rattle.odb_locks.specs.Represented.Notice.{notices_of};
@@ -121,8 +121,9 @@ impl Table {
         names: &BTreeSet<String>,
         session: usize,
     ) -> Result<Vec<Notice>, AllocError>
-        ensures { IfOk result (λ notices. notices_of notices.items
+        ensures told { IfOk result (λ notices. notices_of notices.items
             ≡ all_told session (lock_of self.now) (map string_bytes names.now.keys)) }
+        ensures ordered { IsOrdered string_cmp names.now }
     {
         let mut notices = Vec::new(alloc);
         for name in names {
@@ -131,6 +132,34 @@ impl Table {
             tell(&mut notices, alloc, next, false, name)?;
         }
         Ok(notices)
+    }
+
+    /// Those of the names whose lock the session owns, in their order.
+    pub fn owned_among<'a>(
+        &self,
+        alloc: Global,
+        names: &'a BTreeSet<String>,
+        session: usize,
+    ) -> Result<Vec<&'a str>, AllocError>
+        ensures owned { IfOk result (λ owned. map (λ name. name.now) owned.items
+            ≡ filter (owns self.now session) (map string_bytes names.now.keys)) }
+        ensures ordered { IsOrdered string_cmp names.now }
+    {
+        let mut owned = Vec::new(alloc);
+        for name in names {
+            let name = name.as_str();
+            if self.is_owned_by(name, session) {
+                owned.push(name)?;
+            }
+        }
+        Ok(owned)
+    }
+
+    /// Whether the session's claim of the name is the first.
+    pub fn is_owned_by(&self, name: &str, session: usize) -> bool
+        ensures { result ≡ owns self.now session name.now }
+    {
+        self.owner(name) == Some(session)
     }
 
     /// Takes back the session's claims of the names.

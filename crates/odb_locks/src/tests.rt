@@ -79,3 +79,37 @@ fn the_end_of_a_session_promotes_by_ascending_name(rt: HostRuntime) -> Result<()
     told(&rt, &locks.drop_session(C)?, &[]);
     Ok(())
 }
+
+#[test]
+fn previews_answer_as_the_calls_and_change_nothing(rt: HostRuntime) -> Result<(), Fail> {
+    let mut locks = Locks::new(rt.alloc());
+    assert!(rt; locks.preview_lock(A, "L")?.owns);
+    assert!(rt; locks.lock(A, "L")?.owns);
+    assert_eq!(rt;
+        locks.preview_lock(A, "L").err(),
+        Some(LockFault::OutOfTurn)
+    );
+    locks.lock(B, "L")?;
+    let stolen = locks.preview_steal(C, "L")?;
+    assert!(rt; stolen.owns);
+    told(&rt, &stolen.notices, &[(A, true, "L")]);
+    told(&rt, &locks.preview_unlock(A, "L")?, &[(B, false, "L")]);
+    told(&rt, &locks.preview_drop(A)?, &[(B, false, "L")]);
+    assert!(rt; locks.owns(A, "L"));
+    Ok(())
+}
+
+#[test]
+fn owned_names_and_the_end_of_a_session_without_notices(rt: HostRuntime) -> Result<(), Fail> {
+    let mut locks = Locks::new(rt.alloc());
+    for name in ["b", "a"] {
+        locks.lock(A, name)?;
+        locks.lock(B, name)?;
+    }
+    assert_eq!(rt; locks.owned(rt.alloc(), A)?.as_slice(), &["a", "b"][..]);
+    assert!(rt; locks.owned(rt.alloc(), B)?.is_empty());
+    locks.forget_session(A);
+    assert!(rt; locks.owned(rt.alloc(), A)?.is_empty());
+    assert_eq!(rt; locks.owned(rt.alloc(), B)?.as_slice(), &["a", "b"][..]);
+    Ok(())
+}

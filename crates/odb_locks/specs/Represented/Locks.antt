@@ -1,14 +1,24 @@
 -- What the calls on the locks answer.
-use Rattle.std.specs.Prelude.{ℕ, Bool, true, false, List, fold}
+use Rattle.std.specs.Prelude.{ℕ, Bool, true, false, List, fold, Result, Ok, Err}
 use Rattle.std.specs.List.{flat_map}
-use Rattle.odb_locks.specs.Locks.{Answered, Lock, Locks, Notice, lock, lock_of, put_lock, steal, without}
-use Rattle.odb_locks.specs.Represented.Lock.{next_of}
+use Rattle.odb_atoms.specs.FinMap as map
+use Rattle.odb_locks.specs.Locks.{Answered, Lock, LockFault, Locks, Notice, lock, lock_of, put_lock, steal, without}
+use Rattle.odb_locks.specs.Represented.Lock.{next_of, with_claim}
 use Rattle.odb_locks.specs.Represented.Notice.{notice_to}
 
 -- a claim by `steal`, or else by `lock`
 abbrev pub claim_by : Bool → Locks → ℕ → List ℕ → Answered
 claim_by true = steal
 claim_by false = lock
+
+-- what a call answers, without the locks that it leaves
+abbrev pub answer_of : Answered → Result (List Notice × Bool) LockFault
+answer_of (Ok a) = Ok (a.1, a.2)
+answer_of (Err f) = Err f
+
+-- the locks once a session without a claim of a name has one
+abbrev pub claimed : Bool → Locks → ℕ → List ℕ → Locks
+claimed stolen l s name = map.insert l name (with_claim (record { session = s; stolen = stolen }) (lock_of l name))
 
 -- the locks once a session's claim of a name is taken back, and who is told then
 abbrev pub released : ℕ → Locks → List ℕ → Locks

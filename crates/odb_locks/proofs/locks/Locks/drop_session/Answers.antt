@@ -1,23 +1,7 @@
-use Rattle.std.proofs.Common.{List, sym, ap, ◌∙◌}
+use Rattle.std.proofs.Common.{List, sym}
 use Rattle.odb_locks.specs.Locks as model
-use Rattle.odb_locks.specs.Locks.{Locks, has_claim, lock_of}
-use Rattle.odb_locks.specs.Represented.Notice.{notices_of}
-use Rattle.odb_locks.proofs.Release.{drop_session-none, drop_session-set, indexes_forgotten}
+use Rattle.odb_locks.specs.Locks.{Locks}
 use Rattle.odb_locks.proofs.locks.Locks.drop_session.Goals as goal
 
-pub returns-in_default-clause-ok : goal.returns-in_default-clause-ok
-returns-in_default-clause-ok c =
-    ap (λ (l : Locks). model.drop_session l c.args.session) (sym c.self.view_is)
-    ∙ drop_session-none c.self.inside.table c.args.session (λ q. c.in_default.ensures q ∙ c.self.invariant c.args.session q)
-    ∙ (λ i. let r : Locks × List model.Notice = (c.self.view_is i, notices_of (sym c.new.ensures.items i)) in r)
-
-pub invariant_of-self : goal.invariant_of-self
-invariant_of-self c = λ s q.
-    indexes_forgotten c.self.inside.index c.forget.new.self c.self.inside.table c.args.session c.in-Some.names.now c.self.invariant c.forget.ensures (λ n. c.in-Some.ensures n ∙ c.self.invariant c.args.session n) s q
-    ∙ sym (ap (λ (l : Locks). has_claim s (lock_of l q)) c.release_all.ensures.released)
-
 pub returns-clause-ok : goal.returns-clause-ok
-returns-clause-ok c =
-    ap (λ (l : Locks). model.drop_session l c.args.session) (sym c.self.view_is)
-    ∙ drop_session-set c.self.inside.table c.args.session c.in-Some.names.now c.release_all.ensures.ordered (λ n. c.in-Some.ensures n ∙ c.self.invariant c.args.session n)
-    ∙ (λ i. let r : Locks × List model.Notice = (sym c.release_all.ensures.released i, sym c.in_ok-notices.ensures i) in r)
+returns-clause-ok c = λ i. let r : Locks × List model.Notice = (sym c.forget_session.ensures i, c.in_ok-notices.ensures i) in r

@@ -6,7 +6,7 @@ use Rattle.odb_locks.specs.Represented.Locks.{all_told}
 use Rattle.odb_locks.proofs.Release.{map-map}
 use Rattle.odb_locks.proofs.table.Table.notices_of_release.Goals as goal
 
-pub returns : goal.returns
-returns c =
+pub returns-clause-told : goal.returns-clause-told
+returns-clause-told c =
     let all : map deref c.loop-name.yielded ≡ c.args.names.now.keys = search (rules, iter_end) in
     c.loop-name.invariant ∙ ap (all_told c.args.session (lock_of c.args.self.now)) (sym (map-map string_bytes deref c.loop-name.yielded) ∙ ap (map string_bytes) all)
