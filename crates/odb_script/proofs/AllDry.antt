@@ -15,7 +15,7 @@ module _ (schema : Schema) (n : ℕ) where
   abbrev Printed : Type 0
   Printed = Server × List ℕ
 
-  one_dry : (x : Named) (o : Option Session) (p : Script) (t : List ℕ) → dry_if x.name x.session o (server_of p, t) ≡ (let r : Printed = (server_of (dry_one (served_by schema) x o p).0, t ++ (dry_one (served_by schema) x o p).1) in r)
+  pub one_dry : (x : Named) (o : Option Session) (p : Script) (t : List ℕ) → dry_if x.name x.session o (server_of p, t) ≡ (let r : Printed = (server_of (dry_one (served_by schema) x o p).0, t ++ (dry_one (served_by schema) x o p).1) in r)
   one_dry x None p t = ap (λ u. let r : Printed = (server_of p, u) in r) (sym (append-nil t))
   one_dry x (Some s) p t = refl
 
@@ -36,7 +36,7 @@ module _ (schema : Schema) (n : ℕ) where
       ∙ ap (λ u. let r : Printed = (server_of (dry_each (served_by schema) xs one.0).0, u) in r) (append_assoc t one.1 (dry_each (served_by schema) xs one.0).1)
 
   -- nothing but the machine changes
-  one_same : (x : Named) (o : Option Session) (p : Script) → (dry_one (served_by schema) x o p).0 ≡ record p { world = (dry_one (served_by schema) x o p).0.world }
+  pub one_same : (x : Named) (o : Option Session) (p : Script) → (dry_one (served_by schema) x o p).0 ≡ record p { world = (dry_one (served_by schema) x o p).0.world }
   one_same x None p = refl
   one_same x (Some s) p = refl
 

@@ -1,6 +1,7 @@
 pub mod AllDry
 mod Identifiers
 mod Fronts
+mod Holding
 mod LineStep
 mod Lines
 mod Opening

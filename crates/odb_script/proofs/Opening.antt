@@ -15,8 +15,8 @@ use Rattle.odb_script.specs.Represented.Steps.{Does}
 use Rattle.odb_script.proofs.Places.{Absent, Stands, nowhere, place_position, stands}
 use Rattle.odb_script.proofs.Serves.{Sends, Took, took}
 
-abbrev pub script_of : Server → List Named → ℕ → Script
-script_of s xs inserts = record { world = s.world; sessions = xs; opened_so_far = s.opened; inserts = inserts; moment = 0 }
+abbrev pub script_of : Server → List Named → ℕ → ℕ → Script
+script_of s xs inserts moment = record { world = s.world; sessions = xs; opened_so_far = s.opened; inserts = inserts; moment = moment }
 
 -- what a search for a name's place says
 abbrev pub IsPlaceOf : List ℕ → List Named → Option ℕ → Type 0
@@ -47,16 +47,16 @@ opens_there h n p (Some k) t u is e text =
 not_open : (h : Service) (n : List ℕ) (p : Script) (o : Option ℕ) → IsPlaceOf n p.sessions o → is_some o ≡ false → open_named h n p ≡ open_as h n (world_after h (opened p.opened_so_far) p) p
 not_open h n p o is e = ap (opening h n p) (absent n p.sessions o is e)
 
-module _ (s : Server) (xs : List Named) (inserts : ℕ) (n : List ℕ) (o : Option ℕ) where
+module _ (s : Server) (xs : List Named) (inserts moment : ℕ) (n : List ℕ) (o : Option ℕ) where
   pub opens_new : (q : Server) (os : Sends) (k : ℕ) (ys : List Named) (t : List ℕ) → IsPlaceOf n xs o → is_some o ≡ false → k ≡ s.opened → serve (opened k) s ≡ Ok (q, os)
-      → ys ≡ xs ++ record { name = n; session = k; bytes = []; handed = 0; held = false } ∷ [] → Does (open_named (served_by s.schema) n) (script_of s xs inserts) t (script_of q ys inserts) t
+      → ys ≡ xs ++ record { name = n; session = k; bytes = []; handed = 0; held = false } ∷ [] → Does (open_named (served_by s.schema) n) (script_of s xs inserts moment) t (script_of q ys inserts moment) t
   opens_new q os k ys t is e number served grown =
-      let p = script_of s xs inserts in
+      let p = script_of s xs inserts moment in
       let k_is : serve (opened s.opened) s ≡ Ok (q, os) = ap (λ m. serve (opened m) s) (sym number) ∙ served in
       let k_took : Took (opened s.opened) s q = took (opened s.opened) s q os k_is in
       let done : open_named (served_by s.schema) n p ≡ open_as (served_by s.schema) n (Ok q.world) p = not_open (served_by s.schema) n p o is e ∙ ap (λ w. open_as (served_by s.schema) n w p) k_took.world in
       let same : xs ++ record { name = n; session = s.opened; bytes = []; handed = 0; held = false } ∷ [] ≡ ys = ap (λ m. xs ++ record { name = n; session = m; bytes = []; handed = 0; held = false } ∷ []) (sym number) ∙ sym grown in (
-        ap (λ r. r.0) done ∙ (λ i. record { world = q.world; sessions = same i; opened_so_far = sym k_took.opened i; inserts = inserts; moment = 0 }),
+        ap (λ r. r.0) done ∙ (λ i. record { world = q.world; sessions = same i; opened_so_far = sym k_took.opened i; inserts = inserts; moment = moment }),
         ap (λ r. t ++ r.1) done ∙ append-nil t,
       )
 
@@ -70,9 +70,9 @@ module _ (s : Server) (xs : List Named) (inserts : ℕ) (n : List ℕ) (o : Opti
       clash : false ≡ true → ⊥
       clash f = cc
 
-  pub opens_full : (t u : List ℕ) → IsPlaceOf n xs o → is_some o ≡ false → max_sessions ≤ len s.world.sessions → u ≡ t ++ line_of n (codes "!toomany") → Does (open_named (served_by s.schema) n) (script_of s xs inserts) t (script_of s xs inserts) u
+  pub opens_full : (t u : List ℕ) → IsPlaceOf n xs o → is_some o ≡ false → max_sessions ≤ len s.world.sessions → u ≡ t ++ line_of n (codes "!toomany") → Does (open_named (served_by s.schema) n) (script_of s xs inserts moment) t (script_of s xs inserts moment) u
   opens_full t u is e full text =
-      let p = script_of s xs inserts in
+      let p = script_of s xs inserts moment in
       let stepped : step (served_by s.schema) (opened s.opened) s.world ≡ Err too_many = if_full (not (nat_lt (len s.world.sessions) max_sessions)) _ (is_full (len s.world.sessions) full) in
       let after : world_after (served_by s.schema) (opened s.opened) p ≡ Err too_many = ap (if_ok (λ (r : World × List Sent). let w : Result World Refusal = Ok r.0 in w)) stepped in
       let done : open_named (served_by s.schema) n p ≡ (p, line_of n (codes "!toomany")) = not_open (served_by s.schema) n p o is e ∙ ap (λ w. open_as (served_by s.schema) n w p) after in

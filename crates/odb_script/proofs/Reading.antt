@@ -1,50 +1,53 @@
--- Lines by their first words.
-use Rattle.std.proofs.Common.{◌≡◌, ℕ, Bool, true, false, if◌then◌else◌, List, None, Some, refl, ap, sym, ◌∙◌, codes, bytes_eq, option_and_then, option_map, Bor, arith}
-use Rattle.std.specs.Bool.{then_some}
-use Rattle.std.proofs.lemmas.Slice.Eq.{bytes_eq-Decides}
-use Rattle.odb_script.specs.declared.command.Command.TheVariants as command
-use Rattle.odb_script.specs.Represented.Command.{command_in}
-use Rattle.odb_script.specs.Script.{Command, piece, open_session, close_session, hold, take_dry, tick_to, tick_of, with_name, is_name, is_read, if_read, command_by, read_command, split_at, number_in}
+-- Numbers in lines.
+use Rattle.std.proofs.Common.{◌≡◌, ◌≤◌, ◌<◌, ℕ, ◌+◌, ◌-◌, ◌*◌, Bool, true, false, cond, List, [], ◌∷◌, None, Some, nat_lt, length, drop, drop-cons, get_or, suc, refl, ap, sym, ◌∙◌, arith}
+use Rattle.std.proofs.lemmas.List.{drop_all}
+use Rattle.odb_script.specs.Script.{number_in}
+use Rattle.odb_script.specs.Represented.Command.{below}
 
--- what isn't read is none
-unread : (b : Bool) (k : Command) → is_read k ≡ false → option_and_then if_read (if b then Some k else None) ≡ None
-unread true k e = ap (λ b. if b then Some k else None) e
-unread false k e = refl
+-- further digits make no number smaller
+grows : (n : ℕ) (ds : List ℕ) → n ≤ number_in n ds
+grows n [] = omega arith
+grows n (c ∷ cs) = let later = grows (10 * n + (c - 48)) cs in omega (arith, later)
 
-unread_name : (f : List ℕ → Command) (n : List ℕ) → is_read (f n) ≡ false → option_and_then if_read (with_name f n) ≡ None
-unread_name f n e = unread (is_name n) (f n) e
-
-unread_tick : (ds : List ℕ) → option_and_then if_read (tick_of ds) ≡ None
-unread_tick ds = unread _ (tick_to (number_in 0 ds)) refl
-
--- a word of a command is no name
-no_name : (word t : List ℕ) → is_name t ≡ false → bytes_eq word t ≡ true → is_name word ≡ false
-no_name word t e same = ap is_name ((bytes_eq-Decides word t).0 same) ∙ e
-
-named : (b : Bool) (word rest : List ℕ) → option_and_then if_read (if b then Some (piece word rest) else None) ≡ (if b then Some (piece word rest) else None)
-named true word rest = refl
-named false word rest = refl
-
-pub reads_piece : (line word rest : List ℕ) → split_at 32 line ≡ (word, Some rest) → bytes_eq word (codes "!open") ≡ false → bytes_eq word (codes "!close") ≡ false
-    → (if is_name word then Some (piece word rest) else None) ≡ read_command line
-reads_piece line word rest at not_open not_close =
-    sym (
-    ap (λ s. option_and_then if_read (command_by s.0 s.1)) at
-    ∙ by (bytes_eq word (codes "!open")) (bytes_eq word (codes "!close")) (bytes_eq word (codes "!hold")) (bytes_eq word (codes "!take")) (bytes_eq word (codes "!tick"))
-    not_open not_close (no_name word (codes "!hold") refl) (no_name word (codes "!take") refl) (no_name word (codes "!tick") refl)
-    )
+not_below : (limit n : ℕ) → None ≡ below limit n → limit ≤ n
+not_below limit n e = by (nat_lt n limit) refl e
   where
-    by : (o c h t k : Bool) → o ≡ false → c ≡ false → (h ≡ true → is_name word ≡ false) → (t ≡ true → is_name word ≡ false) → (k ≡ true → is_name word ≡ false)
-        → option_and_then if_read (if o then with_name open_session rest else (if c then with_name close_session rest else (if h then with_name hold rest
-        else (if t then with_name take_dry rest else (if k then tick_of rest else with_name (λ n. piece n rest) word)))))
-        ≡ (if is_name word then Some (piece word rest) else None)
-    by true c h t k e f nh nt nk = absurd (grind (arith, e))
-    by false true h t k e f nh nt nk = absurd (grind (arith, f))
-    by false false true t k e f nh nt nk = unread_name hold rest refl ∙ ap (λ b. if b then Some (piece word rest) else None) (sym (nh refl))
-    by false false false true k e f nh nt nk = unread_name take_dry rest refl ∙ ap (λ b. if b then Some (piece word rest) else None) (sym (nt refl))
-    by false false false false true e f nh nt nk = unread_tick rest ∙ ap (λ b. if b then Some (piece word rest) else None) (sym (nk refl))
-    by false false false false false e f nh nt nk = named (is_name word) word rest
+    by : (b : Bool) → nat_lt n limit ≡ b → None ≡ cond b (Some n) None → limit ≤ n
+    by true is f = absurd (none_some f)
+      where
+        none_some : None ≡ Some n → ⊥
+        none_some g = cc
+    by false is f = grind (arith, is)
 
-pub seen : (b : Bool) (word rest : Bor (List ℕ)) → option_map command_in (then_some b (command.Piece word rest)) ≡ (if b then Some (piece word.now rest.now) else None)
-seen true word rest = refl
-seen false word rest = refl
+above : (limit n : ℕ) → limit ≤ n → None ≡ below limit n
+above limit n h = ap (λ b. cond b (Some n) None) {x = false} {y = nat_lt n limit} (grind (arith, h))
+
+is_below : (limit n : ℕ) → n < limit → Some n ≡ below limit n
+is_below limit n h = ap (λ b. cond b (Some n) None) {x = true} {y = nat_lt n limit} (grind (arith, h))
+
+pub too_large : (limit n c : ℕ) (cs : List ℕ) → None ≡ below limit (10 * n + (c - 48)) → None ≡ below limit (number_in n (c ∷ cs))
+too_large limit n c cs e =
+    let over = not_below limit (10 * n + (c - 48)) e in
+    let more = grows (10 * n + (c - 48)) cs in
+    above limit (number_in (10 * n + (c - 48)) cs) (omega (arith, over, more))
+
+-- where no digit is left, the number so far is that of all digits
+pub ends_below : (limit n i : ℕ) (ds : List ℕ) → length ds ≤ i → n < limit → number_in n (drop i ds) ≡ number_in 0 ds → Some n ≡ below limit (number_in 0 ds)
+ends_below limit n i ds end h e = is_below limit n h ∙ ap (below limit) (ap (number_in n) (sym (drop_all i ds end)) ∙ e)
+
+pub same_below : (limit n m : ℕ) → Some m ≡ below limit n → (m < limit) × (m ≡ n)
+same_below limit n m e = by (nat_lt n limit) refl e
+  where
+    by : (b : Bool) → nat_lt n limit ≡ b → Some m ≡ cond b (Some n) None → (m < limit) × (m ≡ n)
+    by true is f = let same : m ≡ n = same_Some m n f in (grind (arith, is, same), same)
+      where
+        same_Some : (a b : ℕ) → Some a ≡ Some b → a ≡ b
+        same_Some a b g = cc
+    by false is f = absurd (some_none f)
+      where
+        some_none : Some m ≡ None → ⊥
+        some_none g = cc
+
+-- the next digit, and those behind it
+pub next_digit : (ds : List ℕ) (i : ℕ) → i < length ds → drop i ds ≡ get_or ds i 0 ∷ drop (i + 1) ds
+next_digit ds i there = let next : suc i ≡ i + 1 = omega arith in drop-cons ds i 0 there ∙ ap (λ j. get_or ds i 0 ∷ drop j ds) next

@@ -1,5 +1,5 @@
 -- Parts of commands, one behind the other.
-use Rattle.std.proofs.Common.{◌≡◌, ℕ, List, [], ◌∷◌, ◌++◌, Result, Ok, Err, OnOk, ap, sym, ◌∙◌, append_assoc, append-nil}
+use Rattle.std.proofs.Common.{◌≡◌, ℕ, List, [], ◌∷◌, ◌++◌, ap, sym, ◌∙◌, append_assoc, append-nil}
 use Rattle.serde_json.specs.Data.{Data}
 use Rattle.odb_core.specs.Service.{Service}
 use Rattle.odb_script.specs.Script.{Script, dry_all, dry_each, hand_each, hand_on}

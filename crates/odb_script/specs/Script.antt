@@ -1,5 +1,5 @@
 -- Scripts: lines of commands for named sessions, and the text that they print.
-use Rattle.std.specs.Prelude.{ℕ, zero, suc, ◌+◌, ◌-◌, ◌*◌, ◌%◌, ◌^◌, ◌==◌, nat_lt, nat_le, length, Bool, true, false, not, ◌&&◌, ◌||◌, if◌then◌else◌, List, [], ◌∷◌, ◌++◌, map, filter, find, flat_map, drop, Option, Some, None, is_some, option_and_then, Result, Ok, Err, codes, bytes_eq}
+use Rattle.std.specs.Prelude.{ℕ, zero, suc, ◌+◌, ◌-◌, ◌*◌, ◌%◌, ◌^◌, ◌==◌, nat_lt, nat_le, length, Bool, true, false, not, ◌&&◌, ◌||◌, if◌then◌else◌, List, [], ◌∷◌, ◌++◌, map, filter, find, flat_map, drop, Option, Some, None, is_some, Result, Ok, Err, codes, bytes_eq}
 use Rattle.std.specs.List.{list_all}
 use Rattle.serde_json.specs.Data.{Data}
 use Rattle.odb_atoms.specs.FinMap as finmap
@@ -10,6 +10,7 @@ use Rattle.odb_schema.specs.Schema.{Schema}
 use Rattle.odb_core.specs.Session.{Session, dried, owed}
 use Rattle.odb_core.specs.World.{World}
 use Rattle.odb_wire.specs.Stream.{Ending, fault_bad, fault_too_long, goes_on, messages}
+use Rattle.odb_atoms.specs.Text.{is_digit}
 use Rattle.odb_atoms.specs.Uuid.{Uuid, uuid_from}
 use Rattle.odb_wire.specs.Message.{inserts_of, method_of}
 
@@ -55,13 +56,10 @@ with_name f n = if is_name n then Some (f n) else None
 
 abbrev pub number_in : ℕ → List ℕ → ℕ
 number_in n [] = n
-number_in n (c ∷ cs) = number_in (10 * n + digit c) cs
-  where
-    digit : ℕ → ℕ
-    digit c = c - 48
+number_in n (c ∷ cs) = number_in (10 * n + (c - 48)) cs
 
 abbrev pub tick_of : List ℕ → Option Command
-tick_of ds = if nat_le 1 (length ds) && (nat_le (length ds) 20 && (list_all (λ c. nat_le 48 c && nat_le c 57) ds && nat_lt (number_in 0 ds) (2 ^ 64))) then Some (tick_to (number_in 0 ds)) else None
+tick_of ds = if nat_le 1 (length ds) && (nat_le (length ds) 20 && (list_all is_digit ds && nat_lt (number_in 0 ds) (2 ^ 64))) then Some (tick_to (number_in 0 ds)) else None
 
 -- what a line of a word and of what follows its space stands for
 abbrev pub command_by : List ℕ → Option (List ℕ) → Option Command
@@ -96,6 +94,13 @@ at_name n f xs = map (λ x. if bytes_eq x.name n then f x else x) xs
 -- a session to which bytes came, all of whose messages are handed on
 abbrev pub with_bytes : List ℕ → Named → Named
 with_bytes bytes x = record { name = x.name; session = x.session; bytes = x.bytes ++ bytes; handed = length (messages (x.bytes ++ bytes)).0; held = x.held }
+
+-- a session whose messages are kept back, or no longer
+abbrev pub with_held : Bool → Named → Named
+with_held b x = record { name = x.name; session = x.session; bytes = x.bytes; handed = x.handed; held = b }
+
+abbrev pub set_held : Bool → List ℕ → Script → Script
+set_held b n p = record p { sessions = at_name n (with_held b) p.sessions }
 
 module _ (h : Service) where
   -- every open session that isn't held is taken dry, in order of opening
@@ -190,16 +195,25 @@ module _ (h : Service) where
   abbrev pub close_named : List ℕ → Script → Script × List ℕ
   close_named n = when_open n (λ x q. (shut x.name x.session q, []))
 
-  abbrev pub set_held : Bool → List ℕ → Script → Script
-  set_held b n p = record p { sessions = at_name n (λ y. record { name = y.name; session = y.session; bytes = y.bytes; handed = y.handed; held = b }) p.sessions }
+  -- the session of the name is held, if one is open
+  abbrev pub hold_named : List ℕ → Script → Script × List ℕ
+  hold_named n = when_open n (λ x q. (set_held true n q, []))
+
+  -- it is given what it is owed, and is no longer held
+  abbrev pub take_named : List ℕ → Script → Script × List ℕ
+  take_named n = when_open n (λ x q. let d = dry_one x (finmap.get q.world.sessions x.session) q in (set_held false n d.0, d.1))
+
+  -- the moment is this one
+  abbrev pub at_moment : ℕ → Script → Script
+  at_moment now p = in_world (world_after (ticked now) p) (record p { moment = now })
 
   abbrev pub perform : Command → Script → Script × List ℕ
   perform (piece n bytes) p = when_open n (λ x q. take_in x bytes q) p
   perform (open_session n) p = dry_all (open_named n p)
   perform (close_session n) p = dry_all (close_named n p)
-  perform (hold n) p = dry_all (when_open n (λ x q. (set_held true n q, [])) p)
-  perform (take_dry n) p = dry_all (when_open n (λ x q. let d = dry_one x (finmap.get q.world.sessions x.session) q in (set_held false n d.0, d.1)) p)
-  perform (tick_to now) p = dry_all (in_world (world_after (ticked now) p) (record p { moment = now }), [])
+  perform (hold n) p = dry_all (hold_named n p)
+  perform (take_dry n) p = dry_all (take_named n p)
+  perform (tick_to now) p = dry_all (at_moment now p, [])
 
   -- the text of the lines, up to the first that isn't a command; its number, from 1
   abbrev pub perform_lines : (List ℕ → Option Command) → ℕ → List (List ℕ) → Script → List ℕ × Option ℕ
@@ -228,23 +242,6 @@ fresh_script s = record { world = (beginning (length s.tables)).world; sessions 
 abbrev pub script_of : Schema → List ℕ → List ℕ × Option ℕ
 script_of s text = perform_lines (service s) command_of 1 (lines_of text) (fresh_script s)
 
--- ---- so far
-
--- the commands that are read so far
-abbrev pub is_read : Command → Bool
-is_read (piece n bytes) = true
-is_read (open_session n) = true
-is_read (close_session n) = true
-is_read (hold n) = false
-is_read (take_dry n) = false
-is_read (tick_to now) = false
-
-abbrev pub if_read : Command → Option Command
-if_read k = if is_read k then Some k else None
-
-abbrev pub read_command : List ℕ → Option Command
-read_command line = option_and_then if_read (command_of line)
-
--- the same with the methods and the commands that are served so far
+-- the same with the methods that are served so far
 abbrev pub served_script : Schema → List ℕ → List ℕ × Option ℕ
-served_script s text = perform_lines (served_by s) read_command 1 (lines_of text) (fresh_script s)
+served_script s text = perform_lines (served_by s) command_of 1 (lines_of text) (fresh_script s)

@@ -1,8 +1,9 @@
 //! The commands of a script.
-ghost use Rattle.std.specs.Prelude.{◌≡◌, option_map, MatchOption, None, Some, ◌==◌};
+ghost use Rattle.std.specs.Prelude.{◌≡◌, option_map, MatchOption, None, Some, ◌==◌, ◌+◌, ◌-◌, ◌*◌, ◌^◌};
 ghost use Rattle.std.specs.List.{list_all, position};
+ghost use Rattle.odb_atoms.specs.Text.{is_digit};
 ghost use Rattle.odb_script.specs.Script as model;
-ghost use Rattle.odb_script.specs.Represented.Command.{command_in};
+ghost use Rattle.odb_script.specs.Represented.Command.{below, command_in};
 
 /// A command. A name has 1 to 16 ASCII letters or digits.
 #[derive(Clone, Copy)]
@@ -13,19 +14,38 @@ pub(crate) enum Command<'a> {
     Open(&'a [u8]),
     /// The session of a name is closed.
     Close(&'a [u8]),
+    /// What the session of a name is owed is kept back.
+    Hold(&'a [u8]),
+    /// The session of a name is given what it is owed, which is no longer kept back.
+    Take(&'a [u8]),
+    /// The moment is this one, in milliseconds.
+    Tick(u64),
 }
 
 impl<'a> Command<'a> {
-    /// Reads a line, without its line feed: `!open NAME`, `!close NAME` or `NAME BYTES`, with one
-    /// space between. `None` where the line is none of these.
+    /// Reads a line, without its line feed: `!open NAME`, `!close NAME`, `!hold NAME`, `!take NAME`,
+    /// `!tick N` or `NAME BYTES`, with one space between. N has 1 to 20 digits and is below 2^64.
+    /// `None` where the line is none of these.
     pub(crate) fn read(line: &'a [u8]) -> Option<Command<'a>>
-        ensures { option_map command_in result ≡ model.read_command line.now }
+        ensures { option_map command_in result ≡ model.command_of line.now }
     {
         let (word, rest) = split_at_space(line)?;
+        Command::of_words(word, rest)
+    }
+
+    fn of_words(word: &'a [u8], rest: &'a [u8]) -> Option<Command<'a>>
+        ensures { option_map command_in result ≡ model.command_by word.now (Some rest.now) }
+    {
         if word == b"!open".as_slice() {
             is_name(rest).then_some(Command::Open(rest))
         } else if word == b"!close".as_slice() {
             is_name(rest).then_some(Command::Close(rest))
+        } else if word == b"!hold".as_slice() {
+            is_name(rest).then_some(Command::Hold(rest))
+        } else if word == b"!take".as_slice() {
+            is_name(rest).then_some(Command::Take(rest))
+        } else if word == b"!tick".as_slice() {
+            Command::tick_to(rest)
         } else {
             is_name(word).then_some(Command::Piece {
                 name: word,
@@ -33,6 +53,45 @@ impl<'a> Command<'a> {
             })
         }
     }
+
+    fn tick_to(digits: &[u8]) -> Option<Command<'a>>
+        ensures { option_map command_in result ≡ model.tick_of digits.now }
+    {
+        if digits.is_empty() || digits.len() > 20 || !are_digits(digits) {
+            return None;
+        }
+        match number_in(digits) {
+            Some(moment) => Some(Command::Tick(moment)),
+            None => None,
+        }
+    }
+}
+
+/// The number that decimal digits are; `None` where it is 2^64 or more.
+fn number_in(digits: &[u8]) -> Option<u64>
+    ensures { result ≡ below (2 ^ 64) (model.number_in 0 digits.now) }
+{
+    let mut number = 0;
+    for digit in digits {
+        let Some(longer) = with_digit(number, *digit) else {
+            return None;
+        };
+        number = longer;
+    }
+    Some(number)
+}
+
+fn with_digit(number: u64, digit: u8) -> Option<u64>
+    ensures { result ≡ below (2 ^ 64) (10 * number + (digit - 48)) }
+{
+    let tens = number.checked_mul(10)?;
+    tens.checked_add(u64::from(digit.saturating_sub(b'0')))
+}
+
+fn are_digits(bytes: &[u8]) -> bool
+    ensures { result ≡ list_all is_digit bytes.now }
+{
+    bytes.iter().all(|byte| byte.is_ascii_digit())
 }
 
 /// The bytes before the first space, and those behind it. `None` where there is no space.

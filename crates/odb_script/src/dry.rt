@@ -2,7 +2,7 @@
 ghost use Rattle.std.specs.Prelude.{◌≡◌, ◌++◌, OnOk};
 ghost use Rattle.odb_core.specs.Represented.Out.{text_of_out};
 ghost use Rattle.odb_script.specs.Script.{line_of};
-ghost use Rattle.odb_script.specs.Represented.Dry.{all_dry, taken_dry};
+ghost use Rattle.odb_script.specs.Represented.Dry.{all_dry, dry_unless_held, taken_dry};
 
 use crate::named::Named;
 use odb_core::{Core, Out, SessionId};
@@ -25,7 +25,7 @@ pub(crate) fn take_dry(
     Ok(())
 }
 
-/// The same for each of the sessions, in order.
+/// The same for each of the sessions that isn't held, in order.
 pub(crate) fn take_all_dry(
     core: &mut Core,
     sessions: &[Named],
@@ -34,9 +34,22 @@ pub(crate) fn take_all_dry(
     ensures { OnOk result (all_dry sessions.now (core.old, text.old.items) ≡ (core.new, text.new.items)) }
 {
     for named in sessions {
-        take_dry(core, named.session, named.name.as_slice(), text)?;
+        take_dry_unless_held(core, named, text)?;
     }
     Ok(())
+}
+
+fn take_dry_unless_held(
+    core: &mut Core,
+    named: &Named,
+    text: &mut Vec<u8>,
+) -> Result<(), AllocError>
+    ensures { OnOk result (dry_unless_held named.now (core.old, text.old.items) ≡ (core.new, text.new.items)) }
+{
+    if named.held {
+        return Ok(());
+    }
+    take_dry(core, named.session, named.name.as_slice(), text)
 }
 
 fn print_out(text: &mut Vec<u8>, name: &[u8], out: &Out) -> Result<(), AllocError>

@@ -1,15 +1,15 @@
 //! The engine of scripts.
-ghost use Rattle.std.specs.Prelude.{◌≡◌, All, IfOk, OnOk, bytes_eq, map};
+ghost use Rattle.std.specs.Prelude.{◌≡◌, All, IfOk, Ok, OnOk, bytes_eq, map};
 ghost use Rattle.odb_wire.specs.Feeding.{fault_of};
 ghost use Rattle.odb_wire.specs.Shown.{message_data, request_data, IsOfItsKind};
 ghost use Rattle.odb_wire.specs.Stream.{Ending};
 ghost use Rattle.std.specs.List.{position};
-ghost use Rattle.odb_core.specs.Run.{closed};
+ghost use Rattle.odb_core.specs.Run.{closed, ticked};
 ghost use Rattle.odb_core.specs.Server.{served_by};
 ghost use Rattle.odb_script.specs.Script.{Script, in_world, world_after};
 
 use crate::command::Command;
-use crate::dry::{print_line, take_all_dry};
+use crate::dry::{print_line, take_all_dry, take_dry};
 use crate::fresh::fresh_uuids;
 use crate::named::Named;
 use odb_core::{Core, Refused, SessionId};
@@ -19,14 +19,15 @@ use std::alloc::{AllocError, Global};
 use std::hash::RandomState;
 use std::marker::Model;
 
-/// A script that runs: its server, its sessions in order of opening, and how many inserts were
-/// counted. No two sessions have one name.
+/// A script that runs: its server, its sessions in order of opening, how many inserts were counted,
+/// and the moment in milliseconds. No two sessions have one name.
 #[derive(Drop)]
 pub(crate) struct Engine {
     alloc: Global,
     core: Core,
     sessions: Vec<Named>,
     inserts: u64,
+    moment: u64,
 }
 
 impl Model for Engine {
@@ -44,7 +45,7 @@ impl Model for Engine {
         sessions = e.sessions.items;
         opened_so_far = e.core.opened;
         inserts = e.inserts;
-        moment = 0;
+        moment = e.moment;
       };
     } };
 
@@ -52,9 +53,10 @@ impl Model for Engine {
 }
 
 impl Engine {
-    ghost use Rattle.odb_script.specs.Script.{at_ending, close_named, close_session, dry_all};
-    ghost use Rattle.odb_script.specs.Script.{fresh_script, hand_each, hand_on, open_named};
-    ghost use Rattle.odb_script.specs.Script.{open_session, perform, piece, shut, shut_with, submit_as};
+    ghost use Rattle.odb_script.specs.Script.{at_ending, at_moment, close_named, close_session, dry_all};
+    ghost use Rattle.odb_script.specs.Script.{fresh_script, hand_each, hand_on, hold, hold_named};
+    ghost use Rattle.odb_script.specs.Script.{open_named, open_session, perform, piece, shut, shut_with};
+    ghost use Rattle.odb_script.specs.Script.{submit_as, take_dry, take_named, tick_to};
     ghost use Rattle.odb_script.specs.Represented.Command.{command_in};
     ghost use Rattle.odb_script.specs.Represented.Steps.{Performs};
 
@@ -73,6 +75,7 @@ impl Engine {
                 core,
                 sessions: Vec::new(alloc),
                 inserts: 0,
+                moment: 0,
             }),
             Err((_, _, refused)) => Err(refused),
         }
@@ -91,6 +94,9 @@ impl Engine {
             Command::Piece { name, bytes } => self.take_in(name, bytes, &mut text)?,
             Command::Open(name) => self.open(name, &mut text)?,
             Command::Close(name) => self.close(name, &mut text)?,
+            Command::Hold(name) => self.hold(name, &mut text)?,
+            Command::Take(name) => self.take(name, &mut text)?,
+            Command::Tick(moment) => self.tick(moment, &mut text)?,
         }
         Ok(text)
     }
@@ -128,6 +134,7 @@ impl Engine {
                     name,
                     session,
                     framer,
+                    held: false,
                 })?;
                 Ok(())
             }
@@ -165,6 +172,69 @@ impl Engine {
     {
         close_if_open(&mut self.core, session)?;
         self.sessions.retain(|named| named.name.as_slice() != name);
+        Ok(())
+    }
+
+    fn hold(&mut self, name: &[u8], text: &mut Vec<u8>) -> Result<(), AllocError>
+        ensures done { OnOk result (Performs (λ h. perform h (hold name.now))
+            self.old text.old.items self.new text.new.items) }
+        ensures schema { OnOk result (self.new.schema ≡ self.old.schema) }
+    {
+        self.hold_named(name, text)?;
+        self.take_all_dry(text)
+    }
+
+    fn hold_named(&mut self, name: &[u8], text: &mut Vec<u8>) -> Result<(), AllocError>
+        ensures done { OnOk result (Performs (λ h. hold_named h name.now)
+            self.old text.old.items self.new text.new.items) }
+        ensures schema { OnOk result (self.new.schema ≡ self.old.schema) }
+    {
+        let Some(place) = place_of(name, self.sessions.as_slice()) else {
+            return print_line(text, name, "!gone");
+        };
+        self.sessions[place].set_held(true);
+        Ok(())
+    }
+
+    fn take(&mut self, name: &[u8], text: &mut Vec<u8>) -> Result<(), AllocError>
+        ensures done { OnOk result (Performs (λ h. perform h (take_dry name.now))
+            self.old text.old.items self.new text.new.items) }
+        ensures schema { OnOk result (self.new.schema ≡ self.old.schema) }
+    {
+        self.take_named(name, text)?;
+        self.take_all_dry(text)
+    }
+
+    fn take_named(&mut self, name: &[u8], text: &mut Vec<u8>) -> Result<(), AllocError>
+        ensures done { OnOk result (Performs (λ h. take_named h name.now)
+            self.old text.old.items self.new text.new.items) }
+        ensures schema { OnOk result (self.new.schema ≡ self.old.schema) }
+    {
+        let Some(place) = place_of(name, self.sessions.as_slice()) else {
+            return print_line(text, name, "!gone");
+        };
+        let session = self.sessions[place].session;
+        take_dry(&mut self.core, session, name, text)?;
+        self.sessions[place].set_held(false);
+        Ok(())
+    }
+
+    fn tick(&mut self, moment: u64, text: &mut Vec<u8>) -> Result<(), AllocError>
+        ensures done { OnOk result (Performs (λ h. perform h (tick_to moment))
+            self.old text.old.items self.new text.new.items) }
+        ensures schema { OnOk result (self.new.schema ≡ self.old.schema) }
+    {
+        self.set_moment(moment)?;
+        self.take_all_dry(text)
+    }
+
+    fn set_moment(&mut self, moment: u64) -> Result<(), AllocError>
+        ensures done { OnOk result (self.new.script
+            ≡ at_moment (served_by self.old.schema) moment self.old.script) }
+        ensures schema { OnOk result (self.new.schema ≡ self.old.schema) }
+    {
+        tick_core(&mut self.core, moment)?;
+        self.moment = moment;
         Ok(())
     }
 
@@ -293,7 +363,10 @@ impl Engine {
         let fresh = fresh_uuids(self.alloc, self.inserts, request.inserts())?;
         let counted = self.inserts.checked_add(request.inserts() as u64);
         self.inserts = counted.ok_or(AllocError)?;
-        match self.core.submit(session, request, fresh.as_slice(), 0) {
+        match self
+            .core
+            .submit(session, request, fresh.as_slice(), self.moment)
+        {
             Ok(()) => Ok(()),
             Err((_, Refused::Busy)) => print_line(text, name, "!busy"),
             Err((_, Refused::Gone)) => print_line(text, name, "!gone"),
@@ -315,6 +388,15 @@ fn close_if_open(core: &mut Core, session: SessionId) -> Result<(), AllocError>
         Err(Refused::Gone) => Ok(()),
         Err(_) => Err(AllocError),
     }
+}
+
+fn tick_core(core: &mut Core, moment: u64) -> Result<(), AllocError>
+    ensures world { OnOk result ((p : Script) → p.world ≡ core.old.world
+        → world_after (served_by core.old.schema) (ticked moment) p ≡ Ok core.new.world) }
+    ensures schema { OnOk result (core.new.schema ≡ core.old.schema) }
+    ensures opened { OnOk result (core.new.opened ≡ core.old.opened) }
+{
+    core.tick(moment)
 }
 
 /// Where the session of a name stands.

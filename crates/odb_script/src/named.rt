@@ -1,6 +1,6 @@
 //! The sessions of a script by their names.
 ghost use Rattle.std.specs.Prelude.{◌≡◌, ◌++◌, All, IfOk, OnOk, drop, length, map};
-ghost use Rattle.odb_script.specs.Script.{with_bytes};
+ghost use Rattle.odb_script.specs.Script.{with_bytes, with_held};
 ghost use Rattle.odb_wire.specs.Feeding.{fault_of};
 ghost use Rattle.odb_wire.specs.Shown.{message_data, IsOfItsKind};
 ghost use Rattle.odb_wire.specs.Stream.{messages};
@@ -10,16 +10,17 @@ use odb_wire::{Framer, Message, WireFault};
 use std::alloc::{AllocError, Global};
 use std::marker::Model;
 
-/// An open session: its name, its number, and its framer.
+/// An open session: its name, its number, its framer, and whether what it is owed is kept back.
 #[derive(Drop)]
 pub(crate) struct Named {
     pub(crate) name: Vec<u8>,
     pub(crate) session: SessionId,
     pub(crate) framer: Framer,
+    pub(crate) held: bool,
 }
 
 impl Model for Named {
-    ghost use Rattle.std.specs.Prelude.{false, length};
+    ghost use Rattle.std.specs.Prelude.{length};
     ghost use Rattle.odb_script.specs.Running.{named_code};
     ghost use Rattle.odb_script.specs.Script as model;
     ghost use Rattle.odb_wire.specs.Stream.{messages};
@@ -33,7 +34,7 @@ impl Model for Named {
       session = n.session;
       bytes = n.framer;
       handed = length (messages n.framer).0;
-      held = false;
+      held = n.held;
     } };
 }
 
@@ -45,6 +46,13 @@ pub(crate) struct Fed {
 }
 
 impl Named {
+    /// Keeps back what the session is owed, or no longer.
+    pub(crate) fn set_held(&mut self, held: bool)
+        ensures { self.new ≡ with_held held self.old }
+    {
+        self.held = held;
+    }
+
     /// Takes the next bytes of the session's stream in.
     pub(crate) fn feed(&mut self, alloc: Global, bytes: &[u8]) -> Result<Fed, AllocError>
         ensures session { IfOk result (λ fed. self.new ≡ with_bytes bytes.now self.old) }

@@ -4,7 +4,7 @@ ghost use Rattle.std.specs.Io.Buffered.{reader_inner, reader_remaining};
 ghost use Rattle.std.specs.Io.BufRead.{strip_last};
 ghost use Rattle.std.specs.Io.KnownBytes.{Appends};
 ghost use Rattle.odb_core.specs.Server.{served_by};
-ghost use Rattle.odb_script.specs.Script.{lines_of, perform_lines, read_command, served_script};
+ghost use Rattle.odb_script.specs.Script.{command_of, lines_of, perform_lines, served_script};
 ghost use Rattle.odb_script.specs.Represented.Run.{line_step, AppendsFront, IsOfWriting, CarriesOut, Ends, IsOfReading};
 ghost use Rattle.odb_script.specs.Represented.Watched.{has_failed, watched};
 ghost use Rattle.odb_script.specs.declared.fault.RunFault.TheVariants as fault;
@@ -50,7 +50,7 @@ fn run_lines<R: Read, W: Write>(
     writer: &mut Watched<W>,
 ) -> Result<(), RunFault>
     ensures ends { IfSome (reader_remaining (λ w. R.remaining (watched w)) reader.old)
-        (λ text. Ends (perform_lines (served_by engine.old.schema) read_command 1 (lines_of text) engine.old.script) result
+        (λ text. Ends (perform_lines (served_by engine.old.schema) command_of 1 (lines_of text) engine.old.script) result
         (W.contents (watched writer.old)) (W.contents (watched writer.new))) }
     ensures read { IsErrOf result fault.Read → has_failed (reader_inner reader.new) ≡ true }
     ensures write { IsErrOf result fault.Write → has_failed writer.new ≡ true }

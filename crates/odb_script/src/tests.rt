@@ -177,20 +177,58 @@ fn the_deepest_message_and_one_more(rt: HostRuntime) -> Result<(), Fail> {
 
 #[test]
 fn lines_that_are_no_commands(rt: HostRuntime) -> Result<(), Fail> {
-    let table: [(&[u8], &[u8], u64); 8] = [
+    let table: [(&[u8], &[u8], u64); 13] = [
         (b"x\n!open A\n", b"", 1),
         (b"!close A\n!open  A\n", b"A !gone\n", 2),
-        (b"\n!close A\n!tick 1", b"A !gone\n", 3),
+        (b"\n!close A\n!tick x", b"A !gone\n", 3),
         (b"!open ABCDEFGHIJKLMNOPQ\n", b"", 1),
         (b"ABCDEFGHIJKLMNOPQ x\n", b"", 1),
         (b" x\n", b"", 1),
-        (b"!hold A\n", b"", 1),
+        (b"!hold A \n", b"", 1),
+        (b"!take\n", b"", 1),
+        (b"!tick \n", b"", 1),
+        (b"!tick -1\n", b"", 1),
+        (b"!tick 18446744073709551616\n", b"", 1),
+        (b"!tick 000000000000000000001\n", b"", 1),
         (b"A\xc3\xa9 x\n", b"", 1),
     ];
     for (input, output, line) in table {
         let end = Err(RunFault::BadCommand(line));
         assert!(rt; ends(rt.alloc(), RandomState::new(&rt)?, input, output, end)?);
     }
+    Ok(())
+}
+
+#[test]
+fn moments(rt: HostRuntime) -> Result<(), Fail> {
+    let input = b"!tick 0\n!tick 18446744073709551615\n!tick 00000000000000000001\n!close A\n";
+    assert!(rt; prints(rt.alloc(), RandomState::new(&rt)?, input, b"A !gone\n")?);
+    Ok(())
+}
+
+#[test]
+fn replies_of_a_held_session_are_kept_back(rt: HostRuntime) -> Result<(), Fail> {
+    let mut input = Vec::from_slice(rt.alloc(), b"!open A\n!hold A\nA ")?;
+    let mut output = Vec::from_slice(rt.alloc(), b"A !busy\n")?;
+    for id in 1..258_u32 {
+        let request = format!(in rt.alloc(); "{{\"method\":\"echo\",\"params\":[],\"id\":{id}}}")?;
+        input.extend_from_slice(request.as_bytes())?;
+        let reply = format!(in rt.alloc(); "A {{\"error\":null,\"id\":{id},\"result\":[]}}\n")?;
+        if id < 257 {
+            output.extend_from_slice(reply.as_bytes())?;
+        }
+    }
+    input.extend_from_slice(b"\n!take A\nA {\"method\":\"list_dbs\",\"params\":[],\"id\":0}\n")?;
+    output.extend_from_slice(b"A {\"error\":null,\"id\":0,\"result\":[\"net\"]}\n")?;
+    assert!(rt; prints(rt.alloc(), RandomState::new(&rt)?, &input, &output)?);
+    Ok(())
+}
+
+#[test]
+fn names_that_are_not_open_are_gone(rt: HostRuntime) -> Result<(), Fail> {
+    let input = b"!hold A\n!take A\n!open A\n!hold A\n!close A\n!take A\n";
+    let output = b"A !gone\nA !gone\nA !gone\n";
+    assert!(rt; prints(rt.alloc(), RandomState::new(&rt)?, input, output)?);
     Ok(())
 }
 

@@ -21,7 +21,10 @@ dry_if name n (Some x) p = (dried_in n p.0 x, p.1 ++ lines_for name p.0 x)
 abbrev pub taken_dry : List ℕ → ℕ → Server × List ℕ → Server × List ℕ
 taken_dry name n p = dry_if name n (get p.0.world.sessions n) p
 
+abbrev pub dry_unless_held : Named → Server × List ℕ → Server × List ℕ
+dry_unless_held x p = if x.held then p else taken_dry x.name x.session p
+
 -- the same for each of these sessions that isn't held, in order
 abbrev pub all_dry : List Named → Server × List ℕ → Server × List ℕ
 all_dry [] p = p
-all_dry (x ∷ xs) p = all_dry xs (if x.held then p else taken_dry x.name x.session p)
+all_dry (x ∷ xs) p = all_dry xs (dry_unless_held x p)

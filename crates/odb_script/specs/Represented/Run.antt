@@ -2,7 +2,7 @@
 use Rattle.std.specs.Prelude.{◌≡◌, ℕ, List, [], ◌∷◌, ◌++◌, ⊤, Option, None, Some, Result, Ok, Err, option_map}
 use Rattle.std.specs.Io.KnownBytes.{Appends, Keeps}
 use Rattle.odb_core.specs.Service.{Service}
-use Rattle.odb_script.specs.Script.{Script, perform, read_command}
+use Rattle.odb_script.specs.Script.{Script, perform, command_of}
 use Rattle.odb_script.specs.declared.fault.RunFault.{RunFault}
 use Rattle.odb_script.specs.declared.fault.RunFault.TheVariants.{BadCommand, Memory, Read, Write}
 
@@ -13,7 +13,7 @@ AppendsFront before after text = (front : List ℕ) × (back : List ℕ) × (tex
 -- what a line does and prints; none where it is no command
 abbrev pub line_step : Service → List ℕ → Script → Option (Script × List ℕ)
 line_step h [] p = Some (p, [])
-line_step h (c ∷ cs) p = option_map (λ k. perform h k p) (read_command (c ∷ cs))
+line_step h (c ∷ cs) p = option_map (λ k. perform h k p) (command_of (c ∷ cs))
 
 -- a line of this number was carried out
 abbrev pub CarriesOut : ℕ → Option (Script × List ℕ) → Script → Result (Unit {0}) RunFault → Option (List ℕ) → Option (List ℕ) → Type 0

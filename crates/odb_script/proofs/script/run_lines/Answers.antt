@@ -3,7 +3,7 @@ use Rattle.std.specs.Io.Buffered.{reader_remaining}
 use Rattle.std.specs.Io.BufRead.{strip_last}
 use Rattle.std.proofs.lemmas.Result.{err_from_is_err_and}
 use Rattle.odb_core.specs.Server.{served_by}
-use Rattle.odb_script.specs.Script.{lines_of, perform_lines, read_command}
+use Rattle.odb_script.specs.Script.{lines_of, perform_lines, command_of}
 use Rattle.odb_script.specs.Represented.Watched.{watched}
 use Rattle.odb_script.proofs.Runs.{begun_if, unread_if, goes_on_if, stops_if, Taken}
 use Rattle.odb_script.proofs.script.run_lines.Goals as goal
@@ -14,7 +14,7 @@ loop-number-init g c =
 
 pub returns-in-Err-clause-ends : goal.returns-in-Err-clause-ends
 returns-in-Err-clause-ends g c =
-    unread_if (reader_remaining (λ w. g.R.Read.remaining (watched w)) c.args.reader.now) (λ text. perform_lines (served_by c.args.engine.now.schema) read_command 1 (lines_of text) c.args.engine.now.script)
+    unread_if (reader_remaining (λ w. g.R.Read.remaining (watched w)) c.args.reader.now) (λ text. perform_lines (served_by c.args.engine.now.schema) command_of 1 (lines_of text) c.args.engine.now.script)
     (served_by c.loop-number.engine.schema) (g.W.Write.contents (watched c.args.writer.now)) (g.W.Write.contents (watched c.loop-number.writer))
     (reader_remaining (λ w. g.R.Read.remaining (watched w)) c.loop-number.reader) c.loop-number.number c.loop-number.engine.script c.in-Err.fault c.loop-number.invariant c.in-Err.ensures.err
 
@@ -26,7 +26,7 @@ returns-in_err-carry_out-clause-ends g c =
     let taken : Taken left new c.without_line_feed.result.now = subst (Taken left new) (sym line) (rw c.in-Ok-Some.field-0-is at c.in-Ok-Some.ensures.line) in
     let p = err_from_is_err_and c.from_residual.result c.from_residual.ensures.1 in
     rw (p.1, p.2) (
-    stops_if (reader_remaining (λ w. g.R.Read.remaining (watched w)) c.args.reader.now) (λ text. perform_lines (served_by c.args.engine.now.schema) read_command 1 (lines_of text) c.args.engine.now.script)
+    stops_if (reader_remaining (λ w. g.R.Read.remaining (watched w)) c.args.reader.now) (λ text. perform_lines (served_by c.args.engine.now.schema) command_of 1 (lines_of text) c.args.engine.now.script)
     (served_by c.loop-number.engine.schema) (g.W.Write.contents (watched c.args.writer.now)) (g.W.Write.contents (watched c.loop-number.writer)) left c.loop-number.number c.loop-number.engine.script
     (g.W.Write.contents (watched c.carry_out.new.writer)) new c.carry_out.new.engine.script c.without_line_feed.result.now c.in_err-carry_out.field-0.0 c.loop-number.invariant taken c.in_err-carry_out.ensures.done
     )
@@ -38,7 +38,7 @@ loop-number-preserved g c =
     let line : c.without_line_feed.result.now ≡ strip_last 10 c.in-Ok-Some.line.items = c.without_line_feed.ensures ∙ ap (strip_last 10) c.deref.ensures.value in
     let taken : Taken left new c.without_line_feed.result.now = subst (Taken left new) (sym line) (rw c.in-Ok-Some.field-0-is at c.in-Ok-Some.ensures.line) in
     rw c.in_ok-carry_out.ensures.schema (
-    goes_on_if (reader_remaining (λ w. g.R.Read.remaining (watched w)) c.args.reader.now) (λ text. perform_lines (served_by c.args.engine.now.schema) read_command 1 (lines_of text) c.args.engine.now.script)
+    goes_on_if (reader_remaining (λ w. g.R.Read.remaining (watched w)) c.args.reader.now) (λ text. perform_lines (served_by c.args.engine.now.schema) command_of 1 (lines_of text) c.args.engine.now.script)
     (served_by c.loop-number.engine.schema) (g.W.Write.contents (watched c.args.writer.now)) (g.W.Write.contents (watched c.loop-number.writer)) left c.loop-number.number c.loop-number.engine.script
     (g.W.Write.contents (watched c.carry_out.new.writer)) new c.carry_out.new.engine.script c.without_line_feed.result.now c.loop-number.invariant taken c.in_ok-carry_out.ensures.done
     )

@@ -1,7 +1,7 @@
 use Rattle.std.proofs.Common.{IfSome}
 use Rattle.std.specs.Io.Buffered.{reader_remaining}
 use Rattle.odb_core.specs.Server.{served_by}
-use Rattle.odb_script.specs.Script.{lines_of, perform_lines, read_command}
+use Rattle.odb_script.specs.Script.{lines_of, perform_lines, command_of}
 use Rattle.odb_script.specs.Represented.Watched.{watched}
 use Rattle.odb_script.proofs.Runs.{Going}
 use Rattle.odb_script.proofs.script.run_lines.Given as goal
@@ -9,5 +9,5 @@ use Rattle.odb_script.proofs.script.run_lines.Given as goal
 abbrev pub invariant-loop-number : goal.invariant-loop-number
 invariant-loop-number g l =
     IfSome (reader_remaining (λ w. g.R.Read.remaining (watched w)) l.fn.reader)
-    (λ text. Going (served_by l.engine.schema) (perform_lines (served_by l.fn.engine.schema) read_command 1 (lines_of text) l.fn.engine.script)
+    (λ text. Going (served_by l.engine.schema) (perform_lines (served_by l.fn.engine.schema) command_of 1 (lines_of text) l.fn.engine.script)
     (g.W.Write.contents (watched l.fn.writer)) (g.W.Write.contents (watched l.writer)) (reader_remaining (λ w. g.R.Read.remaining (watched w)) l.reader) l.number l.engine.script)

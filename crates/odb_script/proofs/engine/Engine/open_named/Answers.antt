@@ -14,7 +14,7 @@ use Rattle.odb_script.proofs.engine.Engine.open_named.Goals as goal
 pub returns-then-is_some-clause-done : goal.returns-then-is_some-clause-done
 returns-then-is_some-clause-done c =
     let old = c.self.inside in
-    let p : Script = script_of old.core old.sessions.items old.inserts in
+    let p : Script = script_of old.core old.sessions.items old.inserts old.moment in
     let there : IsPlaceOf c.args.name.now old.sessions.items c.place_of.result = search rules in
     let some : is_some c.place_of.result ≡ true = search rules in
     let text : OnOk c.print_line.result (c.print_line.new.text.items ≡ c.args.text.now.items ++ line_of c.args.name.now (codes "!open")) = search rules in
@@ -39,8 +39,8 @@ returns-in_ok-push-in-Ok-clause-done c =
     let grown : c.push.new.self.items ≡ old.sessions.items ++ x ∷ [] = search rules in
     let number : c.in-Ok.session ≡ old.core.opened = search rules in
     let served : serve (opened c.in-Ok.session) old.core ≡ Ok (c.open.new.self, []) = search rules in
-    subst (λ (v : Running). Does (open_named (served_by v.schema) c.args.name.now) v.script c.args.text.now.items (script_of c.open.new.self c.push.new.self.items old.inserts) c.args.text.now.items) c.self.view_is
-    (opens_new old.core old.sessions.items old.inserts c.args.name.now c.place_of.result c.open.new.self [] c.in-Ok.session c.push.new.self.items c.args.text.now.items there none number served grown)
+    subst (λ (v : Running). Does (open_named (served_by v.schema) c.args.name.now) v.script c.args.text.now.items (script_of c.open.new.self c.push.new.self.items old.inserts old.moment) c.args.text.now.items) c.self.view_is
+    (opens_new old.core old.sessions.items old.inserts old.moment c.args.name.now c.place_of.result c.open.new.self [] c.in-Ok.session c.push.new.self.items c.args.text.now.items there none number served grown)
 
 pub returns-in-Err-TooMany-clause-done : goal.returns-in-Err-TooMany-clause-done
 returns-in-Err-TooMany-clause-done c =
@@ -50,6 +50,6 @@ returns-in-Err-TooMany-clause-done c =
     let full : max_sessions ≤ len old.core.world.sessions = search rules in
     let same : c.open.new.self ≡ old.core = search rules in
     let text : OnOk c.print_line-in-Err-TooMany.result (c.print_line-in-Err-TooMany.new.text.items ≡ c.args.text.now.items ++ line_of c.args.name.now (codes "!toomany")) = search rules in
-    subst (λ (v : Running). OnOk c.print_line-in-Err-TooMany.result (Does (open_named (served_by v.schema) c.args.name.now) v.script c.args.text.now.items (script_of c.open.new.self old.sessions.items old.inserts) c.print_line-in-Err-TooMany.new.text.items)) c.self.view_is
-    (on_ok_weaker c.print_line-in-Err-TooMany.result (λ e. subst (λ q. Does (open_named (served_by old.core.schema) c.args.name.now) (script_of old.core old.sessions.items old.inserts) c.args.text.now.items (script_of q old.sessions.items old.inserts) c.print_line-in-Err-TooMany.new.text.items) (sym same)
-    (opens_full old.core old.sessions.items old.inserts c.args.name.now c.place_of.result c.args.text.now.items c.print_line-in-Err-TooMany.new.text.items there none full e)) text)
+    subst (λ (v : Running). OnOk c.print_line-in-Err-TooMany.result (Does (open_named (served_by v.schema) c.args.name.now) v.script c.args.text.now.items (script_of c.open.new.self old.sessions.items old.inserts old.moment) c.print_line-in-Err-TooMany.new.text.items)) c.self.view_is
+    (on_ok_weaker c.print_line-in-Err-TooMany.result (λ e. subst (λ q. Does (open_named (served_by old.core.schema) c.args.name.now) (script_of old.core old.sessions.items old.inserts old.moment) c.args.text.now.items (script_of q old.sessions.items old.inserts old.moment) c.print_line-in-Err-TooMany.new.text.items) (sym same)
+    (opens_full old.core old.sessions.items old.inserts old.moment c.args.name.now c.place_of.result c.args.text.now.items c.print_line-in-Err-TooMany.new.text.items there none full e)) text)

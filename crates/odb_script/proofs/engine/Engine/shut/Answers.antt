@@ -19,9 +19,9 @@ returns-clause-done c =
     let old = c.self.inside in
     let q = c.close_if_open.new.core in
     let left : c.retain.new.self.items ≡ filter (λ (y : Named). not (bytes_eq y.name c.args.name.now)) old.sessions.items = filter_same _ _ _ (λ x b f' k. search rules) _ _ c.retain.ensures.filtered in
-    let p : Script = script_of old.core old.sessions.items old.inserts in
+    let p : Script = script_of old.core old.sessions.items old.inserts old.moment in
     let ended : in_world (served_by old.core.schema) (world_after (served_by old.core.schema) (closed c.args.session) p) p ≡ record p { world = q.world } = search rules in
     let number : q.opened ≡ old.core.opened = search rules in
-    (λ i. let r : Script = record { world = q.world; sessions = left i; opened_so_far = number i; inserts = old.inserts; moment = 0 } in r)
+    (λ i. let r : Script = record { world = q.world; sessions = left i; opened_so_far = number i; inserts = old.inserts; moment = old.moment } in r)
     ∙ ap (λ (r : Script). let s : Script = record r { sessions = filter (λ (y : Named). not (bytes_eq y.name c.args.name.now)) old.sessions.items } in s) (sym ended)
     ∙ ap (λ (v : Running). shut (served_by v.schema) c.args.name.now c.args.session v.script) c.self.view_is

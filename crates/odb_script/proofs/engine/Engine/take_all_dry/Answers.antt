@@ -13,9 +13,9 @@ returns-clause-done c =
     let q : Server = c.take_all_dry.new.core in
     let t : List ℕ = c.args.text.now.items in
     let u : List ℕ = c.take_all_dry.new.text.items in
-    let p : Script = record { world = old.core.world; sessions = old.sessions.items; opened_so_far = old.core.opened; inserts = old.inserts; moment = 0 } in
+    let p : Script = record { world = old.core.world; sessions = old.sessions.items; opened_so_far = old.core.opened; inserts = old.inserts; moment = old.moment } in
     let done : OnOk c.take_all_dry.result (all_dry c.as_slice.result.now (old.core, t) ≡ (q, u)) = search rules in
-    subst (λ (v : Running). OnOk c.take_all_dry.result (dry_all (served_by v.schema) (v.script, t) ≡ (let r : Script × List ℕ = (record { world = q.world; sessions = old.sessions.items; opened_so_far = q.opened; inserts = old.inserts; moment = 0 }, u) in r)))
+    subst (λ (v : Running). OnOk c.take_all_dry.result (dry_all (served_by v.schema) (v.script, t) ≡ (let r : Script × List ℕ = (record { world = q.world; sessions = old.sessions.items; opened_so_far = q.opened; inserts = old.inserts; moment = old.moment }, u) in r)))
     c.self.view_is
     (on_ok_weaker c.take_all_dry.result (λ e. (dry_all_is old.core.schema c.as_slice.result.now p t q u c.as_slice.ensures.value e).0) done)
 
@@ -25,7 +25,7 @@ returns-clause-schema c =
     let q : Server = c.take_all_dry.new.core in
     let t : List ℕ = c.args.text.now.items in
     let u : List ℕ = c.take_all_dry.new.text.items in
-    let p : Script = record { world = old.core.world; sessions = old.sessions.items; opened_so_far = old.core.opened; inserts = old.inserts; moment = 0 } in
+    let p : Script = record { world = old.core.world; sessions = old.sessions.items; opened_so_far = old.core.opened; inserts = old.inserts; moment = old.moment } in
     let done : OnOk c.take_all_dry.result (all_dry c.as_slice.result.now (old.core, t) ≡ (q, u)) = search rules in
     subst (λ (v : Running). OnOk c.take_all_dry.result (q.schema ≡ v.schema)) c.self.view_is
     (on_ok_weaker c.take_all_dry.result (λ e. (dry_all_is old.core.schema c.as_slice.result.now p t q u c.as_slice.ensures.value e).1) done)
