@@ -23,6 +23,21 @@ const CNT: &str =
 const LNK: &str =
     "{'name':'lnk','version':'1.0.0','tables':{'R':{'isRoot':true,'columns':{'first':{'type':{'key':{'type':'uuid','refTable':'N'},'min':0}}}},'N':{'columns':{'next':{'type':{'key':{'type':'uuid','refTable':'N'},'min':0}}}}}}";
 
+/// A row that isn't root is kept by a value of the map, until its key is no row any more.
+const LFT: &str =
+    "{'name':'lft','version':'1.0.0','tables':{'R':{'isRoot':true,'columns':{'m':{'type':{'key':{'type':'uuid','refTable':'W','refType':'weak'},'value':{'type':'uuid','refTable':'S'},'min':0,'max':'unlimited'}}}},'W':{'isRoot':true,'columns':{'k':{'type':'integer'}}},'S':{'columns':{'k':{'type':'integer'}}}}}";
+
+/// The part of the switch's own schema to which a bridge is added.
+const VSW: &str =
+    "{'name':'Open_vSwitch','version':'8.3.0','tables':{'Open_vSwitch':{'isRoot':true,'maxRows':1,'columns':{'bridges':{'type':{'key':{'type':'uuid','refTable':'Bridge'},'min':0,'max':'unlimited'}},'next_cfg':{'type':'integer'}}},'Bridge':{'indexes':[['name']],'columns':{'name':{'type':'string','mutable':false},'external_ids':{'type':{'key':'string','value':'string','min':0,'max':'unlimited'}}}}}}";
+
+/// Rows that refer to the next one and to the one before, in a table that isn't root.
+const RING: &str =
+    "{'name':'ring','version':'1.0.0','tables':{'R':{'isRoot':true,'columns':{}},'N':{'columns':{'next':{'type':{'key':{'type':'uuid','refTable':'N'}}},'back':{'type':{'key':{'type':'uuid','refTable':'N'}}}}}}}";
+
+/// How many rows the ring has.
+const ROWS: u64 = 1000;
+
 /// The text with `"` for `'`.
 fn quoted(alloc: Global, text: &str) -> Result<String, AllocError> {
     text.chars()
@@ -30,12 +45,16 @@ fn quoted(alloc: Global, text: &str) -> Result<String, AllocError> {
         .collect(alloc)
 }
 
-/// The identifiers 00000000-0000-4000-8000-000000000001 and so on.
-fn fresh(alloc: Global, first: u64) -> Result<Vec<Uuid>, AllocError> {
+/// The identifier 00000000-0000-4000-8000- with this number behind it.
+fn numbered(number: u64) -> Uuid {
+    Uuid::from_u128(0x4000_8000_0000_0000_0000 | u128::from(number))
+}
+
+/// So many of these identifiers from the first on.
+fn fresh(alloc: Global, first: u64, count: usize) -> Result<Vec<Uuid>, AllocError> {
     let mut fresh = Vec::new(alloc);
-    for k in 0..4u64 {
-        let low = first.wrapping_add(k);
-        fresh.push(Uuid::from_u128(0x4000_8000_0000_0000_0000 | u128::from(low)))?;
+    for number in (first..).take(count) {
+        fresh.push(numbered(number))?;
     }
     Ok(fresh)
 }
@@ -68,25 +87,26 @@ fn waiting(alloc: Global, deadline: Option<u64>) -> Result<Vec<Value>, Fail> {
     Ok(results)
 }
 
-/// The results of a transaction, whose change is installed.
+/// The results of a transaction, whose change is installed; the database may have so many rows then.
 fn commit(
     alloc: Global,
     db: &mut Db,
     schema: &Schema,
     operations: &[Value],
     number: u64,
-    fresh: &[Uuid],
+    max_rows: usize,
 ) -> Result<Vec<Value>, Fail>
     requires { IsTyped schema.now db.old }
     ensures { OnOk result (IsTyped schema.now db.new) }
 {
+    let fresh = fresh(alloc, number, operations.len())?;
     let context = Context {
-        fresh,
+        fresh: &fresh,
         arrival: 5,
         now: 5,
         owned: &[],
     };
-    match transact(alloc, db, schema, operations, number, 4, &context)? {
+    match transact(alloc, db, schema, operations, number, max_rows, &context)? {
         Outcome::Done { results, change } => install(db, change, results),
         Outcome::Failed { results } => Ok(results),
         Outcome::Parked { deadline } => waiting(alloc, deadline),
@@ -100,19 +120,19 @@ fn answer(
     schema: &Schema,
     operations: &str,
     number: u64,
+    max_rows: usize,
 ) -> Result<String, Fail>
     requires { IsTyped schema.now db.old }
     ensures { OnOk result (IsTyped schema.now db.new) }
 {
     let operations = Value::from_str(alloc, quoted(alloc, operations)?.as_str())?;
     let operations = operations.as_array().ok_or("no array")?;
-    let fresh = fresh(alloc, number)?;
-    let results = commit(alloc, db, schema, operations, number, &fresh)?;
+    let results = commit(alloc, db, schema, operations, number, max_rows)?;
     Ok(Value::from(results).to_string(alloc)?)
 }
 
 /// Transactions and their results: which one first has others. The commits have the numbers 10, 20 and so
-/// on, and the identifiers of the inserts of each go on from its number.
+/// on, and the identifiers of the inserts of each go on from its number. Four rows are the limit.
 fn first_wrong(
     alloc: Global,
     db: &mut Db,
@@ -124,7 +144,7 @@ fn first_wrong(
     let mut number = 0u64;
     for (operations, results) in steps {
         number = number.wrapping_add(10);
-        let got = answer(alloc, db, schema, operations, number)?;
+        let got = answer(alloc, db, schema, operations, number, 4)?;
         if got != quoted(alloc, results)? {
             return Ok(Some(number));
         }
@@ -300,5 +320,196 @@ fn rows_that_nothing_keeps_go_out(rt: HostRuntime) -> Result<(), Fail> {
         ],
     )?;
     assert_eq!(rt; wrong, None);
+    Ok(())
+}
+
+#[test]
+fn rows_without_reference_leave_nothing(rt: HostRuntime) -> Result<(), Fail> {
+    let wrong = converse(
+        rt.alloc(),
+        RandomState::new(&rt)?,
+        NET,
+        &[
+            (
+                "[{'op':'insert','table':'Port','row':{'name':'p'}}]",
+                "[{'uuid':['uuid','00000000-0000-4000-8000-00000000000a']}]",
+            ),
+            (
+                "[{'op':'insert','table':'Bridge','row':{'name':'b'}}]",
+                "[{'uuid':['uuid','00000000-0000-4000-8000-000000000014']}]",
+            ),
+            (
+                "[{'op':'select','table':'Bridge','where':[],'columns':['_version']},{'op':'select','table':'Port','where':[]}]",
+                "[{'rows':[{'_version':['uuid','00000000-0000-0000-0000-000000000014']}]},{'rows':[]}]",
+            ),
+        ],
+    )?;
+    assert_eq!(rt; wrong, None);
+    Ok(())
+}
+
+#[test]
+fn waits_see_what_came_before(rt: HostRuntime) -> Result<(), Fail> {
+    let wrong = converse(
+        rt.alloc(),
+        RandomState::new(&rt)?,
+        NET,
+        &[
+            (
+                "[{'op':'wait','timeout':0,'table':'Bridge','where':[],'columns':['name'],'until':'==','rows':[{'name':'b'}]}]",
+                "[{'error':'timed out'}]",
+            ),
+            (
+                "[{'op':'insert','table':'Bridge','row':{'name':'b'}},{'op':'wait','timeout':0,'table':'Bridge','where':[],'columns':['name'],'until':'==','rows':[{'name':'b'}]}]",
+                "[{'uuid':['uuid','00000000-0000-4000-8000-000000000014']},{}]",
+            ),
+        ],
+    )?;
+    assert_eq!(rt; wrong, None);
+    Ok(())
+}
+
+#[test]
+fn pairs_go_out_with_their_key(rt: HostRuntime) -> Result<(), Fail> {
+    let wrong = converse(
+        rt.alloc(),
+        RandomState::new(&rt)?,
+        LFT,
+        &[
+            (
+                "[{'op':'insert','table':'W','row':{},'uuid-name':'w'},{'op':'insert','table':'S','row':{},'uuid-name':'s'},{'op':'insert','table':'R','row':{'m':['map',[[['named-uuid','w'],['named-uuid','s']]]]}}]",
+                "[{'uuid':['uuid','00000000-0000-4000-8000-00000000000a']},{'uuid':['uuid','00000000-0000-4000-8000-00000000000b']},{'uuid':['uuid','00000000-0000-4000-8000-00000000000c']}]",
+            ),
+            ("[{'op':'delete','table':'W','where':[]}]", "[{'count':1}]"),
+            (
+                "[{'op':'select','table':'S','where':[],'columns':['k']}]",
+                "[{'rows':[{'k':0}]}]",
+            ),
+            (
+                "[{'op':'select','table':'S','where':[],'columns':['k']}]",
+                "[{'rows':[]}]",
+            ),
+            (
+                "[{'op':'select','table':'R','where':[],'columns':['_version','m']}]",
+                "[{'rows':[{'_version':['uuid','00000000-0000-0000-0000-000000000014'],'m':['map',[]]}]}]",
+            ),
+        ],
+    )?;
+    assert_eq!(rt; wrong, None);
+    Ok(())
+}
+
+/// What `ovs-vsctl` sends to begin, to add a bridge, and to add another where it looked before.
+#[test]
+fn bridges_are_added(rt: HostRuntime) -> Result<(), Fail> {
+    let wrong = converse(
+        rt.alloc(),
+        RandomState::new(&rt)?,
+        VSW,
+        &[
+            (
+                "[{'op':'insert','table':'Open_vSwitch','row':{},'uuid-name':'row0'},{'op':'comment','comment':'ovs-vsctl: init'}]",
+                "[{'uuid':['uuid','00000000-0000-4000-8000-00000000000a']},{}]",
+            ),
+            (
+                "[{'op':'wait','timeout':0,'table':'Open_vSwitch','where':[['_uuid','==',['uuid','00000000-0000-4000-8000-00000000000a']]],'columns':['_uuid','bridges'],'until':'==','rows':[{'_uuid':['uuid','00000000-0000-4000-8000-00000000000a'],'bridges':['set',[]]}]},{'op':'insert','table':'Bridge','row':{'name':'br0'},'uuid-name':'row1'},{'op':'update','table':'Open_vSwitch','where':[['_uuid','==',['uuid','00000000-0000-4000-8000-00000000000a']]],'row':{'bridges':['named-uuid','row1']}},{'op':'mutate','table':'Open_vSwitch','where':[['_uuid','==',['uuid','00000000-0000-4000-8000-00000000000a']]],'mutations':[['next_cfg','+=',1]]},{'op':'select','table':'Open_vSwitch','where':[['_uuid','==',['uuid','00000000-0000-4000-8000-00000000000a']]],'columns':['next_cfg']},{'op':'comment','comment':'ovs-vsctl: add-br br0'}]",
+                "[{},{'uuid':['uuid','00000000-0000-4000-8000-000000000014']},{'count':1},{'count':1},{'rows':[{'next_cfg':1}]},{}]",
+            ),
+            (
+                "[{'op':'wait','timeout':0,'table':'Open_vSwitch','where':[['_uuid','==',['uuid','00000000-0000-4000-8000-00000000000a']]],'columns':['bridges'],'until':'==','rows':[{'bridges':['set',[]]}]},{'op':'insert','table':'Bridge','row':{'name':'br1'},'uuid-name':'row1'}]",
+                "[{'error':'timed out'},null]",
+            ),
+        ],
+    )?;
+    assert_eq!(rt; wrong, None);
+    Ok(())
+}
+
+/// The same by mutations of the set of bridges, one of which is taken out again.
+#[test]
+fn bridges_are_added_to_the_set(rt: HostRuntime) -> Result<(), Fail> {
+    let wrong = converse(
+        rt.alloc(),
+        RandomState::new(&rt)?,
+        VSW,
+        &[
+            (
+                "[{'op':'insert','table':'Bridge','row':{'name':'br0'},'uuid-name':'row1'},{'op':'insert','table':'Open_vSwitch','row':{'bridges':['named-uuid','row1']}}]",
+                "[{'uuid':['uuid','00000000-0000-4000-8000-00000000000a']},{'uuid':['uuid','00000000-0000-4000-8000-00000000000b']}]",
+            ),
+            (
+                "[{'op':'mutate','table':'Open_vSwitch','where':[['_uuid','==',['uuid','00000000-0000-4000-8000-00000000000b']]],'mutations':[['bridges','insert',['set',[['named-uuid','row1']]]]]},{'op':'insert','table':'Bridge','row':{'name':'br1','external_ids':['map',[['k','v']]]},'uuid-name':'row1'}]",
+                "[{'count':1},{'uuid':['uuid','00000000-0000-4000-8000-000000000014']}]",
+            ),
+            (
+                "[{'op':'select','table':'Bridge','where':[],'columns':['_uuid','external_ids','name']}]",
+                "[{'rows':[{'_uuid':['uuid','00000000-0000-4000-8000-00000000000a'],'external_ids':['map',[]],'name':'br0'},{'_uuid':['uuid','00000000-0000-4000-8000-000000000014'],'external_ids':['map',[['k','v']]],'name':'br1'}]}]",
+            ),
+            (
+                "[{'op':'mutate','table':'Open_vSwitch','where':[],'mutations':[['bridges','delete',['uuid','00000000-0000-4000-8000-00000000000a']]]}]",
+                "[{'count':1}]",
+            ),
+            (
+                "[{'op':'select','table':'Bridge','where':[],'columns':['name']},{'op':'select','table':'Open_vSwitch','where':[],'columns':['bridges']}]",
+                "[{'rows':[{'name':'br1'}]},{'rows':[{'bridges':['uuid','00000000-0000-4000-8000-000000000014']}]}]",
+            ),
+        ],
+    )?;
+    assert_eq!(rt; wrong, None);
+    Ok(())
+}
+
+/// The rows next to a row of the ring: the one behind it, and the one before.
+fn neighbours(row: u64) -> (u64, u64) {
+    let behind = row.wrapping_add(1) % ROWS;
+    let before = row.wrapping_add(ROWS - 1) % ROWS;
+    (behind, before)
+}
+
+/// An insert of each row of the ring, which names both neighbours.
+fn inserts_of_ring(alloc: Global) -> Result<String, AllocError> {
+    let mut text = String::new(alloc);
+    for row in 0..ROWS {
+        let (behind, before) = neighbours(row);
+        let lead = if row == 0 { "[" } else { "," };
+        let insert = format!(in alloc;
+            "{lead}{{'op':'insert','table':'N','row':{{'next':['named-uuid','row{behind}'],'back':['named-uuid','row{before}']}},'uuid-name':'row{row}'}}"
+        )?;
+        text.push_str(insert.as_str())?;
+    }
+    text.push_str("]")?;
+    Ok(text)
+}
+
+/// The rows of the ring, as they are selected, where the first has the identifier with this number.
+fn rows_of_ring(alloc: Global, first: u64) -> Result<String, AllocError> {
+    let mut text = String::from_str(alloc, "[{'rows':")?;
+    for row in 0..ROWS {
+        let (behind, before) = neighbours(row);
+        let lead = if row == 0 { "[" } else { "," };
+        let uuid = numbered(first.wrapping_add(row));
+        let next = numbered(first.wrapping_add(behind));
+        let back = numbered(first.wrapping_add(before));
+        let row = format!(in alloc;
+            "{lead}{{'_uuid':['uuid','{uuid}'],'back':['uuid','{back}'],'next':['uuid','{next}']}}"
+        )?;
+        text.push_str(row.as_str())?;
+    }
+    text.push_str("]}]")?;
+    Ok(text)
+}
+
+/// A transaction may name rows before their insert and behind it.
+#[test]
+fn names_stand_for_rows_in_both_directions(rt: HostRuntime) -> Result<(), Fail> {
+    let alloc = rt.alloc();
+    let schema = Schema::read(alloc, quoted(alloc, RING)?.as_bytes())?;
+    let mut db = empty(alloc, &schema, RandomState::new(&rt)?)?;
+    let inserts = inserts_of_ring(alloc)?;
+    answer(alloc, &mut db, &schema, inserts.as_str(), 1, 1000)?;
+    let select = "[{'op':'select','table':'N','where':[],'columns':['_uuid','back','next']}]";
+    let rows = answer(alloc, &mut db, &schema, select, 2, 1000)?;
+    let wanted = rows_of_ring(alloc, 1)?;
+    assert!(rt; rows == quoted(alloc, wanted.as_str())?);
     Ok(())
 }
