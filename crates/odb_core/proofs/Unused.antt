@@ -6,6 +6,8 @@ use Rattle.odb_core.specs.Represented.Core.{AreUnused}
 use Rattle.odb_core.specs.Session.{Session}
 use Rattle.odb_core.specs.World.{World}
 use Rattle.odb_core.proofs.SessionMaps.{get-empty, get-insert, same_key}
+use Rattle.std.specs.Prelude.{option_map}
+use Rattle.std.proofs.lemmas.Option.{none-some, same_Some}
 
 pub unused_in_none : AreUnused empty 0
 unused_in_none q above = get-empty q
@@ -25,3 +27,13 @@ unused_opened m n x unused q above = get-insert m n x q ∙ by (eq_by_cmp nat_cm
     by : (b : Bool) → eq_by_cmp nat_cmp q n ≡ b → cond b (Some x) (get m q) ≡ None
     by true e = absurd (let is : q ≡ n = same_key q n e in omega (arith, above, is))
     by false e = unused q (omega (arith, above))
+
+-- ---- a look at a session
+
+pub found_none : {A : Type 0} (f : Session → A) (o : Option Session) → option_map f o ≡ None → o ≡ None
+found_none f None e = refl
+found_none f (Some x) e = absurd (none-some (f x) (sym e))
+
+pub found_some : {A : Type 0} (f : Session → A) (o : Option Session) (b : A) → option_map f o ≡ Some b → (x : Session) × (o ≡ Some x) × (f x ≡ b)
+found_some f None b e = absurd (none-some b e)
+found_some f (Some x) b e = (x, refl, same_Some (f x) b e)
