@@ -57,9 +57,9 @@ invariant_of-self c =
     let sound : IsSound s w i.opened = c.self.invariant in
     let u : World = at_moment h c.args.now w in
     let unused : AreUnused v.sessions i.opened =
-        either_way (handle h c.args.session d fresh (call_at s d) u ≡ v) (v ≡ w) (AreUnused v.sessions i.opened) c.take_in.result c.take_in.ensures.ok c.take_in.ensures.err
-        (λ e. unused_same w.sessions v.sessions i.opened (λ q. ap (λ (u : World). is_some (get u.sessions q)) (sym e) ∙ handles h c.args.session d fresh (call_at s d) u q) sound.2)
-        (λ e. subst (λ (u : World). AreUnused u.sessions i.opened) (sym e) sound.2)
+    either_way (handle h c.args.session d fresh (call_at s d) u ≡ v) (v ≡ w) (AreUnused v.sessions i.opened) c.take_in.result c.take_in.ensures.ok c.take_in.ensures.err
+    (λ e. unused_same w.sessions v.sessions i.opened (λ q. ap (λ (u : World). is_some (get u.sessions q)) (sym e) ∙ handles h c.args.session d fresh (call_at s d) u q) sound.2)
+    (λ e. subst (λ (u : World). AreUnused u.sessions i.opened) (sym e) sound.2)
     in
     (c.take_in.ensures.typed, c.take_in.ensures.tried, unused)
 
@@ -77,8 +77,8 @@ returns-clause-ok c =
     let is : c.is_busy.result ≡ Some false = search rules in
     let one : (x : Session) × (get w.sessions n ≡ Some x) × (busy x ≡ false) = found_some busy (get w.sessions n) false (sym (c.is_busy.ensures h s) ∙ is) in
     let taken : (handle h n d fresh (call_at s d) (at_moment h c.args.now w) ≡ v) → serve (submitted n d fresh c.args.now) c.args.self.now ≡ Ok (at s v i.opened, []) = λ e.
-        ap (serve (submitted n d fresh c.args.now)) (sym c.self.view_is) ∙ submit-ok s w i.opened n d fresh c.args.now one.0 one.1 one.2
-        ∙ ap (λ (u : World). let r : Result (Server × List (ℕ × List ℕ)) Refusal = Ok (at s u i.opened, []) in r) e
+    ap (serve (submitted n d fresh c.args.now)) (sym c.self.view_is) ∙ submit-ok s w i.opened n d fresh c.args.now one.0 one.1 one.2
+    ∙ ap (λ (u : World). let r : Result (Server × List (ℕ × List ℕ)) Refusal = Ok (at s u i.opened, []) in r) e
     in
     elim c.match-take_in.branch [
       | in-Ok k ↦ subst (λ r. OnOk r (serve (submitted n d fresh c.args.now) c.args.self.now ≡ Ok (at s v i.opened, []))) (sym k.result-is) (taken k.in-Ok.ensures.ok)
@@ -98,7 +98,7 @@ returns-clause-why c =
     let is : c.is_busy.result ≡ Some false = search rules in
     let one : (x : Session) × (get w.sessions n ≡ Some x) × (busy x ≡ false) = found_some busy (get w.sessions n) false (sym (c.is_busy.ensures h s) ∙ is) in
     let served : serve (submitted n d fresh c.args.now) c.args.self.now ≡ Ok (at s (handle h n d fresh (call_at s d) (at_moment h c.args.now w)) i.opened, []) =
-        ap (serve (submitted n d fresh c.args.now)) (sym c.self.view_is) ∙ submit-ok s w i.opened n d fresh c.args.now one.0 one.1 one.2
+    ap (serve (submitted n d fresh c.args.now)) (sym c.self.view_is) ∙ submit-ok s w i.opened n d fresh c.args.now one.0 one.1 one.2
     in
     elim c.match-take_in.branch [
       | in-Ok k ↦ subst (λ r. IfErr r (λ back. IsReason back.1 (serve (submitted n d fresh c.args.now) c.args.self.now))) (sym k.result-is) tt

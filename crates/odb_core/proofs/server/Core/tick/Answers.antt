@@ -17,8 +17,8 @@ invariant_of-self c =
     let v : World = c.tick.new.self in
     let sound : IsSound s w i.opened = c.self.invariant in
     let unused : AreUnused v.sessions i.opened =
-        either_way (tick h c.args.now w ≡ v) (v ≡ w) (AreUnused v.sessions i.opened) c.tick.result c.tick.ensures.ok c.tick.ensures.err
-        (λ e. unused_same w.sessions v.sessions i.opened (λ q. ap (λ (u : World). is_some (get u.sessions q)) (sym e) ∙ ticks h c.args.now w q) sound.2)
-        (λ e. subst (λ (u : World). AreUnused u.sessions i.opened) (sym e) sound.2)
+    either_way (tick h c.args.now w ≡ v) (v ≡ w) (AreUnused v.sessions i.opened) c.tick.result c.tick.ensures.ok c.tick.ensures.err
+    (λ e. unused_same w.sessions v.sessions i.opened (λ q. ap (λ (u : World). is_some (get u.sessions q)) (sym e) ∙ ticks h c.args.now w q) sound.2)
+    (λ e. subst (λ (u : World). AreUnused u.sessions i.opened) (sym e) sound.2)
     in
     (c.tick.ensures.typed, c.tick.ensures.tried, unused)

@@ -32,8 +32,8 @@ returns-then-not-changes_rows-clause-ok c =
     let v : World = c.reply.new.self in
     let none : has_rows s w a None w.commits c.args.change ≡ false = search rules in
     let ended : attempt h (parked_as a None w.commits) w ≡ (v, None) =
-        done_as s w a None w.commits c.args.results c.args.change false none c.requires.outcome
-        ∙ (λ i. let t : World × Option Parked = (c.in_ok-reply.ensures.ok h i, None) in t)
+    done_as s w a None w.commits c.args.results c.args.change false none c.requires.outcome
+    ∙ (λ i. let t : World × Option Parked = (c.in_ok-reply.ensures.ok h i, None) in t)
     in
     runs_alone h (parked_as a None w.commits) w v ended (ap (untried h) c.reply.ensures.rest ∙ c.requires.tried h)
 
@@ -48,8 +48,8 @@ returns-then-is_empty-clause-ok c =
     let long : length c.self.inside.parked.items ≡ 0 = search rules in
     let empty : w.parked ≡ [] = ap (λ (u : World). u.parked) (sym c.self.view_is) ∙ nil_from_length c.self.inside.parked.items long in
     let ended : attempt h (parked_as a None w.commits) w ≡ (v, None) =
-        done_as s w a None w.commits c.args.results c.args.change true some c.requires.outcome
-        ∙ (λ i. let t : World × Option Parked = (c.in_ok-commit.ensures.ok h i, None) in t)
+    done_as s w a None w.commits c.args.results c.args.change true some c.requires.outcome
+    ∙ (λ i. let t : World × Option Parked = (c.in_ok-commit.ensures.ok h i, None) in t)
     in
     runs_alone h (parked_as a None w.commits) w v ended (ap (split_first (is_untried v.commits)) (c.commit.ensures.waiting ∙ empty))
 
@@ -69,7 +69,7 @@ returns-clause-ok c =
     let some : has_rows s w a None w.commits c.args.change ≡ true = search rules in
     let same : c.in_ok-copy.copy ≡ w = search rules in
     let ended : end_transaction h a.session (request_data a.request) (array_of (results_of c.args.results)) (Some (all_changed_by w.db c.args.change)) w ≡ v =
-        ap (λ (u : World). end_transaction h a.session (request_data a.request) (array_of (results_of c.args.results)) (Some (all_changed_by u.db c.args.change)) u) (sym same) ∙ c.in_ok-commit-2.ensures.ok h
+    ap (λ (u : World). end_transaction h a.session (request_data a.request) (array_of (results_of c.args.results)) (Some (all_changed_by u.db c.args.change)) u) (sym same) ∙ c.in_ok-commit-2.ensures.ok h
     in
     runs_ended h (parked_as a None w.commits) w v
     (done_as s w a None w.commits c.args.results c.args.change true some c.requires.outcome ∙ (λ i. let t : World × Option Parked = (ended i, None) in t))

@@ -55,8 +55,8 @@ returns-in-Ok-Failed-clause-ok c =
     let ends : OnOk c.reply-ended.result ((k : Service) → end_transaction k a.session (request_data a.request) (array_of (results_of c.in-Ok-Failed.results)) None w ≡ v) = c.reply-ended.ensures.ok in
     ok_together (run_transaction h p w ≡ v) c.or_back.result c.reply-ended.result c.or_back.ensures.ok
     (on_ok_weaker c.reply-ended.result (λ e. runs_alone h p w v
-        (fails_as s w a None w.commits c.in-Ok-Failed.results failed ∙ (λ i. let t : World × Option Parked = (e h i, None) in t))
-        (ap (untried h) c.reply-ended.ensures.rest ∙ c.requires.tried h)) ends)
+    (fails_as s w a None w.commits c.in-Ok-Failed.results failed ∙ (λ i. let t : World × Option Parked = (e h i, None) in t))
+    (ap (untried h) c.reply-ended.ensures.rest ∙ c.requires.tried h)) ends)
 
 pub returns-in-Ok-Failed-clause-tried : goal.returns-in-Ok-Failed-clause-tried
 returns-in-Ok-Failed-clause-tried c = λ h. ap (untried h) c.reply-ended.ensures.rest ∙ c.requires.tried h

@@ -16,8 +16,8 @@ returns-in_ok-insert-clause-ok c = λ t at.
     let v : World = c.retried.new.self in
     let is : x ≡ t.1 = c.remove-parked.ensures.value ∙ ap (λ (u : World). slice_index_or u.parked k x) c.self.view_is ∙ index_is w.parked k t.1 x (split_parts_at w.parked k t at).2 in
     let tried : attempt h x (record w { parked = remove w.parked k }) ≡ (v, Some y) =
-        ap (attempt h x) (λ i. record { db = (sym c.self.view_is i).db; commits = (sym c.self.view_is i).commits; now = (sym c.self.view_is i).now; parked = sym (c.remove-parked.ensures.items ∙ ap (λ (u : World). remove u.parked k) c.self.view_is) i; locks = (sym c.self.view_is i).locks; sessions = (sym c.self.view_is i).sessions })
-        ∙ c.in_ok-parked.ensures.ok ∙ ap (λ o. let r : World × Option Parked = (v, o) in r) c.in-Some.is
+    ap (attempt h x) (λ i. record { db = (sym c.self.view_is i).db; commits = (sym c.self.view_is i).commits; now = (sym c.self.view_is i).now; parked = sym (c.remove-parked.ensures.items ∙ ap (λ (u : World). remove u.parked k) c.self.view_is) i; locks = (sym c.self.view_is i).locks; sessions = (sym c.self.view_is i).sessions })
+    ∙ c.in_ok-parked.ensures.ok ∙ ap (λ o. let r : World × Option Parked = (v, o) in r) c.in-Some.is
     in
     let put : c.insert.new.self.items ≡ insert c.self-2.inside.parked.items k y = search rules in
     tries_waits h w k t x y v at is c.requires.place tried
@@ -33,7 +33,7 @@ returns-in_default-clause-ok c = λ t at.
     let is : x ≡ t.1 = c.remove-parked.ensures.value ∙ ap (λ (u : World). slice_index_or u.parked k x) c.self.view_is ∙ index_is w.parked k t.1 x (split_parts_at w.parked k t at).2 in
     let none : c.in_ok-parked.field-0 ≡ None = search rules in
     let tried : attempt h x (record w { parked = remove w.parked k }) ≡ (v, None) =
-        ap (attempt h x) (λ i. record { db = (sym c.self.view_is i).db; commits = (sym c.self.view_is i).commits; now = (sym c.self.view_is i).now; parked = sym (c.remove-parked.ensures.items ∙ ap (λ (u : World). remove u.parked k) c.self.view_is) i; locks = (sym c.self.view_is i).locks; sessions = (sym c.self.view_is i).sessions })
-        ∙ c.in_ok-parked.ensures.ok ∙ ap (λ o. let r : World × Option Parked = (v, o) in r) none
+    ap (attempt h x) (λ i. record { db = (sym c.self.view_is i).db; commits = (sym c.self.view_is i).commits; now = (sym c.self.view_is i).now; parked = sym (c.remove-parked.ensures.items ∙ ap (λ (u : World). remove u.parked k) c.self.view_is) i; locks = (sym c.self.view_is i).locks; sessions = (sym c.self.view_is i).sessions })
+    ∙ c.in_ok-parked.ensures.ok ∙ ap (λ o. let r : World × Option Parked = (v, o) in r) none
     in
     tries_ended h w k t x v at is tried
