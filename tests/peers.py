@@ -1,0 +1,348 @@
+#!/usr/bin/env python3
+"""Plays transcripts to ovsdb-server and to this server, and prints where their answers differ.
+
+Usage: tests/peers.py [--all] [WORD]      with WORD: the transcripts alone that have it in their titles
+                                          with --all: what is the same is printed too
+
+The transcripts are those of crates/odb_script/src/tests (their notation stands in transcript.rt) and those of
+tests/peers.txt. Each is played to a new database. ovsdb-server (Debian's package openvswitch-switch) listens on
+127.0.0.1; ours runs as `./ovsdbd script`. Without ovsdb-server nothing is compared, and the exit status is 0.
+OVSDB_SERVER and OVSDB_TOOL name the programs where they aren't in the path.
+
+Answers are compared for each session apart, as JSON. Before that identifiers are renamed (inserted rows U1, U2, ..
+as the transcripts number them, others X1, X2, .. as they come), and the rows of a `select` and the members of a set
+are sorted, as the other server's identifiers are random. A moment of a script is 250 milliseconds of its life.
+Transcripts that hold back what a session is sent (`!hold`), or wait for longer than 1,000 moments, are left out:
+nothing of the other server corresponds to them.
+"""
+
+import json
+import os
+import re
+import select
+import shutil
+import socket
+import subprocess
+import sys
+import tempfile
+import time
+
+ROOT = os.path.dirname(os.path.dirname(os.path.abspath(__file__)))
+TESTS = os.path.join(ROOT, "crates", "odb_script", "src", "tests")
+QUIET = 0.02  # seconds without a byte after which the other server is taken to have answered
+MOMENT = 0.25
+UUID = re.compile(r"[0-9a-f]{8}-[0-9a-f]{4}-[0-9a-f]{4}-[0-9a-f]{4}-[0-9a-f]{12}")
+ZERO = "00000000-0000-0000-0000-000000000000"
+
+
+def in_full(text):
+    """A line with quotes and identifiers in full."""
+    text = re.sub(r"'U(\d)", r"'00000000-0000-4000-8000-00000000000\1", text)
+    text = re.sub(r"'V(\d)", r"'00000000-0000-0000-0000-00000000000\1", text)
+    return text.replace("'", '"')
+
+
+def schemas(source):
+    """The schemas of the transcripts by the names of their constants: (name, text)."""
+    found = re.findall(r'const (\w+): Database = Database \{\s*name: "(\w+)",\s*schema: "(.*?)",\n\};', source, re.S)
+    return {constant: (name, re.sub(r"\\\n\s*", "", text).replace("'", '"')) for constant, name, text in found}
+
+
+def stored(source):
+    """The transcripts of a file of tests: (constant of the schema, text)."""
+    for test in source.split("#[test]")[1:]:
+        constant = re.search(r"plays\([^;]*?\b([A-Z]{3}),", test, re.S)
+        for text in re.findall(r'"([^"]*\n[<>] [^"]*)"', test):
+            if constant and not text.startswith(("> ", "<")):
+                yield constant.group(1), text
+
+
+def transcripts():
+    """All transcripts: (title, name of the database, schema, lines that go in)."""
+    with open(os.path.join(TESTS, "transcript.rt")) as file:
+        known = schemas(file.read())
+    texts = []
+    for name in sorted(os.listdir(TESTS)):
+        with open(os.path.join(TESTS, name)) as file:
+            texts += stored(file.read())
+    with open(os.path.join(ROOT, "tests", "peers.txt")) as file:
+        for part in file.read().split("\n== ")[1:]:
+            constant, text = part.split(" ", 1)
+            texts.append((constant, text))
+    for constant, text in texts:
+        name, schema = known[constant]
+        lines = text.split("\n")
+        commands = [command(name, in_full(line[2:])) for line in lines if line.startswith("> ")]
+        if not any(re.match(r"!hold|!tick \d{5}", line) for line in commands):
+            yield lines[0], name, schema, commands
+
+
+def command(database, line):
+    """A line that goes in, from its short form."""
+    session, _, rest = line.partition(" ")
+    method, _, rest = rest.partition(" ")
+    if not session[:1].isalpha() or not method[:1].isalpha() or not rest:
+        return line
+    number, _, params = rest.partition(" ")
+    if method == "transact":
+        params = '["%s"%s]' % (database, "," + params if params else "")
+    return '%s {"method":"%s","params":%s,"id":%s}' % (session, method, params, number)
+
+
+def inserted(number):
+    """The identifier of a script's insert of this number."""
+    return "00000000-0000-4000-8000-%012x" % number
+
+
+class Identifiers:
+    """The numbers of inserted rows: each member of a `transact` that is an insert has one."""
+
+    def __init__(self):
+        self.count = 0
+        self.asked = {}
+        self.real = {}
+
+    def ask(self, session, text):
+        """Numbers the inserts of a request, and puts in the other server's own identifiers."""
+        try:
+            request = json.loads(text)
+            inserts = [i for i, op in enumerate(request["params"][1:]) if isinstance(op, dict) and op.get("op") == "insert"]
+            if request["method"] == "transact":
+                self.asked[session, json.dumps(request["id"])] = {i: self.count + n for n, i in enumerate(inserts, 1)}
+                self.count += len(inserts)
+        except (ValueError, KeyError, TypeError):
+            pass
+        return UUID.sub(lambda found: self.real.get(found.group(0), found.group(0)), text)
+
+    def answer(self, session, message):
+        """Notes the identifiers that a reply tells."""
+        for place, number in self.asked.get((session, json.dumps(message.get("id"))), {}).items():
+            result = message.get("result")
+            if isinstance(result, list) and place < len(result) and "uuid" in (result[place] or {}):
+                self.real[inserted(number)] = result[place]["uuid"][1]
+
+
+def settled(value):
+    """A JSON value whose selected rows are sorted."""
+    if isinstance(value, dict):
+        value = {key: settled(value[key]) for key in sorted(value)}
+        if isinstance(value.get("rows"), list):
+            value["rows"].sort(key=json.dumps)
+        return value
+    if isinstance(value, list):
+        value = [settled(member) for member in value]
+        if len(value) == 2 and value[0] == "set" and isinstance(value[1], list):
+            value[1].sort(key=json.dumps)
+    return value
+
+
+def renamed(messages, names):
+    """The messages of one side as texts, with identifiers renamed."""
+    others = {}
+
+    def name(found):
+        text = found.group(0)
+        if text == ZERO:
+            return text
+        return names.get(text) or others.setdefault(text, "X%d" % (len(others) + 1))
+
+    lines = []
+    for message in messages:
+        text = UUID.sub(lambda found: names.get(found.group(0), found.group(0)), message)
+        try:
+            text = json.dumps(settled(json.loads(text)), separators=(",", ":"))
+        except ValueError:
+            pass
+        lines.append(UUID.sub(name, text))
+    return lines
+
+
+class Ours:
+    """This server: the script runs at once, and its lines are the answers."""
+
+    def play(self, name, schema, lines):
+        with tempfile.NamedTemporaryFile("w", suffix=".json") as file:
+            file.write(schema)
+            file.flush()
+            words = [os.path.join(ROOT, "ovsdbd"), "script", "--schema", file.name]
+            script = "".join(line + "\n" for line in ["!open A", "!open B", "!open C", *lines])
+            text = subprocess.run(words, input=script, capture_output=True, text=True).stdout
+        answers = {}
+        for line in text.splitlines():
+            session, _, message = line.partition(" ")
+            if message not in ("!gone", "!open"):
+                answers.setdefault(session, []).append("!closed" if message.startswith("!fault") else message)
+        names = {inserted(number): "U%d" % number for number in range(1, 100)}
+        return {session: renamed(messages, names) for session, messages in answers.items()}
+
+
+class Theirs:
+    """ovsdb-server over a new database, with a connection for each session."""
+
+    def __init__(self, server, tool):
+        self.server, self.tool = server, tool
+
+    def play(self, name, schema, lines):
+        with tempfile.TemporaryDirectory() as directory:
+            file = os.path.join(directory, "db")
+            with open(file + ".json", "w") as text:
+                text.write(schema)
+            made = subprocess.run([self.tool, "create", file, file + ".json"], capture_output=True, text=True)
+            if made.returncode:
+                return {"schema": [made.stderr.strip()]}
+            return self.played(file, directory, lines)
+
+    def played(self, file, directory, lines):
+        with socket.socket() as free:
+            free.bind(("127.0.0.1", 0))
+            self.port = free.getsockname()[1]
+        words = [self.server, "--remote=ptcp:%d:127.0.0.1" % self.port, "--no-chdir", "--unixctl=" + directory + "/ctl", file]
+        with open(os.path.join(directory, "log"), "w") as log:
+            running = subprocess.Popen(words, stdout=log, stderr=log)
+        try:
+            self.begin()
+            for line in lines:
+                self.put(line)
+            return self.end()
+        finally:
+            running.kill()
+            running.wait()
+
+    def begin(self):
+        self.sockets, self.read, self.answers, self.identifiers = {}, {}, {}, Identifiers()
+        for session in "ABC":
+            self.open(session)
+        self.latest = 0
+
+    def open(self, session):
+        for _ in range(200):
+            try:
+                self.sockets[session] = socket.create_connection(("127.0.0.1", self.port))
+                break
+            except ConnectionRefusedError:
+                time.sleep(0.01)
+        self.read[session] = ""
+
+    def put(self, line):
+        word, _, rest = line.partition(" ")
+        if word == "!tick":
+            self.wait(int(rest))
+        elif word == "!open":
+            self.open(rest)
+        elif word == "!close" and rest in self.sockets:
+            self.sockets.pop(rest).close()
+        elif word in self.sockets:
+            try:
+                self.sockets[word].sendall(self.scaled(self.identifiers.ask(word, rest)).encode())
+            except OSError:
+                pass
+        self.hear()
+
+    def scaled(self, text):
+        """A request whose timeouts are in the other server's milliseconds."""
+        return re.sub(r'("timeout":)([1-9]\d{0,2})\b', lambda m: m.group(1) + str(int(int(m.group(2)) * MOMENT * 1000)), text)
+
+    def wait(self, moment):
+        """Lets as many moments pass as there are since the latest one, and a little more."""
+        if moment > self.latest:
+            time.sleep((moment - self.latest) * MOMENT + QUIET)
+            self.latest = moment
+
+    def hear(self):
+        """Reads until nobody is told anything for a while."""
+        while True:
+            ready, _, _ = select.select(list(self.sockets.values()), [], [], QUIET)
+            if not ready:
+                return
+            for session in [s for s in self.sockets if self.sockets[s] in ready]:
+                self.take(session)
+
+    def take(self, session):
+        try:
+            piece = self.sockets[session].recv(1 << 20).decode()
+        except OSError:
+            piece = ""
+        if not piece:
+            self.answers.setdefault(session, []).append("!closed")
+            self.sockets.pop(session).close()
+            return
+        text = self.read[session] + piece
+        while text:
+            try:
+                message, end = json.JSONDecoder().raw_decode(text)
+            except ValueError:
+                break
+            if message.get("method") == "echo":  # asks whether we are there, after five seconds of silence
+                self.sockets[session].sendall(b'{"error":null,"id":"echo","result":[]}')
+            else:
+                self.identifiers.answer(session, message)
+                self.answers.setdefault(session, []).append(text[:end])
+            text = text[end:].lstrip()
+        self.read[session] = text
+
+    def end(self):
+        for connection in self.sockets.values():
+            connection.close()
+        names = {real: "U%d" % int(number[-12:], 16) for number, real in self.identifiers.real.items()}
+        return {session: renamed(messages, names) for session, messages in self.answers.items()}
+
+
+def plain(line):
+    """A message without the texts that say more of its errors, and with each error as its name."""
+    try:
+        message = json.loads(line)
+    except ValueError:
+        return line
+    if "method" not in message:
+        message["error"], message["result"] = error(message.get("error")), message.get("result")
+    if isinstance(message.get("result"), list):
+        message["result"] = [error(part) if isinstance(part, dict) and "error" in part else part for part in message["result"]]
+    return json.dumps(message, sort_keys=True)
+
+
+def error(value):
+    return value["error"] if isinstance(value, dict) and "error" in value else value
+
+
+def compare(ours, theirs):
+    """How the answers differ: 'same', 'words' where errors' details alone do, or 'differs'."""
+    if ours == theirs:
+        return "same"
+    sessions = set(ours) | set(theirs)
+    if all([plain(line) for line in ours.get(s, [])] == [plain(line) for line in theirs.get(s, [])] for s in sessions):
+        return "words"
+    return "differs"
+
+
+def show(ours, theirs):
+    for session in sorted(set(ours) | set(theirs)):
+        mine, other = ours.get(session, []), theirs.get(session, [])
+        for place in range(max(len(mine), len(other))):
+            a = mine[place] if place < len(mine) else "(nothing)"
+            b = other[place] if place < len(other) else "(nothing)"
+            if plain(a) != plain(b):
+                print("  %s ours   %s\n  %s theirs %s" % (session, a[:600], session, b[:600]))
+
+
+def main():
+    words = [word for word in sys.argv[1:] if word != "--all"]
+    server = os.environ.get("OVSDB_SERVER") or shutil.which("ovsdb-server")
+    tool = os.environ.get("OVSDB_TOOL") or shutil.which("ovsdb-tool")
+    if not server or not tool:
+        print("skipped: ovsdb-server isn't installed (Debian's package openvswitch-switch)")
+        return
+    counts = {"same": 0, "words": 0, "differs": 0}
+    ours, theirs = Ours(), Theirs(server, tool)
+    for title, name, schema, lines in transcripts():
+        if words and words[0] not in title:
+            continue
+        sides = ours.play(name, schema, lines), theirs.play(name, schema, lines)
+        kind = compare(*sides)
+        counts[kind] += 1
+        if kind == "differs" or "--all" in sys.argv:
+            print("%s: %s (%s)" % (kind, title, name))
+            show(*sides)
+    print("%(same)d the same, %(words)d but for what errors say besides their names, %(differs)d different" % counts)
+
+
+main()
