@@ -29,7 +29,8 @@ import time
 
 ROOT = os.path.dirname(os.path.dirname(os.path.abspath(__file__)))
 TESTS = os.path.join(ROOT, "crates", "odb_script", "src", "tests")
-QUIET = 0.02  # seconds without a byte after which the other server is taken to have answered
+QUIET = 0.02  # seconds without a byte after which the other server is taken to have said all
+PATIENCE = 1  # seconds that the first byte may take where a reply is due
 MOMENT = 0.25
 UUID = re.compile(r"[0-9a-f]{8}-[0-9a-f]{4}-[0-9a-f]{4}-[0-9a-f]{4}-[0-9a-f]{12}")
 ZERO = "00000000-0000-0000-0000-000000000000"
@@ -215,13 +216,14 @@ class Theirs:
         self.latest = 0
 
     def open(self, session):
-        for _ in range(200):
+        for _ in range(500):
             try:
-                self.sockets[session] = socket.create_connection(("127.0.0.1", self.port))
-                break
+                self.sockets[session] = socket.create_connection(("127.0.0.1", self.port), timeout=10)
+                self.read[session] = ""
+                return
             except ConnectionRefusedError:
                 time.sleep(0.01)
-        self.read[session] = ""
+        sys.exit("ovsdb-server doesn't listen on port %d" % self.port)
 
     def put(self, line):
         word, _, rest = line.partition(" ")
@@ -236,7 +238,8 @@ class Theirs:
                 self.sockets[word].sendall(self.scaled(self.identifiers.ask(word, rest)).encode())
             except OSError:
                 pass
-        self.hear()
+        due = '"id":' in rest and '"id":null' not in rest and '"op":"wait"' not in rest
+        self.hear(PATIENCE if due else QUIET)
 
     def scaled(self, text):
         """A request whose timeouts are in the other server's milliseconds."""
@@ -248,12 +251,13 @@ class Theirs:
             time.sleep((moment - self.latest) * MOMENT + QUIET)
             self.latest = moment
 
-    def hear(self):
+    def hear(self, patience):
         """Reads until nobody is told anything for a while."""
         while True:
-            ready, _, _ = select.select(list(self.sockets.values()), [], [], QUIET)
+            ready, _, _ = select.select(list(self.sockets.values()), [], [], patience)
             if not ready:
                 return
+            patience = QUIET
             for session in [s for s in self.sockets if self.sockets[s] in ready]:
                 self.take(session)
 
