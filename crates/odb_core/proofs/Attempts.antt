@@ -1,5 +1,5 @@
 -- What a try of a transaction makes of the world, by what the transaction comes to.
-use Rattle.std.proofs.Common.{◌≡◌, ℕ, ◌+◌, Bool, true, false, cond, nat_lt, List, [], ◌∷◌, ◌++◌, map, Option, Some, None, refl, sym, ◌∙◌, ap, subst}
+use Rattle.std.proofs.Common.{◌≡◌, ℕ, ◌+◌, Bool, false, cond, nat_lt, List, [], ◌∷◌, ◌++◌, map, Option, Some, None, refl, sym, ◌∙◌, ap, subst}
 use Rattle.std.specs.Prelude.{Vec}
 use Rattle.std.specs.List.{list_any}
 use Rattle.std.specs.declared.alloc.Global.{Global}
@@ -18,16 +18,16 @@ use Rattle.odb_tables.specs.Installing.{IsChangeOf}
 use Rattle.odb_tables.specs.Typed.{IsTyped}
 use Rattle.odb_wire.specs.Message.{id_of}
 use Rattle.odb_wire.specs.Shown.{request_data}
-use Rattle.odb_core.specs.Server.{served_by}
-use Rattle.odb_core.specs.Service.{Outcome, Service, outcome_of}
-use Rattle.odb_core.specs.Session.{Item, Session, say, sync, to}
-use Rattle.odb_core.specs.World.{Parked, World, asked_of, attempt, end_transaction, on_outcome, post, post_to, push}
+use Rattle.odb_service.specs.Server.{served_by}
+use Rattle.odb_service.specs.Service.{Service, outcome_of}
+use Rattle.odb_service.specs.Session.{Item, Session, say, sync, to}
+use Rattle.odb_service.specs.World.{Parked, World, asked_of, attempt, end_transaction, on_outcome, post, post_to, push}
 use Rattle.odb_core.specs.declared.submitted.Submitted.{Submitted}
 use Rattle.odb_core.specs.Represented.Parked.{context_in, outcome_in, parked_as}
 use Rattle.odb_commit.proofs.NoFloats.{done_whole, refused_whole}
 use Rattle.odb_rpc.specs.Message.{operations_of}
 use Rattle.serde_json.specs.Written.{has_float}
-use Rattle.odb_core.specs.Service.{max_rows}
+use Rattle.odb_service.specs.Service.{max_rows}
 use Rattle.odb_core.specs.Represented.Sessions.{Sessions, at_session, ended_in}
 
 -- posting changes the sessions alone

@@ -1,5 +1,5 @@
 -- A transaction that waits and is canceled, and a session that closes: what the code's steps come to.
-use Rattle.std.proofs.Common.{◌≡◌, ℕ, zero, suc, ◌<◌, Bool, true, false, cond, not, ◌==◌, nat_lt, List, [], ◌∷◌, map, length, Option, Some, None, refl, sym, ◌∙◌, ap, arith}
+use Rattle.std.proofs.Common.{◌≡◌, ℕ, zero, suc, ◌<◌, Bool, true, false, cond, not, ◌==◌, nat_lt, List, [], ◌∷◌, map, length, Some, None, refl, sym, ◌∙◌, ap, arith}
 use Rattle.std.specs.Prelude.{filter, slice_get, slice_index_or}
 use Rattle.std.specs.List.{position, position_or_len, remove}
 use Rattle.std.proofs.lemmas.Bool.Decides.{nat_tests}
@@ -9,10 +9,10 @@ use Rattle.odb_locks.specs.Locks.{Locks, drop_session}
 use Rattle.odb_rpc.specs.Message.{canceled, failure}
 use Rattle.odb_schema.specs.Json.{Data}
 use Rattle.odb_wire.specs.Message.{id_of}
-use Rattle.odb_core.specs.Service.{Service}
-use Rattle.odb_core.specs.Session.{Item, say, to}
-use Rattle.odb_core.specs.World.{Parked, World, cancel, close, is_of, is_untried, post, split_first, untried}
-use Rattle.odb_core.specs.Represented.Post.{told_of}
+use Rattle.odb_service.specs.Service.{Service}
+use Rattle.odb_service.specs.Session.{Item, say, to}
+use Rattle.odb_service.specs.World.{Parked, World, cancel, close, is_of, is_untried, post, split_first, untried}
+use Rattle.odb_queue.specs.Represented.Post.{told_of}
 use Rattle.odb_core.specs.Represented.Sessions.{Sessions, all_posted}
 use Rattle.odb_core.proofs.Attempts.{post_as}
 use Rattle.odb_core.proofs.Closing.{cancels_at, closes_as, none_filtered, none_removed}

@@ -1,5 +1,5 @@
 -- What becomes of transactions that wait: at a cancel, at a moment, and when their session closes.
-use Rattle.std.proofs.Common.{◌≡◌, ℕ, zero, suc, Bool, true, false, cond, not, ◌==◌, ◌||◌, List, [], ◌∷◌, ◌++◌, map, take, drop, Option, Some, None, refl, sym, ◌∙◌, ap, subst, append_assoc, true≢false}
+use Rattle.std.proofs.Common.{◌≡◌, ℕ, zero, suc, Bool, true, false, cond, not, ◌==◌, ◌||◌, List, [], ◌∷◌, ◌++◌, map, take, drop, Some, None, refl, sym, ◌∙◌, ap, append_assoc, true≢false}
 use Rattle.std.specs.Prelude.{filter, option_and_then, option_map, option_to_list, slice_get}
 use Rattle.std.specs.List.{list_any, position, remove}
 use Rattle.std.proofs.lemmas.List.{append-nil}
@@ -8,19 +8,17 @@ use Rattle.odb_locks.specs.Locks.{drop_session}
 use Rattle.odb_rpc.specs.Message.{canceled, failure}
 use Rattle.odb_schema.specs.Json.{Data}
 use Rattle.odb_wire.specs.Message.{id_of}
-use Rattle.odb_core.specs.Service.{Service}
-use Rattle.odb_core.specs.Session.{Item, Session, say, to}
-use Rattle.odb_core.specs.World.{Parked, World, at_moment, cancel, cancel_one, close, is_due, is_of, is_untried, post, retry_all, split_first, tick, try_due, untried, with_parked, attempt}
+use Rattle.odb_service.specs.Service.{Service}
+use Rattle.odb_service.specs.Session.{Item, say, to}
+use Rattle.odb_service.specs.World.{Parked, World, at_moment, cancel, cancel_one, close, is_due, is_of, post, retry_all, split_first, tick, try_due, untried, with_parked, attempt}
 use Rattle.odb_core.specs.Represented.Places.{split_at}
-use Rattle.odb_core.specs.Represented.Post.{told_of}
+use Rattle.odb_queue.specs.Represented.Post.{told_of}
 use Rattle.odb_core.specs.Represented.Sessions.{all_posted}
 use Rattle.odb_core.proofs.Attempts.{post_as}
 use Rattle.odb_core.proofs.Places.{first_at}
 use Rattle.odb_core.proofs.Posting.{notices_as, removed_all}
-use Rattle.odb_core.proofs.Retried.{retried_none}
-use Rattle.odb_core.proofs.Waiting.{no_split, none_passes}
-use Rattle.odb_core.proofs.Wells.{Each, each_append}
-use Rattle.odb_core.proofs.Worlds.{each_filter}
+use Rattle.odb_service.proofs.Retried.{retried_none}
+use Rattle.odb_service.proofs.Each.{Each, each_append, each_filter, no_split, none_passes}
 
 -- ---- none of a list is left to be tried
 

@@ -1,6 +1,6 @@
 -- What a request that is handled says of itself, and what becomes of a transaction.
-use Rattle.std.proofs.Common.{◌≡◌, ℕ, zero, suc, ◌<◌, length, take, drop, slice_index_or, ◌+◌, Bool, true, false, cond, not, List, [], ◌∷◌, ◌++◌, codes, map, Option, Some, None, is_some, refl, sym, ◌∙◌, ap, subst, true≢false}
-use Rattle.std.specs.Prelude.{option_map, option_to_list, slice_get}
+use Rattle.std.proofs.Common.{◌≡◌, ℕ, zero, suc, ◌<◌, length, take, drop, slice_index_or, ◌+◌, true, false, List, [], ◌∷◌, ◌++◌, codes, Option, Some, None, refl, sym, ◌∙◌, ap, true≢false}
+use Rattle.std.specs.Prelude.{option_to_list, slice_get}
 use Rattle.std.proofs.lemmas.List.{append-nil}
 use Rattle.serde_json.specs.Data.{Data}
 use Rattle.odb_atoms.specs.Uuid.{Uuid}
@@ -11,11 +11,11 @@ use Rattle.odb_rpc.proofs.LeftOut.{whole-at_key}
 use Rattle.odb_schema.specs.Schema.{Schema}
 use Rattle.odb_schema.specs.SchemaText.{write_schema}
 use Rattle.odb_wire.specs.Message.{has_left_out, id_of}
-use Rattle.odb_core.specs.Server.{served_by}
-use Rattle.odb_core.specs.Service.{Outcome, Service, ended, waits}
-use Rattle.odb_core.specs.Session.{Item, Session}
-use Rattle.odb_core.specs.World.{Parked, World, asked_of, attempt, end_transaction, handle, is_untried, on_outcome, post_to, retry_all, run_transaction, split_first, try_one, untried, with_parked}
-use Rattle.odb_core.specs.Represented.Answer.{call_at}
+use Rattle.odb_service.specs.Server.{served_by}
+use Rattle.odb_service.specs.Service.{Outcome, Service, ended, waits}
+use Rattle.odb_service.specs.Session.{Item, Session}
+use Rattle.odb_service.specs.World.{Parked, World, attempt, handle, on_outcome, post_to, retry_all, run_transaction, try_one, untried, with_parked}
+use Rattle.odb_queue.specs.Represented.Answer.{call_at}
 use Rattle.odb_core.specs.Represented.Requests.{asks_transaction}
 use Rattle.odb_core.specs.Represented.Places.{split_at}
 use Rattle.odb_core.proofs.Places.{put_back, split_parts_at}
@@ -23,7 +23,7 @@ use Rattle.std.specs.List.{insert, remove}
 use Rattle.std.proofs.lemmas.Option.{none-some, same_Some}
 use Rattle.odb_atoms.specs.FinMap.{get}
 use Rattle.odb_locks.specs.Locks.{owns}
-use Rattle.odb_core.proofs.Retried.{retried_none}
+use Rattle.odb_service.proofs.Retried.{retried_none}
 
 module _ (s : Schema) (d : Data) where
   abbrev Own : Type 0

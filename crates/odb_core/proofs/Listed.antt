@@ -5,8 +5,8 @@ use Rattle.std.specs.BTreeMap.{is_at}
 use Rattle.std.specs.List.{filter, list_any}
 use Rattle.std.specs.Ordering.{eq_by_cmp, nat_cmp}
 use borrow.Author.Tests.{eqb-true, eq-eqb}
-use Rattle.odb_core.specs.Run.{once}
-use Rattle.odb_core.proofs.SessionMaps.{key-itself, same_key}
+use Rattle.odb_service.specs.Run.{once}
+use Rattle.odb_service.proofs.SessionMaps.{key-itself, same_key}
 
 abbrev is_new : BTreeSet ℕ → ℕ → Bool
 is_new seen t = not (contains nat_cmp seen t)

@@ -10,9 +10,9 @@ use Rattle.odb_rpc.specs.declared.call.Call.TheVariants as call
 use Rattle.odb_rpc.specs.declared.printable.Printable.{Printable}
 use Rattle.odb_schema.specs.Json.{Data}
 use Rattle.odb_schema.specs.Schema.{Schema}
-use Rattle.odb_core.specs.Server.{served_by}
-use Rattle.odb_core.specs.World.{World, handle, post}
-use Rattle.odb_core.specs.Represented.Answer.{at_once, said}
+use Rattle.odb_service.specs.Server.{served_by}
+use Rattle.odb_service.specs.World.{World, handle, post}
+use Rattle.odb_queue.specs.Represented.Answer.{at_once, said}
 use Rattle.odb_core.specs.Represented.Requests.{asks_transaction}
 use Rattle.odb_core.proofs.Posting.{nothing_posted}
 

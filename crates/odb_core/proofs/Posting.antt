@@ -1,16 +1,16 @@
 -- What posts make of the world's sessions.
-use Rattle.std.proofs.Common.{◌≡◌, ℕ, Bool, true, false, cond, not, List, [], ◌∷◌, ◌++◌, map, Option, Some, None, refl, sym, ◌∙◌, ap, subst}
-use Rattle.std.specs.Prelude.{fold, option_to_list}
+use Rattle.std.proofs.Common.{◌≡◌, ℕ, Bool, true, false, cond, List, [], ◌∷◌, ◌++◌, map, Option, Some, None, refl, sym, ◌∙◌, ap}
+use Rattle.std.specs.Prelude.{option_to_list}
 use Rattle.std.proofs.lemmas.List.{append-nil}
 use Rattle.std.specs.Ordering.{eq_by_cmp, nat_cmp}
 use Rattle.odb_atoms.specs.FinMap.{get, insert, remove}
 use Rattle.odb_locks.specs.Locks.{Notice}
 use Rattle.odb_core.proofs.Attempts.{post_as}
-use Rattle.odb_core.proofs.SessionMaps.{get-insert, get-remove, key-itself, same_key, same_map}
-use Rattle.odb_core.specs.Session.{Item, Session, no_request, say}
-use Rattle.odb_core.specs.World.{World, notice_of, post, post_notices, post_to, push}
-use Rattle.odb_core.specs.Represented.Post.{told_of}
-use Rattle.odb_core.specs.Represented.Sessions.{Sessions, all_posted, at_session, posted}
+use Rattle.odb_service.proofs.SessionMaps.{get-insert, get-remove, key-itself, same_key, same_map}
+use Rattle.odb_service.specs.Session.{Item, Session, no_request, say}
+use Rattle.odb_service.specs.World.{World, notice_of, post, post_notices, post_to, push}
+use Rattle.odb_queue.specs.Represented.Post.{told_of}
+use Rattle.odb_core.specs.Represented.Sessions.{Sessions, all_posted, posted}
 
 -- notices are posted as their items
 pub notices_as : (ns : List Notice) (w : World) → post_notices ns w ≡ record w { sessions = all_posted w.sessions (map told_of ns) }

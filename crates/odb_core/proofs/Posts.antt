@@ -7,12 +7,13 @@ use Rattle.std.specs.List.{AllZip}
 use Rattle.std.specs.Ordering.{eq_by_cmp, nat_cmp}
 use Rattle.odb_atoms.specs.FinMap as finite
 use Rattle.odb_atoms.specs.FinMap.{get, insert}
-use Rattle.odb_core.specs.Session.{Item, Session}
-use Rattle.odb_core.specs.World.{push}
+use Rattle.odb_service.specs.Session.{Item, Session}
+use Rattle.odb_service.specs.World.{push}
 use Rattle.odb_core.specs.Represented.Core.{sessions_in}
-use Rattle.odb_core.specs.Represented.Sessions.{Sessions, at_session, taken_back, without_last}
-use Rattle.odb_core.proofs.Said.{pushed_back}
-use Rattle.odb_core.proofs.SessionMaps.{get-insert, key-itself, same_key, same_map}
+use Rattle.odb_core.specs.Represented.Sessions.{Sessions, at_session, taken_back}
+use Rattle.odb_queue.specs.Represented.Newest.{without_last}
+use Rattle.odb_queue.proofs.Said.{pushed_back}
+use Rattle.odb_service.proofs.SessionMaps.{get-insert, key-itself, same_key, same_map}
 use Rattle.odb_core.proofs.SessionsIn.{Updates, get-sessions_in, inserted}
 
 abbrev found_at : (Session → Session) → Sessions → ℕ → Option Session → Sessions

@@ -1,18 +1,18 @@
 -- What a server does at each event.
-use Rattle.std.proofs.Common.{◌≡◌, ℕ, ◌<◌, ◌≤◌, ◌+◌, Bool, true, false, cond, not, nat_lt, ◌&&◌, List, [], ◌∷◌, ◌++◌, map, Option, Some, None, is_some, Result, Ok, Err, refl, sym, ap, ◌∙◌, IsOk}
+use Rattle.std.proofs.Common.{◌≡◌, ℕ, ◌+◌, Bool, true, false, not, nat_lt, ◌&&◌, List, [], ◌∷◌, ◌++◌, map, Option, Some, None, is_some, Result, Ok, Err, refl, sym, ap, ◌∙◌}
 use Rattle.std.specs.Prelude.{option_map, option_to_list}
 use Rattle.odb_atoms.specs.FinMap.{get, insert, len}
 use Rattle.odb_atoms.specs.Uuid.{Uuid}
 use Rattle.odb_schema.specs.Json.{Data}
 use Rattle.odb_schema.specs.Schema.{Schema}
-use Rattle.odb_core.specs.Run.{Refusal, busy, closed, gone, max_owed, max_sessions, opened, sent, submitted}
-use Rattle.odb_core.specs.Server.{Server, printed, serve, served_by}
-use Rattle.odb_core.specs.Session.{Out, Session, take}
-use Rattle.odb_core.specs.World.{World, at_moment, close, handle, owed_replies}
+use Rattle.odb_service.specs.Run.{Refusal, busy, closed, gone, max_owed, max_sessions, opened, sent, submitted}
+use Rattle.odb_service.specs.Server.{Server, printed, serve, served_by}
+use Rattle.odb_service.specs.Session.{Out, Session, take}
+use Rattle.odb_service.specs.World.{World, at_moment, close, handle, owed_replies}
 use Rattle.odb_rpc.specs.Message.{has_reply}
-use Rattle.odb_core.specs.Represented.Answer.{call_at}
+use Rattle.odb_queue.specs.Represented.Answer.{call_at}
 use Rattle.odb_core.specs.Represented.Core.{takes}
-use Rattle.odb_core.specs.Represented.Item.{text_of}
+use Rattle.odb_queue.specs.Represented.Item.{text_of}
 use Rattle.odb_core.specs.Represented.Sessions.{Sessions, at_session, fresh_session, text_taken}
 
 abbrev pub at : Schema → World → ℕ → Server

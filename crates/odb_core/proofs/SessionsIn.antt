@@ -1,5 +1,5 @@
 -- A table of sessions answers as the finite map that it stands for, and changes as it does.
-use Rattle.std.proofs.Common.{◌≡◌, ℕ, ◌≤◌, ◌<◌, Bool, true, false, cond, ◌&&◌, T, List, [], ◌∷◌, length, Option, Some, None, refl, sym, ap, subst, ◌∙◌, arith}
+use Rattle.std.proofs.Common.{◌≡◌, ℕ, Bool, true, false, cond, ◌&&◌, T, List, [], ◌∷◌, length, Option, Some, None, refl, sym, ap, subst, ◌∙◌}
 use Rattle.std.specs.declared.cmp.Ordering.TheVariants.{Less}
 use Rattle.std.specs.BTreeMap as tree
 use Rattle.std.specs.BTreeMap.{BTreeMap, IsOrdered, UpdatesBy, btree_map_len, is_at}
@@ -10,11 +10,10 @@ use Rattle.std.specs.List.{AllByRecursion}
 use Rattle.std.specs.List.Sorted.{IsStrictlySortedBy}
 use Rattle.std.specs.Map.{keys_of, lookup}
 use Rattle.std.specs.Ordering.{eq_by_cmp, is_lt, nat_cmp}
-use Rattle.std.proofs.lemmas.Option.{none-some}
 use Rattle.odb_atoms.specs.FinMap as finite
-use Rattle.odb_core.specs.Session.{Session}
+use Rattle.odb_service.specs.Session.{Session}
 use Rattle.odb_core.specs.Represented.Core.{sessions_in}
-use Rattle.odb_core.proofs.SessionMaps.{get-empty, get-insert, get-remove, same_key, same_map, turned_about}
+use Rattle.odb_service.proofs.SessionMaps.{get-empty, get-insert, get-remove, same_map, turned_about}
 
 get-from_entries : (es : List (ℕ × Session)) (q : ℕ) → finite.get (finite.from_entries {R = nat_cmp} es) q ≡ lookup (is_at (nat_cmp q)) es
 get-from_entries [] q = get-empty q

@@ -1,20 +1,20 @@
 -- The invariant of a core: at its beginning, and where a session takes or closes.
-use Rattle.std.proofs.Common.{◌≡◌, ℕ, ◌≤◌, Bool, true, false, cond, not, ◌&&◌, ◌==◌, List, [], ◌∷◌, Option, Some, None, is_some, length, Bor, refl, sym, ◌∙◌, ap, true≢false}
+use Rattle.std.proofs.Common.{◌≡◌, ℕ, Bool, true, false, cond, not, ◌&&◌, ◌==◌, List, [], ◌∷◌, Option, Some, None, is_some, length, Bor, refl, sym, ◌∙◌, ap, true≢false}
 use Rattle.std.specs.Option.{option_copied}
 use Rattle.std.specs.Prelude.{option_map, option_to_list}
 use Rattle.std.specs.Ordering.{eq_by_cmp, nat_cmp}
 use Rattle.odb_atoms.specs.FinMap.{get, insert}
 use Rattle.odb_integrity.proofs.KeepsTyped.{empty_typed}
 use Rattle.odb_schema.specs.Schema.{Schema}
-use Rattle.odb_core.specs.Server.{Server, served_by}
-use Rattle.odb_core.specs.Service.{Service}
-use Rattle.odb_core.specs.Session.{Session, take}
-use Rattle.odb_core.specs.World.{World, close}
+use Rattle.odb_service.specs.Server.{Server, served_by}
+use Rattle.odb_service.specs.Service.{Service}
+use Rattle.odb_service.specs.Session.{Session, take}
+use Rattle.odb_service.specs.World.{World, close}
 use Rattle.odb_core.specs.Represented.Core.{AreUnused, IsSound, empty_world, takes}
 use Rattle.odb_core.specs.Represented.Sessions.{Sessions, at_session, text_taken}
-use Rattle.odb_core.proofs.Opened as open_ones
+use Rattle.odb_service.proofs.WhoIsOpen as open_ones
 use Rattle.odb_core.proofs.Serving.{at, takes_as}
-use Rattle.odb_core.proofs.SessionMaps.{get-insert, same_key}
+use Rattle.odb_service.proofs.SessionMaps.{get-insert, same_key}
 use Rattle.odb_core.proofs.Unused.{unused_in_none, unused_same}
 
 pub new_sound : (s : Schema) → IsSound s (empty_world (length s.tables)) 0

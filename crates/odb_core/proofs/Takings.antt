@@ -2,8 +2,8 @@
 use Rattle.std.proofs.Common.{◌≡◌, ℕ, List, [], ◌∷◌, ◌++◌, map, sym, ap, ◌∙◌, append-nil, append_assoc}
 use Rattle.std.proofs.lemmas.List.{map-append}
 use Rattle.odb_atoms.specs.FinMap.{get}
-use Rattle.odb_core.specs.Run.{take_each, take_of}
-use Rattle.odb_core.specs.Server.{Server, printed, served_by}
+use Rattle.odb_service.specs.Run.{take_each, take_of}
+use Rattle.odb_service.specs.Server.{Server, printed, served_by}
 use Rattle.odb_core.specs.Represented.Core.{takes}
 
 -- the first, and then the rest

@@ -8,10 +8,10 @@ use Rattle.odb_schema.specs.Json.{Data}
 use Rattle.odb_wire.specs.Message.{id_of}
 use Rattle.odb_core.proofs.Attempts.{post_as}
 use Rattle.odb_core.proofs.Posting.{notices_as, posted_append}
-use Rattle.odb_core.specs.Service.{Service}
-use Rattle.odb_core.specs.Session.{Item, say, to}
-use Rattle.odb_core.specs.World.{World, on_lock, post, post_notices, succeed}
-use Rattle.odb_core.specs.Represented.Post.{told_of}
+use Rattle.odb_service.specs.Service.{Service}
+use Rattle.odb_service.specs.Session.{Item, say, to}
+use Rattle.odb_service.specs.World.{World, on_lock, post, post_notices, succeed}
+use Rattle.odb_queue.specs.Represented.Post.{told_of}
 use Rattle.odb_core.specs.Represented.Sessions.{Sessions, all_posted}
 
 -- what is posted

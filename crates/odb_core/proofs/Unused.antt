@@ -1,11 +1,10 @@
 -- Numbers that no session had stay unused.
-use Rattle.std.proofs.Common.{◌≡◌, ℕ, ◌<◌, ◌≤◌, ◌+◌, Bool, true, false, cond, Option, Some, None, is_some, sym, ap, ◌∙◌, arith, refl}
+use Rattle.std.proofs.Common.{◌≡◌, ℕ, ◌+◌, Bool, true, false, cond, Option, Some, None, is_some, sym, ap, ◌∙◌, arith, refl}
 use Rattle.std.specs.Ordering.{eq_by_cmp, nat_cmp}
-use Rattle.odb_atoms.specs.FinMap.{FinMap, empty, get, insert, remove}
+use Rattle.odb_atoms.specs.FinMap.{FinMap, empty, get, insert}
 use Rattle.odb_core.specs.Represented.Core.{AreUnused}
-use Rattle.odb_core.specs.Session.{Session}
-use Rattle.odb_core.specs.World.{World}
-use Rattle.odb_core.proofs.SessionMaps.{get-empty, get-insert, same_key}
+use Rattle.odb_service.specs.Session.{Session}
+use Rattle.odb_service.proofs.SessionMaps.{get-empty, get-insert, same_key}
 use Rattle.std.specs.Prelude.{option_map}
 use Rattle.std.proofs.lemmas.Option.{none-some, same_Some}
 

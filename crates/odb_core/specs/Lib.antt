@@ -1,11 +1,1 @@
-pub mod Client
-pub mod Headline
-pub mod History
-pub mod Law
 pub mod Represented
-pub mod Run
-pub mod Server
-pub mod Service
-pub mod Session
-pub mod World
-pub mod WorldCode

@@ -1,11 +1,8 @@
-pub mod Answer
 pub mod Core
-pub mod Item
 pub mod Locking
 pub mod Out
 pub mod Parked
 pub mod Places
-pub mod Post
 pub mod Reason
 pub mod Requests
 pub mod Sessions

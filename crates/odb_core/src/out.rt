@@ -1,6 +1,6 @@
 //! What a session is sent.
 
-use crate::server::SessionId;
+use odb_locks::SessionId;
 use std::sync::Arc;
 
 /// A message for a session. Its text is the three parts in order: the body is shared between sessions

@@ -3,8 +3,8 @@
 ghost use Rattle.std.specs.Prelude.{◌≡◌, ◌==◌, IfErr, IfOk};
 ghost use Rattle.odb_core.specs.Represented.Parked.{is_named, parked_as};
 
-use crate::server::SessionId;
 use crate::submitted::Submitted;
+use odb_locks::SessionId;
 use std::alloc::{AllocError, Global};
 use std::marker::Model;
 use std::sync::Arc;
@@ -28,8 +28,8 @@ pub(crate) struct Parked {
 
 impl Model for Parked {
     ghost use Rattle.std.specs.Arc.{arc_value};
-    ghost use Rattle.odb_core.specs.World as model;
-    ghost use Rattle.odb_core.specs.WorldCode.{parked_code};
+    ghost use Rattle.odb_service.specs.World as model;
+    ghost use Rattle.odb_service.specs.WorldCode.{parked_code};
     ghost use Rattle.odb_core.specs.Represented.Parked.{parked_as};
 
     ghost Value = { model.Parked };
@@ -41,7 +41,7 @@ impl Model for Parked {
 
 impl Parked {
     ghost use Rattle.std.specs.Arc.{arc_value};
-    ghost use Rattle.odb_core.specs.World.{is_due, is_untried};
+    ghost use Rattle.odb_service.specs.World.{is_due, is_untried};
 
     /// A transaction that waits until the deadline, in milliseconds, and was tried at this number of
     /// commits. Where memory is refused it comes back.

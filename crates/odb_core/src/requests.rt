@@ -8,7 +8,7 @@ ghost use Rattle.odb_atoms.specs.FinMap.{get};
 ghost use Rattle.odb_atoms.specs.Uuid as identifiers;
 ghost use Rattle.odb_rpc.specs.Message.{has_reply, reply_id};
 ghost use Rattle.odb_schema.specs.Schema.{Schema};
-ghost use Rattle.odb_core.specs.Run.{max_owed};
+ghost use Rattle.odb_service.specs.Run.{max_owed};
 ghost use Rattle.odb_atoms.specs.Represented.Atom.{uuid_of};
 ghost use Rattle.odb_rpc.specs.Represented.Printable.{printable_data};
 ghost use Rattle.odb_rpc.specs.Represented.Call.{call_view, called};
@@ -16,18 +16,17 @@ ghost use Rattle.odb_schema.specs.SchemaText.{write_schema};
 ghost use Rattle.odb_tables.specs.Typed.{IsTyped};
 ghost use Rattle.odb_wire.specs.Message.{id_of};
 ghost use Rattle.odb_wire.specs.Shown.{request_data};
-ghost use Rattle.odb_core.specs.Represented.Answer.{at_once, call_at, said};
+ghost use Rattle.odb_queue.specs.Represented.Answer.{at_once, call_at, said};
 ghost use Rattle.odb_core.specs.Represented.Parked.{is_named};
 ghost use Rattle.odb_core.specs.Represented.Requests.{asks_transaction};
-ghost use Rattle.odb_core.specs.Server.{served_by};
-ghost use Rattle.odb_core.specs.Service.{Service};
-ghost use Rattle.odb_core.specs.World.{at_moment, cancel, close, handle, is_due, owed_replies, post, tick, untried};
+ghost use Rattle.odb_service.specs.Server.{served_by};
+ghost use Rattle.odb_service.specs.Service.{Service};
+ghost use Rattle.odb_service.specs.World.{at_moment, cancel, close, handle, is_due, owed_replies, post, tick, untried};
 
-use crate::answer::{answer_at_once, failed, notices};
-use crate::served_schema::ServedSchema;
-use crate::server::SessionId;
 use crate::state::State;
 use crate::submitted::Submitted;
+use odb_locks::SessionId;
+use odb_queue::{ServedSchema, answer_at_once, failed, notices};
 use odb_rpc::{Call, CallFault, Failure, Printable};
 use odb_schema::Schema;
 use odb_wire::Request;
@@ -45,11 +44,11 @@ impl State {
         fresh: &[Uuid],
         now: u64,
     ) -> Result<(), (Request, AllocError)>
-        requires typed { IsTyped served.now.schema self.old.db }
+        requires typed { IsTyped served.now self.old.db }
         requires tried { (h : Service) → untried h self.old ≡ None }
-        ensures ok { OnOk result (handle (served_by served.now.schema) session (request_data request) (map uuid_of fresh.now)
-            (call_at served.now.schema (request_data request)) (at_moment (served_by served.now.schema) now self.old) ≡ self.new) }
-        ensures typed { IsTyped served.now.schema self.new.db }
+        ensures ok { OnOk result (handle (served_by served.now) session (request_data request) (map uuid_of fresh.now)
+            (call_at served.now (request_data request)) (at_moment (served_by served.now) now self.old) ≡ self.new) }
+        ensures typed { IsTyped served.now self.new.db }
         ensures tried { (h : Service) → untried h self.new ≡ None }
         ensures err { OnErr result (self.new ≡ self.old) }
         ensures back { IfErr result (λ back. back.0 ≡ request) }
@@ -91,11 +90,11 @@ impl State {
         request: Request,
         fresh: &[Uuid],
     ) -> Result<(), (Request, AllocError)>
-        requires typed { IsTyped served.now.schema self.old.db }
+        requires typed { IsTyped served.now self.old.db }
         requires tried { (h : Service) → untried h self.old ≡ None }
-        ensures ok { OnOk result (handle (served_by served.now.schema) session (request_data request) (map uuid_of fresh.now)
-            (call_at served.now.schema (request_data request)) self.old ≡ self.new) }
-        ensures typed { IsTyped served.now.schema self.new.db }
+        ensures ok { OnOk result (handle (served_by served.now) session (request_data request) (map uuid_of fresh.now)
+            (call_at served.now (request_data request)) self.old ≡ self.new) }
+        ensures typed { IsTyped served.now self.new.db }
         ensures tried { (h : Service) → untried h self.new ≡ None }
         ensures err { OnErr result (self.new ≡ self.old) }
         ensures back { IfErr result (λ back. back.0 ≡ request) }
@@ -119,18 +118,18 @@ impl State {
         request: Request,
         fresh: &[Uuid],
     ) -> Result<(), (Request, AllocError)>
-        requires asks { asks_transaction (call_at served.now.schema (request_data request)) ≡ true }
-        requires typed { IsTyped served.now.schema self.old.db }
+        requires asks { asks_transaction (call_at served.now (request_data request)) ≡ true }
+        requires typed { IsTyped served.now self.old.db }
         requires tried { (h : Service) → untried h self.old ≡ None }
-        ensures ok { OnOk result (handle (served_by served.now.schema) session (request_data request) (map uuid_of fresh.now)
-            (call_at served.now.schema (request_data request)) self.old ≡ self.new) }
-        ensures typed { IsTyped served.now.schema self.new.db }
+        ensures ok { OnOk result (handle (served_by served.now) session (request_data request) (map uuid_of fresh.now)
+            (call_at served.now (request_data request)) self.old ≡ self.new) }
+        ensures typed { IsTyped served.now self.new.db }
         ensures tried { (h : Service) → untried h self.new ≡ None }
         ensures err { OnErr result (self.new ≡ self.old) }
         ensures back { IfErr result (λ back. back.0 ≡ request) }
     {
         let asked = Submitted::new(self.alloc, session, request, fresh, self.now)?;
-        match self.transact(&served.schema, asked) {
+        match self.transact(served.schema(), asked) {
             Ok(()) => Ok(()),
             Err((asked, refused)) => Err((asked.into_request(), refused)),
         }
@@ -143,14 +142,14 @@ impl State {
         session: SessionId,
         request: &Request,
     ) -> Result<(), AllocError>
-        requires { asks_transaction (call_at served.now.schema (request_data request.now)) ≡ false }
-        ensures ok { OnOk result ((fresh : List identifiers.Uuid) → handle (served_by served.now.schema) session (request_data request.now) fresh
-            (call_at served.now.schema (request_data request.now)) self.old ≡ self.new) }
+        requires { asks_transaction (call_at served.now (request_data request.now)) ≡ false }
+        ensures ok { OnOk result ((fresh : List identifiers.Uuid) → handle (served_by served.now) session (request_data request.now) fresh
+            (call_at served.now (request_data request.now)) self.old ≡ self.new) }
         ensures database { self.new.db ≡ self.old.db }
         ensures tried { (h : Service) → untried h self.old ≡ None → untried h self.new ≡ None }
         ensures err { OnErr result (self.new ≡ self.old) }
     {
-        match Call::read(request, &served.schema) {
+        match Call::read(request, served.schema()) {
             Ok(call) => self.carry_out(served, session, request, call),
             Err(fault) => self.answer(served, session, request, Err(fault)),
         }
@@ -163,11 +162,11 @@ impl State {
         request: &Request,
         call: Call<'_>,
     ) -> Result<(), AllocError>
-        requires reads { called served.now.schema.name (write_schema served.now.schema) (reply_id (id_of (request_data request.now))) call
-            ≡ call_at served.now.schema (request_data request.now) }
-        requires asks { asks_transaction (call_at served.now.schema (request_data request.now)) ≡ false }
-        ensures ok { OnOk result ((fresh : List identifiers.Uuid) → handle (served_by served.now.schema) session (request_data request.now) fresh
-            (call_at served.now.schema (request_data request.now)) self.old ≡ self.new) }
+        requires reads { called served.now.name (write_schema served.now) (reply_id (id_of (request_data request.now))) call
+            ≡ call_at served.now (request_data request.now) }
+        requires asks { asks_transaction (call_at served.now (request_data request.now)) ≡ false }
+        ensures ok { OnOk result ((fresh : List identifiers.Uuid) → handle (served_by served.now) session (request_data request.now) fresh
+            (call_at served.now (request_data request.now)) self.old ≡ self.new) }
         ensures database { self.new.db ≡ self.old.db }
         ensures tried { (h : Service) → untried h self.old ≡ None → untried h self.new ≡ None }
         ensures err { OnErr result (self.new ≡ self.old) }
@@ -189,9 +188,9 @@ impl State {
         request: &Request,
         call: Result<Call<'_>, CallFault>,
     ) -> Result<(), AllocError>
-        requires { call_view served.now.schema.name (write_schema served.now.schema) (request_data request.now) call
-            ≡ call_at served.now.schema (request_data request.now) }
-        ensures ok { OnOk result ((found : Option Data) → at_once (call_at served.now.schema (request_data request.now)) ≡ Some found
+        requires { call_view served.now.name (write_schema served.now) (request_data request.now) call
+            ≡ call_at served.now (request_data request.now) }
+        ensures ok { OnOk result ((found : Option Data) → at_once (call_at served.now (request_data request.now)) ≡ Some found
             → post session (option_to_list (option_map (said (request_data request.now)) found)) self.old ≡ self.new) }
         ensures rest { self.new ≡ record (self.old) { sessions = self.new.sessions } }
         ensures err { OnErr result (self.new ≡ self.old) }
@@ -280,7 +279,7 @@ impl State {
 
 /// Whether the request is a `transact` that is carried out.
 fn asks_transaction(request: &Request, served: &ServedSchema) -> bool
-    ensures { result ≡ asks_transaction (call_at served.now.schema (request_data request.now)) }
+    ensures { result ≡ asks_transaction (call_at served.now (request_data request.now)) }
 {
-    matches!(Call::read(request, &served.schema), Ok(Call::Transact(_)))
+    matches!(Call::read(request, served.schema()), Ok(Call::Transact(_)))
 }

@@ -5,13 +5,14 @@ ghost use Rattle.odb_atoms.specs.FinMap.{len};
 ghost use Rattle.odb_atoms.specs.Represented.Atom.{uuid_of};
 ghost use Rattle.odb_wire.specs.Message.{inserts_of};
 ghost use Rattle.odb_wire.specs.Shown.{request_data};
-ghost use Rattle.odb_core.specs.Run.{closed, max_sessions, once, opened, round, submitted, ticked};
+ghost use Rattle.odb_service.specs.Run.{closed, max_sessions, once, opened, round, submitted, ticked};
 ghost use Rattle.odb_core.specs.declared.refused.Refused.TheVariants as refused;
 
 use crate::out::Out;
 use crate::refused::Refused;
-use crate::served_schema::ServedSchema;
 use crate::state::State;
+use odb_locks::SessionId;
+use odb_queue::ServedSchema;
 use odb_schema::Schema;
 use odb_wire::Request;
 use std::alloc::{AllocError, Global};
@@ -19,9 +20,6 @@ use std::collections::BTreeSet;
 use std::hash::RandomState;
 use std::marker::Model;
 use uuid::Uuid;
-
-/// A session of the server: a number that no other session has or had.
-pub type SessionId = usize;
 
 /// How many sessions may be open at once.
 const MAX_SESSIONS: usize = 4_096;
@@ -40,20 +38,20 @@ pub struct Core {
 }
 
 impl Model for Core {
-    ghost use Rattle.odb_core.specs.Server.{Server, server_code};
+    ghost use Rattle.odb_service.specs.Server.{Server, server_code};
     ghost use Rattle.odb_core.specs.Represented.Core.{IsSound};
 
     ghost Value = { Server };
 
     ghost coded = { server_code };
 
-    ghost view = { λ c. record { schema = c.served.schema; world = c.state; opened = c.opened } };
+    ghost view = { λ c. record { schema = c.served; world = c.state; opened = c.opened } };
 
-    ghost invariant = { λ c. IsSound c.served.schema c.state c.opened };
+    ghost invariant = { λ c. IsSound c.served c.state c.opened };
 }
 
 impl Core {
-    ghost use Rattle.odb_core.specs.Server.{serve};
+    ghost use Rattle.odb_service.specs.Server.{serve};
     ghost use Rattle.odb_core.specs.Represented.Core.{new_server, takes};
     ghost use Rattle.odb_core.specs.Represented.Out.{sent_in};
     ghost use Rattle.odb_core.specs.Represented.Reason.{IsReason};
@@ -162,7 +160,7 @@ impl Core {
         ensures ok { OnOk result (serve (ticked now) self.old ≡ Ok (self.new, [])) }
         ensures err { OnErr result (self.new ≡ self.old) }
     {
-        self.state.tick(&self.served.schema, now)
+        self.state.tick(self.served.schema(), now)
     }
 
     /// Gives each session of the list that is open its next message, if it has one: one message at
@@ -203,7 +201,7 @@ impl Core {
     {
         Ok(Core {
             alloc: self.alloc,
-            served: self.served.try_copy(self.alloc)?,
+            served: self.served.try_copy()?,
             opened: self.opened,
             state: self.state.try_copy()?,
         })

@@ -3,7 +3,7 @@
 ghost use Rattle.std.specs.Prelude.{◌≡◌, ◌+◌, ◌&&◌, not, nat_lt, [], ◌∷◌, OnOk, OnErr, option_map};
 ghost use Rattle.odb_wire.specs.Shown.{request_data};
 
-use crate::queue::{Finished, Queue};
+use odb_queue::{Finished, Queue};
 use odb_rpc::has_reply;
 use odb_wire::Request;
 use std::alloc::{AllocError, Global};
@@ -20,8 +20,8 @@ pub(crate) struct Session {
 
 impl Model for Session {
     ghost use Rattle.std.specs.Prelude.{[]};
-    ghost use Rattle.odb_core.specs.Session as model;
-    ghost use Rattle.odb_core.specs.WorldCode.{session_code};
+    ghost use Rattle.odb_service.specs.Session as model;
+    ghost use Rattle.odb_service.specs.WorldCode.{session_code};
 
     ghost Value = { model.Session };
 
@@ -31,16 +31,17 @@ impl Model for Session {
 }
 
 impl Session {
-    ghost use Rattle.odb_core.specs.Represented.Item.{item_of, text_of};
-    ghost use Rattle.odb_core.specs.Represented.Sessions.{ended_in, without_last};
-    ghost use Rattle.odb_core.specs.World.{push};
-    ghost use Rattle.odb_core.specs.Service.{Service};
+    ghost use Rattle.odb_queue.specs.Represented.Item.{item_of, text_of};
+    ghost use Rattle.odb_core.specs.Represented.Sessions.{ended_in};
+    ghost use Rattle.odb_queue.specs.Represented.Newest.{without_last};
+    ghost use Rattle.odb_service.specs.World.{push};
+    ghost use Rattle.odb_service.specs.Service.{Service};
     ghost use Rattle.odb_tables.specs.Database.{Db};
-    ghost use Rattle.odb_core.specs.Represented.Answer.{call_at};
-    ghost use Rattle.odb_core.specs.Run.{max_owed};
+    ghost use Rattle.odb_queue.specs.Represented.Answer.{call_at};
+    ghost use Rattle.odb_service.specs.Run.{max_owed};
     ghost use Rattle.odb_rpc.specs.Message.{has_reply};
     ghost use Rattle.odb_schema.specs.Schema.{Schema};
-    ghost use Rattle.odb_core.specs.Session.{replies_in, take};
+    ghost use Rattle.odb_service.specs.Session.{replies_in, take};
 
     /// Nothing is queued, and there are no monitors. It takes no memory.
     pub(crate) fn new(alloc: Global) -> Session

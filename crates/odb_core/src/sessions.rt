@@ -2,13 +2,12 @@
 
 ghost use Rattle.std.specs.Prelude.{◌≡◌, map, option_map, IfOk, OnErr, OnOk};
 ghost use Rattle.std.specs.Option.{option_copied};
-ghost use Rattle.odb_core.specs.Represented.Item.{item_of};
-ghost use Rattle.odb_core.specs.Represented.Post.{post_of};
+ghost use Rattle.odb_queue.specs.Represented.Item.{item_of};
+ghost use Rattle.odb_queue.specs.Represented.Post.{post_of};
 
-use crate::post::Post;
-use crate::queue::Finished;
-use crate::server::SessionId;
 use crate::session::Session;
+use odb_locks::SessionId;
+use odb_queue::{Finished, Post};
 use std::alloc::{AllocError, Global};
 use std::collections::BTreeMap;
 use std::marker::Model;
@@ -24,7 +23,7 @@ pub(crate) struct Sessions {
 impl Model for Sessions {
     ghost use Rattle.std.specs.Coded.{coded_ℕ};
     ghost use Rattle.odb_atoms.specs.FinMap as finite;
-    ghost use Rattle.odb_core.specs.WorldCode.{session_code};
+    ghost use Rattle.odb_service.specs.WorldCode.{session_code};
     ghost use Rattle.odb_core.specs.Represented.Core.{sessions_in};
     ghost use Rattle.odb_core.specs.Represented.Sessions as model;
 
@@ -37,10 +36,11 @@ impl Model for Sessions {
 
 impl Sessions {
     ghost use Rattle.odb_atoms.specs.FinMap.{empty, get, insert, len, remove};
-    ghost use Rattle.odb_core.specs.Service.{Service};
-    ghost use Rattle.odb_core.specs.Session.{take};
+    ghost use Rattle.odb_service.specs.Service.{Service};
+    ghost use Rattle.odb_service.specs.Session.{take};
     ghost use Rattle.odb_core.specs.Represented.Sessions.{all_posted, at_session, ended_in, posted};
-    ghost use Rattle.odb_core.specs.Represented.Sessions.{fresh_session, taken_back, text_taken, without_last};
+    ghost use Rattle.odb_core.specs.Represented.Sessions.{fresh_session, taken_back, text_taken};
+    ghost use Rattle.odb_queue.specs.Represented.Newest.{without_last};
     ghost use Rattle.odb_tables.specs.Database.{Db};
 
     /// No session is open. It takes no memory.

@@ -15,21 +15,18 @@ ghost use Rattle.odb_tables.specs.Installing.{IsChangeOf};
 ghost use Rattle.odb_tables.specs.Typed.{IsTyped};
 ghost use Rattle.odb_wire.specs.Message.{has_left_out, id_of};
 ghost use Rattle.odb_wire.specs.Shown.{request_data};
-ghost use Rattle.odb_core.specs.Service.{Service};
-ghost use Rattle.odb_core.specs.Server.{served_by};
-ghost use Rattle.odb_core.specs.Session.{say, to};
+ghost use Rattle.odb_service.specs.Service.{Service};
+ghost use Rattle.odb_service.specs.Server.{served_by};
+ghost use Rattle.odb_service.specs.Session.{say, to};
 ghost use Rattle.odb_core.specs.Represented.Parked.{outcome_in, parked_as, waiting, IsDone};
 
-use crate::answer::{failed, notices, replied};
 use crate::parked::{Parked, Tried};
-use crate::post::Post;
-use crate::queue::Finished;
-use crate::server::SessionId;
 use crate::sessions::Sessions;
 use crate::submitted::Submitted;
 use odb_commit::{Outcome, transact};
-use odb_locks::Locks;
+use odb_locks::{Locks, SessionId};
 use odb_ops::Context;
+use odb_queue::{Finished, Post, failed, notices, replied};
 use odb_rpc::{Failure, Printable};
 use odb_schema::Schema;
 use odb_tables::{ChangeSet, Db, TableChange};
@@ -57,8 +54,8 @@ pub(crate) struct State {
 }
 
 impl Model for State {
-    ghost use Rattle.odb_core.specs.World.{World};
-    ghost use Rattle.odb_core.specs.WorldCode.{world_code};
+    ghost use Rattle.odb_service.specs.World.{World};
+    ghost use Rattle.odb_service.specs.WorldCode.{world_code};
 
     ghost Value = { World };
 
@@ -70,10 +67,10 @@ impl Model for State {
 impl State {
     ghost use Rattle.std.specs.Prelude.{ℕ, List, ◌<◌};
     ghost use Rattle.std.specs.List.{position};
-    ghost use Rattle.odb_core.specs.World as model;
-    ghost use Rattle.odb_core.specs.World.{attempt, end_transaction, is_untried, post, retry_all};
-    ghost use Rattle.odb_core.specs.World.{run_transaction, try_due, try_one, untried};
-    ghost use Rattle.odb_core.specs.Represented.Item.{item_of};
+    ghost use Rattle.odb_service.specs.World as model;
+    ghost use Rattle.odb_service.specs.World.{attempt, end_transaction, is_untried, post, retry_all};
+    ghost use Rattle.odb_service.specs.World.{run_transaction, try_due, try_one, untried};
+    ghost use Rattle.odb_queue.specs.Represented.Item.{item_of};
     ghost use Rattle.odb_core.specs.Represented.Core.{empty_world};
     ghost use Rattle.odb_core.specs.Represented.Places.{split_at};
 

@@ -7,7 +7,7 @@ ghost use Rattle.odb_rpc.specs.Message.{operations_of};
 ghost use Rattle.odb_wire.specs.Message.{has_left_out, id_of};
 ghost use Rattle.odb_wire.specs.Shown.{request_data};
 
-use crate::server::SessionId;
+use odb_locks::SessionId;
 use odb_rpc::{operations, reply_id};
 use odb_wire::Request;
 use serde_json::Value;

@@ -5,9 +5,9 @@ use Rattle.odb_examples.proofs.Transcripts.{shows}
 use Rattle.serde_json.specs.Data.{Data, null}
 use Rattle.serde_json.specs.Read.{read}
 use Rattle.std.specs.Prelude.{Bool, true, false, map as map_list, unwrap_or, is_some, option_map}
-use Rattle.odb_core.specs.Client.{client}
-use Rattle.odb_core.specs.Service.{service}
-use Rattle.odb_core.specs.Session.{Out, no_request, to}
+use Rattle.odb_law.specs.Client.{client}
+use Rattle.odb_service.specs.Service.{service}
+use Rattle.odb_service.specs.Session.{Out, no_request, to}
 use Rattle.odb_request.specs.Request.{Notation, update, update2}
 use Rattle.odb_schema.specs.SchemaText.{schema_of_text}
 

@@ -3,9 +3,9 @@ use Rattle.std.specs.Prelude.{◌≡◌, ℕ, ◌==◌, List, [], ◌∷◌, len
 use mathlib.Core.Path.{refl}
 use Rattle.odb_atoms.specs.FinMap.{get, len, insert}
 use Rattle.odb_locks.specs.Locks.{Locks, lock, steal, too_many_names}
-use Rattle.odb_core.specs.Run.{opened, step, too_many}
-use Rattle.odb_core.specs.Service.{Service}
-use Rattle.odb_core.specs.World.{World}
+use Rattle.odb_service.specs.Run.{opened, step, too_many}
+use Rattle.odb_service.specs.Service.{Service}
+use Rattle.odb_service.specs.World.{World}
 use Rattle.odb_wire.specs.Stream.{front_of, closed_at, outside, waiting, too_long, max_message}
 use Rattle.odb_schema.specs.SchemaText.{schema_of_text, too_large, max_file}
 

@@ -6,15 +6,15 @@ use Rattle.std.specs.Result.{result_err}
 use Rattle.std.specs.Cmp.Lexicographic.{pointwise}
 use Rattle.serde_json.specs.Data.{Data, null}
 use Rattle.odb_examples.proofs.Transcripts.{shows}
-use Rattle.odb_core.specs.Session as session
+use Rattle.odb_service.specs.Session as session
 use Rattle.odb_atoms.specs.FinMap.{get, len}
-use Rattle.odb_core.specs.Client.{Picture, Wish, adds, changes, client, drops, is_id_of, nothing_else, wish_of}
-use Rattle.odb_core.specs.Headline.{about, is_granted, pictured, updated}
-use Rattle.odb_core.specs.Law.{answers_one, asked_by, committed_by, open_after, refusal}
-use Rattle.odb_core.specs.Run.{Event, Refusal, State, beginning, busy, closed, gone, in_use, next, opened, opens, round, run, submitted, ticked, too_many}
-use Rattle.odb_core.specs.Service.{Service, ended, service, waits}
-use Rattle.odb_core.specs.Session.{Answers, Out, Session, Watch, asked, no_request, owed, to}
-use Rattle.odb_core.specs.World.{owed_replies, untried}
+use Rattle.odb_law.specs.Client.{Picture, Wish, adds, changes, client, drops, is_id_of, nothing_else, wish_of}
+use Rattle.odb_law.specs.Headline.{about, is_granted, pictured, updated}
+use Rattle.odb_law.specs.Law.{answers_one, asked_by, committed_by, open_after, refusal}
+use Rattle.odb_service.specs.Run.{Event, Refusal, State, beginning, busy, closed, gone, in_use, next, opened, opens, round, run, submitted, ticked, too_many}
+use Rattle.odb_service.specs.Service.{Service, ended, service, waits}
+use Rattle.odb_service.specs.Session.{Answers, Out, Session, Watch, asked, no_request, owed, to}
+use Rattle.odb_service.specs.World.{owed_replies, untried}
 use Rattle.odb_monitor.specs.View.{View, delta, is_none, query}
 use Rattle.odb_request.specs.Request.{Request}
 use Rattle.odb_schema.specs.SchemaText.{schema_of_text}

@@ -6,9 +6,9 @@ use Rattle.odb_examples.proofs.Transcripts.{shows}
 use Rattle.serde_json.specs.Data.{Data, null}
 use Rattle.std.specs.Prelude.{map as map_list, option_map, option_and_then, Bool, true, false}
 use Rattle.std.specs.Result.{result_ok}
-use Rattle.odb_core.specs.Run.{Event, beginning, closed, opened, round, run, submitted}
-use Rattle.odb_core.specs.Service.{service}
-use Rattle.odb_core.specs.World.{owed_replies}
+use Rattle.odb_service.specs.Run.{Event, beginning, closed, opened, round, run, submitted}
+use Rattle.odb_service.specs.Service.{service}
+use Rattle.odb_service.specs.World.{owed_replies}
 use Rattle.odb_rpc.specs.Message.{call_of, has_reply}
 use Rattle.odb_schema.specs.SchemaText.{schema_of_text}
 use Rattle.odb_wire.specs.Stream.{messages}

@@ -14,7 +14,7 @@ use Rattle.std.specs.Str.{is_utf8}
 use Rattle.odb_atoms.specs.Uuid.{Uuid, uuid_from, uuid_text}
 use Rattle.odb_schema.specs.Schema.{Schema}
 use Rattle.odb_schema.specs.SchemaText.{schema_of_text}
-use Rattle.odb_core.specs.Service.{service}
+use Rattle.odb_service.specs.Service.{service}
 use Rattle.odb_wire.specs.Stream.{max_message}
 use Rattle.odb_script.specs.Script.{Script, Command, command_of, fresh_script, perform, script_uuid}
 use Rattle.odb_examples.proofs.Examples.{computes}

@@ -1,8 +1,8 @@
 -- Sessions that are taken dry one by one, as the definition of scripts has it.
 use Rattle.std.proofs.Common.{◌≡◌, ℕ, Bool, true, false, cond, List, [], ◌∷◌, ◌++◌, Option, Some, None, refl, sym, ap, ◌∙◌, append-nil, append_assoc}
 use Rattle.odb_atoms.specs.FinMap.{get}
-use Rattle.odb_core.specs.Server.{Server, served_by}
-use Rattle.odb_core.specs.Session.{Session}
+use Rattle.odb_service.specs.Server.{Server, served_by}
+use Rattle.odb_service.specs.Session.{Session}
 use Rattle.odb_schema.specs.Schema.{Schema}
 use Rattle.odb_script.specs.Script.{Named, Script, dry_all, dry_each, dry_one}
 use Rattle.odb_script.specs.Represented.Dry.{all_dry, dry_if, taken_dry}

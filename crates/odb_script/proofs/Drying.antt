@@ -6,12 +6,12 @@ use Rattle.std.specs.Option.{option_to_list}
 use Rattle.std.specs.Ordering.{eq_by_cmp, nat_cmp}
 use Rattle.serde_json.specs.Written.{compact_text}
 use Rattle.odb_atoms.specs.FinMap.{FinMap, get, insert}
-use Rattle.odb_core.specs.Run.{Refusal, round, sent}
-use Rattle.odb_core.specs.Server.{Server, printed, serve, served_by}
-use Rattle.odb_core.specs.Session.{Out, Session, dried, owed, take}
+use Rattle.odb_service.specs.Run.{Refusal, round, sent}
+use Rattle.odb_service.specs.Server.{Server, printed, serve, served_by}
+use Rattle.odb_service.specs.Session.{Out, Session, dried, owed, take}
 use Rattle.odb_core.specs.Represented.Core.{takes}
-use Rattle.odb_core.proofs.Owed as law
-use Rattle.odb_core.proofs.SessionMaps.{get-insert, key-itself, same_map}
+use Rattle.odb_service.proofs.WhatIsOwed as owed_ones
+use Rattle.odb_service.proofs.SessionMaps.{get-insert, key-itself, same_map}
 use Rattle.odb_script.specs.Script.{line_of}
 use Rattle.odb_script.specs.Represented.Dry.{dried_in, dry_if, lines_for, taken_dry}
 
@@ -62,7 +62,7 @@ module _ (name : List ℕ) (n : ℕ) (p : Server) (t : List ℕ) where
   ends x there none =
       let h = served_by p.schema in
       dry-some x there
-      ∙ (λ i. let r : Server × List ℕ = (after_one (sym ((law.takes h p.world.db x).none none) i), t ++ flat_map (λ o. line_of name (compact_text o.message)) (law.none_owed h p.world.db x none i)) in r)
+      ∙ (λ i. let r : Server × List ℕ = (after_one (sym ((owed_ones.takes h p.world.db x).none none) i), t ++ flat_map (λ o. line_of name (compact_text o.message)) (owed_ones.none_owed h p.world.db x none i)) in r)
       ∙ ap (λ u. let r : Server × List ℕ = (after_one (take h p.world.db x).1, u) in r) (append-nil t)
 
   -- one that gives a message leaves the others owed
@@ -72,7 +72,7 @@ module _ (name : List ℕ) (n : ℕ) (p : Server) (t : List ℕ) where
       let h = served_by p.schema in
       let db = p.world.db in
       let y = (take h db x).1 in
-      let k = law.takes h db x in
+      let k = owed_ones.takes h db x in
       let owes : owed h db x ≡ o ∷ owed h db y = k.owes ∙ ap (λ a. option_to_list a ++ owed h db y) gives in
       let back : get (after_one y).world.sessions n ≡ Some y = get-itself p.world.sessions n y in
       let stays : insert p.world.sessions n (dried h db x) ≡ insert (insert p.world.sessions n y) n (dried h db y) = ap (insert p.world.sessions n) (sym k.ends) ∙ sym (insert_again p.world.sessions n y (dried h db y)) in
@@ -89,7 +89,7 @@ module _ (name : List ℕ) (n : ℕ) (p : Server) (t : List ℕ) where
       let h = served_by p.schema in
       let db = p.world.db in
       let y = (take h db x).1 in
-      let k = law.takes h db x in
+      let k = owed_ones.takes h db x in
       let owes : owed h db x ≡ o ∷ owed h db y = k.owes ∙ ap (λ a. option_to_list a ++ owed h db y) gives in
       let now : owed_count n (after_one y) ≡ length (owed h db y) = ap (owed_if (after_one y)) (get-itself p.world.sessions n y) in
       let before : owed_count n p ≡ suc (length (owed h db y)) = ap (owed_if p) there ∙ ap length owes in

@@ -2,8 +2,8 @@
 use Rattle.std.proofs.Common.{◌≡◌, ℕ, Bool, List, [], ◌++◌, None, Some, codes, false, true, slice_index_or, slice_set, ap, sym, ◌∙◌}
 use Rattle.std.proofs.lemmas.List.{append-nil}
 use Rattle.odb_atoms.specs.FinMap.{get}
-use Rattle.odb_core.specs.Server.{Server, served_by}
-use Rattle.odb_core.specs.Service.{Service}
+use Rattle.odb_service.specs.Server.{Server, served_by}
+use Rattle.odb_service.specs.Service.{Service}
 use Rattle.odb_schema.specs.Schema.{Schema}
 use Rattle.odb_script.specs.Script.{Named, Script, at_moment, at_name, dry_all, dry_one, hold_named, line_of, perform, set_held, take_named, tick_to, with_held}
 use Rattle.odb_script.specs.Represented.Dry.{taken_dry}

@@ -4,7 +4,7 @@ use Rattle.std.specs.Io.KnownBytes.{Appends}
 use Rattle.odb_script.specs.declared.fault.RunFault.{RunFault}
 use Rattle.odb_script.specs.declared.fault.RunFault.TheVariants.{BadCommand, Memory, Read, Write}
 use Rattle.std.specs.declared.option.Option.{Option}
-use Rattle.odb_core.specs.Service.{Service}
+use Rattle.odb_service.specs.Service.{Service}
 use Rattle.odb_script.specs.Script.{Command, Script, perform, perform_lines, command_of}
 use Rattle.odb_script.specs.Represented.Run.{line_step, AppendsFront, CarriesOut, IsOfWriting}
 

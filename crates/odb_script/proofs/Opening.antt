@@ -5,10 +5,10 @@ use Rattle.std.proofs.lemmas.Option.{get_or_from_slice_get}
 use Rattle.std.specs.declared.option.Option.{Option}
 use Rattle.std.specs.List.{position}
 use Rattle.odb_atoms.specs.FinMap.{len}
-use Rattle.odb_core.specs.Run.{Refusal, Sent, if_ok, max_sessions, opened, step, too_many}
-use Rattle.odb_core.specs.Server.{Server, serve, served_by}
-use Rattle.odb_core.specs.Service.{Service}
-use Rattle.odb_core.specs.World.{World}
+use Rattle.odb_service.specs.Run.{Refusal, Sent, if_ok, max_sessions, opened, step, too_many}
+use Rattle.odb_service.specs.Server.{Server, serve, served_by}
+use Rattle.odb_service.specs.Service.{Service}
+use Rattle.odb_service.specs.World.{World}
 use Rattle.odb_script.specs.Script.{Named, Script, line_of, open_as, close_named, open_named, shut, world_after, when_open}
 use Rattle.odb_script.specs.Represented.Names.{place_in}
 use Rattle.odb_script.specs.Represented.Steps.{Does}

@@ -2,7 +2,7 @@
 use Rattle.std.proofs.Common.{◌≡◌, ℕ, ◌+◌, List, [], ◌∷◌, ◌++◌, None, Some, IfSome, Ok, Err, refl, ap, sym, subst, ◌∙◌, append_assoc, append-nil}
 use Rattle.std.specs.declared.option.Option.{Option}
 use Rattle.std.specs.Io.KnownBytes.{Appends}
-use Rattle.odb_core.specs.Service.{Service}
+use Rattle.odb_service.specs.Service.{Service}
 use Rattle.odb_script.specs.Script.{Script, perform_lines, command_of, lines_of}
 use Rattle.odb_script.specs.declared.fault.RunFault.{RunFault}
 use Rattle.odb_script.specs.declared.fault.RunFault.TheVariants.{BadCommand, Memory, Read, Write}

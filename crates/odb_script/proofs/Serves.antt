@@ -1,8 +1,8 @@
 -- What a server's steps say of the machine in a script.
 use Rattle.std.proofs.Common.{◌≡◌, ℕ, List, map, Result, Ok, Err, refl, ap, sym, ◌∙◌}
-use Rattle.odb_core.specs.Run.{Event, Refusal, Sent, if_ok, step}
-use Rattle.odb_core.specs.Server.{Server, opened_after, printed, serve, served_by}
-use Rattle.odb_core.specs.World.{World}
+use Rattle.odb_service.specs.Run.{Event, Refusal, Sent, if_ok, step}
+use Rattle.odb_service.specs.Server.{Server, opened_after, printed, serve, served_by}
+use Rattle.odb_service.specs.World.{World}
 
 abbrev pub Sends : Type 0
 Sends = List (ℕ × List ℕ)

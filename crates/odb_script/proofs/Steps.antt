@@ -1,7 +1,7 @@
 -- Parts of commands, one behind the other.
 use Rattle.std.proofs.Common.{◌≡◌, ℕ, List, [], ◌∷◌, ◌++◌, ap, sym, ◌∙◌, append_assoc, append-nil}
 use Rattle.serde_json.specs.Data.{Data}
-use Rattle.odb_core.specs.Service.{Service}
+use Rattle.odb_service.specs.Service.{Service}
 use Rattle.odb_script.specs.Script.{Script, dry_all, dry_each, hand_each, hand_on}
 use Rattle.odb_script.specs.Represented.Steps.{Does}
 

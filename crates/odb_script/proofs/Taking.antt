@@ -1,7 +1,7 @@
 -- Bytes that are taken in for a session: its messages are handed on, and a fault behind them ends it.
 use Rattle.std.proofs.Common.{◌≡◌, ℕ, List, [], ◌++◌, codes, drop, slice_get, slice_set, Some, refl, ap, sym, ◌∙◌, append_assoc}
 use Rattle.serde_json.specs.Data.{Data}
-use Rattle.odb_core.specs.Service.{Service}
+use Rattle.odb_service.specs.Service.{Service}
 use Rattle.odb_wire.specs.Stream.{Ending, fault_bad, fault_too_long, goes_on, messages}
 use Rattle.odb_script.specs.Script.{Named, Script, at_ending, at_name, hand_each, shut_with, take_in, with_bytes}
 use Rattle.odb_script.specs.Represented.Names.{AreApart, place_in}

@@ -1,7 +1,7 @@
 -- A script that runs: the schema of its server, and how it stands.
 use Rattle.std.specs.Prelude.{ℕ, Bool, List, refl}
 use Rattle.std.specs.Coded.{Coded, code_by, coded×, coded_ℕ, coded_bool, coded_list}
-use Rattle.odb_core.specs.WorldCode.{world_code}
+use Rattle.odb_service.specs.WorldCode.{world_code}
 use Rattle.odb_schema.specs.Schema.{Schema}
 use Rattle.odb_schema.specs.Represented.Codes.{schema_code, text_code}
 use Rattle.odb_script.specs.Script.{Named, Script}

@@ -3,12 +3,12 @@ use Rattle.std.specs.Prelude.{ℕ, zero, suc, ◌+◌, ◌-◌, ◌*◌, ◌%◌
 use Rattle.std.specs.List.{list_all}
 use Rattle.serde_json.specs.Data.{Data}
 use Rattle.odb_atoms.specs.FinMap as finmap
-use Rattle.odb_core.specs.Run.{Event, Refusal, busy, closed, gone, if_ok, in_use, opened, step, beginning, submitted, ticked, too_many}
-use Rattle.odb_core.specs.Server.{served_by}
-use Rattle.odb_core.specs.Service.{Service, service}
+use Rattle.odb_service.specs.Run.{Event, Refusal, busy, closed, gone, if_ok, in_use, opened, step, beginning, submitted, ticked, too_many}
+use Rattle.odb_service.specs.Server.{served_by}
+use Rattle.odb_service.specs.Service.{Service, service}
 use Rattle.odb_schema.specs.Schema.{Schema}
-use Rattle.odb_core.specs.Session.{Session, dried, owed}
-use Rattle.odb_core.specs.World.{World}
+use Rattle.odb_service.specs.Session.{Session, dried, owed}
+use Rattle.odb_service.specs.World.{World}
 use Rattle.odb_wire.specs.Stream.{Ending, fault_bad, fault_too_long, goes_on, messages}
 use Rattle.odb_atoms.specs.Text.{is_digit}
 use Rattle.odb_atoms.specs.Uuid.{Uuid, uuid_from}

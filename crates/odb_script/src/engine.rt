@@ -4,8 +4,8 @@ ghost use Rattle.odb_wire.specs.Feeding.{fault_of};
 ghost use Rattle.odb_wire.specs.Shown.{message_data, request_data, IsOfItsKind};
 ghost use Rattle.odb_wire.specs.Stream.{Ending};
 ghost use Rattle.std.specs.List.{position};
-ghost use Rattle.odb_core.specs.Run.{closed, ticked};
-ghost use Rattle.odb_core.specs.Server.{served_by};
+ghost use Rattle.odb_service.specs.Run.{closed, ticked};
+ghost use Rattle.odb_service.specs.Server.{served_by};
 ghost use Rattle.odb_script.specs.Script.{Script, in_world, world_after};
 
 use crate::command::Command;

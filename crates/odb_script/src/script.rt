@@ -3,7 +3,7 @@ ghost use Rattle.std.specs.Prelude.{◌≡◌, [], ◌∷◌, List, ℕ, None, S
 ghost use Rattle.std.specs.Io.Buffered.{reader_inner, reader_remaining};
 ghost use Rattle.std.specs.Io.BufRead.{strip_last};
 ghost use Rattle.std.specs.Io.KnownBytes.{Appends};
-ghost use Rattle.odb_core.specs.Server.{served_by};
+ghost use Rattle.odb_service.specs.Server.{served_by};
 ghost use Rattle.odb_script.specs.Script.{command_of, lines_of, perform_lines, served_script};
 ghost use Rattle.odb_script.specs.Represented.Run.{line_step, AppendsFront, IsOfWriting, CarriesOut, Ends, IsOfReading};
 ghost use Rattle.odb_script.specs.Represented.Watched.{has_failed, watched};

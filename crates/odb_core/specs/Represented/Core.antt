@@ -3,11 +3,11 @@ use Rattle.std.specs.Prelude.{◌≡◌, ◌≤◌, ℕ, List, [], None, length,
 use Rattle.std.specs.Ordering.{nat_cmp}
 use Rattle.std.specs.BTreeMap.{BTreeMap}
 use Rattle.odb_atoms.specs.FinMap as finite
-use Rattle.odb_core.specs.Run.{take_each}
-use Rattle.odb_core.specs.Server.{Server, printed, served_by}
-use Rattle.odb_core.specs.Service.{Service}
-use Rattle.odb_core.specs.Session.{Session}
-use Rattle.odb_core.specs.World.{World, untried}
+use Rattle.odb_service.specs.Run.{take_each}
+use Rattle.odb_service.specs.Server.{Server, printed, served_by}
+use Rattle.odb_service.specs.Service.{Service}
+use Rattle.odb_service.specs.Session.{Session}
+use Rattle.odb_service.specs.World.{World, untried}
 use Rattle.odb_schema.specs.Schema.{Schema}
 use Rattle.odb_tables.specs.Typed.{IsTyped}
 

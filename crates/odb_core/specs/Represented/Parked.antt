@@ -5,7 +5,6 @@ use Rattle.serde_json.specs.declared.value.Value.{Value}
 use Rattle.odb_commit.specs.Represented.Outcome.{Answers}
 use Rattle.odb_commit.specs.declared.transaction.Outcome.TheVariants as outcome
 use Rattle.odb_tables.specs.Change.{Changes}
-use Rattle.std.specs.Arc.{arc_value}
 use Rattle.serde_json.specs.Written.{compact_text}
 use Rattle.odb_atoms.specs.Represented.Atom.{uuid_of}
 use Rattle.odb_commit.specs.Transaction as transaction
@@ -16,9 +15,9 @@ use Rattle.odb_rpc.specs.Message.{operations_of}
 use Rattle.odb_schema.specs.Schema.{Schema}
 use Rattle.odb_wire.specs.Message.{id_of}
 use Rattle.odb_wire.specs.Shown.{request_data}
-use Rattle.odb_core.specs.Service.{max_rows}
-use Rattle.odb_core.specs.World as model
-use Rattle.odb_core.specs.World.{World}
+use Rattle.odb_service.specs.Service.{max_rows}
+use Rattle.odb_service.specs.World as model
+use Rattle.odb_service.specs.World.{World}
 use Rattle.odb_core.specs.declared.submitted.Submitted.{Submitted}
 use Rattle.odb_core.specs.declared.parked.Tried.{Tried}
 use Rattle.odb_core.specs.declared.parked.Tried.TheVariants as tried

@@ -1,6 +1,6 @@
 -- Why a call did nothing, held against what the machine makes of its event.
 use Rattle.std.specs.Prelude.{◌≡◌, Result, Err, IsOk}
-use Rattle.odb_core.specs.Run.{Refusal, busy, gone, too_many}
+use Rattle.odb_service.specs.Run.{Refusal, busy, gone, too_many}
 use Rattle.odb_core.specs.declared.refused.Refused.{Refused}
 use Rattle.odb_core.specs.declared.refused.Refused.TheVariants.{Busy, Gone, Memory, TooMany}
 

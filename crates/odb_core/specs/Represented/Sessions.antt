@@ -2,10 +2,11 @@
 use Rattle.std.specs.Prelude.{ℕ, List, [], ◌∷◌, ◌++◌, map, fold, Option, Some, None, option_map}
 use Rattle.std.specs.Ordering.{nat_cmp}
 use Rattle.odb_atoms.specs.FinMap.{FinMap, get, insert}
-use Rattle.odb_core.specs.Service.{Service}
-use Rattle.odb_core.specs.Session.{Item, Session, asked, sync, take}
-use Rattle.odb_core.specs.World.{push}
-use Rattle.odb_core.specs.Represented.Item.{text_of}
+use Rattle.odb_service.specs.Service.{Service}
+use Rattle.odb_service.specs.Session.{Item, Session, asked, sync, take}
+use Rattle.odb_service.specs.World.{push}
+use Rattle.odb_queue.specs.Represented.Item.{text_of}
+use Rattle.odb_queue.specs.Represented.Newest.{without_last}
 use Rattle.odb_tables.specs.Database.{Db}
 
 abbrev pub Sessions : Type 0
@@ -29,15 +30,6 @@ all_posted = fold posted
 -- a transaction's reply, behind a sync for each monitor
 abbrev pub ended_in : Service → Item → Session → Session
 ended_in h reply x = push (map (λ k. sync k.id) (asked h x) ++ reply ∷ []) x
-
--- without the newest item
-abbrev pub all_but_last : List Item → List Item
-all_but_last [] = []
-all_but_last (i ∷ []) = []
-all_but_last (i ∷ j ∷ is) = i ∷ all_but_last (j ∷ is)
-
-abbrev pub without_last : Session → Session
-without_last x = record { queue = all_but_last x.queue; monitors = x.monitors }
 
 -- the newest items of these sessions go, that of the last session first
 abbrev pub taken_back : List ℕ → Sessions → Sessions

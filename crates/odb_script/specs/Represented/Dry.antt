@@ -3,8 +3,8 @@ use Rattle.std.specs.Prelude.{ℕ, List, [], ◌∷◌, ◌++◌, if◌then◌el
 use Rattle.std.specs.List.{flat_map}
 use Rattle.serde_json.specs.Written.{compact_text}
 use Rattle.odb_atoms.specs.FinMap.{get, insert}
-use Rattle.odb_core.specs.Server.{Server, served_by}
-use Rattle.odb_core.specs.Session.{Session, dried, owed}
+use Rattle.odb_service.specs.Server.{Server, served_by}
+use Rattle.odb_service.specs.Session.{Session, dried, owed}
 use Rattle.odb_script.specs.Script.{Named, line_of}
 
 abbrev pub lines_for : List ℕ → Server → Session → List ℕ

@@ -1,7 +1,7 @@
 -- How a script runs: what is written, line by line, and how the run ends.
 use Rattle.std.specs.Prelude.{◌≡◌, ℕ, List, [], ◌∷◌, ◌++◌, ⊤, Option, None, Some, Result, Ok, Err, option_map}
 use Rattle.std.specs.Io.KnownBytes.{Appends, Keeps}
-use Rattle.odb_core.specs.Service.{Service}
+use Rattle.odb_service.specs.Service.{Service}
 use Rattle.odb_script.specs.Script.{Script, perform, command_of}
 use Rattle.odb_script.specs.declared.fault.RunFault.{RunFault}
 use Rattle.odb_script.specs.declared.fault.RunFault.TheVariants.{BadCommand, Memory, Read, Write}

@@ -1,7 +1,7 @@
 -- What a part of a command does: the script after it, and the text so far with what it prints.
 use Rattle.std.specs.Prelude.{◌≡◌, ℕ, List, ◌++◌}
-use Rattle.odb_core.specs.Server.{served_by}
-use Rattle.odb_core.specs.Service.{Service}
+use Rattle.odb_service.specs.Server.{served_by}
+use Rattle.odb_service.specs.Service.{Service}
 use Rattle.odb_script.specs.Running.{Running}
 use Rattle.odb_script.specs.Script.{Script}
 

@@ -1,5 +1,5 @@
 use Rattle.std.proofs.Common.{◌≡◌, ◌++◌, drop}
-use Rattle.odb_core.specs.Run.{once}
+use Rattle.odb_service.specs.Run.{once}
 use Rattle.odb_core.proofs.Listed.{left_over}
 use Rattle.odb_core.proofs.server.once.Given as goal
 

@@ -1,5 +1,5 @@
 use Rattle.std.proofs.Common.{rules, ◌≡◌, ◌∙◌, Some, sym, ap, [], refl}
-use Rattle.odb_core.specs.Server.{served_by}
+use Rattle.odb_service.specs.Server.{served_by}
 use Rattle.odb_script.specs.Represented.Command.{command_in}
 use Rattle.odb_script.specs.Script.{command_of, perform}
 use Rattle.odb_script.proofs.LineStep.{step_is, carried}

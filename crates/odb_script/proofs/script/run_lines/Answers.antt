@@ -2,7 +2,7 @@ use Rattle.std.proofs.Common.{◌≡◌, ◌∙◌, sym, subst, ap}
 use Rattle.std.specs.Io.Buffered.{reader_remaining}
 use Rattle.std.specs.Io.BufRead.{strip_last}
 use Rattle.std.proofs.lemmas.Result.{err_from_is_err_and}
-use Rattle.odb_core.specs.Server.{served_by}
+use Rattle.odb_service.specs.Server.{served_by}
 use Rattle.odb_script.specs.Script.{lines_of, perform_lines, command_of}
 use Rattle.odb_script.specs.Represented.Watched.{watched}
 use Rattle.odb_script.proofs.Runs.{begun_if, unread_if, goes_on_if, stops_if, Taken}

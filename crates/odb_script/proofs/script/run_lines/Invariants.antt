@@ -1,6 +1,6 @@
 use Rattle.std.proofs.Common.{IfSome}
 use Rattle.std.specs.Io.Buffered.{reader_remaining}
-use Rattle.odb_core.specs.Server.{served_by}
+use Rattle.odb_service.specs.Server.{served_by}
 use Rattle.odb_script.specs.Script.{lines_of, perform_lines, command_of}
 use Rattle.odb_script.specs.Represented.Watched.{watched}
 use Rattle.odb_script.proofs.Runs.{Going}

@@ -1,5 +1,5 @@
 use Rattle.std.proofs.Common.{rules, ◌≡◌, length, subst, sym}
-use Rattle.odb_core.specs.World.{World}
+use Rattle.odb_service.specs.World.{World}
 use Rattle.odb_core.specs.Represented.Core.{IsSound, empty_world}
 use Rattle.odb_core.proofs.Soundness.{new_sound}
 use Rattle.odb_core.proofs.server.Core.new.Goals as goal

@@ -1,27 +1,26 @@
-use Rattle.std.proofs.Common.{rules, ◌≡◌, ℕ, Bool, true, false, not, nat_lt, ◌&&◌, List, [], map, max, Option, Some, None, Result, Ok, Err, IsOk, IfErr, OnOk, is_ok, is_some, sym, ap, subst, ◌∙◌}
-use Rattle.std.specs.Prelude.{option_map}
+use Rattle.std.proofs.Common.{rules, ◌≡◌, ℕ, Bool, true, false, not, nat_lt, ◌&&◌, List, [], map, Some, None, Result, Ok, IfErr, OnOk, is_ok, is_some, sym, ap, subst, ◌∙◌}
 use Rattle.odb_atoms.specs.FinMap.{get}
 use Rattle.odb_atoms.specs.Represented.Atom.{uuid_of}
 use Rattle.odb_rpc.specs.Message.{has_reply}
 use Rattle.odb_wire.specs.Shown.{request_data}
-use Rattle.odb_core.specs.Run.{Refusal, max_owed, submitted}
-use Rattle.odb_core.specs.Server.{Server, serve, served_by}
-use Rattle.odb_core.specs.Session.{Session}
-use Rattle.odb_core.specs.World.{World, at_moment, handle, owed_replies}
-use Rattle.odb_core.specs.Represented.Answer.{call_at}
+use Rattle.odb_service.specs.Run.{Refusal, max_owed, submitted}
+use Rattle.odb_service.specs.Server.{Server, serve, served_by}
+use Rattle.odb_service.specs.Session.{Session}
+use Rattle.odb_service.specs.World.{World, at_moment, handle, owed_replies}
+use Rattle.odb_queue.specs.Represented.Answer.{call_at}
 use Rattle.odb_core.specs.Represented.Core.{AreUnused, IsSound}
 use Rattle.odb_core.specs.Represented.Reason.{IsReason}
-use Rattle.odb_core.proofs.Opened.{handles}
-use Rattle.odb_core.proofs.Results.{either_way}
+use Rattle.odb_service.proofs.Results.{either_way}
 use Rattle.odb_core.proofs.Serving.{at, submit-busy, submit-gone, submit-ok}
 use Rattle.odb_core.proofs.Unused.{found_none, found_some, unused_same}
 use Rattle.odb_core.proofs.server.Core.submit.Goals as goal
 use Rattle.odb_core.proofs.server.Core.submit.Goals.{in-Ok, in-Err}
+use Rattle.odb_service.proofs.WhoIsOpen.{handles}
 
 pub returns-in-None-clause-why : goal.returns-in-None-clause-why
 returns-in-None-clause-why c =
     let i = c.self.inside in
-    let s = i.served.schema in
+    let s = i.served in
     let h = served_by s in
     let w : World = i.state in
     let n = c.args.session in
@@ -34,7 +33,7 @@ returns-in-None-clause-why c =
 pub returns-in-Some-true-clause-why : goal.returns-in-Some-true-clause-why
 returns-in-Some-true-clause-why c =
     let i = c.self.inside in
-    let s = i.served.schema in
+    let s = i.served in
     let h = served_by s in
     let w : World = i.state in
     let n = c.args.session in
@@ -48,7 +47,7 @@ returns-in-Some-true-clause-why c =
 pub invariant_of-self : goal.invariant_of-self
 invariant_of-self c =
     let i = c.self.inside in
-    let s = i.served.schema in
+    let s = i.served in
     let h = served_by s in
     let w : World = i.state in
     let v : World = c.take_in.new.self in
@@ -66,7 +65,7 @@ invariant_of-self c =
 pub returns-clause-ok : goal.returns-clause-ok
 returns-clause-ok c =
     let i = c.self.inside in
-    let s = i.served.schema in
+    let s = i.served in
     let h = served_by s in
     let w : World = i.state in
     let v : World = c.take_in.new.self in
@@ -88,7 +87,7 @@ returns-clause-ok c =
 pub returns-clause-why : goal.returns-clause-why
 returns-clause-why c =
     let i = c.self.inside in
-    let s = i.served.schema in
+    let s = i.served in
     let h = served_by s in
     let w : World = i.state in
     let n = c.args.session in

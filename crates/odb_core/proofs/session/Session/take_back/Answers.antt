@@ -1,7 +1,7 @@
 use Rattle.std.proofs.Common.{[], ap, ◌∙◌}
-use Rattle.odb_core.specs.Session.{Session}
-use Rattle.odb_core.specs.Represented.Sessions.{without_last}
-use Rattle.odb_core.proofs.Said.{newest_out}
+use Rattle.odb_service.specs.Session.{Session}
+use Rattle.odb_queue.specs.Represented.Newest.{without_last}
+use Rattle.odb_queue.proofs.Said.{newest_out}
 use Rattle.odb_core.proofs.session.Session.take_back.Goals as goal
 
 pub returns : goal.returns

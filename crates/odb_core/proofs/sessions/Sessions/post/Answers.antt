@@ -1,10 +1,10 @@
 use Rattle.std.proofs.Common.{rules, ◌≡◌, IsSome, [], ◌∷◌, ◌++◌, Some, None, refl, sym, ap, subst, ◌∙◌}
 use Rattle.std.specs.BTreeMap as tree
 use Rattle.std.specs.Ordering.{nat_cmp}
-use Rattle.odb_core.specs.Service.{Service}
-use Rattle.odb_core.specs.World.{push}
+use Rattle.odb_service.specs.Service.{Service}
+use Rattle.odb_service.specs.World.{push}
 use Rattle.odb_core.specs.Represented.Core.{sessions_in}
-use Rattle.odb_core.specs.Represented.Item.{item_of}
+use Rattle.odb_queue.specs.Represented.Item.{item_of}
 use Rattle.odb_core.specs.Represented.Sessions.{at_session, ended_in, taken_back}
 use Rattle.odb_core.proofs.Posts.{changed_at, kept_at, taken_back-append, taken_off, unchanged_at, whatever}
 use Rattle.odb_core.proofs.SessionsIn.{Updates}

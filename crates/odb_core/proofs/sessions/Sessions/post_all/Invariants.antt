@@ -1,5 +1,5 @@
 use Rattle.std.proofs.Common.{◌≡◌, map}
-use Rattle.odb_core.specs.Represented.Post.{post_of}
+use Rattle.odb_queue.specs.Represented.Post.{post_of}
 use Rattle.odb_core.specs.Represented.Sessions.{all_posted, taken_back}
 use Rattle.odb_core.proofs.sessions.Sessions.post_all.Given as goal
 

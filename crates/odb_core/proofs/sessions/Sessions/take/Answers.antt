@@ -2,7 +2,7 @@ use Rattle.std.proofs.Common.{rules, ◌≡◌, IsSome, Some, None, option_map, 
 use Rattle.std.specs.BTreeMap as tree
 use Rattle.std.specs.Ordering.{nat_cmp}
 use Rattle.odb_atoms.specs.FinMap.{get}
-use Rattle.odb_core.specs.Session.{take}
+use Rattle.odb_service.specs.Session.{take}
 use Rattle.odb_core.specs.Represented.Core.{sessions_in}
 use Rattle.odb_core.specs.Represented.Sessions.{at_session, text_taken}
 use Rattle.odb_core.proofs.Posts.{changed_at, unchanged_at}

@@ -1,5 +1,6 @@
 use Rattle.std.proofs.Common.{rules, ◌≡◌, [], ◌∷◌, ◌++◌, sym, ap, ◌∙◌}
-use Rattle.odb_core.specs.Represented.Sessions.{at_session, taken_back, without_last}
+use Rattle.odb_core.specs.Represented.Sessions.{at_session, taken_back}
+use Rattle.odb_queue.specs.Represented.Newest.{without_last}
 use Rattle.odb_core.proofs.Posts.{taken_back-append}
 use Rattle.odb_core.proofs.sessions.Sessions.take_back.Goals as goal
 

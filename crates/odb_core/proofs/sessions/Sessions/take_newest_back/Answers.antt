@@ -2,7 +2,8 @@ use Rattle.std.proofs.Common.{rules, ◌≡◌, IsSome, Some, None, refl, sym, a
 use Rattle.std.specs.BTreeMap as tree
 use Rattle.std.specs.Ordering.{nat_cmp}
 use Rattle.odb_core.specs.Represented.Core.{sessions_in}
-use Rattle.odb_core.specs.Represented.Sessions.{at_session, without_last}
+use Rattle.odb_core.specs.Represented.Sessions.{at_session}
+use Rattle.odb_queue.specs.Represented.Newest.{without_last}
 use Rattle.odb_core.proofs.Posts.{changed_at, unchanged_at}
 use Rattle.odb_core.proofs.SessionsIn.{Updates}
 use Rattle.odb_core.proofs.sessions.Sessions.take_newest_back.Goals as goal

@@ -1,7 +1,7 @@
 use Rattle.std.proofs.Common.{rules, ◌≡◌, None}
 use Rattle.std.specs.Prelude.{option_map}
 use Rattle.odb_wire.specs.Shown.{request_data}
-use Rattle.odb_core.specs.Represented.Answer.{said}
+use Rattle.odb_queue.specs.Represented.Answer.{said}
 use Rattle.odb_core.proofs.Posting.{none_posted}
 use Rattle.odb_core.proofs.state.State.answer.Goals as goal
 

@@ -4,8 +4,8 @@ use Rattle.std.proofs.lemmas.Result.{IfOk-weaker}
 use Rattle.serde_json.specs.View.{view}
 use Rattle.odb_locks.specs.Represented.Notice.{notices_of}
 use Rattle.odb_wire.specs.Shown.{request_data}
-use Rattle.odb_core.specs.Represented.Post.{post_of}
-use Rattle.odb_core.specs.World.{World, post_notices, succeed}
+use Rattle.odb_queue.specs.Represented.Post.{post_of}
+use Rattle.odb_service.specs.World.{World, post_notices, succeed}
 use Rattle.odb_core.proofs.Tellings.{answers_as, answers_to}
 use Rattle.odb_core.proofs.state.State.answer_lock.Goals as goal
 

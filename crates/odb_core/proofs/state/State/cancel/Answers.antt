@@ -5,10 +5,10 @@ use Rattle.serde_json.specs.Written.{compact_text}
 use Rattle.odb_rpc.specs.Message.{canceled, failure}
 use Rattle.odb_rpc.specs.Represented.Printable.{printable_data}
 use Rattle.odb_wire.specs.Message.{id_of}
-use Rattle.odb_core.specs.Server.{served_by}
-use Rattle.odb_core.specs.Session.{say, to}
-use Rattle.odb_core.specs.World.{Parked, World, is_of, post}
-use Rattle.odb_core.specs.Represented.Item.{item_of}
+use Rattle.odb_service.specs.Server.{served_by}
+use Rattle.odb_service.specs.Session.{say, to}
+use Rattle.odb_service.specs.World.{Parked, World, is_of, post}
+use Rattle.odb_queue.specs.Represented.Item.{item_of}
 use Rattle.odb_core.specs.Represented.Parked.{is_named}
 use Rattle.odb_core.proofs.Attempts.{post_as}
 use Rattle.odb_core.proofs.Canceled.{below, cancels_as, stands_at, still_tried}

@@ -7,16 +7,16 @@ use Rattle.odb_rpc.specs.Represented.Printable.{printable_data}
 use Rattle.odb_schema.specs.SchemaText.{write_schema}
 use Rattle.odb_wire.specs.Message.{id_of}
 use Rattle.odb_wire.specs.Shown.{request_data}
-use Rattle.odb_core.specs.Server.{served_by}
-use Rattle.odb_core.specs.World.{World, handle}
-use Rattle.odb_core.specs.Represented.Answer.{call_at}
+use Rattle.odb_service.specs.Server.{served_by}
+use Rattle.odb_service.specs.World.{World, handle}
+use Rattle.odb_queue.specs.Represented.Answer.{call_at}
 use Rattle.odb_core.specs.Represented.Requests.{asks_transaction}
 use Rattle.odb_core.proofs.Plain.{is_left, is_plain, plain_as}
 use Rattle.odb_core.proofs.state.State.carry_out.Goals as goal
 
 pub returns-in-Lock-clause-ok : goal.returns-in-Lock-clause-ok
 returns-in-Lock-clause-ok c =
-    let s = c.args.served.now.schema in
+    let s = c.args.served.now in
     let n = c.args.session in
     let d = request_data c.args.request.now in
     let w : World = c.args.self.now in
@@ -25,7 +25,7 @@ returns-in-Lock-clause-ok c =
 
 pub returns-in-Steal-clause-ok : goal.returns-in-Steal-clause-ok
 returns-in-Steal-clause-ok c =
-    let s = c.args.served.now.schema in
+    let s = c.args.served.now in
     let n = c.args.session in
     let d = request_data c.args.request.now in
     let w : World = c.args.self.now in
@@ -34,7 +34,7 @@ returns-in-Steal-clause-ok c =
 
 pub returns-in-Unlock-clause-ok : goal.returns-in-Unlock-clause-ok
 returns-in-Unlock-clause-ok c =
-    let s = c.args.served.now.schema in
+    let s = c.args.served.now in
     let n = c.args.session in
     let d = request_data c.args.request.now in
     let w : World = c.args.self.now in
@@ -43,7 +43,7 @@ returns-in-Unlock-clause-ok c =
 
 pub returns-in-Cancel-clause-ok : goal.returns-in-Cancel-clause-ok
 returns-in-Cancel-clause-ok c =
-    let s = c.args.served.now.schema in
+    let s = c.args.served.now in
     let n = c.args.session in
     let d = request_data c.args.request.now in
     let w : World = c.args.self.now in
@@ -52,7 +52,7 @@ returns-in-Cancel-clause-ok c =
 
 pub returns-in_default-clause-ok : goal.returns-in_default-clause-ok
 returns-in_default-clause-ok c =
-    let s = c.args.served.now.schema in
+    let s = c.args.served.now in
     let n = c.args.session in
     let d = request_data c.args.request.now in
     let w : World = c.args.self.now in

@@ -2,9 +2,9 @@ use Rattle.std.proofs.Common.{rules, ◌≡◌, ◌==◌, not, map, filter, sym,
 use Rattle.std.proofs.lemmas.Fn.{filter_same}
 use Rattle.odb_atoms.specs.FinMap as finite
 use Rattle.odb_locks.specs.Locks.{drop_session}
-use Rattle.odb_core.specs.Represented.Post.{post_of, told_of}
+use Rattle.odb_queue.specs.Represented.Post.{post_of, told_of}
 use Rattle.odb_core.specs.Represented.Sessions.{all_posted}
-use Rattle.odb_core.specs.World.{Parked, World, close, untried}
+use Rattle.odb_service.specs.World.{Parked, World, close, untried}
 use Rattle.odb_core.proofs.Canceled.{closed_as, closed_tried}
 use Rattle.odb_core.proofs.state.State.close.Goals as goal
 

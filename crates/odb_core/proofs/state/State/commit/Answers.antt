@@ -1,11 +1,11 @@
-use Rattle.std.proofs.Common.{rules, ◌≡◌, ◌+◌, sym, ap, ◌∙◌}
+use Rattle.std.proofs.Common.{rules, ◌≡◌, ◌+◌, sym, ◌∙◌}
 use Rattle.odb_ops.specs.Represented.Ran.{results_of}
 use Rattle.odb_rpc.specs.Message.{reply}
 use Rattle.odb_schema.specs.Json.{array_of}
 use Rattle.odb_tables.specs.Change.{all_changed_by}
 use Rattle.odb_wire.specs.Message.{id_of}
 use Rattle.odb_wire.specs.Shown.{request_data}
-use Rattle.odb_core.specs.Session.{say, to}
+use Rattle.odb_service.specs.Session.{say, to}
 use Rattle.odb_core.specs.Represented.Sessions.{at_session, ended_in}
 use Rattle.odb_core.proofs.Attempts.{commit_as}
 use Rattle.odb_core.proofs.state.State.commit.Goals as goal

@@ -1,11 +1,11 @@
-use Rattle.std.proofs.Common.{rules, ◌≡◌, true, false, length, List, [], Option, Some, None, sym, ap, ◌∙◌}
+use Rattle.std.proofs.Common.{rules, ◌≡◌, true, false, length, [], Option, Some, None, sym, ap, ◌∙◌}
 use Rattle.std.proofs.lemmas.List.{nil_from_length}
 use Rattle.odb_ops.specs.Represented.Ran.{results_of}
 use Rattle.odb_schema.specs.Json.{array_of}
 use Rattle.odb_tables.specs.Change.{all_changed_by}
 use Rattle.odb_wire.specs.Shown.{request_data}
-use Rattle.odb_core.specs.Server.{served_by}
-use Rattle.odb_core.specs.World.{Parked, World, attempt, end_transaction, is_untried, split_first, untried}
+use Rattle.odb_service.specs.Server.{served_by}
+use Rattle.odb_service.specs.World.{Parked, World, attempt, end_transaction, is_untried, split_first, untried}
 use Rattle.odb_core.specs.Represented.Parked.{parked_as}
 use Rattle.odb_core.proofs.Attempts.{done_as, done_whole_results, has_rows}
 use Rattle.odb_core.proofs.Handling.{runs_alone, runs_ended}

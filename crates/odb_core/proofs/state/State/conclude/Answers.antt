@@ -1,9 +1,9 @@
-use Rattle.std.proofs.Common.{rules, ◌≡◌, true, false, Option, Some, None, sym, ap, ◌∙◌}
+use Rattle.std.proofs.Common.{rules, ◌≡◌, false, Option, None, ◌∙◌}
 use Rattle.odb_commit.specs.Represented.Outcome.{Answers}
 use Rattle.odb_commit.specs.declared.transaction.Outcome.TheVariants as outcome
 use Rattle.odb_core.specs.Represented.Parked.{outcome_in}
-use Rattle.odb_core.specs.Server.{served_by}
-use Rattle.odb_core.specs.World.{Parked, World}
+use Rattle.odb_service.specs.Server.{served_by}
+use Rattle.odb_service.specs.World.{Parked, World}
 use Rattle.odb_core.proofs.Attempts.{done_as, done_whole_results, fails_as, has_rows, refused_whole_results}
 use Rattle.odb_core.proofs.state.State.conclude.Goals as goal
 

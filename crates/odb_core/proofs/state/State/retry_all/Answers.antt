@@ -1,10 +1,8 @@
-use Rattle.std.proofs.Common.{◌≡◌, ◌<◌, None, Some, sym, ap, subst, ◌∙◌}
-use Rattle.std.specs.List.{position}
-use Rattle.odb_core.specs.Server.{served_by}
-use Rattle.odb_core.specs.Service.{Service}
-use Rattle.odb_core.specs.World.{World, is_untried, retry_all, try_one}
+use Rattle.std.proofs.Common.{◌<◌, sym, ap, subst, ◌∙◌}
+use Rattle.odb_service.specs.Server.{served_by}
+use Rattle.odb_service.specs.World.{World, is_untried, retry_all}
 use Rattle.odb_core.proofs.Places.{IsFirst, first_found, first_missing}
-use Rattle.odb_core.proofs.Retried.{less, measure, retried_next, retried_none, split}
+use Rattle.odb_service.proofs.Retried.{less, measure, retried_next, retried_none, split}
 use Rattle.odb_core.proofs.state.State.retry_all.Goals as goal
 
 pub loop-place-smaller : goal.loop-place-smaller

@@ -1,8 +1,8 @@
 use Rattle.std.proofs.Common.{◌≡◌}
 use Rattle.odb_tables.specs.Typed.{IsTyped}
-use Rattle.odb_core.specs.Server.{served_by}
-use Rattle.odb_core.specs.World.{retry_all}
-use Rattle.odb_core.proofs.Retried.{measure}
+use Rattle.odb_service.specs.Server.{served_by}
+use Rattle.odb_service.specs.World.{retry_all}
+use Rattle.odb_service.proofs.Retried.{measure}
 use Rattle.odb_core.proofs.state.State.retry_all.Given as goal
 
 abbrev pub invariant-loop-place : goal.invariant-loop-place

@@ -6,7 +6,7 @@ use Rattle.odb_locks.specs.Represented.Locks.{answer_of}
 use Rattle.odb_locks.specs.Represented.Notice.{notices_of}
 use Rattle.odb_locks.specs.declared.locks.Taken.{Taken}
 use Rattle.odb_wire.specs.Shown.{request_data}
-use Rattle.odb_core.specs.World.{World, locked, post_notices, succeed}
+use Rattle.odb_service.specs.World.{World, locked, post_notices, succeed}
 use Rattle.odb_core.proofs.Tellings.{given, locks_as}
 use Rattle.odb_core.proofs.state.State.steal.Goals as goal
 

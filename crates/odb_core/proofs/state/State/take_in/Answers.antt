@@ -1,5 +1,5 @@
 use Rattle.std.proofs.Common.{ap, ◌∙◌}
-use Rattle.odb_core.specs.World.{untried}
+use Rattle.odb_service.specs.World.{untried}
 use Rattle.odb_core.proofs.state.State.take_in.Goals as goal
 
 pub handle-taken-requires-clause-tried : goal.handle-taken-requires-clause-tried

@@ -1,7 +1,7 @@
-use Rattle.std.proofs.Common.{rules, ◌≡◌, false, max, None, sym, ap, subst, ◌∙◌}
+use Rattle.std.proofs.Common.{rules, ◌≡◌, false, max, sym, ap, subst, ◌∙◌}
 use Rattle.std.specs.List.{list_any}
-use Rattle.odb_core.specs.Server.{served_by}
-use Rattle.odb_core.specs.World.{World, is_due, untried}
+use Rattle.odb_service.specs.Server.{served_by}
+use Rattle.odb_service.specs.World.{World, is_due, untried}
 use Rattle.odb_core.proofs.Closing.{ticks_idly}
 use Rattle.odb_core.proofs.state.State.tick.Goals as goal
 

@@ -1,4 +1,4 @@
-use Rattle.std.proofs.Common.{rules, ◌≡◌, ◌++◌, ◌∷◌, [], not, OnOk, Option, Some, None, refl, sym, ap, ◌∙◌}
+use Rattle.std.proofs.Common.{rules, ◌≡◌, ◌++◌, ◌∷◌, [], not, OnOk, Option, None, refl, sym, ap, ◌∙◌}
 use Rattle.std.proofs.lemmas.Result.{on_ok_weaker}
 use borrow.Author.Tests.{eq-eqb}
 use Rattle.odb_commit.specs.Represented.Outcome.{Answers}
@@ -6,14 +6,14 @@ use Rattle.odb_commit.specs.declared.transaction.Outcome.TheVariants as outcome
 use Rattle.odb_ops.specs.Represented.Ran.{results_of}
 use Rattle.odb_schema.specs.Json.{array_of}
 use Rattle.odb_wire.specs.Shown.{request_data}
-use Rattle.odb_core.specs.Server.{served_by}
-use Rattle.odb_core.specs.Service.{Service}
-use Rattle.odb_core.specs.World.{Parked, World, attempt, end_transaction, is_untried, run_transaction, untried}
+use Rattle.odb_service.specs.Server.{served_by}
+use Rattle.odb_service.specs.Service.{Service}
+use Rattle.odb_service.specs.World.{Parked, World, end_transaction, is_untried, run_transaction, untried}
 use Rattle.odb_core.specs.Represented.Parked.{outcome_in, parked_as}
 use Rattle.odb_core.proofs.Attempts.{fails_as, refused_whole_results, waits_as}
 use Rattle.odb_core.proofs.Closing.{none_pushed}
 use Rattle.odb_core.proofs.Handling.{runs_alone, runs_waiting}
-use Rattle.odb_core.proofs.Results.{either_way, ok_together}
+use Rattle.odb_service.proofs.Results.{either_way, ok_together}
 use Rattle.odb_core.proofs.state.State.transact.Goals as goal
 
 pub reply-ended-requires : goal.reply-ended-requires

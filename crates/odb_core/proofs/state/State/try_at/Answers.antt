@@ -1,7 +1,7 @@
-use Rattle.std.proofs.Common.{rules, ◌≡◌, ◌<◌, length, slice_index_or, Option, Some, None, sym, ap, ◌∙◌}
+use Rattle.std.proofs.Common.{rules, ◌≡◌, slice_index_or, Option, Some, None, sym, ap, ◌∙◌}
 use Rattle.std.specs.List.{insert, remove}
-use Rattle.odb_core.specs.Server.{served_by}
-use Rattle.odb_core.specs.World.{Parked, World, attempt}
+use Rattle.odb_service.specs.Server.{served_by}
+use Rattle.odb_service.specs.World.{Parked, World, attempt}
 use Rattle.odb_core.proofs.Handling.{index_is, tries_ended, tries_waits}
 use Rattle.odb_core.proofs.Places.{split_parts_at}
 use Rattle.odb_core.proofs.state.State.try_at.Goals as goal

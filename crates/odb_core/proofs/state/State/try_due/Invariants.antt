@@ -1,7 +1,7 @@
 use Rattle.std.proofs.Common.{◌≡◌}
 use Rattle.odb_tables.specs.Typed.{IsTyped}
-use Rattle.odb_core.specs.Server.{served_by}
-use Rattle.odb_core.specs.World.{try_due}
+use Rattle.odb_service.specs.Server.{served_by}
+use Rattle.odb_service.specs.World.{try_due}
 use Rattle.odb_core.proofs.state.State.try_due.Given as goal
 
 abbrev pub invariant-loop-parked : goal.invariant-loop-parked

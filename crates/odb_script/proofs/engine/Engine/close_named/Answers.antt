@@ -1,5 +1,5 @@
 use Rattle.std.proofs.Common.{rules, ◌≡◌, ◌++◌, OnOk, [], Some, None, codes, slice_index_or}
-use Rattle.odb_core.specs.Server.{served_by}
+use Rattle.odb_service.specs.Server.{served_by}
 use Rattle.odb_script.specs.Script.{Named, line_of, shut}
 use Rattle.odb_script.proofs.Opening.{IsPlaceOf, closes, gone_away}
 use Rattle.std.proofs.lemmas.Result.{on_ok_weaker}

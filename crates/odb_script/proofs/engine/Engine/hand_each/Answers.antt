@@ -1,6 +1,6 @@
 use Rattle.std.proofs.Common.{rules, ◌≡◌, ◌∷◌, [], length, map, List, refl, ap, sym, subst, ◌∙◌}
 use Rattle.std.proofs.lemmas.List.{nil_from_length}
-use Rattle.odb_core.specs.Server.{served_by}
+use Rattle.odb_service.specs.Server.{served_by}
 use Rattle.odb_schema.specs.Schema.{Schema}
 use Rattle.odb_wire.specs.Shown.{message_data}
 use Rattle.odb_wire.specs.declared.message.Message.{Message}

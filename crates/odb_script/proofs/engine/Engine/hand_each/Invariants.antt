@@ -1,5 +1,5 @@
 use Rattle.std.proofs.Common.{◌≡◌, map}
-use Rattle.odb_core.specs.Server.{served_by}
+use Rattle.odb_service.specs.Server.{served_by}
 use Rattle.odb_wire.specs.Shown.{message_data}
 use Rattle.odb_script.proofs.Steps.{handed_from}
 use Rattle.odb_script.proofs.engine.Engine.hand_each.Given as goal

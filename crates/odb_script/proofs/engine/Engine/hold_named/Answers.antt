@@ -1,6 +1,6 @@
 use Rattle.std.proofs.Common.{rules, ◌≡◌, ◌++◌, OnOk, List, ℕ, Some, None, codes, ap, slice_index_or, slice_set, subst, true}
 use Rattle.std.proofs.lemmas.Result.{on_ok_weaker}
-use Rattle.odb_core.specs.Server.{served_by}
+use Rattle.odb_service.specs.Server.{served_by}
 use Rattle.odb_script.specs.Running.{Running}
 use Rattle.odb_script.specs.Script.{Named, Script, hold_named, line_of, with_held}
 use Rattle.odb_script.specs.Represented.Steps.{Does}

@@ -1,7 +1,7 @@
 use Rattle.std.proofs.Common.{rules, ◌≡◌, ◌≤◌, ◌++◌, ◌∷◌, [], OnOk, Ok, true, false, codes, sym, subst, is_some}
 use Rattle.odb_atoms.specs.FinMap.{len}
-use Rattle.odb_core.specs.Run.{max_sessions, opened}
-use Rattle.odb_core.specs.Server.{serve, served_by}
+use Rattle.odb_service.specs.Run.{max_sessions, opened}
+use Rattle.odb_service.specs.Server.{serve, served_by}
 use Rattle.odb_script.specs.Running.{Running}
 use Rattle.odb_script.specs.Script.{Named, Script, line_of, open_named}
 use Rattle.odb_script.specs.Represented.Names.{AreApart}

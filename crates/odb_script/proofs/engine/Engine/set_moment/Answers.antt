@@ -1,7 +1,7 @@
 use Rattle.std.proofs.Common.{rules, ◌≡◌, Result, Ok, ap, sym, ◌∙◌}
-use Rattle.odb_core.specs.Run.{Refusal, ticked}
-use Rattle.odb_core.specs.Server.{served_by}
-use Rattle.odb_core.specs.World.{World}
+use Rattle.odb_service.specs.Run.{Refusal, ticked}
+use Rattle.odb_service.specs.Server.{served_by}
+use Rattle.odb_service.specs.World.{World}
 use Rattle.odb_script.specs.Running.{Running}
 use Rattle.odb_script.specs.Script.{Script, at_moment, in_world, world_after}
 use Rattle.odb_script.proofs.Opening.{script_of}

@@ -1,7 +1,7 @@
 use Rattle.std.proofs.Common.{rules, ◌≡◌, bytes_eq, not, filter, ap, sym, subst, ◌∙◌}
 use Rattle.std.proofs.lemmas.Fn.{filter_same}
-use Rattle.odb_core.specs.Run.{closed}
-use Rattle.odb_core.specs.Server.{served_by}
+use Rattle.odb_service.specs.Run.{closed}
+use Rattle.odb_service.specs.Server.{served_by}
 use Rattle.odb_script.specs.Running.{Running}
 use Rattle.odb_script.specs.Script.{Named, Script, in_world, shut, world_after}
 use Rattle.odb_script.specs.Represented.Names.{AreApart}

@@ -1,5 +1,5 @@
 use Rattle.std.proofs.Common.{rules, ◌≡◌, OnOk, List, ℕ, subst}
-use Rattle.odb_core.specs.Server.{Server, served_by}
+use Rattle.odb_service.specs.Server.{Server, served_by}
 use Rattle.odb_script.specs.Running.{Running}
 use Rattle.odb_script.specs.Script.{Script, dry_all}
 use Rattle.odb_script.specs.Represented.Dry.{all_dry}

@@ -1,5 +1,5 @@
 use Rattle.std.proofs.Common.{rules, ◌≡◌, ◌++◌, OnOk, List, ap, sym, subst, ◌∙◌, Some, None, codes, drop, map, slice_index_or, slice_set}
-use Rattle.odb_core.specs.Server.{served_by}
+use Rattle.odb_service.specs.Server.{served_by}
 use Rattle.odb_wire.specs.Shown.{message_data}
 use Rattle.odb_schema.specs.Schema.{Schema}
 use Rattle.odb_wire.specs.Feeding.{fault_of}

@@ -1,7 +1,7 @@
 use Rattle.std.proofs.Common.{rules, ◌≡◌, ◌++◌, OnOk, List, ℕ, Some, None, codes, ap, slice_index_or, slice_set, subst, sym, ◌∙◌, false}
 use Rattle.std.proofs.lemmas.Option.{same_Some}
 use Rattle.std.proofs.lemmas.Result.{on_ok_weaker}
-use Rattle.odb_core.specs.Server.{Server, served_by}
+use Rattle.odb_service.specs.Server.{Server, served_by}
 use Rattle.odb_script.specs.Running.{Running}
 use Rattle.odb_script.specs.Script.{Named, Script, line_of, take_named, with_held}
 use Rattle.odb_script.specs.Represented.Dry.{taken_dry}

@@ -1,6 +1,6 @@
 use Rattle.std.proofs.Common.{rules, ◌≡◌, OnOk, subst}
 use Rattle.std.proofs.lemmas.Result.{on_ok_weaker}
-use Rattle.odb_core.specs.Server.{served_by}
+use Rattle.odb_service.specs.Server.{served_by}
 use Rattle.odb_schema.specs.Schema.{Schema}
 use Rattle.odb_script.specs.Script.{at_moment, dry_all}
 use Rattle.odb_script.proofs.Holding.{ticks}

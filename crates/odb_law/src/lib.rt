@@ -1,0 +1,45 @@
+//! The monitor law, over every run of the service machine. It stands beside the server, which is that machine.
+#![tactic(auto)]
+
+ghost use Rattle.std.specs.Prelude.{Bool, List, ℕ};
+ghost use Rattle.odb_monitor.specs.Law.{NoOtherLeads};
+ghost use Rattle.odb_schema.specs.Schema.{Schema};
+ghost use Rattle.odb_law.specs.Headline.{BringsWhole, HoldsAlways, IsBroughtToNow, IsChangedWhole, IsDroppedWhole, IsKnown, IsMinimal};
+ghost use Rattle.odb_law.specs.Law.{AllAreTried, IsAnsweredOnce, IsCommitted, IsCounted, IsGranted, IsToldBefore, OwedIsTaken, RoundsTake, TakesEvents};
+ghost use Rattle.odb_service.specs.Service.{service_of};
+
+/// The monitor law, for every schema, whichever methods are served, and over every run of the service machine. The call does nothing.
+pub fn law()
+    // A client that takes what it is owed has just what its newest filters select from the database now.
+    ensures brought_to_now { (serves : List ℕ → Bool) (s : Schema) → HoldsAlways (service_of serves s) (IsBroughtToNow (service_of serves s)) }
+    // The monitors that it then has are those that the service counts as asked for.
+    ensures known { (serves : List ℕ → Bool) (s : Schema) → HoldsAlways (service_of serves s) (IsKnown (service_of serves s)) }
+    // A monitor goes when its client has what the filters select.
+    ensures dropped_whole { (serves : List ℕ → Bool) (s : Schema) → HoldsAlways (service_of serves s) (IsDroppedWhole (service_of serves s)) }
+    // New filters hold when its client has what they select.
+    ensures changed_whole { (serves : List ℕ → Bool) (s : Schema) → HoldsAlways (service_of serves s) (IsChangedWhole (service_of serves s)) }
+    // Messages come by rounds alone, one at most, and each brings the monitor that it is about whole to its taking.
+    ensures brings_whole { (serves : List ℕ → Bool) (s : Schema) → BringsWhole (service_of serves s) }
+    // A strict client refuses no message: each is non-empty and names only what differs.
+    ensures minimal { (serves : List ℕ → Bool) (s : Schema) → HoldsAlways (service_of serves s) (IsMinimal (service_of serves s)) }
+    // No other message leads a strict client from the one view to the other.
+    ensures only { NoOtherLeads }
+    // Events are refused for the reasons that are named, and sessions open and close by their events alone.
+    ensures takes_events { (serves : List ℕ → Bool) (s : Schema) → TakesEvents (service_of serves s) }
+    // A round is one taking for each session that it lists, and changes nothing else.
+    ensures rounds_take { (serves : List ℕ → Bool) (s : Schema) → RoundsTake (service_of serves s) }
+    // What is owed is what rounds give, until they give nothing.
+    ensures owed_is_taken { (serves : List ℕ → Bool) (s : Schema) → OwedIsTaken (service_of serves s) }
+    // The monitors that a session asked for change by its own requests alone, and by each that nothing stands against.
+    ensures granted { (serves : List ℕ → Bool) (s : Schema) → IsGranted (service_of serves s) }
+    // Where no transaction waits, one that is submitted is run at once, and nothing else changes the database.
+    ensures committed { (serves : List ℕ → Bool) (s : Schema) → IsCommitted (service_of serves s) }
+    // What a transaction changed is told before its reply, which has its results.
+    ensures told_before { (serves : List ℕ → Bool) (s : Schema) → IsToldBefore (service_of serves s) }
+    // Each request is answered once, is owed its answer, or waits.
+    ensures answered_once { (serves : List ℕ → Bool) (s : Schema) → HoldsAlways (service_of serves s) (IsAnsweredOnce (service_of serves s)) }
+    // Replies that are owed are counted, and never more than 256.
+    ensures counted { (serves : List ℕ → Bool) (s : Schema) → HoldsAlways (service_of serves s) (IsCounted (service_of serves s)) }
+    // Each waiting transaction was tried on the database as it is now, and had to wait.
+    ensures tried { (serves : List ℕ → Bool) (s : Schema) → AllAreTried (service_of serves s) }
+{}

@@ -1,0 +1,198 @@
+-- A session: what is queued for it, its monitors as they were told, and what a taking gives.
+use Rattle.odb_wire.specs.Message.{id_of}
+use Rattle.std.specs.Prelude.{ℕ, Bool, true, false, if◌then◌else◌, List, [], ◌∷◌, ◌++◌, map, find, Option, Some, None, option_and_then, option_to_list, filter_map, codes, bytes_eq, count_by}
+use Rattle.serde_json.specs.Data.{Data, object, no_members}
+use Rattle.odb_cond.specs.Filter.{Filter}
+use Rattle.odb_service.specs.Service.{Service}
+use Rattle.odb_monitor.specs.Update.{table_updates}
+use Rattle.odb_monitor.specs.View.{Delta, View, delta, is_none, nothing, query, shown}
+use Rattle.odb_request.specs.Request.{Notation, Request, Shape, update, update2}
+use Rattle.odb_rpc.specs.Message.{notification, reply}
+use Rattle.odb_tables.specs.Database.{Db}
+
+-- what a monitor watches: its id, its notation, and its requests with their filters
+pub record Watch : Type 0 where
+  pub id : Data
+  pub notation : Notation
+  pub requests : List Request
+
+-- a monitor whose first reply was taken, as it was told, with the client's view
+pub record Monitor : Type 0 where
+  pub watch : Watch
+  pub view : View
+
+-- which request a message answers: the request itself, as it was submitted
+pub data Answers : Type 0 where
+  no_request : Answers
+  to : Data → Answers
+
+pub record Out : Type 0 where
+  pub answers : Answers
+  pub message : Data
+
+-- A finished text; the first reply of a monitor; the monitor of an id brought to now; the same towards other filters; the replies to a change of filters and to a cancel.
+-- A change stands in the queue as `shift` and `renamed`, a cancel as `sync` and `stopped`, side by side. The id and the filters change, or the monitor goes, when the reply is taken: no other taking of the session comes between, so each message is the same as if they did before it.
+pub data Item : Type 0 where
+  say : Answers → Data → Item
+  start : Data → Watch → Item
+  sync : Data → Item
+  shift : Data → List (List ℕ × Filter) → Item
+  renamed : Data → Data → Data → List (List ℕ × Filter) → Item
+  stopped : Data → Data → Item
+
+pub record Session : Type 0 where
+  pub queue : List Item
+  pub monitors : List Monitor
+
+abbrev pub shapes : List Request → List Shape
+shapes qs = map (λ q. q.shape) qs
+
+abbrev pub no_result : Data
+no_result = object no_members
+
+-- the request that an item's message answers
+abbrev pub label : Item → Answers
+label (say a d) = a
+label (start d k) = to d
+label (sync i) = no_request
+label (shift i fs) = no_request
+label (renamed d old new fs) = to d
+label (stopped d i) = to d
+
+-- how many of the items are replies
+abbrev pub is_answer : Answers → Bool
+is_answer no_request = false
+is_answer (to d) = true
+
+abbrev pub replies_in : List Item → ℕ
+replies_in is = count_by (λ i. is_answer (label i)) is
+
+-- f at the first element that passes the test
+abbrev pub at_first : {A : Type 0} → (A → Bool) → (A → A) → List A → List A
+at_first p f [] = []
+at_first p f (x ∷ xs) = if p x then f x ∷ xs else x ∷ at_first p f xs
+
+-- without the first element that passes the test
+abbrev pub drop_first : {A : Type 0} → (A → Bool) → List A → List A
+drop_first p [] = []
+drop_first p (x ∷ xs) = if p x then xs else x ∷ drop_first p xs
+
+-- the filters of the tables that are named
+abbrev pub filter_of : List (List ℕ × Filter) → List ℕ → Filter → Filter
+filter_of [] name old = old
+filter_of (f ∷ fs) name old = if bytes_eq f.0 name then f.1 else filter_of fs name old
+
+abbrev pub refilter : List (List ℕ × Filter) → List Request → List Request
+refilter fs qs = map {A = Request} (λ q. record q { filter = filter_of fs q.shape.name q.filter }) qs
+
+-- the first answer where there is an out, else the rest
+abbrev pub stop_at : {A : Type 0} → Option Out → A → Option Out × A → Option Out × A
+stop_at None a rest = rest
+stop_at (Some o) a rest = (Some o, a)
+
+module _ (h : Service) where
+  -- two ids are equal where their printed texts are
+  abbrev pub same_id : Data → Data → Bool
+  same_id a b = bytes_eq (h.printed a) (h.printed b)
+
+  -- a watch under its new id and filters
+  abbrev pub changed : Data → List (List ℕ × Filter) → Watch → Watch
+  changed new fs k = record { id = new; notation = k.notation; requests = refilter fs k.requests }
+
+  -- a notification of the difference, if anything of it is shown
+  abbrev pub method_of : Notation → List ℕ
+  method_of update = codes "update"
+  method_of update2 = codes "update2"
+
+  abbrev pub told_of : Notation → Data → List Request → Delta → Option Out
+  told_of n i qs D = if is_none D then None else Some (record { answers = no_request; message = notification (method_of n) (i ∷ table_updates n false (shapes qs) D ∷ []) })
+
+  -- a monitor whose client has what these requests select now
+  abbrev pub brought : Db → List Request → Monitor → Monitor
+  brought db qs m = record m { view = query db qs }
+
+  abbrev pub update_to : Db → List Request → Monitor → Option Out
+  update_to db qs m = told_of m.watch.notation m.watch.id qs (shown false qs (delta m.view (query db qs)))
+
+  abbrev pub begun : Db → Watch → Monitor
+  begun db k = record { watch = k; view = query db k.requests }
+
+  abbrev pub first_out : Db → Data → Watch → Out
+  first_out db d k = record {
+    answers = to d;
+    message = reply (id_of d) (table_updates k.notation true (shapes k.requests) (shown true k.requests (delta (nothing k.requests) (query db k.requests))));
+  }
+
+  abbrev pub granted : Data → Out
+  granted d = record { answers = to d; message = reply (id_of d) no_result }
+
+  abbrev pub has_id : Data → Monitor → Bool
+  has_id i m = same_id i m.watch.id
+
+  -- what one item gives, and the monitors after it. An item of a monitor that is gone gives nothing
+  abbrev pub gives : Db → Item → List Monitor → Option Out
+  gives db (say a d) ms = Some (record { answers = a; message = d })
+  gives db (start d k) ms = Some (first_out db d k)
+  gives db (sync i) ms = option_and_then (λ m. update_to db m.watch.requests m) (find (has_id i) ms)
+  gives db (shift i fs) ms = option_and_then (λ m. update_to db (refilter fs m.watch.requests) m) (find (has_id i) ms)
+  gives db (renamed d old new fs) ms = Some (granted d)
+  gives db (stopped d i) ms = Some (granted d)
+
+  abbrev pub leaves : Db → Item → List Monitor → List Monitor
+  leaves db (say a d) ms = ms
+  leaves db (start d k) ms = ms ++ begun db k ∷ []
+  leaves db (sync i) ms = at_first (has_id i) (λ m. brought db m.watch.requests m) ms
+  leaves db (shift i fs) ms = at_first (has_id i) (λ m. brought db (refilter fs m.watch.requests) m) ms
+  leaves db (renamed d old new fs) ms = at_first (has_id old) (λ m. record m { watch = changed new fs m.watch }) ms
+  leaves db (stopped d i) ms = drop_first (has_id i) ms
+
+  -- with an empty queue the monitors are brought to now, in order of creation, until there is an out
+  abbrev pub take_rest : Db → List Monitor → Option Out × List Monitor
+  take_rest db [] = (None, [])
+  take_rest db (m ∷ ms) =
+      stop_at (update_to db m.watch.requests m) (brought db m.watch.requests m ∷ ms)
+      ((take_rest db ms).0, brought db m.watch.requests m ∷ (take_rest db ms).1)
+
+  -- from the front of the queue until there is an out
+  abbrev pub take_from : Db → List Item → List Monitor → Option Out × Session
+  take_from db [] ms = ((take_rest db ms).0, record { queue = []; monitors = (take_rest db ms).1 })
+  take_from db (i ∷ is) ms = stop_at (gives db i ms) (record { queue = is; monitors = leaves db i ms }) (take_from db is (leaves db i ms))
+
+  abbrev pub take : Db → Session → Option Out × Session
+  take db s = take_from db s.queue s.monitors
+
+  -- what further takings give until there is none: what each item gives, and then each monitor
+  abbrev pub owed_from : Db → List Item → List Monitor → List Out
+  owed_from db [] ms = filter_map (λ m. update_to db m.watch.requests m) ms
+  owed_from db (i ∷ is) ms = option_to_list (gives db i ms) ++ owed_from db is (leaves db i ms)
+
+  abbrev pub owed : Db → Session → List Out
+  owed db s = owed_from db s.queue s.monitors
+
+  -- the session when nothing more is owed
+  abbrev pub rested : Db → List Item → List Monitor → List Monitor
+  rested db [] ms = map (λ m. brought db m.watch.requests m) ms
+  rested db (i ∷ is) ms = rested db is (leaves db i ms)
+
+  abbrev pub dried : Db → Session → Session
+  dried db s = record { queue = []; monitors = rested db s.queue s.monitors }
+
+  -- what an item does to the monitors as asked
+  abbrev pub asks : Item → List Watch → List Watch
+  asks (say a d) ks = ks
+  asks (start d k) ks = ks ++ k ∷ []
+  asks (sync i) ks = ks
+  asks (shift i fs) ks = ks
+  asks (renamed d old new fs) ks = at_first (λ k. same_id old k.id) (changed new fs) ks
+  asks (stopped d i) ks = drop_first (λ k. same_id i k.id) ks
+
+  abbrev pub asked_after : List Item → List Watch → List Watch
+  asked_after [] ks = ks
+  asked_after (i ∷ is) ks = asked_after is (asks i ks)
+
+  abbrev pub told : Session → List Watch
+  told s = map (λ m. m.watch) s.monitors
+
+  -- the monitors as asked: as told, and then what is queued
+  abbrev pub asked : Session → List Watch
+  asked s = asked_after s.queue (told s)
