@@ -16,5 +16,3 @@ pub use row::Row;
 pub use update::difference;
 pub use value::{Entries, ListFault, Refused, Value};
 
-#[cfg(test)]
-mod tests;

@@ -5,5 +5,3 @@ mod transaction;
 
 pub use transaction::{Outcome, transact};
 
-#[cfg(test)]
-mod tests;

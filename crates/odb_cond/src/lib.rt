@@ -9,5 +9,3 @@ pub use clause::{Clause, Function, Selector};
 pub use conditions::Where;
 pub use filter::{Filter, Member};
 
-#[cfg(test)]
-mod tests;

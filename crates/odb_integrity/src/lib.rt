@@ -13,5 +13,3 @@ mod settlement;
 
 pub use settlement::settle;
 
-#[cfg(test)]
-mod tests;

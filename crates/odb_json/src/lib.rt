@@ -23,7 +23,3 @@ pub use operation::{Op, Until, read_op};
 pub use row::{Writing, read_row};
 pub use value::{read_by_kind, read_value, write_value};
 
-#[cfg(test)]
-mod operation_tests;
-#[cfg(test)]
-mod value_tests;

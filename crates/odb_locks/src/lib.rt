@@ -10,5 +10,3 @@ mod table;
 pub use locks::{LockFault, Locks, SessionId, Taken};
 pub use notice::Notice;
 
-#[cfg(test)]
-mod tests;

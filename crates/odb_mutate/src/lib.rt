@@ -10,5 +10,3 @@ mod pairs;
 pub use mutation::{Mutation, MutationFault, Mutator};
 pub use operator::Operator;
 
-#[cfg(test)]
-mod tests;

@@ -22,5 +22,3 @@ pub use context::Context;
 pub use execution::{Ran, run};
 pub use results::failure;
 
-#[cfg(test)]
-mod tests;

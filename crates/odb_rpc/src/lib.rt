@@ -4,8 +4,6 @@
 mod call;
 mod error;
 mod printable;
-#[cfg(test)]
-mod tests;
 mod text;
 
 pub use call::{Call, CallFault, has_reply, is_served, operations, reply_id};

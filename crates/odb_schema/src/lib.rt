@@ -14,5 +14,3 @@ pub use read::member;
 pub use schema::{Column, ColumnId, Schema, TableId, TableSchema};
 pub use text::{is_id, is_name};
 
-#[cfg(test)]
-mod tests;

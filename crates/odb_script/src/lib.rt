@@ -14,5 +14,3 @@ pub use fault::RunFault;
 pub use script::run_script;
 pub use watched::Watched;
 
-#[cfg(test)]
-mod tests;

@@ -17,5 +17,3 @@ pub use row_change::RowChange;
 pub use table::Table;
 pub use table_change::TableChange;
 
-#[cfg(test)]
-mod tests;

@@ -12,8 +12,6 @@ mod left_out;
 mod message;
 mod scan;
 mod split;
-#[cfg(test)]
-mod tests;
 
 pub use fault::WireFault;
 pub use framer::{Framer, read_pieces};
