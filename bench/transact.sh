@@ -28,7 +28,20 @@ echo 'transact_bench: odb_commit odb_ops odb_integrity odb_tables odb_schema odb
 cp "$here/transact_bench.rt.txt" "$bench/src/main.rt"
 
 # A database without rows is one of the schema, and transactions keep it so.
-sed 's/odb_commit\.proofs\.tests/transact_bench.proofs/' "$root/crates/odb_commit/proofs/tests/empty/Answers.antt" > "$bench/proofs/empty/Answers.antt"
+cat > "$bench/proofs/empty/Answers.antt" <<'END'
+use Rattle.std.proofs.Common.{List, length, replicate, ap, subst, sym, ◌∙◌}
+use Rattle.std.proofs.lemmas.Result.{IfOk-weaker}
+use Rattle.odb_atoms.specs.FinMap as finite
+use Rattle.odb_schema.specs.Schema.{TableSchema}
+use Rattle.odb_tables.specs.Typed.{IsTyped}
+use Rattle.odb_integrity.proofs.KeepsTyped.{empty_typed}
+use Rattle.transact_bench.proofs.empty.Goals as goal
+
+pub returns : goal.returns
+returns c =
+    let s = c.args.schema.now in
+    IfOk-weaker c.new.result _ (IsTyped s) (λ db e. subst (IsTyped s) (sym (e ∙ ap (λ (ts : List TableSchema). replicate (length ts) finite.empty) c.tables.ensures)) (empty_typed s)) c.new.ensures
+END
 cat > "$bench/proofs/grow_to/Invariants.antt" <<'END'
 use Rattle.transact_bench.proofs.grow_to.Given as goal
 use Rattle.odb_tables.specs.Typed.{IsTyped}
