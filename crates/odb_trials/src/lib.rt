@@ -1,0 +1,7 @@
+//! Trials: what neither a contract nor a transcript can show of the layers below. They hold no code.
+#![tactic(auto)]
+
+#[cfg(test)]
+mod sizes;
+#[cfg(test)]
+mod streams;
