@@ -1,3 +1,4 @@
 pub mod Filters
 pub mod Pins
 pub mod Relations
+pub mod Same

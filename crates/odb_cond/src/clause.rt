@@ -1,6 +1,7 @@
 //! One condition (RFC 7047, section 5.1, `<condition>`): a column, a function and a value.
 
 ghost use Rattle.std.specs.Prelude.{◌≡◌, option_map, IfOk};
+ghost use Rattle.std.specs.Bool.{Decides};
 ghost use Rattle.std.specs.List.{list_any};
 ghost use Rattle.odb_atoms.specs.FinSet as set;
 ghost use Rattle.odb_atoms.specs.Represented.Atom.{atom_of, uuid_of};
@@ -83,6 +84,43 @@ impl Clause {
             function,
             value,
         }
+    }
+
+    /// The column that it tests (RFC 7047, section 5.1, `<column>`). O(1), without memory.
+    pub fn column(&self) -> Selector
+        ensures { selector_of result ≡ self.now.column }
+    {
+        self.column
+    }
+
+    /// How the column has to stand to the value (RFC 7047, section 5.1, `<function>`). O(1), without
+    /// memory.
+    pub fn function(&self) -> Function
+        ensures { function_of result ≡ self.now.function }
+    {
+        self.function
+    }
+
+    /// The value to which the column has to stand so (RFC 7047, section 5.1, `<value>`). O(1), without
+    /// memory.
+    pub fn value(&self) -> &Value
+        ensures { result.now ≡ self.now.value }
+    {
+        &self.value
+    }
+
+    /// Whether the two are the same condition.
+    pub(crate) fn same(&self, other: &Clause) -> bool
+        ensures { Decides result (self.now ≡ other.now) }
+    {
+        self.asks_alike(other) && self.value == other.value
+    }
+
+    /// Whether the two have the same column and the same function.
+    fn asks_alike(&self, other: &Clause) -> bool
+        ensures { Decides result ((self.now.column ≡ other.now.column) × (self.now.function ≡ other.now.function)) }
+    {
+        self.column == other.column && self.function == other.function
     }
 
     /// Whether it holds of the row with the identifier (RFC 7047, section 5.1, `<condition>`).

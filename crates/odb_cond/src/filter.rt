@@ -1,6 +1,7 @@
 //! The filters of conditional monitors (ovsdb-server(7), "monitor_cond").
 
 ghost use Rattle.std.specs.Prelude.{◌≡◌, map, IfOk};
+ghost use Rattle.std.specs.Bool.{Decides};
 ghost use Rattle.std.specs.List.{list_any};
 ghost use Rattle.odb_atoms.specs.Represented.Atom.{uuid_of};
 ghost use Rattle.odb_cond.specs.Filter.{member_holds, selects};
@@ -50,6 +51,17 @@ impl Member {
         }
     }
 
+    /// Whether the two are the same member.
+    fn same(&self, other: &Member) -> bool
+        ensures { Decides result (member_of self.now ≡ member_of other.now) }
+    {
+        match (self, other) {
+            (Member::Always(always), Member::Always(other)) => *always == *other,
+            (Member::When(clause), Member::When(other)) => clause.same(other),
+            _ => false,
+        }
+    }
+
     /// An equal member. O(the bytes copied); an error says that there was no memory.
     pub fn try_copy(&self, alloc: Global) -> Result<Member, AllocError>
         ensures { IfOk result (λ copy. member_of copy ≡ member_of self.now) }
@@ -67,6 +79,23 @@ impl Filter {
         ensures { result ≡ map member_of members.items }
     {
         Filter { members }
+    }
+
+    /// Its members, in the order in which they were given. O(1), without memory.
+    pub fn members(&self) -> &[Member]
+        ensures { map member_of result.now ≡ self.now }
+    {
+        self.members.as_slice()
+    }
+
+    /// Whether the two are the same filter: the same members in the same order. Two filters that aren't
+    /// the same may select the same rows all the same (`true` and no member at all).
+    ///
+    /// O(the members and the entries of their values), each atom compared once; it takes no memory.
+    pub fn same(&self, other: &Filter) -> bool
+        ensures { Decides result (self.now ≡ other.now) }
+    {
+        are_same(&self.members, &other.members)
     }
 
     /// Whether it selects the row with the identifier: some member holds of it, or there is no
@@ -98,4 +127,19 @@ fn some_member_holds(members: &[Member], uuid: Uuid, row: &Row) -> bool
         ≡ list_any (λ m. member_holds (uuid_of uuid) row.now (member_of m)) members.now }
 {
     members.iter().any(|member| member.holds(uuid, row))
+}
+
+/// Whether the two lists have the same members, one by one.
+fn are_same(members: &[Member], others: &[Member]) -> bool
+    ensures { Decides result (map member_of members.now ≡ map member_of others.now) }
+{
+    if members.len() != others.len() {
+        return false;
+    }
+    for place in 0..members.len() {
+        if !members[place].same(&others[place]) {
+            return false;
+        }
+    }
+    true
 }
