@@ -1,6 +1,8 @@
 -- Tables under the rows that a draft touched.
 use Rattle.std.proofs.Common.{◌≡◌, ℕ, zero, suc, ◌<◌, ◌≤◌, slice_index_or, Bool, true, false, cond, List, [], ◌∷◌, length, map, replicate, slice_get, slice_set, unwrap_or, Option, Some, None, option_and_then, option_copied, is_some, IfSome, Bor, refl, sym, ap, ◌∙◌, arith}
 use Rattle.std.proofs.lemmas.Option.{none-some, slice_get-get_or, slice_get_past}
+use mathlib.Core.Bool.{true≢false}
+use Rattle.std.specs.List.{IsDistinct}
 use Rattle.std.specs.Ordering.{eq_by_cmp}
 use Rattle.odb_atoms.specs.FinMap as finite
 use Rattle.odb_atoms.specs.FinSet as set
@@ -134,3 +136,16 @@ there_not_removed db os k u x e got =
 pub there_if : (P : Type 0) (row : Option (Bor Row)) (there : Option Row) → option_copied row ≡ there → ((x : Row) → there ≡ Some x → P) → IfSome row (λ _. P)
 there_if P None there e h = tt
 there_if P (Some r) there e h = h r.now (sym e)
+
+-- a row that isn't touched is as it was
+none_there : {X : Type 0} (o : Option X) → is_some o ≡ false → o ≡ None
+none_there None e = refl
+none_there (Some x) e = absurd (true≢false e)
+
+pub as_it_was : (db : Db) (os : List Touched) (k : ℕ) (o : Touched) (u : Uuid) → length os ≡ length db → o ≡ touched_at os k → finite.contains_key o u ≡ false → finite.get (table_at (all_overlaid db os) k) u ≡ finite.get (table_at db k) u
+as_it_was db os k o u e at untouched =
+    ap (λ t. finite.get t u) (at-all_overlaid db os k e ∙ ap (overlaid (table_at db k)) (sym at)) ∙ get-overlaid (table_at db k) o u ∙ ap (laid (finite.get (table_at db k) u)) (none_there (finite.get o u) untouched)
+
+pub none_twice : IsDistinct (eq_by_cmp uuid_cmp) []
+unfolding IsDistinct
+none_twice = tt

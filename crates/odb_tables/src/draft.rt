@@ -1,7 +1,9 @@
 //! Drafts: a database under a transaction.
 ghost use Rattle.std.specs.Prelude.{◌≡◌, ◌<◌, false, length, map, IfOk, IfSome, IsPermutation, IsTrue, OnErr, OnOk, option_map};
+ghost use Rattle.std.specs.List.{IsDistinct, list_any};
 ghost use Rattle.std.specs.List.Sorted.{IsSortedByKey};
 ghost use Rattle.std.specs.Option.{option_copied};
+ghost use Rattle.std.specs.Ordering.{eq_by_cmp};
 ghost use Rattle.odb_atoms.specs.FinMap as finite;
 ghost use Rattle.odb_atoms.specs.FinSet as set;
 ghost use Rattle.odb_atoms.specs.Represented.Atom.{uuid_of};
@@ -102,6 +104,20 @@ impl<'a> Draft<'a> {
         match self.overlays.get(table.place()) {
             Some(overlay) => overlay.is_removed(uuid),
             None => false,
+        }
+    }
+
+    /// The identifiers of the rows that were touched since the draft was made, each of them once, in no order
+    /// that is told. A row that isn't among them is as it was; one among them may be as it was, too, or may
+    /// never have been there. O(rows touched); an error says that memory was refused.
+    pub fn touched(&self, alloc: Global, table: TableId) -> Result<Vec<Uuid>, AllocError>
+        ensures as_it_was { IfOk result (λ uuids. (u : model_uuid.Uuid) → list_any (eq_by_cmp uuid_cmp u) (map uuid_of uuids.items) ≡ false
+            → finite.get (table_at self.now.now table) u ≡ finite.get (table_at self.now.old table) u) }
+        ensures distinct { IfOk result (λ uuids. IsDistinct (eq_by_cmp uuid_cmp) (map uuid_of uuids.items)) }
+    {
+        match self.overlays.get(table.place()) {
+            Some(overlay) => overlay.list(alloc),
+            None => Ok(Vec::new(alloc)),
         }
     }
 

@@ -11,9 +11,10 @@ use std::hash::{Hash, Hasher};
 use std::marker::Model;
 use uuid::Uuid;
 
-/// An identifier, by the number that it is.
+/// An identifier as the key of a table: the number that it is (RFC 7047, section 5.1, `<uuid>`). Keys are
+/// equal, ordered and hashed as their numbers are.
 #[derive(Clone, Copy, Debug)]
-pub(crate) struct Key {
+pub struct Key {
     number: u128,
 }
 
@@ -36,8 +37,8 @@ impl Model for Key {
 }
 
 impl Key {
-    /// The identifier as a key. O(1).
-    pub(crate) fn of(uuid: Uuid) -> Key
+    /// The identifier as a key. O(1), without memory.
+    pub fn of(uuid: Uuid) -> Key
         ensures { result ≡ uuid_of uuid }
     {
         Key {
@@ -45,8 +46,8 @@ impl Key {
         }
     }
 
-    /// The identifier. O(1).
-    pub(crate) fn uuid(self) -> Uuid
+    /// The identifier. O(1), without memory.
+    pub fn uuid(self) -> Uuid
         ensures { uuid_of result ≡ self }
     {
         Uuid::from_u128(self.number)

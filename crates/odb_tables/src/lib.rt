@@ -13,6 +13,7 @@ mod table_change;
 pub use change_set::ChangeSet;
 pub use database::Db;
 pub use draft::Draft;
+pub use key::Key;
 pub use row_change::RowChange;
 pub use table::Table;
 pub use table_change::TableChange;

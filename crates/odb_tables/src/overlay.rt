@@ -1,9 +1,13 @@
 //! What a draft made of the rows of a table that it touched.
 ghost use Rattle.std.specs.Prelude.{◌≡◌, ◌++◌, IfOk, OnOk, OnErr, map, option_map, option_to_list};
 ghost use Rattle.std.specs.Arc.{arc_value};
+ghost use Rattle.std.specs.List.{IsDistinct, list_any};
 ghost use Rattle.std.specs.Option.{option_copied};
+ghost use Rattle.std.specs.Ordering.{eq_by_cmp};
 ghost use Rattle.odb_atoms.specs.FinMap as finite;
 ghost use Rattle.odb_atoms.specs.FinSet as set;
+ghost use Rattle.odb_atoms.specs.Uuid as model_uuid;
+ghost use Rattle.odb_atoms.specs.Uuid.{uuid_cmp};
 ghost use Rattle.odb_tables.specs.Represented.Draft.{overlaid, taken_out};
 ghost use Rattle.odb_tables.specs.Change.{change};
 ghost use Rattle.odb_atoms.specs.Represented.Atom.{uuid_of};
@@ -106,6 +110,19 @@ impl Overlay {
             }
         }
         Ok(())
+    }
+
+    /// The identifiers of the rows that were touched, each of them once. O(rows touched); an error says that
+    /// memory was refused.
+    pub(crate) fn list(&self, alloc: Global) -> Result<Vec<Uuid>, AllocError>
+        ensures touched { IfOk result (λ uuids. (u : model_uuid.Uuid) → list_any (eq_by_cmp uuid_cmp u) (map uuid_of uuids.items) ≡ finite.contains_key self.now u) }
+        ensures distinct { IfOk result (λ uuids. IsDistinct (eq_by_cmp uuid_cmp) (map uuid_of uuids.items)) }
+    {
+        let mut uuids = Vec::with_capacity(alloc, self.rows.len())?;
+        for (key, _) in self.rows.iter() {
+            uuids.push(key.uuid())?;
+        }
+        Ok(uuids)
     }
 
     /// What leads from the rows of the table to those that are over it. O(rows touched); an error says

@@ -43,9 +43,11 @@ impl Model for RowChange {
 }
 
 impl RowChange {
-    /// What leads from the old row to the new one; `None` where they are the same. An error says that
-    /// memory was refused.
-    pub(crate) fn between(
+    /// What leads from the old row of the key to the new one; `None` where there is none on both sides, or
+    /// they are the same, `_version` included (RFC 7047, section 3.2). The rows are shared, and not copied.
+    ///
+    /// O(the values compared). An error says that memory was refused.
+    pub fn between(
         key: Key,
         old: Option<&Arc<Row>>,
         new: Option<&Arc<Row>>,

@@ -1,14 +1,19 @@
 //! Tables: rows by their identifiers (RFC 7047, section 3.2).
 ghost use Rattle.std.specs.Prelude.{◌≡◌, ◌&&◌, IfOk, OnOk, OnErr, IfErr, map, not, option_map};
 ghost use Rattle.std.specs.Arc.{arc_value};
+ghost use Rattle.std.specs.List.{IsDistinct};
+ghost use Rattle.std.specs.Map.{keys_of};
 ghost use Rattle.std.specs.Option.{option_copied};
+ghost use Rattle.std.specs.Ordering.{eq_by_cmp};
 ghost use Rattle.odb_atoms.specs.FinMap as finite;
 ghost use Rattle.odb_atoms.specs.Represented.Atom.{uuid_of};
+ghost use Rattle.odb_atoms.specs.Uuid.{uuid_cmp};
 ghost use Rattle.odb_cond.specs.Condition.{holds_all};
 ghost use Rattle.odb_tables.specs.Matching.{matching};
 ghost use Rattle.odb_tables.specs.Represented.Found.{Appends, untouched};
 ghost use Rattle.odb_tables.specs.Represented.Installed.{each_row, one_row, put_in, settled, taken_back, with_row_at};
 ghost use Rattle.odb_tables.specs.Represented.Overlay.{row_of};
+ghost use Rattle.odb_tables.specs.Represented.Table.{listed};
 
 use crate::key::Key;
 use crate::overlay::Overlay;
@@ -87,11 +92,27 @@ impl Table {
         self.rows.swap_remove(&Key::of(uuid))
     }
 
-    /// The row of a key, to be shared.
-    pub(crate) fn share(&self, key: Key) -> Option<&Arc<Row>>
+    /// The row of a key, if the table has one, to be shared: its clone is the same row, and costs a count. It
+    /// stays as it is when the table changes. O(1), without memory.
+    pub fn share(&self, key: Key) -> Option<&Arc<Row>>
         ensures { row_of (option_copied result) ≡ finite.get self.now key }
     {
         self.rows.get(&key)
+    }
+
+    /// Each of its rows once, with its identifier, in no order that is told. O(rows); an error says that
+    /// memory was refused.
+    pub fn list(&self, alloc: Global) -> Result<Vec<(Uuid, &Row)>, AllocError>
+        ensures rows { IfOk result (λ rows. finite.from_entries (map listed rows.items) ≡ self.now) }
+        ensures distinct { IfOk result (λ rows. IsDistinct (eq_by_cmp uuid_cmp) (keys_of (map listed rows.items))) }
+    {
+        let mut rows = Vec::with_capacity(alloc, self.len())?;
+        for (key, row) in self.rows.iter() {
+            if rows.push((key.uuid(), &**row)).is_err() {
+                return Err(AllocError);
+            }
+        }
+        Ok(rows)
     }
 
     /// An equal table, whose rows are shared with this one. O(rows); an error says that memory was refused.

@@ -27,8 +27,9 @@ impl Model for TableChange {
 }
 
 impl TableChange {
-    /// Changes of rows, none of them twice.
-    pub(crate) fn new(rows: Vec<RowChange>) -> TableChange
+    /// The change of a table by these changes of its rows, which have to be of different rows. O(1), without
+    /// memory.
+    pub fn new(rows: Vec<RowChange>) -> TableChange
         requires { AreDistinct rows.items }
         ensures { result ≡ finite.from_entries rows.items }
     {
