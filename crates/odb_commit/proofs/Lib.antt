@@ -1,3 +1,4 @@
 pub mod NoFloats
 pub mod Outcomes
+pub mod Sound
 pub mod Typed

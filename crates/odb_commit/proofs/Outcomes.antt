@@ -1,14 +1,14 @@
 -- What operations and their settlement come to.
-use Rattle.std.specs.Prelude.{◌≡◌, ℕ, List, Option, Result, Ok, Err, Vec}
+use Rattle.std.specs.Prelude.{◌≡◌, ℕ, List, Option, Ok, Vec}
 use Rattle.std.specs.declared.alloc.Global.{Global}
-use mathlib.Core.Path.{refl, sym, ap, subst, ◌∙◌}
+use mathlib.Core.Path.{refl, sym, subst}
 use Rattle.odb_atoms.specs.Uuid.{uuid_from}
 use Rattle.odb_commit.specs.Transaction as model
 use Rattle.odb_commit.specs.Represented.Outcome.{Answers}
 use Rattle.odb_commit.specs.declared.transaction.Outcome.TheVariants as outcome
-use Rattle.odb_commit.proofs.Typed.{stamped_typed}
+use Rattle.odb_commit.proofs.Sound.{settled_sound}
+use Rattle.odb_commit.specs.Sound.{IsSound}
 use Rattle.odb_integrity.specs.Settlement.{settle}
-use Rattle.odb_integrity.proofs.KeepsTyped.{settled_typed}
 use Rattle.odb_ops.specs.Execution as ops
 use Rattle.odb_ops.specs.Represented.Ran as answered
 use Rattle.odb_ops.specs.Represented.Ran.{results_of}
@@ -25,12 +25,12 @@ use Rattle.serde_json.specs.declared.value.Value.{Value}
 
 module _ (s : Schema) (max_rows number : ℕ) (old now : Db) where
   -- it was settled
-  pub done : (results : Vec Value Global) (change : List Changes) (new : Db) → IsTyped s old → IsTyped s now → settle s max_rows now ≡ Ok new
+  pub done : (results : Vec Value Global) (change : List Changes) (new : Db) → IsSound s old → IsTyped s now → settle s max_rows now ≡ Ok new
       → change ≡ change_between old (stamped (uuid_from number) old new) → IsChangeOf old change → all_changed_by old change ≡ stamped (uuid_from number) old new
       → Answers s old (outcome.Done results change) (model.settled number old (results_of results) (settle s max_rows now))
   done results change new h g e is of leads =
       subst (λ r. Answers s old (outcome.Done results change) (model.settled number old (results_of results) r)) (sym e)
-      (refl, is, of, leads, stamped_typed s (uuid_from number) old new h (settled_typed s max_rows now new e g))
+      (refl, is, of, leads, settled_sound s max_rows (uuid_from number) old now new h g e)
 
   -- all operations went through
   pub went_typed : (results : Vec Value Global) (r : ops.Ran) → answered.Answers (ran.Finished results) now r → EndsTyped s r → IsTyped s now

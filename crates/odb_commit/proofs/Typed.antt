@@ -1,14 +1,14 @@
 -- Versions keep databases of their schema.
-use Rattle.std.specs.Prelude.{◌≡◌, ℕ, zero, suc, Bool, true, false, cond, List, [], ◌∷◌, length, map as map_list, zip, Option, Some, None, option_and_then, Result, Ok, Err}
+use Rattle.std.specs.Prelude.{◌≡◌, ℕ, zero, suc, Bool, true, false, cond, List, [], ◌∷◌, length, Option, Some, None, option_and_then}
 use Rattle.std.proofs.lemmas.Option.{none-some, same_Some}
 use mathlib.Core.Path.{refl, sym, ap, subst, ◌∙◌}
 use Rattle.std.proofs.Common.{arith}
 use Rattle.odb_atoms.specs.FinMap as map
 use Rattle.odb_atoms.specs.Row.{Row}
-use Rattle.odb_atoms.specs.Uuid.{Uuid, uuid_cmp}
+use Rattle.odb_atoms.specs.Uuid.{Uuid}
 use Rattle.odb_atoms.specs.Value.{same_values}
 use Rattle.odb_atoms.proofs.Atoms.{uuid_cmp-IsAntisymmetric}
-use Rattle.odb_atoms.proofs.FinMaps.{get-empty, get-map_entries}
+use Rattle.odb_atoms.proofs.FinMaps.{get-map_entries}
 use Rattle.odb_schema.specs.Schema.{Column, Schema, columns_at}
 use Rattle.odb_tables.specs.Database.{Db, Table, table_at}
 use Rattle.odb_tables.specs.Represented.Key.{uuid_cmp_total}

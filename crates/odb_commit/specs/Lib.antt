@@ -1,2 +1,3 @@
 pub mod Represented
+pub mod Sound
 pub mod Transaction

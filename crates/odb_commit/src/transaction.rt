@@ -4,6 +4,7 @@ ghost use Rattle.serde_json.specs.View.{view};
 ghost use Rattle.odb_atoms.specs.Represented.Atom.{uuid_of};
 ghost use Rattle.odb_atoms.specs.Uuid.{uuid_from};
 ghost use Rattle.odb_commit.specs.Represented.Outcome.{Answers};
+ghost use Rattle.odb_commit.specs.Sound.{IsSound};
 ghost use Rattle.odb_commit.specs.Transaction as model;
 ghost use Rattle.odb_integrity.specs.Settlement.{settle};
 ghost use Rattle.odb_ops.specs.Represented.Context.{context_of};
@@ -41,7 +42,8 @@ pub enum Outcome {
 ///
 /// The operations run one after another; then the database is settled, with at most so many rows. Each row
 /// that is new or has another value in a column has the number as its `_version`. The database stays as it
-/// is: what is left is the change, which `Db::install` makes. The database has to be of the schema.
+/// is: what is left is the change, which `Db::install` makes. The database has to be sound, as empty tables
+/// are; with the change it is sound again.
 ///
 /// What the operations and the settlement cost, and O(rows touched). An error says that memory was
 /// refused.
@@ -54,7 +56,7 @@ pub fn transact(
     max_rows: usize,
     context: &Context,
 ) -> Result<Outcome, AllocError>
-    requires typed { IsTyped schema.now db.now }
+    requires sound { IsSound schema.now db.now }
     ensures outcome { IfOk result (λ outcome. Answers schema.now db.now outcome
         (model.transact schema.now max_rows number (context_of context.entry.now) db.now (map view operations.now))) }
 {
@@ -75,7 +77,7 @@ fn finish(
     number: u64,
     max_rows: usize,
 ) -> Result<Outcome, AllocError>
-    requires old { IsTyped schema.now draft.old }
+    requires old { IsSound schema.now draft.old }
     requires now { IsTyped schema.now draft.now }
     ensures { IfOk result (λ outcome. Answers schema.now draft.entry.old outcome
         (model.settled number draft.entry.old (results_of results) (settle schema.now max_rows draft.entry.now))) }

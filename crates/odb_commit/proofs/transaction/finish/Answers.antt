@@ -1,6 +1,6 @@
-use Rattle.std.proofs.Common.{rules, ◌≡◌, List, Ok, sym, ap, subst, ◌∙◌}
+use Rattle.std.proofs.Common.{rules, ◌≡◌, Ok, sym, ap, subst, ◌∙◌}
 use Rattle.odb_atoms.specs.Represented.Atom.{uuid_of}
-use Rattle.odb_atoms.specs.Uuid.{Uuid, uuid_from}
+use Rattle.odb_atoms.specs.Uuid.{uuid_from}
 use Rattle.odb_integrity.specs.Settlement.{settle}
 use Rattle.odb_commit.proofs.Outcomes.{done}
 use Rattle.odb_commit.proofs.transaction.finish.Goals as goal

@@ -2,6 +2,7 @@ use Rattle.std.proofs.Common.{rules, ◌≡◌, List, map, sym, ap, subst, ◌�
 use Rattle.std.proofs.lemmas.Result.{IfOk-weaker}
 use Rattle.serde_json.specs.View.{view}
 use Rattle.odb_commit.specs.Represented.Outcome.{Answers}
+use Rattle.odb_commit.proofs.Sound.{sound_typed}
 use Rattle.odb_commit.proofs.Outcomes.{failed, in_parts, parked, went, went_typed}
 use Rattle.odb_commit.proofs.transaction.transact.Goals as goal
 use Rattle.odb_integrity.specs.Settlement.{settle}
@@ -25,7 +26,7 @@ finish-requires-clause-now c =
     let operations : List Data = map view c.args.operations.now in
     let draft : Draft = c.in_ok-draft.draft in
     let begins : draft ≡ draft_of c.args.db.now = search rules in
-    let typed : IsTyped c.args.schema.now draft.now = subst (λ (d : Draft). IsTyped c.args.schema.now d.now) (sym begins) c.requires.typed in
+    let typed : IsTyped c.args.schema.now draft.now = subst (λ (d : Draft). IsTyped c.args.schema.now d.now) (sym begins) (sound_typed c.args.schema.now c.args.db.now c.requires.sound) in
     went_typed c.args.schema.now c.args.max_rows c.args.number c.args.db.now c.run.new.draft.now c.in-Finished.results
     (ops.run c.args.schema.now (context_of c.args.context.now) (begun draft) operations) (search rules)
     (run_typed c.args.schema.now (context_of c.args.context.now) (begun draft) operations typed)
