@@ -15,7 +15,7 @@ use Rattle.odb_schema.specs.Schema.{Schema}
 use Rattle.odb_tables.specs.Change.{Changes, all_changed_by, change_between}
 use Rattle.odb_tables.specs.Database.{Db}
 use Rattle.odb_tables.specs.Installing.{IsChangeOf}
-use Rattle.odb_tables.specs.Typed.{IsTyped}
+use Rattle.odb_commit.specs.Sound.{IsSound}
 use Rattle.odb_wire.specs.Message.{id_of}
 use Rattle.odb_wire.specs.Shown.{request_data}
 use Rattle.odb_service.specs.Server.{served_by}
@@ -103,8 +103,8 @@ module _ (s : Schema) (w : World) (a : Submitted) (deadline : Option ℕ) (n : �
 
 -- what an outcome that is done says beside it
 module _ (s : Schema) (db : Db) (results : Vec Value Global) (change : List Changes) where
-  pub done_is : (m : transaction.Outcome) → Answers s db (outcome.Done results change) m → IsChangeOf db change × IsTyped s (all_changed_by db change)
-  done_is (transaction.done answer new) k = (k.2, subst (IsTyped s) (sym k.3) k.4)
+  pub done_is : (m : transaction.Outcome) → Answers s db (outcome.Done results change) m → IsChangeOf db change × IsSound s (all_changed_by db change)
+  done_is (transaction.done answer new) k = (k.2, subst (IsSound s) (sym k.3) k.4)
   done_is (transaction.refused answer) k = absurd k
   done_is (transaction.parked t) k = absurd k
 

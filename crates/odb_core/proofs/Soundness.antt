@@ -10,14 +10,14 @@ use Rattle.odb_service.specs.Server.{Server, served_by}
 use Rattle.odb_service.specs.Service.{Service}
 use Rattle.odb_service.specs.Session.{Session, take}
 use Rattle.odb_service.specs.World.{World, close}
-use Rattle.odb_core.specs.Represented.Core.{AreUnused, IsSound, empty_world, takes}
+use Rattle.odb_core.specs.Represented.Core.{AreUnused, IsValid, empty_world, takes}
 use Rattle.odb_core.specs.Represented.Sessions.{Sessions, at_session, text_taken}
 use Rattle.odb_service.proofs.WhoIsOpen as open_ones
 use Rattle.odb_core.proofs.Serving.{at, takes_as}
 use Rattle.odb_service.proofs.SessionMaps.{get-insert, same_key}
 use Rattle.odb_core.proofs.Unused.{unused_in_none, unused_same}
 
-pub new_sound : (s : Schema) → IsSound s (empty_world (length s.tables)) 0
+pub new_sound : (s : Schema) → IsValid s (empty_world (length s.tables)) 0
 new_sound s = (empty_typed s, λ h. refl, unused_in_none)
 
 still_open : (f : Session → Session) (m : Sessions) (s q : ℕ) → is_some (get (at_session f m s) q) ≡ is_some (get m q)

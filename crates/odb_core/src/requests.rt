@@ -13,7 +13,7 @@ ghost use Rattle.odb_atoms.specs.Represented.Atom.{uuid_of};
 ghost use Rattle.odb_rpc.specs.Represented.Printable.{printable_data};
 ghost use Rattle.odb_rpc.specs.Represented.Call.{call_view, called};
 ghost use Rattle.odb_schema.specs.SchemaText.{write_schema};
-ghost use Rattle.odb_tables.specs.Typed.{IsTyped};
+ghost use Rattle.odb_commit.specs.Sound.{IsSound};
 ghost use Rattle.odb_wire.specs.Message.{id_of};
 ghost use Rattle.odb_wire.specs.Shown.{request_data};
 ghost use Rattle.odb_queue.specs.Represented.Answer.{at_once, call_at, said};
@@ -44,11 +44,11 @@ impl State {
         fresh: &[Uuid],
         now: u64,
     ) -> Result<(), (Request, AllocError)>
-        requires typed { IsTyped served.now self.old.db }
+        requires sound { IsSound served.now self.old.db }
         requires tried { (h : Service) → untried h self.old ≡ None }
         ensures ok { OnOk result (handle (served_by served.now) session (request_data request) (map uuid_of fresh.now)
             (call_at served.now (request_data request)) (at_moment (served_by served.now) now self.old) ≡ self.new) }
-        ensures typed { IsTyped served.now self.new.db }
+        ensures sound { IsSound served.now self.new.db }
         ensures tried { (h : Service) → untried h self.new ≡ None }
         ensures err { OnErr result (self.new ≡ self.old) }
         ensures back { IfErr result (λ back. back.0 ≡ request) }
@@ -90,11 +90,11 @@ impl State {
         request: Request,
         fresh: &[Uuid],
     ) -> Result<(), (Request, AllocError)>
-        requires typed { IsTyped served.now self.old.db }
+        requires sound { IsSound served.now self.old.db }
         requires tried { (h : Service) → untried h self.old ≡ None }
         ensures ok { OnOk result (handle (served_by served.now) session (request_data request) (map uuid_of fresh.now)
             (call_at served.now (request_data request)) self.old ≡ self.new) }
-        ensures typed { IsTyped served.now self.new.db }
+        ensures sound { IsSound served.now self.new.db }
         ensures tried { (h : Service) → untried h self.new ≡ None }
         ensures err { OnErr result (self.new ≡ self.old) }
         ensures back { IfErr result (λ back. back.0 ≡ request) }
@@ -119,11 +119,11 @@ impl State {
         fresh: &[Uuid],
     ) -> Result<(), (Request, AllocError)>
         requires asks { asks_transaction (call_at served.now (request_data request)) ≡ true }
-        requires typed { IsTyped served.now self.old.db }
+        requires sound { IsSound served.now self.old.db }
         requires tried { (h : Service) → untried h self.old ≡ None }
         ensures ok { OnOk result (handle (served_by served.now) session (request_data request) (map uuid_of fresh.now)
             (call_at served.now (request_data request)) self.old ≡ self.new) }
-        ensures typed { IsTyped served.now self.new.db }
+        ensures sound { IsSound served.now self.new.db }
         ensures tried { (h : Service) → untried h self.new ≡ None }
         ensures err { OnErr result (self.new ≡ self.old) }
         ensures back { IfErr result (λ back. back.0 ≡ request) }
@@ -249,10 +249,10 @@ impl State {
     /// The moment is `now` in milliseconds, or stays where it was later; then the transactions whose
     /// deadline has come are tried. Where memory is refused nothing changes.
     pub(crate) fn tick(&mut self, schema: &Schema, now: u64) -> Result<(), AllocError>
-        requires typed { IsTyped schema.now self.old.db }
+        requires sound { IsSound schema.now self.old.db }
         requires tried { (h : Service) → untried h self.old ≡ None }
         ensures ok { OnOk result (tick (served_by schema.now) now self.old ≡ self.new) }
-        ensures typed { IsTyped schema.now self.new.db }
+        ensures sound { IsSound schema.now self.new.db }
         ensures tried { (h : Service) → untried h self.new ≡ None }
         ensures err { OnErr result (self.new ≡ self.old) }
     {

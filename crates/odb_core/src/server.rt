@@ -39,7 +39,7 @@ pub struct Core {
 
 impl Model for Core {
     ghost use Rattle.odb_service.specs.Server.{Server, server_code};
-    ghost use Rattle.odb_core.specs.Represented.Core.{IsSound};
+    ghost use Rattle.odb_core.specs.Represented.Core.{IsValid};
 
     ghost Value = { Server };
 
@@ -47,7 +47,7 @@ impl Model for Core {
 
     ghost view = { λ c. record { schema = c.served; world = c.state; opened = c.opened } };
 
-    ghost invariant = { λ c. IsSound c.served c.state c.opened };
+    ghost invariant = { λ c. IsValid c.served c.state c.opened };
 }
 
 impl Core {

@@ -12,7 +12,7 @@ ghost use Rattle.odb_rpc.specs.Represented.Printable.{printable_data};
 ghost use Rattle.odb_schema.specs.Json.{array_of};
 ghost use Rattle.odb_tables.specs.Change.{all_changed_by};
 ghost use Rattle.odb_tables.specs.Installing.{IsChangeOf};
-ghost use Rattle.odb_tables.specs.Typed.{IsTyped};
+ghost use Rattle.odb_commit.specs.Sound.{IsSound};
 ghost use Rattle.odb_wire.specs.Message.{has_left_out, id_of};
 ghost use Rattle.odb_wire.specs.Shown.{request_data};
 ghost use Rattle.odb_service.specs.Service.{Service};
@@ -95,7 +95,7 @@ impl State {
 
     /// What a transaction comes to now, as the next commit. Nothing is changed.
     fn outcome(&self, schema: &Schema, asked: &Submitted) -> Result<Outcome, AllocError>
-        requires { IsTyped schema.now self.now.db }
+        requires { IsSound schema.now self.now.db }
         ensures { IfOk result (λ outcome. Answers schema.now self.entry.now.db outcome (outcome_in schema.now self.entry.now asked.now)) }
     {
         let owned = self.locks.owned(self.alloc, asked.session)?;
@@ -178,11 +178,11 @@ impl State {
         asked: &Submitted,
         outcome: Outcome,
     ) -> Result<Tried, AllocError>
-        requires typed { IsTyped schema.now self.old.db }
+        requires sound { IsSound schema.now self.old.db }
         requires outcome { Answers schema.now self.old.db outcome (outcome_in schema.now self.old asked.now) }
         ensures ok { IfOk result (λ tried. (deadline : Option ℕ) → (n : ℕ)
             → attempt (served_by schema.now) (parked_as asked.now deadline n) self.old ≡ (self.new, waiting tried asked.now self.old.commits)) }
-        ensures typed { IsTyped schema.now self.new.db }
+        ensures sound { IsSound schema.now self.new.db }
         ensures waiting { self.new.parked ≡ self.old.parked }
         ensures err { OnErr result (self.new ≡ self.old) }
     {
@@ -205,9 +205,9 @@ impl State {
 
     /// Tries a transaction that waited: it ends, or waits again.
     fn retried(&mut self, schema: &Schema, parked: Parked) -> Result<Option<Parked>, AllocError>
-        requires { IsTyped schema.now self.old.db }
+        requires { IsSound schema.now self.old.db }
         ensures ok { IfOk result (λ left. attempt (served_by schema.now) parked self.old ≡ (self.new, left)) }
-        ensures typed { IsTyped schema.now self.new.db }
+        ensures sound { IsSound schema.now self.new.db }
     {
         let outcome = self.outcome(schema, parked.submitted())?;
         match self.conclude(schema, parked.submitted(), outcome)? {
@@ -227,11 +227,11 @@ impl State {
 
     /// Tries the transaction that waits at this place again: where it has to wait it stays there.
     fn try_at(&mut self, schema: &Schema, place: usize) -> Result<(), AllocError>
-        requires typed { IsTyped schema.now self.old.db }
+        requires sound { IsSound schema.now self.old.db }
         requires place { place < length self.old.parked }
         ensures ok { OnOk result ((t : List model.Parked × model.Parked × List model.Parked) → split_at self.old.parked place ≡ Some t
             → try_one (served_by schema.now) t self.old ≡ self.new) }
-        ensures typed { IsTyped schema.now self.new.db }
+        ensures sound { IsSound schema.now self.new.db }
     {
         let parked = self.parked.remove(place);
         if let Some(parked) = self.retried(schema, parked)? {
@@ -243,10 +243,10 @@ impl State {
     /// Tries each transaction that waits and wasn't tried since the newest commit, the earliest first,
     /// until there is none (RFC 7047, 5.2.6). After an error the state is of no further use.
     pub(crate) fn retry_all(&mut self, schema: &Schema) -> Result<(), AllocError>
-        requires { IsTyped schema.now self.old.db }
+        requires { IsSound schema.now self.old.db }
         ensures ok { OnOk result (retry_all (served_by schema.now) self.old ≡ self.new) }
         ensures tried { OnOk result ((h : Service) → untried h self.new ≡ None) }
-        ensures typed { IsTyped schema.now self.new.db }
+        ensures sound { IsSound schema.now self.new.db }
     {
         while let Some(place) = self.first_untried() {
             self.try_at(schema, place)?;
@@ -257,9 +257,9 @@ impl State {
     /// Tries each transaction whose deadline has come, in order of arrival. After an error the state is of
     /// no further use.
     pub(crate) fn try_due(&mut self, schema: &Schema) -> Result<(), AllocError>
-        requires { IsTyped schema.now self.old.db }
+        requires { IsSound schema.now self.old.db }
         ensures ok { OnOk result (try_due (served_by schema.now) self.old.parked (record (self.old) { parked = [] }) ≡ self.new) }
-        ensures typed { IsTyped schema.now self.new.db }
+        ensures sound { IsSound schema.now self.new.db }
     {
         let waiting = mem::replace(&mut self.parked, Vec::new(self.alloc));
         for parked in waiting {
@@ -269,9 +269,9 @@ impl State {
     }
 
     fn try_if_due(&mut self, schema: &Schema, parked: Parked) -> Result<(), AllocError>
-        requires { IsTyped schema.now self.old.db }
+        requires { IsSound schema.now self.old.db }
         ensures ok { OnOk result ((ps : List model.Parked) → try_due (served_by schema.now) (parked ∷ ps) self.old ≡ try_due (served_by schema.now) ps self.new) }
-        ensures typed { IsTyped schema.now self.new.db }
+        ensures sound { IsSound schema.now self.new.db }
     {
         if !parked.is_due(self.now) {
             self.parked.push(parked)?;
@@ -291,10 +291,10 @@ impl State {
         schema: &Schema,
         asked: Submitted,
     ) -> Result<(), (Submitted, AllocError)>
-        requires typed { IsTyped schema.now self.old.db }
+        requires sound { IsSound schema.now self.old.db }
         requires tried { (h : Service) → untried h self.old ≡ None }
         ensures ok { OnOk result (run_transaction (served_by schema.now) (parked_as asked None self.old.commits) self.old ≡ self.new) }
-        ensures typed { IsTyped schema.now self.new.db }
+        ensures sound { IsSound schema.now self.new.db }
         ensures tried { (h : Service) → untried h self.new ≡ None }
         ensures err { OnErr result (self.new ≡ self.old) }
         ensures back { IfErr result (λ back. back.0 ≡ asked) }
@@ -322,11 +322,11 @@ impl State {
         results: Vec<Value>,
         change: ChangeSet,
     ) -> Result<(), AllocError>
-        requires typed { IsTyped schema.now self.old.db }
+        requires sound { IsSound schema.now self.old.db }
         requires tried { (h : Service) → untried h self.old ≡ None }
         requires outcome { IsDone schema.now self.old asked.now results change }
         ensures ok { OnOk result (run_transaction (served_by schema.now) (parked_as asked.now None self.old.commits) self.old ≡ self.new) }
-        ensures typed { IsTyped schema.now self.new.db }
+        ensures sound { IsSound schema.now self.new.db }
         ensures tried { (h : Service) → untried h self.new ≡ None }
         ensures err { OnErr result (self.new ≡ self.old) }
     {

@@ -9,7 +9,7 @@ use Rattle.odb_service.specs.Service.{Service}
 use Rattle.odb_service.specs.Session.{Session}
 use Rattle.odb_service.specs.World.{World, untried}
 use Rattle.odb_schema.specs.Schema.{Schema}
-use Rattle.odb_tables.specs.Typed.{IsTyped}
+use Rattle.odb_commit.specs.Sound.{IsSound}
 
 -- the sessions by their numbers
 abbrev pub sessions_in : BTreeMap ℕ Session → finite.FinMap nat_cmp Session
@@ -20,8 +20,8 @@ abbrev pub AreUnused : finite.FinMap nat_cmp Session → ℕ → Type 0
 AreUnused s opened = (q : ℕ) → opened ≤ q → finite.get s q ≡ None
 
 -- rows are of the schema, each waiting transaction was tried since the newest commit, and numbers of sessions stay below those to come
-abbrev pub IsSound : Schema → World → ℕ → Type 0
-IsSound s w opened = IsTyped s w.db × ((h : Service) → untried h w ≡ None) × AreUnused w.sessions opened
+abbrev pub IsValid : Schema → World → ℕ → Type 0
+IsValid s w opened = IsSound s w.db × ((h : Service) → untried h w ≡ None) × AreUnused w.sessions opened
 
 -- empty tables, no commit, no waiting transaction, no lock and no session
 abbrev pub empty_world : ℕ → World

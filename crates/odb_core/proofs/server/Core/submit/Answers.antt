@@ -8,7 +8,7 @@ use Rattle.odb_service.specs.Server.{Server, serve, served_by}
 use Rattle.odb_service.specs.Session.{Session}
 use Rattle.odb_service.specs.World.{World, at_moment, handle, owed_replies}
 use Rattle.odb_queue.specs.Represented.Answer.{call_at}
-use Rattle.odb_core.specs.Represented.Core.{AreUnused, IsSound}
+use Rattle.odb_core.specs.Represented.Core.{AreUnused, IsValid}
 use Rattle.odb_core.specs.Represented.Reason.{IsReason}
 use Rattle.odb_service.proofs.Results.{either_way}
 use Rattle.odb_core.proofs.Serving.{at, submit-busy, submit-gone, submit-ok}
@@ -53,14 +53,14 @@ invariant_of-self c =
     let v : World = c.take_in.new.self in
     let d = request_data c.args.request in
     let fresh = map uuid_of c.args.fresh.now in
-    let sound : IsSound s w i.opened = c.self.invariant in
+    let sound : IsValid s w i.opened = c.self.invariant in
     let u : World = at_moment h c.args.now w in
     let unused : AreUnused v.sessions i.opened =
     either_way (handle h c.args.session d fresh (call_at s d) u ≡ v) (v ≡ w) (AreUnused v.sessions i.opened) c.take_in.result c.take_in.ensures.ok c.take_in.ensures.err
     (λ e. unused_same w.sessions v.sessions i.opened (λ q. ap (λ (u : World). is_some (get u.sessions q)) (sym e) ∙ handles h c.args.session d fresh (call_at s d) u q) sound.2)
     (λ e. subst (λ (u : World). AreUnused u.sessions i.opened) (sym e) sound.2)
     in
-    (c.take_in.ensures.typed, c.take_in.ensures.tried, unused)
+    (c.take_in.ensures.sound, c.take_in.ensures.tried, unused)
 
 pub returns-clause-ok : goal.returns-clause-ok
 returns-clause-ok c =

@@ -4,7 +4,7 @@ use Rattle.odb_atoms.specs.FinMap.{get}
 use Rattle.odb_service.specs.Server.{Server, served_by}
 use Rattle.odb_service.specs.Session.{take}
 use Rattle.odb_service.specs.World.{World}
-use Rattle.odb_core.specs.Represented.Core.{IsSound, takes}
+use Rattle.odb_core.specs.Represented.Core.{IsValid, takes}
 use Rattle.odb_core.specs.Represented.Out.{sent_in}
 use Rattle.odb_core.specs.declared.out.Out.{Out}
 use Rattle.odb_core.specs.Represented.Sessions.{text_taken}
@@ -18,7 +18,7 @@ invariant_of-self c =
     let s = c.self-inside.inside.0.1.0 in
     let r = c.self-inside.inside.0.1.1.1.0 in
     let w : World = record { db = r.db; commits = r.commits; now = r.now; parked = r.parked.items; locks = r.locks; sessions = r.sessions } in
-    let sound : IsSound s w n = subst (λ i. IsSound i.served i.state i.opened) (sym c.self-inside.view_is) c.self.invariant in
+    let sound : IsValid s w n = subst (λ i. IsValid i.served i.state i.opened) (sym c.self-inside.view_is) c.self.invariant in
     (sound.0, sound.1, unused_at (λ x. (take (served_by s) w.db x).1) r.sessions c.take.new.self c.args.session n (c.take.ensures.sessions (served_by s) w.db) sound.2)
 
 pub returns-in_err-text : goal.returns-in_err-text
@@ -41,7 +41,7 @@ invariant_of-self-2 c =
     let s = c.self-inside.inside.0.1.0 in
     let r = c.self-inside.inside.0.1.1.1.0 in
     let w : World = record { db = r.db; commits = r.commits; now = r.now; parked = r.parked.items; locks = r.locks; sessions = r.sessions } in
-    let sound : IsSound s w n = subst (λ i. IsSound i.served i.state i.opened) (sym c.self-inside.view_is) c.self.invariant in
+    let sound : IsValid s w n = subst (λ i. IsValid i.served i.state i.opened) (sym c.self-inside.view_is) c.self.invariant in
     (sound.0, sound.1, unused_at (λ x. (take (served_by s) w.db x).1) r.sessions c.take.new.self c.args.session n (c.take.ensures.sessions (served_by s) w.db) sound.2)
 
 pub returns : goal.returns

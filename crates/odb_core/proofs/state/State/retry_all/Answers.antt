@@ -17,7 +17,7 @@ loop-place-preserved c =
     let h = served_by c.args.schema.now in
     let w : World = c.loop-place.self in
     let f : IsFirst (is_untried w.commits) w.parked c.in-Some.place = first_found (is_untried w.commits) w.parked c.in-Some.place (sym c.first_untried.ensures ∙ c.in-Some.is) in
-    (c.loop-place.invariant.0 ∙ retried_next h w f.parts f.first ∙ ap (retry_all h) (c.in_ok-try_at.ensures.ok f.parts f.split), c.try_at.ensures.typed)
+    (c.loop-place.invariant.0 ∙ retried_next h w f.parts f.first ∙ ap (retry_all h) (c.in_ok-try_at.ensures.ok f.parts f.split), c.try_at.ensures.sound)
 
 pub returns-clause-ok : goal.returns-clause-ok
 returns-clause-ok c =
