@@ -1,19 +1,17 @@
 #!/usr/bin/env python3
-"""Plays transcripts to ovsdb-server and to this server, and prints where their answers differ.
+"""Plays the transcripts of the store to ovsdb-server, and prints where its answers differ from those that stand in them.
 
 Usage: tests/peers.py [--all] [WORD]      with WORD: the transcripts alone that have it in their titles
                                           with --all: what is the same is printed too
 
-The transcripts are those of crates/odb_script/src/tests (their notation stands in transcript.rt) and those of
-tests/peers.txt. Each is played to a new database. ovsdb-server (Debian's package openvswitch-switch) listens on
-127.0.0.1; ours runs as `./ovsdbd script`. Without ovsdb-server nothing is compared, and the exit status is 0.
-OVSDB_SERVER and OVSDB_TOOL name the programs where they aren't in the path.
+Each is played to a new database. ovsdb-server (Debian's package openvswitch-switch) listens on 127.0.0.1. Without it
+nothing is compared, and the exit status is 0. OVSDB_SERVER and OVSDB_TOOL name the programs where they aren't in the path.
 
 Answers are compared for each session apart, as JSON. Before that identifiers are renamed (inserted rows U1, U2, ..
 as the transcripts number them, others X1, X2, .. as they come), and the rows of a `select` and the members of a set
 are sorted, as the other server's identifiers are random. A moment of a script is 250 milliseconds of its life.
-Transcripts that hold back what a session is sent (`!hold`), or wait for longer than 1,000 moments, are left out:
-nothing of the other server corresponds to them.
+Transcripts that hold back what a session is sent (`!hold`), wait for longer than 1,000 moments, or have other sessions
+than A, B and C or a fault of the schema are left out, and counted: nothing of the other server corresponds to them.
 """
 
 import json
@@ -27,8 +25,8 @@ import sys
 import tempfile
 import time
 
-ROOT = os.path.dirname(os.path.dirname(os.path.abspath(__file__)))
-TESTS = os.path.join(ROOT, "crates", "odb_script", "src", "tests")
+from transcripts import store
+
 QUIET = 0.02  # seconds without a byte after which the other server is taken to have said all
 PATIENCE = 1  # seconds that the first byte may take where a reply is due
 MOMENT = 0.25
@@ -36,58 +34,10 @@ UUID = re.compile(r"[0-9a-f]{8}-[0-9a-f]{4}-[0-9a-f]{4}-[0-9a-f]{4}-[0-9a-f]{12}
 ZERO = "00000000-0000-0000-0000-000000000000"
 
 
-def in_full(text):
-    """A line with quotes and identifiers in full."""
-    text = re.sub(r"'U(\d)", r"'00000000-0000-4000-8000-00000000000\1", text)
-    text = re.sub(r"'V(\d)", r"'00000000-0000-0000-0000-00000000000\1", text)
-    return text.replace("'", '"')
-
-
-def schemas(source):
-    """The schemas of the transcripts by the names of their constants: (name, text)."""
-    found = re.findall(r'const (\w+): Database = Database \{\s*name: "(\w+)",\s*schema: "(.*?)",\n\};', source, re.S)
-    return {constant: (name, re.sub(r"\\\n\s*", "", text).replace("'", '"')) for constant, name, text in found}
-
-
-def stored(source):
-    """The transcripts of a file of tests: (constant of the schema, text)."""
-    for test in source.split("#[test]")[1:]:
-        constant = re.search(r"plays\([^;]*?\b([A-Z]{3}),", test, re.S)
-        for text in re.findall(r'"([^"]*\n[<>] [^"]*)"', test):
-            if constant and not text.startswith(("> ", "<")):
-                yield constant.group(1), text
-
-
-def transcripts():
-    """All transcripts: (title, name of the database, schema, lines that go in)."""
-    with open(os.path.join(TESTS, "transcript.rt")) as file:
-        known = schemas(file.read())
-    texts = []
-    for name in sorted(os.listdir(TESTS)):
-        with open(os.path.join(TESTS, name)) as file:
-            texts += stored(file.read())
-    with open(os.path.join(ROOT, "tests", "peers.txt")) as file:
-        for part in file.read().split("\n== ")[1:]:
-            constant, text = part.split(" ", 1)
-            texts.append((constant, text))
-    for constant, text in texts:
-        name, schema = known[constant]
-        lines = text.split("\n")
-        commands = [command(name, in_full(line[2:])) for line in lines if line.startswith("> ")]
-        if not any(re.match(r"!hold|!tick \d{5}", line) for line in commands):
-            yield lines[0], name, schema, commands
-
-
-def command(database, line):
-    """A line that goes in, from its short form."""
-    session, _, rest = line.partition(" ")
-    method, _, rest = rest.partition(" ")
-    if not session[:1].isalpha() or not method[:1].isalpha() or not rest:
-        return line
-    number, _, params = rest.partition(" ")
-    if method == "transact":
-        params = '["%s"%s]' % (database, "," + params if params else "")
-    return '%s {"method":"%s","params":%s,"id":%s}' % (session, method, params, number)
+def is_alike(transcript):
+    """Whether something of the other server corresponds to all that goes in."""
+    others = r"> (!hold|!tick \d{5}|!open [^ABC]|!close [^ABC]|[^ABC!])"
+    return transcript.lines and not any(re.match(others, line) for line in transcript.whole())
 
 
 def inserted(number):
@@ -158,23 +108,15 @@ def renamed(messages, names):
     return lines
 
 
-class Ours:
-    """This server: the script runs at once, and its lines are the answers."""
-
-    def play(self, name, schema, lines):
-        with tempfile.NamedTemporaryFile("w", suffix=".json") as file:
-            file.write(schema)
-            file.flush()
-            words = [os.path.join(ROOT, "ovsdbd"), "script", "--schema", file.name]
-            script = "".join(line + "\n" for line in ["!open A", "!open B", "!open C", *lines])
-            text = subprocess.run(words, input=script, capture_output=True, text=True).stdout
-        answers = {}
-        for line in text.splitlines():
-            session, _, message = line.partition(" ")
-            if message not in ("!gone", "!open"):
-                answers.setdefault(session, []).append("!closed" if message.startswith("!fault") else message)
-        names = {inserted(number): "U%d" % number for number in range(1, 100)}
-        return {session: renamed(messages, names) for session, messages in answers.items()}
+def ours(transcript):
+    """The answers that stand in the transcript, by their sessions."""
+    answers = {}
+    for line in transcript.whole():
+        session, _, message = line[2:].partition(" ")
+        if line.startswith("< ") and message not in ("!gone", "!open"):
+            answers.setdefault(session, []).append("!closed" if message.startswith("!fault") else message)
+    names = {inserted(number): "U%d" % number for number in range(1, 100)}
+    return {session: renamed(messages, names) for session, messages in answers.items()}
 
 
 class Theirs:
@@ -183,14 +125,13 @@ class Theirs:
     def __init__(self, server, tool):
         self.server, self.tool = server, tool
 
-    def play(self, name, schema, lines):
+    def play(self, transcript):
         with tempfile.TemporaryDirectory() as directory:
             file = os.path.join(directory, "db")
-            with open(file + ".json", "w") as text:
-                text.write(schema)
-            made = subprocess.run([self.tool, "create", file, file + ".json"], capture_output=True, text=True)
+            made = subprocess.run([self.tool, "create", file, transcript.schema_path], capture_output=True, text=True)
             if made.returncode:
                 return {"schema": [made.stderr.strip()]}
+            lines = [line[2:] for line in transcript.whole() if line.startswith("> ")]
             return self.played(file, directory, lines)
 
     def played(self, file, directory, lines):
@@ -235,7 +176,7 @@ class Theirs:
             self.sockets.pop(rest).close()
         elif word in self.sockets:
             try:
-                self.sockets[word].sendall(self.scaled(self.identifiers.ask(word, rest)).encode())
+                self.sockets[word].sendall(self.scaled(self.identifiers.ask(word, rest)).encode("utf-8", "surrogateescape"))
             except OSError:
                 pass
         due = '"id":' in rest and '"id":null' not in rest and '"op":"wait"' not in rest
@@ -263,7 +204,7 @@ class Theirs:
 
     def take(self, session):
         try:
-            piece = self.sockets[session].recv(1 << 20).decode()
+            piece = self.sockets[session].recv(1 << 20).decode("utf-8", "surrogateescape")
         except OSError:
             piece = ""
         if not piece:
@@ -329,6 +270,7 @@ def show(ours, theirs):
 
 
 def main():
+    sys.stdout.reconfigure(errors="backslashreplace")
     words = [word for word in sys.argv[1:] if word != "--all"]
     server = os.environ.get("OVSDB_SERVER") or shutil.which("ovsdb-server")
     tool = os.environ.get("OVSDB_TOOL") or shutil.which("ovsdb-tool")
@@ -336,16 +278,18 @@ def main():
         print("skipped: ovsdb-server isn't installed (Debian's package openvswitch-switch)")
         return
     counts = {"same": 0, "words": 0, "differs": 0}
-    ours, theirs = Ours(), Theirs(server, tool)
-    for title, name, schema, lines in transcripts():
-        if words and words[0] not in title:
+    theirs, found = Theirs(server, tool), store()
+    alike = [it for it in found if is_alike(it)]
+    for transcript in alike:
+        if words and words[0] not in transcript.title:
             continue
-        sides = ours.play(name, schema, lines), theirs.play(name, schema, lines)
+        sides = ours(transcript), theirs.play(transcript)
         kind = compare(*sides)
         counts[kind] += 1
         if kind == "differs" or "--all" in sys.argv:
-            print("%s: %s (%s)" % (kind, title, name))
+            print("%s: %s (%s)" % (kind, transcript.title, transcript.section))
             show(*sides)
+    print("%d left out" % (len(found) - len(alike)))
     print("%(same)d the same, %(words)d but for what errors say besides their names, %(differs)d different" % counts)
 
 

@@ -1,13 +1,14 @@
 -- Examples as transcripts: what a script on a fresh server prints, line by line.
---     codes "> A monitor 1 ['net','m',{'Bridge':{}}]"      a line that goes in
---     codes "< A reply 1 {}"                               a line that it prints
--- Quotes are written `'`. Whole lines have short forms:
+--     codes "> A monitor 1 [\"net\",\"m\",{\"Bridge\":{}}]"      a line that goes in
+--     codes "< A reply 1 {}"                                     a line that it prints
+-- Whole lines have short forms:
 --     > A METHOD N P             A {"method":"METHOD","params":P,"id":N}
 --     > A transact N OPS         A {"method":"transact","params":[the database's name,OPS],"id":N}
 --     < A reply N X              A {"error":null,"id":N,"result":X}
 --     < A error N NAME           A {"error":{"error":"NAME"},"id":N,"result":null}, or with "error":"NAME" for the four that are printed as their name
 --     < A METHOD P               A {"id":null,"method":"METHOD","params":P}
--- Other lines stand as they are: commands with `!`, pieces that don't begin with a letter or have no space. 'U3' is the script's third UUID, 'V2' the number 2 as a UUID.
+-- Other lines stand as they are: commands with `!`, pieces that don't begin with a letter or have no space. "U3" is the script's third UUID, "V2" the number 2 as a UUID.
+-- The examples themselves are made from transcripts/ by `tests/examples` (OfSection*).
 use Rattle.std.specs.Prelude.{◌≡◌, ⊤, ℕ, zero, suc, ◌+◌, ◌-◌, ◌*◌, ◌==◌, nat_lt, nat_le, length, Bool, true, false, cond, ◌&&◌, ◌||◌, List, [], ◌∷◌, ◌++◌, map, Option, Some, None, Ok, Err, codes, bytes_eq, drop}
 use Rattle.std.specs.List.{list_any}
 use Rattle.std.specs.Str.{is_utf8}
@@ -33,9 +34,6 @@ word (c ∷ cs) = elim (c == 32) as (λ _. List ℕ) [ true ↦ [] | false ↦ c
 
 abbrev rest : List ℕ → List ℕ
 rest s = drop (length (word s) + 1) s
-
-abbrev unquoted : List ℕ → List ℕ
-unquoted = map (λ c. cond (c == 39) 34 c)
 
 abbrev is_letter : List ℕ → Bool
 is_letter [] = false
@@ -63,7 +61,7 @@ named (suc n) (c ∷ cs) = elim (c == 34) as (λ _. List ℕ) [
 ]
 
 abbrev whole : List ℕ → List ℕ
-whole s = named (length s) (unquoted s)
+whole s = named (length s) s
 
 -- a request of a session, from its method, its id and its params
 abbrev request : List ℕ → List ℕ → List ℕ → List ℕ
