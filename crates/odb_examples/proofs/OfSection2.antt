@@ -1,6 +1,6 @@
 -- Transcripts of section 2 of docs/PROTOCOL.md. Made by `tests/examples` from transcripts/: no hand writes here.
-use Rattle.std.specs.Prelude.{◌∷◌, [], codes, refl}
-use Rattle.odb_examples.proofs.TestSchemas.{net, operations, settlement}
+use Rattle.std.specs.Prelude.{◌++◌, ◌∷◌, [], codes, refl}
+use Rattle.odb_examples.proofs.TestSchemas.{kinds, net, operations, settlement}
 use Rattle.odb_examples.proofs.Transcripts.{Plays, shows}
 
 -- A map is read from the front, key before value
@@ -58,6 +58,60 @@ pub notations_of_identifiers : Plays operations (
     ∷ [])
 unfolding shows
 notations_of_identifiers = refl
+
+-- The first fault of a value is its error
+pub the_first_fault_of_a_value_is_its_error : Plays kinds (
+    codes "> A transact 1 {\"op\":\"insert\",\"table\":\"T\",\"row\":{\"us\":[\"set\",[[\"named-uuid\",\"a\"],[\"named-uuid\",\"a\"],[\"named-uuid\",\"b\"]]]}},{\"op\":\"insert\",\"table\":\"T\",\"row\":{},\"uuid-name\":\"a\"}"
+    ∷ codes "< A reply 1 [{\"error\":\"syntax error\"},null]"
+    ∷ codes "> A transact 2 {\"op\":\"insert\",\"table\":\"T\",\"row\":{\"us\":[\"set\",[[\"named-uuid\",\"b\"],[\"named-uuid\",\"a\"],[\"named-uuid\",\"a\"]]]}},{\"op\":\"insert\",\"table\":\"T\",\"row\":{},\"uuid-name\":\"a\"}"
+    ∷ codes "< A reply 2 [{\"error\":\"unknown uuid-name\"},null]"
+    ∷ codes "> A transact 3 {\"op\":\"insert\",\"table\":\"T\",\"row\":{\"us\":[\"set\",[[\"named-uuid\",\"b\"],1]]}},{\"op\":\"insert\",\"table\":\"T\",\"row\":{},\"uuid-name\":\"a\"}"
+    ∷ codes "< A reply 3 [{\"error\":\"unknown uuid-name\"},null]"
+    ∷ codes "> A transact 4 {\"op\":\"insert\",\"table\":\"T\",\"row\":{\"mu\":[\"map\",[[\"k\",[\"named-uuid\",\"a\"]],[\"k\",[\"named-uuid\",\"b\"]]]]}},{\"op\":\"insert\",\"table\":\"T\",\"row\":{},\"uuid-name\":\"a\"}"
+    ∷ codes "< A reply 4 [{\"error\":\"syntax error\"},null]"
+    ∷ codes "> A transact 5 {\"op\":\"insert\",\"table\":\"T\",\"row\":{\"mu\":[\"map\",[[\"k\",[\"named-uuid\",\"b\"]],[\"k\",[\"named-uuid\",\"a\"]]]]}},{\"op\":\"insert\",\"table\":\"T\",\"row\":{},\"uuid-name\":\"a\"}"
+    ∷ codes "< A reply 5 [{\"error\":\"unknown uuid-name\"},null]"
+    ∷ codes "> A transact 6 {\"op\":\"insert\",\"table\":\"T\",\"row\":{\"mu\":[\"map\",[[\"k\",[\"named-uuid\",\"b\"]],1]]}},{\"op\":\"insert\",\"table\":\"T\",\"row\":{},\"uuid-name\":\"a\"}"
+    ∷ codes "< A reply 6 [{\"error\":\"unknown uuid-name\"},null]"
+    ∷ codes "> A transact 7 {\"op\":\"insert\",\"table\":\"T\",\"row\":{\"us\":[\"set\",[[\"named-uuid\",\"a\"]]]}},{\"op\":\"insert\",\"table\":\"T\",\"row\":{},\"uuid-name\":\"a\"}"
+    ∷ codes "< A reply 7 [{\"uuid\":[\"uuid\",\"U13\"]},{\"uuid\":[\"uuid\",\"U14\"]}]"
+    ∷ codes "> A transact 8 {\"op\":\"select\",\"table\":\"T\",\"where\":[[\"us\",\"==\",[\"uuid\",\"U14\"]]],\"columns\":[\"us\"]}"
+    ∷ codes "< A reply 8 [{\"rows\":[{\"us\":[\"uuid\",\"U14\"]}]}]"
+    ∷ [])
+unfolding shows
+the_first_fault_of_a_value_is_its_error = refl
+
+-- Values in other notations
+pub values_in_other_notations : Plays kinds (
+    codes "> A transact 1 {\"op\":\"insert\",\"table\":\"T\",\"row\":{\"is\":[\"set\",[\"a\"]]}}"
+    ∷ codes "< A reply 1 [{\"error\":\"syntax error\"}]"
+    ∷ codes "> A transact 2 {\"op\":\"insert\",\"table\":\"T\",\"row\":{\"is\":[\"map\",[]]}}"
+    ∷ codes "< A reply 2 [{\"error\":\"syntax error\"}]"
+    ∷ codes "> A transact 3 {\"op\":\"insert\",\"table\":\"T\",\"row\":{\"is\":null}}"
+    ∷ codes "< A reply 3 [{\"error\":\"syntax error\"}]"
+    ∷ codes "> A transact 4 {\"op\":\"insert\",\"table\":\"T\",\"row\":{\"is\":{}}}"
+    ∷ codes "< A reply 4 [{\"error\":\"syntax error\"}]"
+    ∷ codes "> A transact 5 {\"op\":\"insert\",\"table\":\"T\",\"row\":{\"ss\":1}}"
+    ∷ codes "< A reply 5 [{\"error\":\"syntax error\"}]"
+    ∷ codes "> A transact 6 {\"op\":\"insert\",\"table\":\"T\",\"row\":{\"bs\":0}}"
+    ∷ codes "< A reply 6 [{\"error\":\"syntax error\"}]"
+    ∷ codes "> A transact 7 {\"op\":\"insert\",\"table\":\"T\",\"row\":{\"bs\":\"true\"}}"
+    ∷ codes "< A reply 7 [{\"error\":\"syntax error\"}]"
+    ∷ codes "> A transact 8 {\"op\":\"insert\",\"table\":\"T\",\"row\":{\"mi\":[\"map\",[[1,1]]]}}"
+    ∷ codes "< A reply 8 [{\"error\":\"syntax error\"}]"
+    ∷ codes "> A transact 9 {\"op\":\"insert\",\"table\":\"T\",\"row\":{\"mi\":\"a\"}}"
+    ∷ codes "< A reply 9 [{\"error\":\"syntax error\"}]"
+    ∷ codes "> A transact 10 {\"op\":\"insert\",\"table\":\"T\",\"row\":{\"us\":[\"uuid\",7]}}"
+    ∷ codes "< A reply 10 [{\"error\":\"syntax error\"}]"
+    ∷ codes "> A transact 11 {\"op\":\"insert\",\"table\":\"T\",\"row\":{\"us\":[\"uuid\",\"7\"]}}"
+    ∷ codes "< A reply 11 [{\"error\":\"syntax error\"}]"
+    ∷ codes "> A transact 12 {\"op\":\"insert\",\"table\":\"T\",\"row\":{\"us\":[\"uuid\",\"550E8400-E29B-41D4-A716-446655440000\"]}}"
+    ∷ codes "< A reply 12 [{\"uuid\":[\"uuid\",\"U12\"]}]"
+    ∷ codes "> A transact 13 {\"op\":\"select\",\"table\":\"T\",\"where\":[],\"columns\":[\"us\"]}"
+    ∷ codes "< A reply 13 [{\"rows\":[{\"us\":[\"uuid\",\"550e8400-e29b-41d4-a716-446655440000\"]}]}]"
+    ∷ [])
+unfolding shows
+values_in_other_notations = refl
 
 -- Maps of an inserted row
 pub maps_of_an_inserted_row : Plays operations (
@@ -198,3 +252,45 @@ pub values_of_another_kind : Plays net (
     ∷ [])
 unfolding shows
 values_of_another_kind = refl
+
+-- Values that a type admits, and others
+pub values_that_a_type_admits_and_others : Plays kinds (
+    (codes "> A transact 1 {\"op\":\"insert\",\"table\":\"T\",\"row\":{\"few\":[\"set\",[3,4]],\"short\":\"" ++ 195 ∷ 169 ∷ 226 ∷ 130 ∷ 172 ∷ codes "\"}}")
+    ∷ codes "< A reply 1 [{\"uuid\":[\"uuid\",\"U1\"]}]"
+    ∷ codes "> A transact 2 {\"op\":\"insert\",\"table\":\"T\",\"row\":{\"few\":[\"set\",[7,8,9]]}}"
+    ∷ codes "< A reply 2 [{\"error\":\"constraint violation\"}]"
+    ∷ codes "> A transact 3 {\"op\":\"insert\",\"table\":\"T\",\"row\":{\"few\":6}}"
+    ∷ codes "< A reply 3 [{\"error\":\"constraint violation\"}]"
+    ∷ codes "> A transact 4 {\"op\":\"insert\",\"table\":\"T\",\"row\":{\"few\":\"6\"}}"
+    ∷ codes "< A reply 4 [{\"error\":\"syntax error\"}]"
+    ∷ (codes "> A transact 5 {\"op\":\"insert\",\"table\":\"T\",\"row\":{\"short\":\"" ++ 195 ∷ 169 ∷ 226 ∷ 130 ∷ 172 ∷ codes "x\"}}")
+    ∷ codes "< A reply 5 [{\"error\":\"constraint violation\"}]"
+    ∷ codes "> A transact 6 {\"op\":\"update\",\"table\":\"T\",\"where\":[],\"row\":{\"tag\":4095}},{\"op\":\"mutate\",\"table\":\"T\",\"where\":[],\"mutations\":[[\"tag\",\"+=\",1]]}"
+    ∷ codes "< A reply 6 [{\"count\":1},{\"error\":\"constraint violation\"}]"
+    ∷ codes "> A transact 7 {\"op\":\"select\",\"table\":\"T\",\"where\":[[\"i\",\"==\",[\"set\",[]]]]}"
+    ∷ codes "< A reply 7 [{\"error\":\"syntax error\"}]"
+    ∷ codes "> A transact 8 {\"op\":\"select\",\"table\":\"T\",\"where\":[[\"i\",\"==\",[\"set\",[1,2]]]]}"
+    ∷ codes "< A reply 8 [{\"error\":\"syntax error\"}]"
+    ∷ (codes "> A transact 9 {\"op\":\"select\",\"table\":\"T\",\"where\":[[\"short\",\"==\",\"" ++ 195 ∷ 169 ∷ 226 ∷ 130 ∷ 172 ∷ codes "\"],[\"i\",\"==\",[\"set\",[0]]]],\"columns\":[\"few\",\"short\",\"tag\"]}")
+    ∷ (codes "< A reply 9 [{\"rows\":[{\"few\":[\"set\",[3,4]],\"short\":\"" ++ 195 ∷ 169 ∷ 226 ∷ 130 ∷ 172 ∷ codes "\",\"tag\":0}]}]")
+    ∷ [])
+unfolding shows
+values_that_a_type_admits_and_others = refl
+
+-- Sets and maps are printed in order
+pub sets_and_maps_are_printed_in_order : Plays kinds (
+    codes "> A transact 1 {\"op\":\"insert\",\"table\":\"T\",\"row\":{\"is\":[\"set\",[7]],\"bs\":[\"set\",[true,false]],\"ss\":[\"set\",[\"b\",\"a\"]],\"mi\":[\"map\",[[\"b\",2],[\"a\",1]]]}},{\"op\":\"select\",\"table\":\"T\",\"where\":[],\"columns\":[\"bs\",\"is\",\"mi\",\"ss\"]}"
+    ∷ codes "< A reply 1 [{\"uuid\":[\"uuid\",\"U1\"]},{\"rows\":[{\"bs\":[\"set\",[false,true]],\"is\":7,\"mi\":[\"map\",[[\"a\",1],[\"b\",2]]],\"ss\":[\"set\",[\"a\",\"b\"]]}]}]"
+    ∷ codes "> A transact 2 {\"op\":\"update\",\"table\":\"T\",\"where\":[],\"row\":{\"is\":[\"set\",[9223372036854775807,-9223372036854775808]],\"bs\":[\"set\",[]],\"ss\":[\"set\",[]],\"mi\":[\"map\",[]]}},{\"op\":\"select\",\"table\":\"T\",\"where\":[],\"columns\":[\"bs\",\"is\",\"mi\",\"ss\"]}"
+    ∷ codes "< A reply 2 [{\"count\":1},{\"rows\":[{\"bs\":[\"set\",[]],\"is\":[\"set\",[-9223372036854775808,9223372036854775807]],\"mi\":[\"map\",[]],\"ss\":[\"set\",[]]}]}]"
+    ∷ [])
+unfolding shows
+sets_and_maps_are_printed_in_order = refl
+
+-- Strings of values keep their characters
+pub strings_of_values_keep_their_characters : Plays kinds (
+    codes "> A transact 1 {\"op\":\"insert\",\"table\":\"T\",\"row\":{\"s\":\"\\\"\\\\\\/\\b\\f\\n\\r\\t\",\"ss\":[\"set\",[\"\\u0001\\u001f\",\"\\u0041\",\"\"]]}},{\"op\":\"select\",\"table\":\"T\",\"where\":[],\"columns\":[\"s\",\"ss\"]}"
+    ∷ codes "< A reply 1 [{\"uuid\":[\"uuid\",\"U1\"]},{\"rows\":[{\"s\":\"\\\"\\\\/\\b\\f\\n\\r\\t\",\"ss\":[\"set\",[\"\",\"\\u0001\\u001f\",\"A\"]]}]}]"
+    ∷ [])
+unfolding shows
+strings_of_values_keep_their_characters = refl

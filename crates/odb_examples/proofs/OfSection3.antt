@@ -1,6 +1,6 @@
 -- Transcripts of section 3 of docs/PROTOCOL.md. Made by `tests/examples` from transcripts/: no hand writes here.
 use Rattle.std.specs.Prelude.{◌∷◌, [], codes, refl}
-use Rattle.odb_examples.proofs.TestSchemas.{choices, cnt, net, one_pair, operations}
+use Rattle.odb_examples.proofs.TestSchemas.{choices, cnt, kinds, net, one_pair, operations}
 use Rattle.odb_examples.proofs.Transcripts.{Plays, shows}
 
 -- A condition of four members
@@ -128,6 +128,28 @@ pub each_function_and_the_columns_that_have_it : Plays operations (
     ∷ [])
 unfolding shows
 each_function_and_the_columns_that_have_it = refl
+
+-- Maps are compared pair by pair
+pub maps_are_compared_pair_by_pair : Plays kinds (
+    codes "> A transact 1 {\"op\":\"insert\",\"table\":\"T\",\"row\":{\"mi\":[\"map\",[[\"k\",1],[\"j\",3]]]}}"
+    ∷ codes "< A reply 1 [{\"uuid\":[\"uuid\",\"U1\"]}]"
+    ∷ codes "> A transact 2 {\"op\":\"select\",\"table\":\"T\",\"where\":[[\"mi\",\"==\",[\"map\",[[\"j\",3],[\"k\",1]]]]],\"columns\":[\"i\"]}"
+    ∷ codes "< A reply 2 [{\"rows\":[{\"i\":0}]}]"
+    ∷ codes "> A transact 3 {\"op\":\"select\",\"table\":\"T\",\"where\":[[\"mi\",\"!=\",[\"map\",[[\"j\",3],[\"k\",2]]]]],\"columns\":[\"i\"]}"
+    ∷ codes "< A reply 3 [{\"rows\":[{\"i\":0}]}]"
+    ∷ codes "> A transact 4 {\"op\":\"select\",\"table\":\"T\",\"where\":[[\"mi\",\"==\",[\"map\",[[\"j\",3],[\"k\",2]]]]],\"columns\":[\"i\"]}"
+    ∷ codes "< A reply 4 [{\"rows\":[]}]"
+    ∷ codes "> A transact 5 {\"op\":\"select\",\"table\":\"T\",\"where\":[[\"mi\",\"includes\",[\"map\",[[\"k\",1]]]]],\"columns\":[\"i\"]}"
+    ∷ codes "< A reply 5 [{\"rows\":[{\"i\":0}]}]"
+    ∷ codes "> A transact 6 {\"op\":\"select\",\"table\":\"T\",\"where\":[[\"mi\",\"includes\",[\"map\",[[\"k\",2]]]]],\"columns\":[\"i\"]}"
+    ∷ codes "< A reply 6 [{\"rows\":[]}]"
+    ∷ codes "> A transact 7 {\"op\":\"select\",\"table\":\"T\",\"where\":[[\"mi\",\"excludes\",[\"map\",[[\"k\",2]]]]],\"columns\":[\"i\"]}"
+    ∷ codes "< A reply 7 [{\"rows\":[{\"i\":0}]}]"
+    ∷ codes "> A transact 8 {\"op\":\"select\",\"table\":\"T\",\"where\":[[\"mi\",\"excludes\",[\"map\",[[\"j\",3],[\"k\",2]]]]],\"columns\":[\"i\"]}"
+    ∷ codes "< A reply 8 [{\"rows\":[]}]"
+    ∷ [])
+unfolding shows
+maps_are_compared_pair_by_pair = refl
 
 -- Numbers that are compared
 pub numbers_that_are_compared : Plays cnt (
@@ -338,6 +360,44 @@ pub numbers_that_are_mutated : Plays cnt (
     ∷ [])
 unfolding shows
 numbers_that_are_mutated = refl
+
+-- Results past 64 bits
+pub results_past_64_bits : Plays kinds (
+    codes "> A transact 1 {\"op\":\"insert\",\"table\":\"T\",\"row\":{\"i\":0}}"
+    ∷ codes "< A reply 1 [{\"uuid\":[\"uuid\",\"U1\"]}]"
+    ∷ codes "> A transact 2 {\"op\":\"update\",\"table\":\"T\",\"where\":[],\"row\":{\"i\":9223372036854775807}},{\"op\":\"mutate\",\"table\":\"T\",\"where\":[],\"mutations\":[[\"i\",\"+=\",1]]}"
+    ∷ codes "< A reply 2 [{\"count\":1},{\"error\":\"range error\"}]"
+    ∷ codes "> A transact 3 {\"op\":\"update\",\"table\":\"T\",\"where\":[],\"row\":{\"i\":-9223372036854775808}},{\"op\":\"mutate\",\"table\":\"T\",\"where\":[],\"mutations\":[[\"i\",\"-=\",1]]}"
+    ∷ codes "< A reply 3 [{\"count\":1},{\"error\":\"range error\"}]"
+    ∷ codes "> A transact 4 {\"op\":\"update\",\"table\":\"T\",\"where\":[],\"row\":{\"i\":9223372036854775807}},{\"op\":\"mutate\",\"table\":\"T\",\"where\":[],\"mutations\":[[\"i\",\"*=\",-2]]}"
+    ∷ codes "< A reply 4 [{\"count\":1},{\"error\":\"range error\"}]"
+    ∷ codes "> A transact 5 {\"op\":\"update\",\"table\":\"T\",\"where\":[],\"row\":{\"i\":-9223372036854775808}},{\"op\":\"mutate\",\"table\":\"T\",\"where\":[],\"mutations\":[[\"i\",\"/=\",-1]]}"
+    ∷ codes "< A reply 5 [{\"count\":1},{\"error\":\"range error\"}]"
+    ∷ codes "> A transact 6 {\"op\":\"update\",\"table\":\"T\",\"where\":[],\"row\":{\"i\":-9223372036854775808}},{\"op\":\"mutate\",\"table\":\"T\",\"where\":[],\"mutations\":[[\"i\",\"%=\",-1]]},{\"op\":\"select\",\"table\":\"T\",\"where\":[],\"columns\":[\"i\"]}"
+    ∷ codes "< A reply 6 [{\"count\":1},{\"count\":1},{\"rows\":[{\"i\":0}]}]"
+    ∷ codes "> A transact 7 {\"op\":\"update\",\"table\":\"T\",\"where\":[],\"row\":{\"i\":-1}},{\"op\":\"mutate\",\"table\":\"T\",\"where\":[],\"mutations\":[[\"i\",\"-=\",9223372036854775807]]},{\"op\":\"select\",\"table\":\"T\",\"where\":[],\"columns\":[\"i\"]}"
+    ∷ codes "< A reply 7 [{\"count\":1},{\"count\":1},{\"rows\":[{\"i\":-9223372036854775808}]}]"
+    ∷ [])
+unfolding shows
+results_past_64_bits = refl
+
+-- Sets are calculated element by element
+pub sets_are_calculated_element_by_element : Plays kinds (
+    codes "> A transact 1 {\"op\":\"insert\",\"table\":\"T\",\"row\":{\"is\":[\"set\",[]]}}"
+    ∷ codes "< A reply 1 [{\"uuid\":[\"uuid\",\"U1\"]}]"
+    ∷ codes "> A transact 2 {\"op\":\"update\",\"table\":\"T\",\"where\":[],\"row\":{\"is\":[\"set\",[-9,9]]}},{\"op\":\"mutate\",\"table\":\"T\",\"where\":[],\"mutations\":[[\"is\",\"+=\",1]]},{\"op\":\"select\",\"table\":\"T\",\"where\":[],\"columns\":[\"is\"]}"
+    ∷ codes "< A reply 2 [{\"count\":1},{\"count\":1},{\"rows\":[{\"is\":[\"set\",[-8,10]]}]}]"
+    ∷ codes "> A transact 3 {\"op\":\"update\",\"table\":\"T\",\"where\":[],\"row\":{\"is\":[\"set\",[-9,9]]}},{\"op\":\"mutate\",\"table\":\"T\",\"where\":[],\"mutations\":[[\"is\",\"-=\",1]]},{\"op\":\"select\",\"table\":\"T\",\"where\":[],\"columns\":[\"is\"]}"
+    ∷ codes "< A reply 3 [{\"count\":1},{\"count\":1},{\"rows\":[{\"is\":[\"set\",[-10,8]]}]}]"
+    ∷ codes "> A transact 4 {\"op\":\"update\",\"table\":\"T\",\"where\":[],\"row\":{\"is\":[\"set\",[-9,9]]}},{\"op\":\"mutate\",\"table\":\"T\",\"where\":[],\"mutations\":[[\"is\",\"*=\",-2]]},{\"op\":\"select\",\"table\":\"T\",\"where\":[],\"columns\":[\"is\"]}"
+    ∷ codes "< A reply 4 [{\"count\":1},{\"count\":1},{\"rows\":[{\"is\":[\"set\",[-18,18]]}]}]"
+    ∷ codes "> A transact 5 {\"op\":\"update\",\"table\":\"T\",\"where\":[],\"row\":{\"is\":[\"set\",[-9,9]]}},{\"op\":\"mutate\",\"table\":\"T\",\"where\":[],\"mutations\":[[\"is\",\"/=\",2]]},{\"op\":\"select\",\"table\":\"T\",\"where\":[],\"columns\":[\"is\"]}"
+    ∷ codes "< A reply 5 [{\"count\":1},{\"count\":1},{\"rows\":[{\"is\":[\"set\",[-4,4]]}]}]"
+    ∷ codes "> A transact 6 {\"op\":\"update\",\"table\":\"T\",\"where\":[],\"row\":{\"is\":[\"set\",[-9,9]]}},{\"op\":\"mutate\",\"table\":\"T\",\"where\":[],\"mutations\":[[\"is\",\"%=\",5]]},{\"op\":\"select\",\"table\":\"T\",\"where\":[],\"columns\":[\"is\"]}"
+    ∷ codes "< A reply 6 [{\"count\":1},{\"count\":1},{\"rows\":[{\"is\":[\"set\",[-4,4]]}]}]"
+    ∷ [])
+unfolding shows
+sets_are_calculated_element_by_element = refl
 
 -- The least number divided by minus one
 pub the_least_number_divided_by_minus_one : Plays cnt (

@@ -71,6 +71,9 @@ fault_type_int = codes "{\"name\":\"net\",\"version\":\"1.0.0\",\"tables\":{\"T\
 abbrev pub fault_version_of_two_numbers : List ℕ
 fault_version_of_two_numbers = codes "{\"name\":\"net\",\"version\":\"1.0\",\"tables\":{}}\n"
 
+abbrev pub kinds : List ℕ
+kinds = codes "{\"name\":\"kinds\",\"version\":\"1.0.0\",\"tables\":{\"T\":{\"columns\":{\n \"bs\":{\"type\":{\"key\":\"boolean\",\"min\":0,\"max\":\"unlimited\"}},\n \"few\":{\"type\":{\"key\":{\"type\":\"integer\",\"maxInteger\":5},\"min\":0,\"max\":2}},\n \"i\":{\"type\":\"integer\"},\n \"is\":{\"type\":{\"key\":\"integer\",\"min\":0,\"max\":\"unlimited\"}},\n \"mi\":{\"type\":{\"key\":\"string\",\"value\":\"integer\",\"min\":0,\"max\":\"unlimited\"}},\n \"mu\":{\"type\":{\"key\":\"string\",\"value\":\"uuid\",\"min\":0,\"max\":\"unlimited\"}},\n \"s\":{\"type\":\"string\"},\n \"short\":{\"type\":{\"key\":{\"type\":\"string\",\"maxLength\":2}}},\n \"ss\":{\"type\":{\"key\":\"string\",\"min\":0,\"max\":\"unlimited\"}},\n \"tag\":{\"type\":{\"key\":{\"type\":\"integer\",\"minInteger\":0,\"maxInteger\":4095}}},\n \"us\":{\"type\":{\"key\":\"uuid\",\"min\":0,\"max\":\"unlimited\"}}}}}}\n"
+
 abbrev pub lengths : List ℕ
 lengths = codes "{\"name\":\"lengths\",\"version\":\"1.0.0\",\"tables\":{\"T\":{\"columns\":{\"c\":{\"type\":{\"key\":{\"type\":\"string\",\"minLength\":-1}}}}}}}\n"
 
