@@ -15,4 +15,3 @@ pub use error::Error;
 pub use row::Row;
 pub use update::difference;
 pub use value::{Entries, ListFault, Refused, Value};
-

@@ -4,4 +4,3 @@
 mod transaction;
 
 pub use transaction::{Outcome, transact};
-

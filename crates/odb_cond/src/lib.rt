@@ -8,4 +8,3 @@ mod filter;
 pub use clause::{Clause, Function, Selector};
 pub use conditions::Where;
 pub use filter::{Filter, Member};
-

@@ -12,4 +12,3 @@ mod rows;
 mod settlement;
 
 pub use settlement::settle;
-

@@ -22,4 +22,3 @@ pub use names::Names;
 pub use operation::{Op, Until, read_op};
 pub use row::{Writing, read_row};
 pub use value::{read_by_kind, read_value, write_value};
-

@@ -9,4 +9,3 @@ mod table;
 
 pub use locks::{LockFault, Locks, SessionId, Taken};
 pub use notice::Notice;
-

@@ -9,4 +9,3 @@ mod pairs;
 
 pub use mutation::{Mutation, MutationFault, Mutator};
 pub use operator::Operator;
-

@@ -21,4 +21,3 @@ mod wait;
 pub use context::Context;
 pub use execution::{Ran, run};
 pub use results::failure;
-

@@ -13,4 +13,3 @@ mod watched;
 pub use fault::RunFault;
 pub use script::run_script;
 pub use watched::Watched;
-

@@ -17,4 +17,3 @@ pub use key::Key;
 pub use row_change::RowChange;
 pub use table::Table;
 pub use table_change::TableChange;
-
