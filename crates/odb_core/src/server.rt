@@ -81,12 +81,13 @@ impl Core {
         }
     }
 
-    /// Opens a session, and answers its number, which no session had before: they are numbered from 0
+    /// Opens a session, and returns its number, which no session had before: they are numbered from 0
     /// in order of opening. It is refused with `TooMany` where 4,096 sessions are open, and with
     /// `Memory`, also where 2^64-1 sessions were opened and no number is left. O(log n).
     pub fn open(&mut self) -> Result<SessionId, Refused>
         ensures number { IfOk result (λ session. session ≡ self.old.opened) }
         ensures ok { IfOk result (λ session. serve (opened session) self.old ≡ Ok (self.new, [])) }
+        ensures why { IfErr result (λ why. IsReason why (serve (opened self.old.opened) self.old)) }
         ensures too_many { IsErrOf result refused.TooMany ↔ (max_sessions ≤ len self.old.world.sessions) }
         ensures err { OnErr result (self.new ≡ self.old) }
     {
