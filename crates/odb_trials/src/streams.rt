@@ -77,13 +77,16 @@ impl<'a> Write for Writer<'a> {
     }
 }
 
-/// What the two streams fail at; 0 is never.
-#[derive(Clone, Copy, Debug)]
+/// What the two streams fail at, where 0 is never, and what comes of it.
+#[derive(Clone, Copy)]
 struct Trial {
     read: usize,
     most: usize,
     fails: bool,
     flush: usize,
+    end: Option<RunFault>,
+    bytes: usize,
+    flushes: usize,
 }
 
 /// How a run of the two lines ended, and what was taken.
@@ -92,8 +95,9 @@ fn run(
     hashing: RandomState,
     trial: Trial,
 ) -> Result<(Result<(), RunFault>, Taken), AllocError> {
-    let Ok(schema) = Schema::read(alloc, NET) else {
-        return Err(AllocError);
+    let mut taken = Taken {
+        text: Vec::new(alloc),
+        flushes: 0,
     };
     let reader = Watched::new(Reader {
         text: INPUT,
@@ -103,112 +107,100 @@ fn run(
     let Ok(mut reader) = BufReader::new(alloc, reader) else {
         return Err(AllocError);
     };
-    let mut taken = Taken {
-        text: Vec::new(alloc),
-        flushes: 0,
+    let mut writer = Watched::new(Writer {
+        taken: &mut taken,
+        most: trial.most,
+        fails: trial.fails,
+        failing: trial.flush,
+    });
+    let ended = match Schema::read(alloc, NET) {
+        Ok(schema) => run_script(alloc, schema, hashing, &mut reader, &mut writer),
+        Err(_) => return Err(AllocError),
     };
-    let ended = {
-        let mut writer = Watched::new(Writer {
-            taken: &mut taken,
-            most: trial.most,
-            fails: trial.fails,
-            failing: trial.flush,
-        });
-        run_script(alloc, schema, hashing, &mut reader, &mut writer)
-    };
+    drop(writer);
     Ok((ended, taken))
 }
 
-/// Whether a run ends so, with so many bytes written and so many flushes.
-fn goes(
-    alloc: Global,
-    hashing: RandomState,
-    trial: Trial,
-    end: Result<(), RunFault>,
-    bytes: usize,
-    flushes: usize,
-) -> Result<bool, AllocError> {
+/// Whether a run ends as it has to, with so many bytes written and so many flushes.
+fn goes(alloc: Global, hashing: RandomState, trial: Trial) -> Result<bool, AllocError> {
     let (ended, taken) = run(alloc, hashing, trial)?;
     Ok(
-        ended == end
-            && OUTPUT.get(..bytes) == Some(taken.text.as_slice())
-            && taken.flushes == flushes,
+        ended.err() == trial.end
+            && OUTPUT.get(..trial.bytes) == Some(taken.text.as_slice())
+            && taken.flushes == trial.flushes,
     )
 }
 
+/// Through streams that move a byte a call, each line's print is flushed before the next is read.
 const WELL: Trial = Trial {
     read: 0,
-    most: 99,
-    fails: false,
+    most: 16,
+    fails: true,
     flush: 0,
+    end: None,
+    bytes: 16,
+    flushes: 2,
 };
 
-/// A script goes through streams that move a byte a call, and each line's print is flushed before the next is read.
-#[test]
-fn short_reads_and_writes(rt: HostRuntime) -> Result<(), Fail> {
-    assert!(rt; goes(rt.alloc(), RandomState::new(&rt)?, WELL, Ok(()), 16, 2)?);
-    Ok(())
-}
-
-/// What the lines before it print was written, and flushed; what is left of the line isn't carried out.
-#[test]
-fn reads_that_fail(rt: HostRuntime) -> Result<(), Fail> {
-    for (read, bytes, flushes) in [(1, 0, 0), (9, 0, 0), (10, 8, 1), (12, 8, 1), (19, 16, 2)] {
-        let trial = Trial { read, ..WELL };
-        let end = Err(RunFault::Read);
-        assert!(rt;
-            goes(
-                rt.alloc(),
-                RandomState::new(&rt)?,
-                trial,
-                end,
-                bytes,
-                flushes
-            )?,
-            "{read}"
-        );
+/// The call of the reader fails: what the lines before it print was written and flushed, and no other line is
+/// carried out.
+fn reads(read: usize, bytes: usize, flushes: usize) -> Trial {
+    Trial {
+        read,
+        end: Some(RunFault::Read),
+        bytes,
+        flushes,
+        ..WELL
     }
-    Ok(())
 }
 
-/// Just what the writer took was written, and the run ends with `Write`, also where it takes none without an error.
-#[test]
-fn writes_that_fail(rt: HostRuntime) -> Result<(), Fail> {
-    for (most, flushes) in [(0, 0), (1, 0), (7, 0), (8, 1), (9, 1), (15, 1)] {
-        for fails in [true, false] {
-            let trial = Trial {
-                most,
-                fails,
-                ..WELL
-            };
-            let end = Err(RunFault::Write);
-            assert!(rt;
-                goes(
-                    rt.alloc(),
-                    RandomState::new(&rt)?,
-                    trial,
-                    end,
-                    most,
-                    flushes
-                )?,
-                "{most}"
-            );
-        }
+/// The writer takes so many bytes: just those were written, also where it takes no more without an error.
+fn writes(most: usize, fails: bool, flushes: usize) -> Trial {
+    Trial {
+        most,
+        fails,
+        end: Some(RunFault::Write),
+        bytes: most,
+        flushes,
+        ..WELL
     }
-    let trial = Trial { most: 16, ..WELL };
-    assert!(rt; goes(rt.alloc(), RandomState::new(&rt)?, trial, Ok(()), 16, 2)?);
-    Ok(())
 }
 
-/// A flush that fails ends the run at its line.
+/// The flush fails: the run ends at its line.
+fn flushes(flush: usize, bytes: usize) -> Trial {
+    Trial {
+        flush,
+        end: Some(RunFault::Write),
+        bytes,
+        flushes: flush,
+        ..WELL
+    }
+}
+
 #[test]
-fn flushes_that_fail(rt: HostRuntime) -> Result<(), Fail> {
-    for (flush, bytes) in [(1, 8), (2, 16)] {
-        let trial = Trial { flush, ..WELL };
-        let end = Err(RunFault::Write);
+fn streams_that_are_short_or_fail(rt: HostRuntime) -> Result<(), Fail> {
+    let trials: [Trial; 16] = [
+        WELL,
+        reads(1, 0, 0),
+        reads(9, 0, 0),
+        reads(10, 8, 1),
+        reads(12, 8, 1),
+        reads(19, 16, 2),
+        writes(0, true, 0),
+        writes(0, false, 0),
+        writes(1, true, 0),
+        writes(7, false, 0),
+        writes(8, true, 1),
+        writes(8, false, 1),
+        writes(9, false, 1),
+        writes(15, true, 1),
+        flushes(1, 8),
+        flushes(2, 16),
+    ];
+    for (place, trial) in trials.iter().enumerate() {
         assert!(rt;
-            goes(rt.alloc(), RandomState::new(&rt)?, trial, end, bytes, flush)?,
-            "{flush}"
+            goes(rt.alloc(), RandomState::new(&rt)?, *trial)?,
+            "{place}"
         );
     }
     Ok(())
