@@ -48,3 +48,11 @@ mutated_more cs m ms r new e = by (mutate m.mutator m.value (column_type cs m.co
     by : (v : Result Value Error) → ◌>>=◌ v (λ w. Ok (with_value m.column w r)) ≡ Ok new → ◌>>=◌ v (λ w. mutated cs ms (with_value m.column w r)) ≡ mutated cs ms new
     by (Ok v) e = let same : with_value m.column v r ≡ new = cc in ap (mutated cs ms) same
     by (Err x) e = let no : ⊥ = cc in absurd no
+
+-- the first of them has a fault
+pub mutated_fault : (cs : List Column) (m : Mutation) (ms : List Mutation) (r : Row) (x : Error) → mutated cs (m ∷ []) r ≡ Err x → mutated cs (m ∷ ms) r ≡ Err x
+mutated_fault cs m ms r x e = by (mutate m.mutator m.value (column_type cs m.column) (cell zero_uuid r (declared m.column))) e
+  where
+    by : (v : Result Value Error) → ◌>>=◌ v (λ w. Ok (with_value m.column w r)) ≡ Err x → ◌>>=◌ v (λ w. mutated cs ms (with_value m.column w r)) ≡ Err x
+    by (Ok v) e = let no : ⊥ = cc in absurd no
+    by (Err y) e = e

@@ -4,6 +4,7 @@ pub mod Drafts
 pub mod Faults
 pub mod Fits
 pub mod Inserts
+pub mod Loops
 pub mod Mutates
 pub mod NoFloats
 pub mod Rewrites

@@ -1,7 +1,7 @@
 -- Sets of the contents of rows.
-use Rattle.std.specs.Prelude.{◌≡◌, ℕ, ◌+◌, ◌<◌, Bool, true, false, cond, not, ◌&&◌, ◌||◌, List, [], ◌∷◌, ◌++◌, filter, length, map as map_list}
-use Rattle.std.proofs.Common.{drop, get_or, take}
-use Rattle.std.proofs.lemmas.List.{drop_more, map-append, take_more}
+use Rattle.std.specs.Prelude.{◌≡◌, ℕ, ◌+◌, ◌<◌, Bool, true, false, cond, not, ◌&&◌, ◌||◌, List, [], ◌∷◌, ◌++◌, filter, length}
+use Rattle.std.proofs.Common.{drop, get_or}
+use Rattle.std.proofs.lemmas.List.{drop_more, map-append}
 use Rattle.std.specs.BTreeSet.{BTreeSet, Updates}
 use Rattle.std.specs.Borrow.{Bor}
 use Rattle.std.specs.Cmp.Lexicographic.{slice_cmp}
@@ -9,9 +9,9 @@ use Rattle.std.specs.List.{list_any}
 use Rattle.std.specs.Ordering.{is_eq, ordering_then}
 use Rattle.std.specs.declared.cmp.Ordering.{Ordering}
 use Rattle.std.specs.declared.cmp.Ordering.TheVariants.{Less, Equal, Greater}
-use mathlib.Core.Path.{refl, sym, ap, subst, ◌∙◌}
+use mathlib.Core.Path.{refl, sym, ap, ◌∙◌}
 use Rattle.odb_atoms.specs.Members.{value_cmp}
-use Rattle.odb_atoms.specs.Value.{Value, includes_all, same_value, same_values}
+use Rattle.odb_atoms.specs.Value.{Value, includes_all, same_values}
 use Rattle.odb_atoms.proofs.Represented.Orders.{eq_by_cmp-value_cmp}
 use Rattle.odb_ops.specs.Execution.{distinct, each_in}
 use Rattle.odb_ops.specs.Represented.Cells.{AreFirst, IsSetOf}
@@ -135,6 +135,3 @@ module _ (rows others : List (List Value)) (k : ℕ) (row : List Value) (low : k
 
   pub is_apart : each_in rows others ≡ each_in (drop k rows) others → list_any (same_values row) others ≡ false → false ≡ each_in rows others
   is_apart left e = sym (left ∙ ap (λ rs. each_in rs others) step ∙ ap (λ b. b && each_in (drop (k + 1) rows) others) e)
-
-pub one_more : {A : Type 0} (rows : List A) (k : ℕ) (row : A) → k < length rows → row ≡ get_or rows k row → take (k + 1) rows ≡ take k rows ++ row ∷ []
-one_more rows k row low at = take_more rows k row low ∙ ap (λ r. take k rows ++ r ∷ []) (sym at)

@@ -1,12 +1,11 @@
 -- Selected columns of the rows that match.
-use Rattle.std.specs.Prelude.{◌≡◌, ◌⊎◌, ℕ, Bool, true, false, cond, List, [], ◌∷◌, ◌++◌, flat_map, map as map_list, option_to_list, Option, Some, None, option_and_then, option_map}
-use Rattle.std.proofs.lemmas.Option.{none-some, same_Some}
-use mathlib.Core.Path.{refl, sym, ap, subst, ◌∙◌}
+use Rattle.std.specs.Prelude.{◌≡◌, Bool, true, false, cond, List, [], ◌∷◌, ◌++◌, flat_map, map as map_list, option_to_list, Option, Some, None, option_and_then, option_map}
+use Rattle.std.proofs.lemmas.Option.{none-some}
+use mathlib.Core.Path.{refl, sym, ap, ◌∙◌}
 use mathlib.Core.Logic.{inl, inr}
 use Rattle.odb_atoms.specs.FinMap as map
 use Rattle.odb_atoms.specs.Row.{Row, Selector, cell}
 use Rattle.odb_atoms.specs.Uuid.{Uuid}
-use Rattle.odb_atoms.specs.Value.{Value}
 use Rattle.odb_atoms.proofs.Atoms.{uuid_cmp-IsAntisymmetric}
 use Rattle.odb_atoms.proofs.EachEntry.{get-entry}
 use Rattle.odb_atoms.proofs.FinMaps.{get-map_entries}

@@ -1,6 +1,6 @@
 use Rattle.std.proofs.Common.{subst, sym, take}
 use Rattle.odb_ops.specs.Represented.Cells.{IsSetOf}
-use Rattle.odb_ops.proofs.RowSets.{one_more}
+use Rattle.odb_ops.proofs.Loops.{one_more}
 use Rattle.odb_ops.proofs.contents.contents.Goals as goal
 
 pub loop-row-preserved : goal.loop-row-preserved
