@@ -5,6 +5,7 @@ use Rattle.std.specs.Cmp.{unsigned_Decides}
 use mathlib.Core.Path.{refl, sym, ap, subst, ◌∙◌}
 use mathlib.Core.Bool.{true≢false}
 use Rattle.std.proofs.Common.{arith}
+use Rattle.std.proofs.lemmas.Option.{same_Some}
 use Rattle.odb_atoms.proofs.Atoms.{atom_cmp-IsAntisymmetric}
 use Rattle.odb_atoms.proofs.FinMaps.{get-empty, get-entries, get-map_entries}
 use Rattle.odb_atoms.proofs.Lists.{Member, all_gives, both, gives_all}
@@ -31,23 +32,23 @@ use Rattle.odb_integrity.proofs.Listings.{entry_found}
 use Rattle.odb_integrity.proofs.Prunings.{found_member}
 use Rattle.odb_integrity.proofs.Settled.{kept_typed}
 
-items-retain : (x : Atoms) (p : Atom → Bool) → set.items (set.retain x p) ≡ filter p (set.items x)
+pub items-retain : (x : Atoms) (p : Atom → Bool) → set.items (set.retain x p) ≡ filter p (set.items x)
 unfolding map.keys map.retain_keys
 items-retain x p = filter-map (λ (e : Atom × Unit {0}). e.0) p x.entries
 
--- an entry that is left was one before
-left_member : (m : Pairs) (stale : Atom → Atom → Bool) (e : Atom × Atom) → Member e (map.entries_of (map.map_entries (λ k v. cond (stale k v) None (Some v)) m)) → Member e m.entries
-left_member m stale e there =
+-- an entry that is left was one before, and isn't stale
+pub left_entry : (m : Pairs) (stale : Atom → Atom → Bool) (e : Atom × Atom) → Member e (map.entries_of (map.map_entries (λ k v. cond (stale k v) None (Some v)) m)) → Member e m.entries × (stale e.0 e.1 ≡ false)
+left_entry m stale e there =
     let left : Pairs = map.map_entries (λ k v. cond (stale k v) None (Some v)) m in
     by (map.get m e.0) refl (sym (get-map_entries atom_cmp_total atom_cmp-IsAntisymmetric (λ k v. cond (stale k v) None (Some v)) m e.0) ∙ get-entries left e.0 ∙ entry_found atom_cmp_total left.entries e left.sorted there)
   where
-    test : (v : Atom) → map.get m e.0 ≡ Some v → (b : Bool) → cond b None (Some v) ≡ Some e.1 → Member e m.entries
-    test v at true is = absurd (true≢false (sym (ap is_some is)))
-    test v at false is = found_member e.0 m.entries e.1 (sym (get-entries m e.0) ∙ at ∙ is)
+    test : (v : Atom) → map.get m e.0 ≡ Some v → (b : Bool) → stale e.0 v ≡ b → cond b None (Some v) ≡ Some e.1 → Member e m.entries × (stale e.0 e.1 ≡ false)
+    test v at true t is = absurd (true≢false (sym (ap is_some is)))
+    test v at false t is = (found_member e.0 m.entries e.1 (sym (get-entries m e.0) ∙ at ∙ is), ap (stale e.0) (sym (same_Some v e.1 is)) ∙ t)
 
-    by : (o : Option Atom) → map.get m e.0 ≡ o → option_and_then (λ v. cond (stale e.0 v) None (Some v)) o ≡ Some e.1 → Member e m.entries
+    by : (o : Option Atom) → map.get m e.0 ≡ o → option_and_then (λ v. cond (stale e.0 v) None (Some v)) o ≡ Some e.1 → Member e m.entries × (stale e.0 e.1 ≡ false)
     by None at is = absurd (true≢false (sym (ap is_some is)))
-    by (Some v) at is = test v at (stale e.0 v) is
+    by (Some v) at is = test v at (stale e.0 v) refl is
 
 module _ (s : Schema) (db : Db) where
   kind_pruned : (t : ColType) (v : Value) → has_kind t v ≡ true → has_kind t (pruned_value s db t v) ≡ true
@@ -59,7 +60,7 @@ module _ (s : Schema) (db : Db) where
       let q : Atom × Atom → Bool = λ e. is_a t.key.kind e.0 && is_a (value_base t).kind e.1 in
       let h = both (cond (is_some t.value) true false) (list_all q m.entries) kind in
       let stale : Atom → Atom → Bool = λ k v. is_stale db (weak_target s t.key) k || is_stale db (weak_target s (value_base t)) v in
-      λ i. h.0 i && gives_all q (map.entries_of (map.map_entries (λ k v. cond (stale k v) None (Some v)) m)) (λ e there. all_gives q m.entries h.1 e (left_member m stale e there)) i
+      λ i. h.0 i && gives_all q (map.entries_of (map.map_entries (λ k v. cond (stale k v) None (Some v)) m)) (λ e there. all_gives q m.entries h.1 e (left_entry m stale e there).0) i
 
   kinds_pruned : (cs : List Column) (vs : List Value) → list_all (λ e. has_kind e.0.type e.1) (zip cs vs) ≡ true → list_all (λ e. has_kind e.0.type e.1) (zip cs (map_list (λ e. pruned_value s db e.0.type e.1) (zip cs vs))) ≡ true
   kinds_pruned [] vs h = refl
@@ -88,37 +89,46 @@ module _ (s : Schema) (db : Db) where
           let same : r ≡ pruned_row s db (k, u) q = cc in
           row_fits (columns_at s k) q r (ap (λ (p : Row). p.columns) same) (typed.1 k u q there)
 
-passed : (b : Bool) (e : Error) (r : Result Db Error) (x : Db) → ◌>>◌ (demand b e) r ≡ Ok x → r ≡ Ok x
-passed true e r x is = is
+passed : (b : Bool) (e : Error) (r : Result Db Error) (x : Db) → ◌>>◌ (demand b e) r ≡ Ok x → (b ≡ true) × (r ≡ Ok x)
+passed true e r x is = (refl, is)
 passed false e r x is = cc
 
--- what is settled is pruned
-pub settled_is : (s : Schema) (max_rows : ℕ) (db new : Db) → settle s max_rows db ≡ Ok new → new ≡ pruned s (kept s db)
+-- what is settled is pruned and passed the tests
+pub record Passed (s : Schema) (rest last new : Db) : Type 0 where
+  pub is : new ≡ last
+  pub joined : not (has_dangling s rest) ≡ true
+  pub filled : not (any_row (has_too_few s) last) ≡ true
+  pub bounded : list_all within_max_rows (zip s.tables last) ≡ true
+  pub apart : not (list_any has_duplicates (zip s.tables last)) ≡ true
+
+pub settled_passed : (s : Schema) (max_rows : ℕ) (db new : Db) → settle s max_rows db ≡ Ok new → Passed s (kept s db) (pruned s (kept s db)) new
 unfolding settle
-settled_is s max_rows db new e =
+settled_passed s max_rows db new e =
     let last : Db = pruned s (kept s db) in
     let done : Result Db Error = Ok last in
     let limited : Result Db Error = ◌>>◌ (demand (nat_le (row_count last) max_rows) resources_exhausted) done in
     let apart : Result Db Error = ◌>>◌ (demand (not (list_any has_duplicates (zip s.tables last))) constraint_violation) limited in
     let few : Result Db Error = ◌>>◌ (demand (list_all within_max_rows (zip s.tables last)) constraint_violation) apart in
     let whole : Result Db Error = ◌>>◌ (demand (not (any_row (has_too_few s) last)) constraint_violation) few in
-    let is : done ≡ Ok new =
-    passed (nat_le (row_count last) max_rows) resources_exhausted done new
-    (passed (not (list_any has_duplicates (zip s.tables last))) constraint_violation limited new
-    (passed (list_all within_max_rows (zip s.tables last)) constraint_violation apart new
-    (passed (not (any_row (has_too_few s) last)) constraint_violation few new
-    (passed (not (has_dangling s (kept s db))) referential_integrity_violation whole new e)))) in
-    same last new is
+    let one = passed (not (has_dangling s (kept s db))) referential_integrity_violation whole new e in
+    let two = passed (not (any_row (has_too_few s) last)) constraint_violation few new one.1 in
+    let three = passed (list_all within_max_rows (zip s.tables last)) constraint_violation apart new two.1 in
+    let four = passed (not (list_any has_duplicates (zip s.tables last))) constraint_violation limited new three.1 in
+    let five = passed (nat_le (row_count last) max_rows) resources_exhausted done new four.1 in
+    record { is = same last new five.1; joined = one.0; filled = two.0; bounded = three.0; apart = four.0 }
   where
     same : (a b : Db) → ◌≡◌ {A = Result Db Error} (Ok a) (Ok b) → b ≡ a
     same a b e = cc
+
+pub settled_is : (s : Schema) (max_rows : ℕ) (db new : Db) → settle s max_rows db ≡ Ok new → new ≡ pruned s (kept s db)
+settled_is s max_rows db new e = (settled_passed s max_rows db new e).is
 
 pub settled_typed : (s : Schema) (max_rows : ℕ) (db new : Db) → settle s max_rows db ≡ Ok new → IsTyped s db → IsTyped s new
 settled_typed s max_rows db new e typed = subst (IsTyped s) (sym (settled_is s max_rows db new e)) (pruned_typed s (kept s db) (kept_typed s db typed))
 
 -- ---- drafts of databases of their schema
 
-none_at : (n k : ℕ) → table_at (replicate n map.empty) k ≡ map.empty
+pub none_at : (n k : ℕ) → table_at (replicate n map.empty) k ≡ map.empty
 none_at zero zero = refl
 none_at zero (suc k) = refl
 none_at (suc n) zero = refl

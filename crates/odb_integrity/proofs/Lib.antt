@@ -8,5 +8,6 @@ pub mod Prunings
 pub mod Referents
 pub mod Rounds
 pub mod Settled
+pub mod Settles
 pub mod Twins
 pub mod Zipped

@@ -131,11 +131,11 @@ module _ (s : Schema) (db : Db) (t : ColType) where
 
 -- ---- where nothing is stale
 
-neither : (a b : Bool) → (a || b) ≡ false → (a ≡ false) × (b ≡ false)
+pub neither : (a b : Bool) → (a || b) ≡ false → (a ≡ false) × (b ≡ false)
 neither true b e = absurd (true≢false e)
 neither false b e = (refl, e)
 
-not_found : {A : Type 0} (p : A → Bool) (xs : List A) → list_any p xs ≡ false → (x : A) → Member x xs → p x ≡ false
+pub not_found : {A : Type 0} (p : A → Bool) (xs : List A) → list_any p xs ≡ false → (x : A) → Member x xs → p x ≡ false
 not_found p [] e x m = absurd m
 not_found p (y ∷ ys) e x (inl h) = ap p h ∙ (neither _ _ e).0
 not_found p (y ∷ ys) e x (inr m) = not_found p ys (neither _ _ e).1 x m
@@ -182,7 +182,7 @@ module _ (s : Schema) (db : Db) where
       let parts = neither (has_stale s db c.type v) (list_any (λ e. has_stale s db e.0.type e.1) (zip cs vs)) none in
       λ i. value_same c.type v parts.0 i ∷ values_same cs vs (omega (arith, long)) parts.1 i
 
-  row_same : (x : RowId) (r : Row) → fits (columns_at s x.0) r ≡ true → row_has_stale s db x r ≡ false → pruned_row s db x r ≡ r
+  pub row_same : (x : RowId) (r : Row) → fits (columns_at s x.0) r ≡ true → row_has_stale s db x r ≡ false → pruned_row s db x r ≡ r
   row_same x r fit none =
       let parts = both (length r.columns == length (columns_at s x.0)) (list_all (λ e. has_kind e.0.type e.1) (zip (columns_at s x.0) r.columns)) fit in
       λ i. record r { columns = values_same (columns_at s x.0) r.columns ((unsigned_Decides (length r.columns) (length (columns_at s x.0))).0 parts.0) none i }

@@ -1,3 +1,4 @@
 pub mod Represented
+pub mod Settled
 pub mod Settlement
 pub mod Steps
