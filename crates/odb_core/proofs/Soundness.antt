@@ -4,7 +4,7 @@ use Rattle.std.specs.Option.{option_copied}
 use Rattle.std.specs.Prelude.{option_map, option_to_list}
 use Rattle.std.specs.Ordering.{eq_by_cmp, nat_cmp}
 use Rattle.odb_atoms.specs.FinMap.{get, insert}
-use Rattle.odb_integrity.proofs.KeepsTyped.{empty_typed}
+use Rattle.odb_commit.proofs.Sound.{empty_sound}
 use Rattle.odb_schema.specs.Schema.{Schema}
 use Rattle.odb_service.specs.Server.{Server, served_by}
 use Rattle.odb_service.specs.Service.{Service}
@@ -18,7 +18,7 @@ use Rattle.odb_service.proofs.SessionMaps.{get-insert, same_key}
 use Rattle.odb_core.proofs.Unused.{unused_in_none, unused_same}
 
 pub new_sound : (s : Schema) → IsValid s (empty_world (length s.tables)) 0
-new_sound s = (empty_typed s, λ h. refl, unused_in_none)
+new_sound s = (empty_sound s, λ h. refl, unused_in_none)
 
 still_open : (f : Session → Session) (m : Sessions) (s q : ℕ) → is_some (get (at_session f m s) q) ≡ is_some (get m q)
 still_open f m s q = by (get m s) refl
