@@ -2,3 +2,4 @@ pub mod NoFloats
 pub mod Outcomes
 pub mod Sound
 pub mod Typed
+pub mod Versions

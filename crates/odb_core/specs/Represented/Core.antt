@@ -19,7 +19,7 @@ sessions_in s = finite.from_entries s.entries
 abbrev pub AreUnused : finite.FinMap nat_cmp Session → ℕ → Type 0
 AreUnused s opened = (q : ℕ) → opened ≤ q → finite.get s q ≡ None
 
--- rows are of the schema, each waiting transaction was tried since the newest commit, and numbers of sessions stay below those to come
+-- the database is sound, each waiting transaction was tried since the newest commit, and numbers of sessions stay below those to come
 abbrev pub IsValid : Schema → World → ℕ → Type 0
 IsValid s w opened = IsSound s w.db × ((h : Service) → untried h w ≡ None) × AreUnused w.sessions opened
 
