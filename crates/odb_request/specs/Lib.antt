@@ -1,2 +1,3 @@
+pub mod Represented
 pub mod Request
 pub mod Requests

@@ -16,7 +16,7 @@ use Rattle.odb_cond.specs.Filter.{Filter, Member, always, when}
 use Rattle.odb_request.specs.Request.{Column, Select, Request, Notation, update, update2, column_names}
 
 -- no member beside these
-abbrev no_other : List (List ℕ) → Members → Result ⊤ Error
+abbrev pub no_other : List (List ℕ) → Members → Result ⊤ Error
 no_other names ms = demand (list_all (λ m. list_any (same_text m.0) names) (members_list ms)) syntax_error
 
 -- Texts that stand once. Names of a schema's columns, and keys of JSON that was read, do.
@@ -25,7 +25,7 @@ are_distinct [] = true
 are_distinct (n ∷ ns) = list_all (λ m. not (same_text n m)) ns && are_distinct ns
 
 -- an object, or an array of exactly one
-abbrev request_object : Data → Result Members Error
+abbrev pub request_object : Data → Result Members Error
 request_object (object ms) = Ok ms
 request_object (array (item (object ms) no_items)) = Ok ms
 request_object d = Err syntax_error
@@ -39,15 +39,15 @@ abbrev pub in_order : List Column → List Column
 in_order [] = []
 in_order (c ∷ cs) = place_column c (in_order cs)
 
-abbrev monitored : List schema.Column → Selector → Column
+abbrev pub monitored : List schema.Column → Selector → Column
 monitored cs s = record { name = selector_name cs s; source = s; type = selector_type cs s }
 
 -- without `columns`, all but `_uuid`
-abbrev all_but_uuid : List Selector → List Selector
+abbrev pub all_but_uuid : List Selector → List Selector
 all_but_uuid [] = []
 all_but_uuid (s ∷ ss) = cond (same_selector s own_uuid) ss (s ∷ all_but_uuid ss)
 
-abbrev read_monitored : List schema.Column → Option Data → Result (List Column) Error
+abbrev pub read_monitored : List schema.Column → Option Data → Result (List Column) Error
 read_monitored cs None = do
   all ← read_columns cs None
   Ok (in_order (map (monitored cs) (all_but_uuid all)))
@@ -55,7 +55,7 @@ read_monitored cs (Some d) = do
   some ← read_columns cs (Some d)
   Ok (in_order (map (monitored cs) some))
 
-abbrev read_member : List schema.Column → Data → Result Member Error
+abbrev pub read_member : List schema.Column → Data → Result Member Error
 read_member cs (boolean b) = Ok (always b)
 read_member cs d = do
   clause ← read_clause None cs d
@@ -67,10 +67,10 @@ read_filter cs (Some d) = do
   items ← ok_or (as_array d) syntax_error
   each (read_member cs) (items_list items)
 
-abbrev read_switch : Data → Result Bool Error
+abbrev pub read_switch : Data → Result Bool Error
 read_switch d = ok_or (as_bool d) syntax_error
 
-abbrev read_select : Option Data → Result Select Error
+abbrev pub read_select : Option Data → Result Select Error
 read_select None = Ok (record { initial = true; insert = true; delete = true; modify = true })
 read_select (Some d) = do
   ms ← ok_or (as_object d) syntax_error
@@ -82,15 +82,15 @@ read_select (Some d) = do
   Ok (record { initial = initial; insert = insert; delete = delete; modify = modify })
 
 -- `where` is of `monitor_cond` alone
-abbrev read_where_of : Notation → List schema.Column → Members → Result Filter Error
+abbrev pub read_where_of : Notation → List schema.Column → Members → Result Filter Error
 read_where_of update cs ms = Ok []
 read_where_of update2 cs ms = read_filter cs (get_member (codes "where") ms)
 
-abbrev known_members : Notation → List (List ℕ)
+abbrev pub known_members : Notation → List (List ℕ)
 known_members update = codes "columns" ∷ codes "select" ∷ []
 known_members update2 = codes "columns" ∷ codes "where" ∷ codes "select" ∷ []
 
-abbrev read_request : Schema → Notation → List ℕ × Data → Result Request Error
+abbrev pub read_request : Schema → Notation → List ℕ × Data → Result Request Error
 read_request s n e = do
   place ← ok_or (table_place s e.0) unknown_table
   ms ← request_object e.1
@@ -117,7 +117,7 @@ read_requests s n d = do
   qs ← requests_in s n d
   if_named qs
 
-abbrev read_change : Schema → List ℕ × Data → Result (List ℕ × Filter) Error
+abbrev pub read_change : Schema → List ℕ × Data → Result (List ℕ × Filter) Error
 read_change s e = do
   place ← ok_or (table_place s e.0) unknown_table
   ms ← request_object e.1

@@ -1,2 +1,21 @@
 //! Requests of monitors (RFC 7047, 4.1.5; ovsdb-server(7), monitor_cond).
 #![tactic(auto)]
+
+mod change;
+mod columns;
+mod filter;
+mod kind;
+mod leaf;
+mod names;
+mod read;
+mod request;
+mod select;
+mod shape;
+
+pub use change::Change;
+pub use kind::Kind;
+pub use odb_json::OpFault as RequestFault;
+pub use read::{read_changes, read_requests};
+pub use request::Request;
+pub use select::Select;
+pub use shape::Shape;

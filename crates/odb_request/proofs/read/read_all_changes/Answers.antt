@@ -1,0 +1,20 @@
+use Rattle.std.proofs.Common.{◌∙◌, ◌∷◌, ap, map, sym}
+use Rattle.std.proofs.lemmas.List.{map-append}
+use Rattle.serde_json.specs.View.{members_view, view}
+use Rattle.odb_atoms.specs.First.{each}
+use Rattle.odb_schema.specs.Json.{members_list}
+use Rattle.odb_schema.proofs.Eachs.{after, each_more}
+use Rattle.odb_request.specs.Represented.Change.{change_of}
+use Rattle.odb_request.specs.Requests.{read_change}
+use Rattle.odb_request.proofs.read.read_all_changes.Goals as goal
+
+pub loop-name-preserved : goal.loop-name-preserved
+loop-name-preserved c =
+    let s = c.args.schema.now in
+    let f = read_change s in
+    let done = map (change_of s) c.loop-name.changes.items in
+    let rest = members_list (members_view c.next.new.self) in
+    rw (c.in_ok-push.ensures.items, map-append)
+    (each_more f (each f (members_list (members_view c.args.members.now.entries))) done (c.as_str.result.now, view c.in-Some.value.now) rest (change_of s c.in_ok-read_change.field-0)
+    (c.loop-name.invariant ∙ ap (λ es. after done (each f (members_list (members_view es)))) c.in-Some.ensures.steps ∙ ap (λ n. after done (each f ((n, view c.in-Some.value.now) ∷ rest))) (sym c.as_str.ensures.value))
+    c.in_ok-read_change.ensures)

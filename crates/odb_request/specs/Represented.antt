@@ -1,0 +1,8 @@
+-- What the types of the code stand for.
+pub mod Change
+pub mod Codes
+pub mod Kind
+pub mod Parts
+pub mod Request
+pub mod Select
+pub mod Shape

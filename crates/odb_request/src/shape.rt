@@ -1,0 +1,104 @@
+//! What is asked of one table, but for its filter.
+
+ghost use Rattle.std.specs.Prelude.{◌≡◌, ◌<◌, length, map};
+ghost use Rattle.std.specs.Arc.{arc_value};
+ghost use Rattle.odb_cond.specs.Represented.Clause.{selector_of};
+ghost use Rattle.odb_request.specs.Represented.Parts.{monitored_as};
+ghost use Rattle.odb_request.specs.Represented.Select.{select_of};
+ghost use Rattle.odb_request.specs.Represented.Shape.{table_name};
+ghost use Rattle.odb_request.specs.Requests.{monitored};
+ghost use Rattle.odb_schema.specs.Schema.{columns_at};
+
+use crate::select::Select;
+use odb_cond::Selector;
+use odb_schema::{Schema, TableId, TableSchema};
+use std::marker::Model;
+use std::sync::Arc;
+
+/// What is asked of one table, but for its filter (RFC 7047, 4.1.5): its columns by ascending name, and
+/// the kinds of change that are sent. Names and types are those of the schema, which it shares.
+#[derive(Drop)]
+pub struct Shape {
+    schema: Arc<Schema>,
+    table: TableId,
+    columns: Vec<Selector>,
+    select: Select,
+}
+
+impl Model for Shape {
+    ghost use Rattle.odb_request.specs.Represented.Shape.{Asked, asked_code, shape_in, HasTable};
+
+    ghost Value = { Asked };
+
+    ghost coded = { asked_code };
+
+    ghost view = { shape_in };
+
+    ghost invariant = { HasTable };
+}
+
+impl Shape {
+    /// These columns of a table of the schema.
+    pub(crate) fn new(
+        schema: Arc<Schema>,
+        table: TableId,
+        columns: Vec<Selector>,
+        select: Select,
+    ) -> Shape
+        requires { table < length (arc_value schema).tables }
+        ensures { result ≡ record {
+          shape = record {
+            name = table_name (arc_value schema) table;
+            columns = map (monitored_as (columns_at (arc_value schema) table)) columns.items;
+          };
+          place = table;
+          select = select_of select;
+        } }
+    {
+        Shape {
+            schema,
+            table,
+            columns,
+            select,
+        }
+    }
+
+    /// The table's place in the schema. O(1), without memory.
+    pub fn table(&self) -> TableId
+        ensures { result ≡ self.now.place }
+    {
+        self.table
+    }
+
+    /// The table in the schema, which has the names and the types. O(1), without memory.
+    pub fn table_schema(&self) -> &TableSchema
+        ensures name { result.now.name ≡ self.now.shape.name }
+        ensures columns { self.now.shape.columns
+            ≡ map (λ c. monitored result.now.columns c.source) self.now.shape.columns }
+    {
+        table_at(&self.schema, self.table)
+    }
+
+    /// The columns, by ascending name, as they stand in the schema. O(1), without memory.
+    pub fn columns(&self) -> &[Selector]
+        ensures { map selector_of result.now ≡ map (λ c. c.source) self.now.shape.columns }
+    {
+        self.columns.as_slice()
+    }
+
+    /// The kinds of change that are sent (RFC 7047, 4.1.5, `<monitor-select>`). O(1), without memory.
+    pub fn select(&self) -> Select
+        ensures { select_of result ≡ self.now.select }
+    {
+        self.select
+    }
+}
+
+/// A table of the schema.
+pub fn table_at(schema: &Schema, table: TableId) -> &TableSchema
+    requires { table < length schema.now.tables }
+    ensures name { result.now.name ≡ table_name schema.now table }
+    ensures columns { result.now.columns ≡ columns_at schema.now table }
+{
+    &schema.tables()[table.place()]
+}
