@@ -1,6 +1,7 @@
 //! Requests of monitors (RFC 7047, 4.1.5; ovsdb-server(7), monitor_cond).
 #![tactic(auto)]
 
+mod alike;
 mod change;
 mod columns;
 mod filter;
@@ -11,6 +12,7 @@ mod read;
 mod request;
 mod select;
 mod shape;
+mod types;
 
 pub use change::Change;
 pub use kind::Kind;

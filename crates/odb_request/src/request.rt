@@ -2,6 +2,7 @@
 
 ghost use Rattle.std.specs.Prelude.{◌≡◌, IfOk, map};
 ghost use Rattle.std.specs.Arc.{arc_value};
+ghost use Rattle.std.specs.Bool.{OnTrue};
 ghost use Rattle.odb_cond.specs.Represented.Clause.{selector_of};
 ghost use Rattle.odb_request.specs.Represented.Select.{select_of};
 ghost use Rattle.odb_request.specs.Represented.Shape.{asked_by, filtered};
@@ -78,6 +79,16 @@ impl Request {
         ensures { select_of result ≡ self.now.select }
     {
         self.shape.select()
+    }
+
+    /// Whether the two ask the same: the same of the same table, and with the same members in their filters
+    /// in the same order. `false` says nothing.
+    ///
+    /// O(the columns with their constraints, and the filters), without memory.
+    pub fn same(&self, other: &Request) -> bool
+        ensures { OnTrue result (self.now ≡ other.now) }
+    {
+        self.shape.same(&other.shape) && self.filter.same(&other.filter)
     }
 
     /// The same under another filter, as `monitor_cond_change` asks for it (ovsdb-server(7), 4.1.13). O(1).
