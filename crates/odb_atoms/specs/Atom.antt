@@ -1,4 +1,4 @@
--- Atoms, the scalars of RFC 7047: integers, booleans, strings and UUIDs; their order, and their code as stored data.
+-- Atoms, the scalars of RFC 7047: integers, booleans, strings and UUIDs; their order, and their code as stored data. [P 2.1]
 use Rattle.std.specs.Prelude.{◌≡◌, ℕ, ℤ, pos, Bool, false, cond, ◌==◌, List, [], refl}
 use Rattle.std.specs.declared.cmp.Ordering.{Ordering}
 use Rattle.std.specs.Ordering.{nat_cmp, int_cmp, bool_cmp, eq_by_cmp}

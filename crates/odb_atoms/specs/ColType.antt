@@ -1,4 +1,4 @@
--- Column types (RFC 7047, <type> and <base-type>): what they admit, and their defaults.
+-- Column types (RFC 7047, <type> and <base-type>): what they admit, and their defaults. [P 1.3, 2.4, 2.6]
 use Rattle.std.specs.Prelude.{ℕ, ℤ, pos, Bool, true, false, cond, not, ◌&&◌, ◌==◌, List, [], ◌∷◌, length, chars, nat_lt, nat_le, int_le, is_some, is_none, Option, Some, None, unwrap_or}
 use Rattle.odb_atoms.specs.FinSet as set
 use Rattle.odb_atoms.specs.FinMap as map

@@ -1,4 +1,4 @@
--- Differences of values (ovsdb-server(7), update2): what turns one value of a column into another.
+-- Differences of values (ovsdb-server(7), update2): what turns one value of a column into another. [P 9.2]
 use Rattle.std.specs.Prelude.{cond, Option, Some, None}
 use Rattle.odb_atoms.specs.FinSet as set
 use Rattle.odb_atoms.specs.FinMap as map

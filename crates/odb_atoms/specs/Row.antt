@@ -1,4 +1,4 @@
--- Rows: a value for each declared column of their table, and a version; the cells that a condition or a monitor can name.
+-- Rows: a value for each declared column of their table, and a version; the cells that a condition or a monitor can name. [P 2.1]
 use Rattle.std.specs.Prelude.{ℕ, List, refl, slice_get, unwrap_or, ◌+◌, ◌==◌, Bool, [], ◌∷◌, Option, Some, None}
 use Rattle.std.specs.Coded.{Coded, code_by, coded×, coded_list}
 use Rattle.odb_atoms.specs.FinSet as set

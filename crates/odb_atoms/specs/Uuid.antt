@@ -1,4 +1,4 @@
--- Identifiers (RFC 7047, <uuid>): numbers of 128 bits, their order and their texts.
+-- Identifiers (RFC 7047, <uuid>): numbers of 128 bits, their order and their texts. [P 2.1]
 use Rattle.std.specs.Prelude.{◌≡◌, ℕ, ◌^◌, nat_lt, Bool, true, false, T, ◌==◌, List, Option, option_map}
 use mathlib.Core.Path.{refl, sym, subst}
 use mathlib.Core.HLevel.{Σ_prop_path}

@@ -1,4 +1,4 @@
--- Values (RFC 7047, <value>): finite sets of atoms, and finite maps from atoms to atoms. A scalar is a set of one atom.
+-- Values (RFC 7047, <value>): finite sets of atoms, and finite maps from atoms to atoms. A scalar is a set of one atom. [P 2.1, 14]
 use Rattle.std.specs.Prelude.{◌≡◌, ℕ, Bool, true, false, List, [], ◌∷◌, ◌&&◌, Option, Some, None, nat_le}
 use Rattle.std.specs.List.{list_all}
 use Rattle.std.specs.Coded.{Coded, code_by, coded⊎}

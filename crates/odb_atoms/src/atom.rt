@@ -1,4 +1,4 @@
-//! Atoms, the scalars of RFC 7047 (section 5.1, `<atom>`), and their kinds.
+//! Atoms, the scalars of RFC 7047 (section 5.1, `<atom>`), and their kinds. [P 2.1]
 
 ghost use Rattle.std.specs.Prelude.{◌≡◌, refl, IfOk, Some};
 ghost use Rattle.odb_atoms.specs.Atom.{kind_of, atom_cmp, same_atom, zero_atom};
@@ -75,7 +75,7 @@ impl Atom {
         self.kind() == kind
     }
 
-    /// An equal atom. Only a text takes memory, O(its length); an error says that there was none.
+    /// An equal atom. Only a text takes memory, O(its length).
     pub fn try_copy(&self, alloc: Global) -> Result<Atom, AllocError>
         ensures { IfOk result (λ copy. atom_of copy ≡ atom_of self.now) }
     {

@@ -1,5 +1,5 @@
 //! Column types (RFC 7047, section 3.2, `<type>` and `<base-type>`): what they admit, and their
-//! defaults.
+//! defaults. [P 1.3, 2.4, 2.6]
 
 ghost use Rattle.std.specs.Prelude.{◌≡◌, ◌&&◌, false, length, chars, pos, int_le, IfOk, ℤ};
 ghost use Rattle.odb_atoms.specs.Atom.{integer, text, zero_atom};
@@ -117,7 +117,7 @@ impl Enumeration {
         &self.atoms
     }
 
-    /// An equal enumeration. O(the bytes copied); an error says that there was no memory.
+    /// An equal enumeration. O(the bytes copied).
     pub fn try_copy(&self, alloc: Global) -> Result<Enumeration, AllocError>
         ensures { IfOk result (λ copy. copy ≡ self.now) }
     {
@@ -126,7 +126,7 @@ impl Enumeration {
 }
 
 impl Reference {
-    /// An equal reference. O(the bytes copied); an error says that there was no memory.
+    /// An equal reference. O(the bytes copied).
     pub fn try_copy(&self, alloc: Global) -> Result<Reference, AllocError>
         ensures { IfOk result (λ copy. reference_of copy ≡ reference_of self.now) }
     {
@@ -138,7 +138,7 @@ impl Reference {
 }
 
 impl Base {
-    /// The kind without constraints. O(1), without memory.
+    /// The kind without constraints. O(1).
     pub fn plain(kind: Kind) -> Base
         ensures { base_of result ≡ model.plain (kind_in kind) }
     {
@@ -188,7 +188,7 @@ impl Base {
         }
     }
 
-    /// An equal base type. O(the bytes copied); an error says that there was no memory.
+    /// An equal base type. O(the bytes copied).
     pub fn try_copy(&self, alloc: Global) -> Result<Base, AllocError>
         ensures { IfOk result (λ copy. base_of copy ≡ base_of self.now) }
     {
@@ -227,7 +227,7 @@ fn is_within(min: Option<i64>, max: Option<i64>, number: i128) -> bool
 
 impl ColType {
     /// The scalar of the kind without constraints (RFC 7047, section 3.2, `<type>`): the type of
-    /// `_uuid` and `_version`, for one. O(1), without memory.
+    /// `_uuid` and `_version`, for one. O(1).
     pub fn scalar(kind: Kind) -> ColType
         ensures { type_of result ≡ model.scalar (kind_in kind) }
     {
@@ -255,7 +255,7 @@ impl ColType {
         self.is_single() && self.min == 1 && self.value.is_none()
     }
 
-    /// An equal type. O(the bytes copied); an error says that there was no memory.
+    /// An equal type. O(the bytes copied).
     pub fn try_copy(&self, alloc: Global) -> Result<ColType, AllocError>
         ensures { IfOk result (λ copy. type_of copy ≡ type_of self.now) }
     {
@@ -278,7 +278,7 @@ impl Value {
     /// faults: `Kind` for a set in place of a map, a map in place of a set, or an atom of another
     /// kind; `TooFew`; `TooMany`; `Constraint`.
     ///
-    /// O(n) for n elements or pairs, times O(log e) for an `enum` of e atoms; it takes no memory.
+    /// O(n) for n elements or pairs, times O(log e) for an `enum` of e atoms.
     pub fn admit(&self, column: &ColType) -> Result<(), Admit>
         ensures { refused_for result ≡ model.admit_fault (type_of column.now) self.now }
     {
@@ -324,9 +324,9 @@ impl Value {
     }
 }
 
-/// The default of a column (RFC 7047, section 5.2.1): the empty set or map where `min` is 0,
-/// and else one element or pair of 0, `false`, the empty string or the zero UUID. O(1); only a
-/// map takes memory, and an error says that there was none.
+/// The default of a column (RFC 7047, section 5.2.1): the empty set or map where `min` is 0, and
+/// else one element or pair of 0, `false`, the empty string or the zero UUID. O(1); only a map
+/// takes memory.
 pub fn default_of(alloc: Global, column: &ColType) -> Result<Value, AllocError>
     ensures { IfOk result (λ v. v ≡ model.default_of (type_of column.now)) }
 {

@@ -1,27 +1,43 @@
-//! The errors of operations and of commits (RFC 7047, sections 3.1 and 5.2).
+//! The errors of operations and of commits (RFC 7047, sections 3.1 and 5.2). [P 8.3]
 
 ghost use Rattle.std.specs.Prelude.{◌≡◌};
 ghost use Rattle.odb_atoms.specs.Error.{error_name};
 ghost use Rattle.odb_atoms.specs.Represented.Error.{error_of};
 
 /// Why an operation or a commit fails (RFC 7047, section 3.1, `<error>`).
-#[derive(Clone, Copy, Debug, PartialEq, Eq)]
+#[derive(Clone, Copy, Debug, PartialEq, Eq, thiserror::Error)]
 pub enum Error {
+    #[error("syntax error")]
     SyntaxError,
+    #[error("unknown operation")]
     UnknownOperation,
+    #[error("unknown table")]
     UnknownTable,
+    #[error("unknown column")]
     UnknownColumn,
+    #[error("unknown uuid-name")]
     UnknownUuidName,
+    #[error("duplicate uuid-name")]
     DuplicateUuidName,
+    #[error("duplicate uuid")]
     DuplicateUuid,
+    #[error("constraint violation")]
     ConstraintViolation,
+    #[error("domain error")]
     DomainError,
+    #[error("range error")]
     RangeError,
+    #[error("resources exhausted")]
     ResourcesExhausted,
+    #[error("timed out")]
     TimedOut,
+    #[error("not supported")]
     NotSupported,
+    #[error("aborted")]
     Aborted,
+    #[error("not owner")]
     NotOwner,
+    #[error("referential integrity violation")]
     ReferentialIntegrityViolation,
 }
 

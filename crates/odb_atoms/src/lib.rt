@@ -1,4 +1,7 @@
 //! Values of an OVSDB server (RFC 7047): atoms, sets, maps, column types, differences and rows.
+//!
+//! Where memory is refused a call returns `AllocError`, and what it was given is as it was,
+//! unless its own page says otherwise. A call whose result has no such error takes no memory.
 #![tactic(auto)]
 
 mod atom;

@@ -1,4 +1,4 @@
-//! Rows of tables (RFC 7047, section 3.2): a value for each declared column, and a version.
+//! Rows of tables (RFC 7047, section 3.2): a value for each declared column, and a version. [P 2.1]
 
 ghost use Rattle.std.specs.Prelude.{◌≡◌, length, slice_get, slice_set, ◌<◌, IfOk};
 ghost use Rattle.std.specs.Option.{option_copied};
@@ -34,8 +34,7 @@ impl Model for Row {
 }
 
 impl Row {
-    /// The row with the values of its declared columns, in the order of the columns' names. O(1),
-    /// without memory.
+    /// The row with the values of its declared columns, in the order of the columns' names. O(1).
     pub fn new(version: Uuid, columns: Vec<Value>) -> Row
         ensures { result ≡ record { version = uuid_of version; columns = columns.items } }
     {
@@ -79,7 +78,7 @@ impl Row {
         std::mem::replace(&mut self.columns[place], value)
     }
 
-    /// An equal row. O(the bytes copied); an error says that there was no memory.
+    /// An equal row. O(the bytes copied).
     pub fn try_copy(&self, alloc: Global) -> Result<Row, AllocError>
         ensures { IfOk result (λ copy. copy ≡ self.now) }
     {

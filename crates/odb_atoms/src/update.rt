@@ -1,5 +1,5 @@
 //! Differences of values (ovsdb-server(7), "update2 notification"): what turns one value of a
-//! column into another.
+//! column into another. [P 9.2]
 
 ghost use Rattle.std.specs.Prelude.{◌≡◌, IfOk};
 ghost use Rattle.odb_atoms.specs.Difference as model;
@@ -17,10 +17,10 @@ use std::alloc::{AllocError, Global};
 /// values, the new pair.
 ///
 /// Both values are of the column's kind: two sets, or two maps. (Of a set and a map, which no
-/// column mixes, the answer is the new one.) Applied to the old value, the difference gives the new
+/// column mixes, the result is the new one.) Applied to the old value, the difference gives the new
 /// one.
 ///
-/// O(m + n), and the bytes copied; an error says that there was no memory.
+/// O(m + n), and the bytes copied.
 pub fn difference(
     alloc: Global,
     old: &Value,
@@ -46,9 +46,9 @@ impl Value {
     /// that both have, and with the difference's pair where both have the key.
     ///
     /// Both values are of the column's kind: two sets, or two maps. (Of a set and a map, which no
-    /// column mixes, the answer is the difference.) `difference` says that it is undone here.
+    /// column mixes, the result is the difference.) `difference` says that it is undone here.
     ///
-    /// O(m + n), and the bytes copied; an error says that there was no memory.
+    /// O(m + n), and the bytes copied.
     pub fn apply(
         &self,
         alloc: Global,

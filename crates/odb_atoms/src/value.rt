@@ -1,4 +1,4 @@
-//! Values of columns (RFC 7047, section 5.1, `<value>`): sets and maps of atoms.
+//! Values of columns (RFC 7047, section 5.1, `<value>`): sets and maps of atoms. [P 2.1]
 
 ghost use Rattle.std.specs.Prelude.{◌≡◌, ◌==◌, ◌∷◌, [], map, option_map, refl, Some};
 ghost use Rattle.std.specs.Prelude.{IfErr, IfOk, IsPermutation};
@@ -90,7 +90,7 @@ impl Model for Value {
 }
 
 impl Value {
-    /// The set of one atom, which is what a scalar is. O(1), without memory.
+    /// The set of one atom, which is what a scalar is. O(1).
     pub fn one(atom: Atom) -> Value
         ensures { result ≡ set_of (atoms (atom_of atom ∷ [])) }
     {
@@ -117,8 +117,7 @@ impl Value {
         }
     }
 
-    /// The set of the elements, which may come in any order. O(n log n) for n elements; it takes no
-    /// memory.
+    /// The set of the elements, which may come in any order. O(n log n) for n elements.
     ///
     /// The elements have to be of one kind, and none may stand twice (RFC 7047, section 5.1,
     /// `<set>`). Otherwise they are handed back, in some order, with the fault, of which
@@ -143,8 +142,7 @@ impl Value {
         Ok(Value::of_elements(elements))
     }
 
-    /// The map of the pairs, which may come in any order. O(n log n) for n pairs; it takes no
-    /// memory.
+    /// The map of the pairs, which may come in any order. O(n log n) for n pairs.
     ///
     /// The keys have to be of one kind and the values of one kind, and no key may stand twice (RFC
     /// 7047, section 5.1, `<map>`). Otherwise the pairs are handed back, in some order, with the
@@ -169,8 +167,7 @@ impl Value {
         Ok(Value::of_pairs(pairs))
     }
 
-    /// The map of one pair. O(1); an error says that there was no memory for it, and the atoms are
-    /// dropped.
+    /// The map of one pair. O(1); where memory is refused the atoms are dropped.
     pub(crate) fn one_pair(alloc: Global, key: Atom, value: Atom) -> Result<Value, AllocError>
         ensures { IfOk result (λ v. v ≡ map_of (finite.from_entries ((atom_of key, atom_of value) ∷ []))) }
     {
@@ -291,7 +288,7 @@ impl Value {
         }
     }
 
-    /// An equal value. O(the bytes copied); an error says that there was no memory.
+    /// An equal value. O(the bytes copied).
     pub fn try_copy(&self, alloc: Global) -> Result<Value, AllocError>
         ensures { IfOk result (λ copy. copy ≡ self.now) }
     {

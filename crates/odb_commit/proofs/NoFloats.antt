@@ -16,7 +16,7 @@ use Rattle.odb_tables.specs.Database.{Db}
 abbrev IsWhole : Outcome → Type 0
 IsWhole (model.done results new) = AllWhole results
 IsWhole (model.refused results) = AllWhole results
-IsWhole (model.parked moment) = ⊤
+IsWhole (model.waiting moment) = ⊤
 
 settled_whole : (number : ℕ) (old : Db) (results : List Data) (r : Result Db Error) → AllWhole results → IsWhole (model.settled number old results r)
 settled_whole number old results (Ok new) h = h
@@ -25,7 +25,7 @@ settled_whole number old results (Err e) h = append_whole results (ops.error_res
 outcome_whole : (s : Schema) (max_rows number : ℕ) (old : Db) (r : Ran) → ResultsWhole r → IsWhole (model.outcome s max_rows number old r)
 outcome_whole s max_rows number old (ops.finished d results) h = settled_whole number old results (settle s max_rows d.db) h
 outcome_whole s max_rows number old (ops.failed results) h = h
-outcome_whole s max_rows number old (ops.must_wait moment) h = tt
+outcome_whole s max_rows number old (ops.waiting moment) h = tt
 
 module _ (s : Schema) (max_rows number : ℕ) (c : Context) (db : Db) (operations : List Data) where
   transact_whole : IsWhole (transact s max_rows number c db operations)

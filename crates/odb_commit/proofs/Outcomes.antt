@@ -36,23 +36,23 @@ module _ (s : Schema) (max_rows number : ℕ) (old now : Db) where
   pub went_typed : (results : Vec Value Global) (r : ops.Ran) → answered.Answers (ran.Finished results) now r → EndsTyped s r → IsTyped s now
   went_typed results (ops.finished d rs) h typed = subst (IsTyped s) h.0 typed
   went_typed results (ops.failed rs) h typed = absurd h
-  went_typed results (ops.must_wait moment) h typed = absurd h
+  went_typed results (ops.waiting moment) h typed = absurd h
 
   pub went : (results : Vec Value Global) (r : ops.Ran) → answered.Answers (ran.Finished results) now r → model.outcome s max_rows number old r ≡ model.settled number old (results_of results) (settle s max_rows now)
   went results (ops.finished d rs) h = λ i. model.settled number old (h.1 i) (settle s max_rows (h.0 i))
   went results (ops.failed rs) h = absurd h
-  went results (ops.must_wait moment) h = absurd h
+  went results (ops.waiting moment) h = absurd h
 
   -- one failed, or a `wait` has to wait
   pub failed : (results : Vec Value Global) (r : ops.Ran) → answered.Answers (ran.Failed results) now r → Answers s old (outcome.Failed results) (model.outcome s max_rows number old r)
   failed results (ops.finished d rs) h = absurd h
   failed results (ops.failed rs) h = h
-  failed results (ops.must_wait moment) h = absurd h
+  failed results (ops.waiting moment) h = absurd h
 
-  pub parked : (deadline : Option ℕ) (r : ops.Ran) → answered.Answers (ran.MustWait deadline) now r → Answers s old (outcome.Parked deadline) (model.outcome s max_rows number old r)
-  parked deadline (ops.finished d rs) h = absurd h
-  parked deadline (ops.failed rs) h = absurd h
-  parked deadline (ops.must_wait moment) h = h
+  pub waiting : (deadline : Option ℕ) (r : ops.Ran) → answered.Answers (ran.Waiting deadline) now r → Answers s old (outcome.Waiting deadline) (model.outcome s max_rows number old r)
+  waiting deadline (ops.finished d rs) h = absurd h
+  waiting deadline (ops.failed rs) h = absurd h
+  waiting deadline (ops.waiting moment) h = h
 
 -- a transaction in its two parts
 pub in_parts : (s : Schema) (max_rows number : ℕ) (c : ops.Context) (db : Db) (operations : List Data) → model.transact s max_rows number c db operations ≡ model.outcome s max_rows number db (ops.run s c (ops.draft_of db) operations)

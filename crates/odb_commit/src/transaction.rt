@@ -1,4 +1,4 @@
-//! Transactions: operations, settlement, and the change that is left (RFC 7047, section 4.1.3).
+//! Transactions: operations, settlement, and the change that is left (RFC 7047, section 4.1.3). [P 6.1]
 ghost use Rattle.std.specs.Prelude.{◌≡◌, ◌++◌, ◌∷◌, [], IfOk, map};
 ghost use Rattle.serde_json.specs.View.{view};
 ghost use Rattle.odb_atoms.specs.Represented.Atom.{uuid_of};
@@ -33,7 +33,7 @@ pub enum Outcome {
     },
     /// A `wait` isn't met, and has time until this moment, in milliseconds, or for ever; nothing is
     /// changed.
-    Parked {
+    Waiting {
         deadline: Option<u64>,
     },
 }
@@ -45,8 +45,7 @@ pub enum Outcome {
 /// is: what is left is the change, which `Db::install` makes. The database has to be sound, as empty tables
 /// are; with the change it is sound again.
 ///
-/// What the operations and the settlement cost, and O(rows touched). An error says that memory was
-/// refused.
+/// What the operations and the settlement cost, and O(rows touched).
 pub fn transact(
     alloc: Global,
     db: &Db,
@@ -64,7 +63,7 @@ pub fn transact(
     match run(alloc, &mut draft, schema, operations, context)? {
         Ran::Finished(results) => finish(alloc, draft, schema, results, number, max_rows),
         Ran::Failed(results) => Ok(Outcome::Failed { results }),
-        Ran::MustWait(deadline) => Ok(Outcome::Parked { deadline }),
+        Ran::Waiting(deadline) => Ok(Outcome::Waiting { deadline }),
     }
 }
 

@@ -1,4 +1,4 @@
--- Conditions (RFC 7047, <condition>): what they say of a row.
+-- Conditions (RFC 7047, <condition>): what they say of a row. [P 3.1]
 use Rattle.std.specs.Prelude.{Bool, false, not, List}
 use Rattle.std.specs.declared.cmp.Ordering.{Ordering}
 use Rattle.std.specs.List.{list_all, list_any}

@@ -1,4 +1,4 @@
--- Filters of conditional monitors (ovsdb-server(7), monitor_cond): the `where` of a table.
+-- Filters of conditional monitors (ovsdb-server(7), monitor_cond): the `where` of a table. [P 9.1]
 use Rattle.std.specs.Prelude.{Bool, true, List, [], ◌∷◌}
 use Rattle.std.specs.List.{list_any}
 use Rattle.odb_atoms.specs.Uuid.{Uuid}

@@ -1,4 +1,4 @@
-//! One condition (RFC 7047, section 5.1, `<condition>`): a column, a function and a value.
+//! One condition (RFC 7047, section 5.1, `<condition>`): a column, a function and a value. [P 3.1]
 
 ghost use Rattle.std.specs.Prelude.{◌≡◌, option_map, IfOk};
 ghost use Rattle.std.specs.Bool.{Decides};
@@ -68,7 +68,7 @@ impl Model for Clause {
 }
 
 impl Clause {
-    /// The condition that the column stands so to the value. O(1), without memory.
+    /// The condition that the column stands so to the value. O(1).
     ///
     /// Any function and any value may be given. The protocol has the ordered functions on integer
     /// scalars alone (RFC 7047, section 5.1), which is for the reader to test.
@@ -86,23 +86,21 @@ impl Clause {
         }
     }
 
-    /// The column that it tests (RFC 7047, section 5.1, `<column>`). O(1), without memory.
+    /// The column that it tests (RFC 7047, section 5.1, `<column>`). O(1).
     pub fn column(&self) -> Selector
         ensures { selector_of result ≡ self.now.column }
     {
         self.column
     }
 
-    /// How the column has to stand to the value (RFC 7047, section 5.1, `<function>`). O(1), without
-    /// memory.
+    /// How the column has to stand to the value (RFC 7047, section 5.1, `<function>`). O(1).
     pub fn function(&self) -> Function
         ensures { function_of result ≡ self.now.function }
     {
         self.function
     }
 
-    /// The value to which the column has to stand so (RFC 7047, section 5.1, `<value>`). O(1), without
-    /// memory.
+    /// The value to which the column has to stand so (RFC 7047, section 5.1, `<value>`). O(1).
     pub fn value(&self) -> &Value
         ensures { result.now ≡ self.now.value }
     {
@@ -129,7 +127,7 @@ impl Clause {
     /// past the row's counts as the empty set.
     ///
     /// O(the sizes of the column and of the value) comparisons of atoms, for an ordered function
-    /// O(their product), which is 1 on scalars; it takes no memory.
+    /// O(their product), which is 1 on scalars.
     pub fn holds(&self, uuid: Uuid, row: &Row) -> bool
         ensures { result ≡ model.holds self.now (uuid_of uuid) row.now }
     {
@@ -189,7 +187,7 @@ impl Clause {
         }
     }
 
-    /// An equal condition. O(the bytes copied); an error says that there was no memory.
+    /// An equal condition. O(the bytes copied).
     pub fn try_copy(&self, alloc: Global) -> Result<Clause, AllocError>
         ensures { IfOk result (λ copy. copy ≡ self.now) }
     {

@@ -1,4 +1,4 @@
-//! The conditions of an operation, its `where` (RFC 7047, section 5.2).
+//! The conditions of an operation, its `where` (RFC 7047, section 5.2). [P 3.1]
 
 ghost use Rattle.std.specs.Prelude.{◌≡◌, option_map, IfSome, IsTrue};
 ghost use Rattle.odb_atoms.specs.Represented.Atom.{uuid_of};
@@ -29,7 +29,7 @@ impl Model for Where {
 }
 
 impl Where {
-    /// The `where` with these conditions. O(1), without memory.
+    /// The `where` with these conditions. O(1).
     pub fn new(clauses: Vec<Clause>) -> Where
         ensures { result ≡ clauses.items }
     {
@@ -38,8 +38,7 @@ impl Where {
 
     /// Whether each condition holds of the row with the identifier (RFC 7047, section 5.2.2).
     ///
-    /// O(the conditions, times the sizes of their columns and values), as `Clause::holds` says it;
-    /// it takes no memory.
+    /// O(the conditions, times the sizes of their columns and values), as `Clause::holds` says it.
     pub fn holds(&self, uuid: Uuid, row: &Row) -> bool
         ensures { result ≡ holds_all self.now (uuid_of uuid) row.now }
     {
@@ -49,7 +48,7 @@ impl Where {
     /// The identifier that the first condition on `_uuid` pins by `==` or `includes` of one
     /// identifier, if there is such a condition: the rows that match are then this one or none.
     ///
-    /// O(the conditions); it takes no memory.
+    /// O(the conditions).
     pub fn pinned(&self) -> Option<Uuid>
         ensures first { option_map uuid_of result ≡ pinned self.now }
         ensures no_other_row_matches { IfSome result (λ uuid.

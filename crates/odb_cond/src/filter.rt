@@ -1,4 +1,4 @@
-//! The filters of conditional monitors (ovsdb-server(7), "monitor_cond").
+//! The filters of conditional monitors (ovsdb-server(7), "monitor_cond"). [P 9.1]
 
 ghost use Rattle.std.specs.Prelude.{◌≡◌, map, IfOk};
 ghost use Rattle.std.specs.Bool.{Decides};
@@ -40,8 +40,7 @@ impl Model for Filter {
 }
 
 impl Member {
-    /// Whether it holds of the row with the identifier. It costs what `Clause::holds` does, and
-    /// takes no memory.
+    /// Whether it holds of the row with the identifier. It costs what `Clause::holds` does,.
     pub fn holds(&self, uuid: Uuid, row: &Row) -> bool
         ensures { result ≡ member_holds (uuid_of uuid) row.now (member_of self.now) }
     {
@@ -62,7 +61,7 @@ impl Member {
         }
     }
 
-    /// An equal member. O(the bytes copied); an error says that there was no memory.
+    /// An equal member. O(the bytes copied).
     pub fn try_copy(&self, alloc: Global) -> Result<Member, AllocError>
         ensures { IfOk result (λ copy. member_of copy ≡ member_of self.now) }
     {
@@ -74,14 +73,14 @@ impl Member {
 }
 
 impl Filter {
-    /// The filter with these members. O(1), without memory.
+    /// The filter with these members. O(1).
     pub fn new(members: Vec<Member>) -> Filter
         ensures { result ≡ map member_of members.items }
     {
         Filter { members }
     }
 
-    /// Its members, in the order in which they were given. O(1), without memory.
+    /// Its members, in the order in which they were given. O(1).
     pub fn members(&self) -> &[Member]
         ensures { map member_of result.now ≡ self.now }
     {
@@ -91,7 +90,7 @@ impl Filter {
     /// Whether the two are the same filter: the same members in the same order. Two filters that aren't
     /// the same may select the same rows all the same (`true` and no member at all).
     ///
-    /// O(the members and the entries of their values), each atom compared once; it takes no memory.
+    /// O(the members and the entries of their values), each atom compared once.
     pub fn same(&self, other: &Filter) -> bool
         ensures { Decides result (self.now ≡ other.now) }
     {
@@ -101,8 +100,7 @@ impl Filter {
     /// Whether it selects the row with the identifier: some member holds of it, or there is no
     /// member.
     ///
-    /// O(the members, times the sizes of their columns and values), as `Clause::holds` says it; it
-    /// takes no memory.
+    /// O(the members, times the sizes of their columns and values), as `Clause::holds` says it.
     #[tactic(auto, using(crate::proofs::Filters::selected))]
     pub fn holds(&self, uuid: Uuid, row: &Row) -> bool
         ensures { result ≡ selects self.now (uuid_of uuid) row.now }
@@ -110,7 +108,7 @@ impl Filter {
         self.members.is_empty() || some_member_holds(&self.members, uuid, row)
     }
 
-    /// An equal filter. O(the bytes copied); an error says that there was no memory.
+    /// An equal filter. O(the bytes copied).
     pub fn try_copy(&self, alloc: Global) -> Result<Filter, AllocError>
         ensures { IfOk result (λ copy. copy ≡ self.now) }
     {

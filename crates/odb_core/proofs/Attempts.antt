@@ -21,9 +21,9 @@ use Rattle.odb_wire.specs.Shown.{request_data}
 use Rattle.odb_service.specs.Server.{served_by}
 use Rattle.odb_service.specs.Service.{Service, outcome_of}
 use Rattle.odb_service.specs.Session.{Item, Session, say, sync, to}
-use Rattle.odb_service.specs.World.{Parked, World, asked_of, attempt, end_transaction, on_outcome, post, post_to, push}
+use Rattle.odb_service.specs.World.{Waiting, World, asked_of, attempt, end_transaction, on_outcome, post, post_to, push}
 use Rattle.odb_core.specs.declared.submitted.Submitted.{Submitted}
-use Rattle.odb_core.specs.Represented.Parked.{context_in, outcome_in, parked_as}
+use Rattle.odb_core.specs.Represented.Waiting.{context_in, outcome_in, waiting_as}
 use Rattle.odb_commit.proofs.NoFloats.{done_whole, refused_whole}
 use Rattle.odb_rpc.specs.Message.{operations_of}
 use Rattle.serde_json.specs.Written.{has_float}
@@ -52,14 +52,14 @@ commit_as h n d r db w = by (get w.sessions n)
     by (Some x) = refl
 
 module _ (s : Schema) (w : World) (a : Submitted) (deadline : Option ℕ) (n : ℕ) where
-  abbrev p : Parked
-  p = parked_as a deadline n
+  abbrev p : Waiting
+  p = waiting_as a deadline n
 
   abbrev d : Data
   d = request_data a.request
 
   abbrev Tried : Type 0
-  Tried = World × Option Parked
+  Tried = World × Option Waiting
 
   abbrev ended_as : Vec Value Global → Option Db → Tried
   ended_as results db = (end_transaction (served_by s) a.session d (array_of (results_of results)) db w, None)
@@ -70,15 +70,15 @@ module _ (s : Schema) (w : World) (a : Submitted) (deadline : Option ℕ) (n : �
       by : (m : transaction.Outcome) → Answers s w.db (outcome.Failed results) m → on_outcome (served_by s) p (outcome_of w.db m) w ≡ ended_as results None
       by (transaction.done answer new) k = absurd k
       by (transaction.refused answer) k = ap (λ (r : List Data). let t : Tried = (end_transaction (served_by s) a.session d (array_of r) None w, None) in t) k
-      by (transaction.parked moment) k = absurd k
+      by (transaction.waiting moment) k = absurd k
 
-  pub waits_as : (moment : Option ℕ) → Answers s w.db (outcome.Parked moment) (outcome_in s w a) → attempt (served_by s) p w ≡ (w, Some (parked_as a moment w.commits))
+  pub waits_as : (moment : Option ℕ) → Answers s w.db (outcome.Waiting moment) (outcome_in s w a) → attempt (served_by s) p w ≡ (w, Some (waiting_as a moment w.commits))
   waits_as moment k = by (outcome_in s w a) k
     where
-      by : (m : transaction.Outcome) → Answers s w.db (outcome.Parked moment) m → on_outcome (served_by s) p (outcome_of w.db m) w ≡ (w, Some (parked_as a moment w.commits))
+      by : (m : transaction.Outcome) → Answers s w.db (outcome.Waiting moment) m → on_outcome (served_by s) p (outcome_of w.db m) w ≡ (w, Some (waiting_as a moment w.commits))
       by (transaction.done answer new) k = absurd k
       by (transaction.refused answer) k = absurd k
-      by (transaction.parked t) k = ap (λ (t : Option ℕ). let r : Tried = (w, Some (parked_as a t w.commits)) in r) k
+      by (transaction.waiting t) k = ap (λ (t : Option ℕ). let r : Tried = (w, Some (waiting_as a t w.commits)) in r) k
 
   -- whether a change has rows
   abbrev pub has_rows : List Changes → Bool
@@ -99,14 +99,14 @@ module _ (s : Schema) (w : World) (a : Submitted) (deadline : Option ℕ) (n : �
       by : (m : transaction.Outcome) → Answers s w.db (outcome.Done results change) m → on_outcome (served_by s) p (outcome_of w.db m) w ≡ ended_as results (cond b (Some (all_changed_by w.db change)) None)
       by (transaction.done answer new) k = changes_as (results_of results) answer change new b is k.0 k.1 k.3
       by (transaction.refused answer) k = absurd k
-      by (transaction.parked t) k = absurd k
+      by (transaction.waiting t) k = absurd k
 
 -- what an outcome that is done says beside it
 module _ (s : Schema) (db : Db) (results : Vec Value Global) (change : List Changes) where
   pub done_is : (m : transaction.Outcome) → Answers s db (outcome.Done results change) m → IsChangeOf db change × IsSound s (all_changed_by db change)
   done_is (transaction.done answer new) k = (k.2, subst (IsSound s) (sym k.3) k.4)
   done_is (transaction.refused answer) k = absurd k
-  done_is (transaction.parked t) k = absurd k
+  done_is (transaction.waiting t) k = absurd k
 
 -- results have no fractions
 module _ (s : Schema) (w : World) (a : Submitted) where
@@ -116,7 +116,7 @@ module _ (s : Schema) (w : World) (a : Submitted) where
       by : (m : transaction.Outcome) → outcome_in s w a ≡ m → Answers s w.db (outcome.Done results change) m → has_float (array_of (results_of results)) ≡ false
       by (transaction.done answer new) e k = subst (λ r. has_float (array_of r) ≡ false) k.0 (done_whole s max_rows (w.commits + 1) (context_in w a) w.db (operations_of (request_data a.request)) answer new e)
       by (transaction.refused answer) e k = absurd k
-      by (transaction.parked t) e k = absurd k
+      by (transaction.waiting t) e k = absurd k
 
   pub refused_whole_results : (results : Vec Value Global) → Answers s w.db (outcome.Failed results) (outcome_in s w a) → has_float (array_of (results_of results)) ≡ false
   refused_whole_results results k = by (outcome_in s w a) refl k
@@ -124,4 +124,4 @@ module _ (s : Schema) (w : World) (a : Submitted) where
       by : (m : transaction.Outcome) → outcome_in s w a ≡ m → Answers s w.db (outcome.Failed results) m → has_float (array_of (results_of results)) ≡ false
       by (transaction.done answer new) e k = absurd k
       by (transaction.refused answer) e k = subst (λ r. has_float (array_of r) ≡ false) k (refused_whole s max_rows (w.commits + 1) (context_in w a) w.db (operations_of (request_data a.request)) answer e)
-      by (transaction.parked t) e k = absurd k
+      by (transaction.waiting t) e k = absurd k

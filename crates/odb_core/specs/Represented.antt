@@ -1,7 +1,7 @@
 pub mod Core
 pub mod Locking
 pub mod Out
-pub mod Parked
+pub mod Waiting
 pub mod Places
 pub mod Reason
 pub mod Requests

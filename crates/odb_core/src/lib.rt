@@ -1,9 +1,12 @@
 //! The OVSDB server as a machine over events: what each session is sent.
+//!
+//! Where memory is refused a call returns `AllocError`, and what it was given is as it was,
+//! unless its own page says otherwise. A call whose result has no such error takes no memory.
 #![tactic(auto)]
 
 mod locking;
 mod out;
-mod parked;
+mod waiting;
 mod refused;
 mod requests;
 mod server;

@@ -13,6 +13,6 @@ pub struct Out {
     pub before: Vec<u8>,
     /// A body that other sessions' messages may have too.
     pub body: Option<Arc<Vec<u8>>>,
-    /// The text behind the body.
+    /// The text after the body.
     pub after: Vec<u8>,
 }

@@ -1,4 +1,4 @@
-//! Why an event is refused.
+//! Why an event is refused. [P 13.1]
 ghost use Rattle.std.specs.Prelude.{◌≡◌};
 ghost use Rattle.odb_core.specs.declared.refused.Refused.TheVariants.{Memory};
 

@@ -1,7 +1,7 @@
-//! What the service does with a request, and with a session that closes (RFC 7047, 4.1).
+//! What the service does with a request, and with a session that closes (RFC 7047, section 4.1). [P 8.1, 10.5, 11.2, 12.3, 12.4, 13.2]
 
 ghost use Rattle.std.specs.Prelude.{◌≡◌, ◌==◌, ◌&&◌, [], count_by, false, List, max, map, nat_lt, not, None, Option};
-ghost use Rattle.std.specs.Prelude.{option_map, option_to_list, IfErr, IfOk, OnErr, OnOk, Some, true};
+ghost use Rattle.std.specs.Prelude.{option_map, option_to_list, ◌↔◌, IfErr, IfOk, IsOk, OnErr, OnOk, Some, true};
 ghost use Rattle.std.specs.List.{list_any, position};
 ghost use Rattle.serde_json.specs.Data.{Data};
 ghost use Rattle.odb_atoms.specs.FinMap.{get};
@@ -17,7 +17,7 @@ ghost use Rattle.odb_commit.specs.Sound.{IsSound};
 ghost use Rattle.odb_wire.specs.Message.{id_of};
 ghost use Rattle.odb_wire.specs.Shown.{request_data};
 ghost use Rattle.odb_queue.specs.Represented.Answer.{at_once, call_at, said};
-ghost use Rattle.odb_core.specs.Represented.Parked.{is_named};
+ghost use Rattle.odb_core.specs.Represented.Waiting.{is_named};
 ghost use Rattle.odb_core.specs.Represented.Requests.{asks_transaction};
 ghost use Rattle.odb_service.specs.Server.{served_by};
 ghost use Rattle.odb_service.specs.Service.{Service};
@@ -36,7 +36,7 @@ use uuid::Uuid;
 impl State {
     /// Takes a message of a session in, at a moment in milliseconds. Where memory is refused nothing
     /// changes, and the message comes back.
-    pub(crate) fn take_in(
+    pub(crate) fn receive(
         &mut self,
         served: &ServedSchema,
         session: SessionId,
@@ -62,8 +62,9 @@ impl State {
         taken
     }
 
-    /// Whether a message has a reply while its session is owed as many as it may be. `None` where the
-    /// session isn't open. O(log n + waiting transactions) for n sessions.
+    /// Whether to refuse the request as Busy: it needs a reply, and the session is already owed
+    /// `MAX_OWED`. `None` where the session isn't open. O(log n + waiting transactions) for n
+    /// sessions.
     pub(crate) fn is_busy(&self, session: SessionId, request: &Request) -> Option<bool>
         ensures { (h : Service) (s : Schema) → result ≡ option_map (λ x. has_reply (call_at s (request_data request.now))
             && not (nat_lt (owed_replies h session x self.entry.now) max_owed)) (get self.entry.now.sessions session) }
@@ -75,11 +76,11 @@ impl State {
 
     /// How many transactions of the session wait.
     fn waiting_of(&self, session: SessionId) -> usize
-        ensures { result ≡ count_by (λ p. p.session == session) self.entry.now.parked }
+        ensures { result ≡ count_by (λ p. p.session == session) self.entry.now.waiting }
     {
-        self.parked
+        self.waiting
             .iter()
-            .filter(|parked| parked.is_by(session))
+            .filter(|waiting| waiting.belongs_to(session))
             .count()
     }
 
@@ -99,14 +100,12 @@ impl State {
         ensures err { OnErr result (self.new ≡ self.old) }
         ensures back { IfErr result (λ back. back.0 ≡ request) }
     {
-        if asks_transaction(&request, served) {
-            return self.submit_transaction(served, session, request, fresh);
-        }
         match self.handle_call(served, session, &request) {
-            Ok(()) => {
+            Ok(true) => {
                 drop(request);
                 Ok(())
             }
+            Ok(false) => self.submit_transaction(served, session, request, fresh),
             Err(refused) => Err((request, refused)),
         }
     }
@@ -135,23 +134,25 @@ impl State {
         }
     }
 
-    /// A call that is no `transact`.
+    /// Reads what is asked and carries it out, and says so; but for a `transact`, which needs the
+    /// request for itself.
     fn handle_call(
         &mut self,
         served: &ServedSchema,
         session: SessionId,
         request: &Request,
-    ) -> Result<(), AllocError>
-        requires { asks_transaction (call_at served.now (request_data request.now)) ≡ false }
-        ensures ok { OnOk result ((fresh : List identifiers.Uuid) → handle (served_by served.now) session (request_data request.now) fresh
+    ) -> Result<bool, AllocError>
+        ensures done { IfOk result (λ done. done ≡ true → (fresh : List identifiers.Uuid) → handle (served_by served.now) session (request_data request.now) fresh
             (call_at served.now (request_data request.now)) self.old ≡ self.new) }
+        ensures transaction { IfOk result (λ done. done ≡ false → asks_transaction (call_at served.now (request_data request.now)) ≡ true) }
+        ensures untouched { IfOk result (λ done. done ≡ false → self.new ≡ self.old) }
         ensures database { self.new.db ≡ self.old.db }
         ensures tried { (h : Service) → untried h self.old ≡ None → untried h self.new ≡ None }
         ensures err { OnErr result (self.new ≡ self.old) }
     {
         match Call::read(request, served.schema()) {
             Ok(call) => self.carry_out(served, session, request, call),
-            Err(fault) => self.answer(served, session, request, Err(fault)),
+            Err(fault) => done(self.answer(served, session, request, Err(fault))),
         }
     }
 
@@ -161,26 +162,28 @@ impl State {
         session: SessionId,
         request: &Request,
         call: Call<'_>,
-    ) -> Result<(), AllocError>
-        requires reads { called served.now.name (write_schema served.now) (reply_id (id_of (request_data request.now))) call
+    ) -> Result<bool, AllocError>
+        requires { called served.now.name (write_schema served.now) (reply_id (id_of (request_data request.now))) call
             ≡ call_at served.now (request_data request.now) }
-        requires asks { asks_transaction (call_at served.now (request_data request.now)) ≡ false }
-        ensures ok { OnOk result ((fresh : List identifiers.Uuid) → handle (served_by served.now) session (request_data request.now) fresh
+        ensures done { IfOk result (λ done. done ≡ true → (fresh : List identifiers.Uuid) → handle (served_by served.now) session (request_data request.now) fresh
             (call_at served.now (request_data request.now)) self.old ≡ self.new) }
+        ensures transaction { IfOk result (λ done. done ≡ false → asks_transaction (call_at served.now (request_data request.now)) ≡ true) }
+        ensures untouched { IfOk result (λ done. done ≡ false → self.new ≡ self.old) }
         ensures database { self.new.db ≡ self.old.db }
         ensures tried { (h : Service) → untried h self.old ≡ None → untried h self.new ≡ None }
         ensures err { OnErr result (self.new ≡ self.old) }
     {
         match call {
-            Call::Lock(name) => self.lock(session, request, name),
-            Call::Steal(name) => self.steal(session, request, name),
-            Call::Unlock(name) => self.unlock(session, request, name),
-            Call::Cancel(id) => self.cancel(session, id),
-            call => self.answer(served, session, request, Ok(call)),
+            Call::Transact(_) => Ok(false),
+            Call::Lock(name) => done(self.claim(session, request, name, false)),
+            Call::Steal(name) => done(self.claim(session, request, name, true)),
+            Call::Unlock(name) => done(self.unlock(session, request, name)),
+            Call::Cancel(id) => done(self.cancel(session, id)),
+            call => done(self.answer(served, session, request, Ok(call))),
         }
     }
 
-    /// Queues the answer of a call that is over at once, if it has one.
+    /// Queues the reply to a call that is done at once, if it has one.
     fn answer(
         &mut self,
         served: &ServedSchema,
@@ -201,8 +204,8 @@ impl State {
         }
     }
 
-    /// `cancel` of a transaction that waits (RFC 7047, 4.1.4): the session's earliest one of this id ends.
-    /// Where memory is refused nothing changes. O(waiting transactions).
+    /// `cancel` of a transaction that waits (RFC 7047, section 4.1.4): the session's earliest one
+    /// of this id ends. O(waiting transactions).
     fn cancel(&mut self, session: SessionId, id: Printable<'_>) -> Result<(), AllocError>
         ensures ok { OnOk result ((s : Schema) → cancel (served_by s) session (printable_data id.entry) self.old ≡ self.new) }
         ensures database { self.new.db ≡ self.old.db }
@@ -213,41 +216,41 @@ impl State {
         let Some(place) = self.place_of(session, &text) else {
             return Ok(());
         };
-        let request = &self.parked[place].submitted().request;
+        let request = &self.waiting[place].submitted().request;
         let reply = failed(self.alloc, request, Failure::Canceled)?;
         self.post(session, reply)?;
-        drop(self.parked.remove(place));
+        drop(self.waiting.remove(place));
         Ok(())
     }
 
     /// Where the session's earliest waiting transaction of this id stands.
     fn place_of(&self, session: SessionId, id: &[u8]) -> Option<usize>
-        ensures { result ≡ position (is_named session id.now) self.entry.now.parked }
+        ensures { result ≡ position (is_named session id.now) self.entry.now.waiting }
     {
-        self.parked
+        self.waiting
             .iter()
-            .position(|parked| parked.is_of(session, id))
+            .position(|waiting| waiting.has_id_and_session(session, id))
     }
 
-    /// A session closes (RFC 7047, 4.1.8): its claims, its transactions that wait and its queue go. Where
-    /// memory is refused nothing changes. O(its claims + waiting transactions).
+    /// A session closes (RFC 7047, section 4.1.8): its claims, its transactions that wait and its
+    /// queue go. O(its claims + waiting transactions).
     pub(crate) fn close(&mut self, session: SessionId) -> Result<(), AllocError>
         ensures ok { OnOk result ((h : Service) → close h session self.old ≡ self.new) }
         ensures database { self.new.db ≡ self.old.db }
         ensures tried { (h : Service) → untried h self.old ≡ None → untried h self.new ≡ None }
         ensures err { OnErr result (self.new ≡ self.old) }
     {
-        let told = self.locks.preview_drop(session)?;
-        let posts = notices(self.alloc, &told)?;
+        let lock_notices = self.locks.preview_drop(session)?;
+        let posts = notices(self.alloc, &lock_notices)?;
         drop(self.sessions.post_all(posts)?);
         self.locks.forget_session(session);
-        self.parked.retain(|parked| !parked.is_by(session));
+        self.waiting.retain(|waiting| !waiting.belongs_to(session));
         self.sessions.close(session);
         Ok(())
     }
 
-    /// The moment is `now` in milliseconds, or stays where it was later; then the transactions whose
-    /// deadline has come are tried. Where memory is refused nothing changes.
+    /// Advances the clock to `now` (milliseconds), and tries the transactions whose deadline has
+    /// come.
     pub(crate) fn tick(&mut self, schema: &Schema, now: u64) -> Result<(), AllocError>
         requires sound { IsSound schema.now self.old.db }
         requires tried { (h : Service) → untried h self.old ≡ None }
@@ -271,15 +274,19 @@ impl State {
 
     /// Whether the deadline of a transaction has come by this moment. O(waiting transactions).
     fn has_due(&self, moment: u64) -> bool
-        ensures { result ≡ list_any (λ p. is_due moment p.deadline) self.entry.now.parked }
+        ensures { result ≡ list_any (λ p. is_due moment p.deadline) self.entry.now.waiting }
     {
-        self.parked.iter().any(|parked| parked.is_due(moment))
+        self.waiting.iter().any(|waiting| waiting.is_due(moment))
     }
 }
 
-/// Whether the request is a `transact` that is carried out.
-fn asks_transaction(request: &Request, served: &ServedSchema) -> bool
-    ensures { result ≡ asks_transaction (call_at served.now (request_data request.now)) }
+/// That a call was carried out, unless memory was refused.
+fn done(ended: Result<(), AllocError>) -> Result<bool, AllocError>
+    ensures ok { IsOk result ↔ IsOk ended }
+    ensures done { IfOk result (λ done. done ≡ true) }
 {
-    matches!(Call::read(request, served.schema()), Ok(Call::Transact(_)))
+    match ended {
+        Ok(()) => Ok(true),
+        Err(refused) => Err(refused),
+    }
 }

@@ -1,4 +1,4 @@
-//! The server as a machine over events.
+//! The server as a machine over events. [P 10.3, 13.1, 14]
 
 ghost use Rattle.std.specs.Prelude.{◌≡◌, ◌≤◌, ◌↔◌, [], ◌∷◌, map, length, option_to_list, Ok, OnOk, OnErr, IfOk, IfErr, IsErrOf};
 ghost use Rattle.odb_atoms.specs.FinMap.{len};
@@ -118,12 +118,13 @@ impl Core {
         Ok(())
     }
 
-    /// Takes a message of a session in: a request or a notification. `fresh` are identifiers that are
-    /// used nowhere yet, at least as many as `request.inserts()`; `now` is the moment in
-    /// milliseconds, and one before an earlier one counts as that. It is refused with `Gone` where no
-    /// such session is open, with `Busy` where the request has a reply and the session is owed 256, and
-    /// with `Memory`; the request is handed back then. A commit while transactions wait goes over all
-    /// rows; any other call costs what its request asks for, and O(log n + w).
+    /// Takes a request or a notification of a session in. `fresh` are identifiers that are used
+    /// nowhere yet, at least as many as `request.inserts()`; `now` is the time in milliseconds, and
+    /// an earlier one than the clock's counts as the clock's. It is refused with `Gone` where no
+    /// such session is open, with `Busy` where the request needs a reply and the session is owed
+    /// 256, and with `Memory`; the request is handed back then. A `transact` whose operations
+    /// succeed goes over all rows, since settlement does; any other call costs what its request
+    /// asks for, and O(log n + w).
     pub fn submit(
         &mut self,
         session: SessionId,
@@ -146,17 +147,16 @@ impl Core {
         }
         match self
             .state
-            .take_in(&self.served, session, request, fresh, now)
+            .receive(&self.served, session, request, fresh, now)
         {
             Ok(()) => Ok(()),
             Err((request, _)) => Err((request, Refused::Memory)),
         }
     }
 
-    /// The moment is `now` in milliseconds, or stays where an earlier call named a later one. Then the
-    /// transactions that wait and whose deadline has come are tried once each, in order of arrival. An
-    /// error says that memory was refused, and nothing changed then. O(w), and over all rows where a
-    /// deadline has come.
+    /// Advances the clock to `now` (milliseconds); it never goes back, so that an earlier `now`
+    /// leaves it. Then the waiting transactions whose deadline has come are tried once each, in
+    /// order of arrival. O(w), and over all rows where a deadline has come.
     pub fn tick(&mut self, now: u64) -> Result<(), AllocError>
         ensures ok { OnOk result (serve (ticked now) self.old ≡ Ok (self.new, [])) }
         ensures err { OnErr result (self.new ≡ self.old) }
@@ -182,7 +182,7 @@ impl Core {
         Ok(outs)
     }
 
-    /// The next message of a session, if it is open and has one. O(log n), without memory.
+    /// The next message of a session, if it is open and has one. O(log n).
     fn take(&mut self, session: SessionId) -> Option<Out>
         ensures { takes (session ∷ []) self.old ≡ (self.new, map sent_in (option_to_list result)) }
     {
@@ -195,8 +195,8 @@ impl Core {
         })
     }
 
-    /// An equal core: the same state, whose rows and waiting transactions are shared with this one. O(rows
-    /// + w + claims + bytes queued); an error says that memory was refused.
+    /// An equal core: the same state, whose rows and waiting transactions are shared with this one.
+    /// O(rows + w + claims + bytes queued).
     pub fn try_copy(&self) -> Result<Core, AllocError>
         ensures { IfOk result (λ copy. copy ≡ self.now) }
     {

@@ -1,4 +1,4 @@
-//! A session of the core.
+//! A session of the core. [P 10.3, 10.5, 14]
 
 ghost use Rattle.std.specs.Prelude.{◌≡◌, ◌+◌, ◌&&◌, not, nat_lt, [], ◌∷◌, OnOk, OnErr, option_map};
 ghost use Rattle.odb_wire.specs.Shown.{request_data};
@@ -43,7 +43,7 @@ impl Session {
     ghost use Rattle.odb_schema.specs.Schema.{Schema};
     ghost use Rattle.odb_service.specs.Session.{replies_in, take};
 
-    /// Nothing is queued, and there are no monitors. It takes no memory.
+    /// Nothing is queued, and there are no monitors.
     pub(crate) fn new(alloc: Global) -> Session
         ensures { result ≡ record { queue = []; monitors = [] } }
     {
@@ -60,7 +60,7 @@ impl Session {
         has_reply(request) && self.queue.replies().saturating_add(waiting) >= MAX_OWED
     }
 
-    /// Puts an item at the end of the queue. Where memory is refused, nothing changes.
+    /// Puts an item at the end of the queue.
     pub(crate) fn push(&mut self, item: Finished) -> Result<(), AllocError>
         ensures ok { OnOk result (self.new ≡ push (item_of item ∷ []) self.old) }
         ensures monitors { OnOk result ((h : Service) → self.new ≡ ended_in h (item_of item) self.old) }
@@ -69,14 +69,14 @@ impl Session {
         self.queue.push(item)
     }
 
-    /// Takes the newest item of the queue out, if there is one. O(1), without memory.
-    pub(crate) fn take_back(&mut self)
+    /// Takes the newest item of the queue out, if there is one. O(1).
+    pub(crate) fn unpost(&mut self)
         ensures { self.new ≡ without_last self.old }
     {
         drop(self.queue.pop_newest());
     }
 
-    /// Takes the next message, if there is one. O(1), without memory.
+    /// Takes the next message, if there is one. O(1).
     pub(crate) fn take(&mut self) -> Option<Vec<u8>>
         ensures message { (h : Service) (db : Db) → option_map (λ text. text.items) result ≡ option_map text_of (take h db self.old).0 }
         ensures session { (h : Service) (db : Db) → self.new ≡ (take h db self.old).1 }
@@ -91,7 +91,7 @@ impl Clone for Session {
 
     ghost is_clone = { λ x y. y ≡ x };
 
-    /// An equal session. O(bytes queued); an error says that memory was refused.
+    /// An equal session. O(bytes queued).
     fn clone(&self) -> Result<Session, AllocError> {
         Ok(Session {
             queue: self.queue.clone()?,

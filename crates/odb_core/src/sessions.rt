@@ -1,4 +1,4 @@
-//! The sessions of a core.
+//! The sessions of a core. [P 10.1, 10.3]
 
 ghost use Rattle.std.specs.Prelude.{◌≡◌, map, option_map, IfOk, OnErr, OnOk};
 ghost use Rattle.std.specs.Option.{option_copied};
@@ -39,11 +39,11 @@ impl Sessions {
     ghost use Rattle.odb_service.specs.Service.{Service};
     ghost use Rattle.odb_service.specs.Session.{take};
     ghost use Rattle.odb_core.specs.Represented.Sessions.{all_posted, at_session, ended_in, posted};
-    ghost use Rattle.odb_core.specs.Represented.Sessions.{fresh_session, taken_back, text_taken};
+    ghost use Rattle.odb_core.specs.Represented.Sessions.{fresh_session, unposted, text_taken};
     ghost use Rattle.odb_queue.specs.Represented.Newest.{without_last};
     ghost use Rattle.odb_tables.specs.Database.{Db};
 
-    /// No session is open. It takes no memory.
+    /// No session is open.
     pub(crate) fn new(alloc: Global) -> Sessions
         ensures { result ≡ empty }
     {
@@ -67,7 +67,7 @@ impl Sessions {
         self.sessions.get(&session)
     }
 
-    /// Opens a session, for which nothing is queued. O(log n); where memory is refused nothing changes.
+    /// Opens a session, for which nothing is queued. O(log n).
     pub(crate) fn open(&mut self, session: SessionId) -> Result<(), AllocError>
         ensures ok { OnOk result (self.new ≡ insert self.old session fresh_session) }
         ensures err { OnErr result (self.new ≡ self.old) }
@@ -76,78 +76,77 @@ impl Sessions {
         Ok(())
     }
 
-    /// Ends a session, if it is open. O(log n), without memory.
+    /// Ends a session, if it is open. O(log n).
     pub(crate) fn close(&mut self, session: SessionId)
         ensures { self.new ≡ remove self.old session }
     {
         self.sessions.remove(&session);
     }
 
-    /// Posts each item to its session, and answers the sessions that it was queued for, by which
-    /// `take_back` undoes it. Where memory is refused nothing changes. O(log n) for each.
+    /// Posts each item to its session, and returns the sessions for which one was queued, by which
+    /// `unpost` undoes it. O(log n) for each.
     pub(crate) fn post_all(&mut self, posts: Vec<Post>) -> Result<Vec<SessionId>, AllocError>
-        ensures ok { IfOk result (λ told. self.new ≡ all_posted self.old (map post_of posts.items)) }
-        ensures back { IfOk result (λ told. taken_back told.items self.new ≡ self.old) }
+        ensures ok { IfOk result (λ posted_to. self.new ≡ all_posted self.old (map post_of posts.items)) }
+        ensures back { IfOk result (λ posted_to. unposted posted_to.items self.new ≡ self.old) }
         ensures err { OnErr result (self.new ≡ self.old) }
     {
-        let mut told = Vec::new(self.alloc);
+        let mut posted_to = Vec::new(self.alloc);
         for post in posts {
-            if let Err(refused) = self.post(&mut told, post.session, post.item) {
-                self.take_back(told);
+            if let Err(refused) = self.post(&mut posted_to, post.session, post.item) {
+                self.unpost(posted_to);
                 return Err(refused);
             }
         }
-        Ok(told)
+        Ok(posted_to)
     }
 
-    /// Posts the reply of a transaction that ended, as a commit wants it: behind a sync for each of the
-    /// session's monitors. It answers as `post_all` does. O(log n + monitors).
+    /// Posts the reply of a transaction that ended, as a commit wants it: after a sync for each of
+    /// the session's monitors. It returns what `post_all` does. O(log n + monitors).
     pub(crate) fn post_end(
         &mut self,
         session: SessionId,
         reply: Finished,
     ) -> Result<Vec<SessionId>, AllocError>
-        ensures ok { IfOk result (λ told. (h : Service)
+        ensures ok { IfOk result (λ posted_to. (h : Service)
             → self.new ≡ at_session (ended_in h (item_of reply)) self.old session) }
-        ensures back { IfOk result (λ told. taken_back told.items self.new ≡ self.old) }
+        ensures back { IfOk result (λ posted_to. unposted posted_to.items self.new ≡ self.old) }
         ensures err { OnErr result (self.new ≡ self.old) }
     {
-        let mut told = Vec::new(self.alloc);
-        self.post(&mut told, session, reply)?;
-        Ok(told)
+        let mut posted_to = Vec::new(self.alloc);
+        self.post(&mut posted_to, session, reply)?;
+        Ok(posted_to)
     }
 
-    /// Queues an item for a session, if it is open, and then adds the session to `told`. Where memory is
-    /// refused nothing changes. O(log n).
+    /// Queues an item for a session, if it is open, and then adds the session to `posted_to`. O(log n).
     fn post(
         &mut self,
-        told: &mut Vec<SessionId>,
+        posted_to: &mut Vec<SessionId>,
         session: SessionId,
         item: Finished,
     ) -> Result<(), AllocError>
         ensures ok { OnOk result (self.new ≡ posted self.old (session, item_of item)) }
         ensures monitors { OnOk result ((h : Service)
             → self.new ≡ at_session (ended_in h (item_of item)) self.old session) }
-        ensures back { OnOk result (taken_back told.new.items self.new ≡ taken_back told.old.items self.old) }
+        ensures back { OnOk result (unposted posted_to.new.items self.new ≡ unposted posted_to.old.items self.old) }
         ensures err { OnErr result (self.new ≡ self.old) }
-        ensures told { OnErr result (told.new.items ≡ told.old.items) }
+        ensures posted_to { OnErr result (posted_to.new.items ≡ posted_to.old.items) }
     {
-        told.reserve(1)?;
+        posted_to.reserve(1)?;
         let Some(to) = self.sessions.get_mut(&session) else {
             return Ok(());
         };
         to.push(item)?;
-        told.push_reserved(session);
+        posted_to.push_reserved(session);
         Ok(())
     }
 
-    /// The newest item of each of these sessions' queues goes, that of the last session first. O(log n)
-    /// for each, without memory.
-    pub(crate) fn take_back(&mut self, told: Vec<SessionId>)
-        ensures { self.new ≡ taken_back told.items self.old }
+    /// The newest item of each of these sessions' queues goes, that of the last session first.
+    /// O(log n) for each.
+    pub(crate) fn unpost(&mut self, posted_to: Vec<SessionId>)
+        ensures { self.new ≡ unposted posted_to.items self.old }
     {
-        let mut told = told;
-        while let Some(session) = told.pop() {
+        let mut posted_to = posted_to;
+        while let Some(session) = posted_to.pop() {
             self.take_newest_back(session);
         }
     }
@@ -158,10 +157,10 @@ impl Sessions {
         let Some(of) = self.sessions.get_mut(&session) else {
             return;
         };
-        of.take_back();
+        of.unpost();
     }
 
-    /// Takes the next message of a session, if it is open and has one. O(log n), without memory.
+    /// Takes the next message of a session, if it is open and has one. O(log n).
     pub(crate) fn take(&mut self, session: SessionId) -> Option<Vec<u8>>
         ensures text { (h : Service) (db : Db)
             → option_map (λ t. t.items) result ≡ text_taken h db (get self.old session) }
@@ -171,7 +170,7 @@ impl Sessions {
         self.sessions.get_mut(&session)?.take()
     }
 
-    /// Equal sessions. O(bytes queued); an error says that memory was refused.
+    /// Equal sessions. O(bytes queued).
     pub(crate) fn try_copy(&self, alloc: Global) -> Result<Sessions, AllocError>
         ensures { IfOk result (λ copy. copy ≡ self.now) }
     {

@@ -1,4 +1,4 @@
-//! The state of the service: what it does with requests, moments and sessions that close.
+//! The state of the service: what it does with requests, moments and sessions that close. [P 6.3, 12.1, 12.2, 12.3, 14]
 
 ghost use Rattle.std.specs.Prelude.{◌≡◌, ◌↔◌, IsOk, ◌+◌, ◌++◌, ◌==◌, [], ◌∷◌, false, length, map, max, nat_lt, replicate, IfErr, IfOk, None, Option, Some, OnErr, OnOk};
 ghost use Rattle.std.specs.List.{list_any};
@@ -18,9 +18,9 @@ ghost use Rattle.odb_wire.specs.Shown.{request_data};
 ghost use Rattle.odb_service.specs.Service.{Service};
 ghost use Rattle.odb_service.specs.Server.{served_by};
 ghost use Rattle.odb_service.specs.Session.{say, to};
-ghost use Rattle.odb_core.specs.Represented.Parked.{outcome_in, parked_as, waiting, IsDone};
+ghost use Rattle.odb_core.specs.Represented.Waiting.{left_waiting, outcome_in, waiting_as, IsDone};
 
-use crate::parked::{Parked, Tried};
+use crate::waiting::{Waiting, Tried};
 use crate::sessions::Sessions;
 use crate::submitted::Submitted;
 use odb_commit::{Outcome, transact};
@@ -48,7 +48,7 @@ pub(crate) struct State {
     pub(crate) db: Db,
     pub(crate) commits: u64,
     pub(crate) now: u64,
-    pub(crate) parked: Vec<Parked>,
+    pub(crate) waiting: Vec<Waiting>,
     pub(crate) locks: Locks,
     pub(crate) sessions: Sessions,
 }
@@ -61,7 +61,7 @@ impl Model for State {
 
     ghost coded = { world_code };
 
-    ghost view = { λ s. record { db = s.db; commits = s.commits; now = s.now; parked = s.parked.items; locks = s.locks; sessions = s.sessions } };
+    ghost view = { λ s. record { db = s.db; commits = s.commits; now = s.now; waiting = s.waiting.items; locks = s.locks; sessions = s.sessions } };
 }
 
 impl State {
@@ -74,7 +74,7 @@ impl State {
     ghost use Rattle.odb_core.specs.Represented.Core.{empty_world};
     ghost use Rattle.odb_core.specs.Represented.Places.{split_at};
 
-    /// Empty tables, at moment 0, with no commit and no session. An error says that memory was refused.
+    /// Empty tables, at moment 0, with no commit and no session.
     pub(crate) fn new(
         alloc: Global,
         tables: usize,
@@ -87,7 +87,7 @@ impl State {
             db: Db::new(alloc, tables, hashing)?,
             commits: 0,
             now: 0,
-            parked: Vec::new(alloc),
+            waiting: Vec::new(alloc),
             locks: Locks::new(alloc),
             sessions: Sessions::new(alloc),
         })
@@ -117,7 +117,7 @@ impl State {
         )
     }
 
-    /// Queues the reply of a transaction that changes nothing. Where memory is refused nothing changes.
+    /// Queues the reply of a transaction that changes nothing.
     fn reply(&mut self, asked: &Submitted, results: Vec<Value>) -> Result<(), AllocError>
         requires { has_float (array_of (results_of results)) ≡ false }
         ensures ok { OnOk result ((h : Service)
@@ -129,7 +129,7 @@ impl State {
         self.post(asked.session, reply)
     }
 
-    /// Queues an item for a session, if it is open. Where memory is refused nothing changes.
+    /// Queues an item for a session, if it is open.
     pub(crate) fn post(&mut self, session: SessionId, item: Finished) -> Result<(), AllocError>
         ensures ok { OnOk result (post session (item_of item ∷ []) self.old ≡ self.new) }
         ensures rest { self.new ≡ record (self.old) { sessions = self.new.sessions } }
@@ -141,7 +141,7 @@ impl State {
         Ok(())
     }
 
-    /// Makes the change as the next commit and queues the reply. Where memory is refused nothing changes.
+    /// Makes the change as the next commit and queues the reply.
     fn commit(
         &mut self,
         asked: &Submitted,
@@ -153,26 +153,26 @@ impl State {
         ensures ok { OnOk result ((h : Service)
             → end_transaction h asked.now.session (request_data asked.now.request) (array_of (results_of results)) (Some (all_changed_by self.old.db change)) self.old ≡ self.new) }
         ensures database { OnOk result (self.new.db ≡ all_changed_by self.old.db change) }
-        ensures waiting { self.new.parked ≡ self.old.parked }
+        ensures waiting { self.new.waiting ≡ self.old.waiting }
         ensures err { OnErr result (self.new ≡ self.old) }
     {
         let number = self.commits.checked_add(1).ok_or(AllocError)?;
         let reply = replied(self.alloc, &asked.request, &Value::from(results))?;
-        let told = self.sessions.post_end(asked.session, reply)?;
+        let posted_to = self.sessions.post_end(asked.session, reply)?;
         match self.db.install(change) {
             Ok(()) => {
                 self.commits = number;
                 Ok(())
             }
             Err(_) => {
-                self.sessions.take_back(told);
+                self.sessions.unpost(posted_to);
                 Err(AllocError)
             }
         }
     }
 
-    /// Carries out what a transaction came to. Where memory is refused nothing changes.
-    fn conclude(
+    /// Carries out what a transaction came to.
+    fn attempt_with(
         &mut self,
         schema: &Schema,
         asked: &Submitted,
@@ -181,9 +181,9 @@ impl State {
         requires sound { IsSound schema.now self.old.db }
         requires outcome { Answers schema.now self.old.db outcome (outcome_in schema.now self.old asked.now) }
         ensures ok { IfOk result (λ tried. (deadline : Option ℕ) → (n : ℕ)
-            → attempt (served_by schema.now) (parked_as asked.now deadline n) self.old ≡ (self.new, waiting tried asked.now self.old.commits)) }
+            → attempt (served_by schema.now) (waiting_as asked.now deadline n) self.old ≡ (self.new, left_waiting tried asked.now self.old.commits)) }
         ensures sound { IsSound schema.now self.new.db }
-        ensures waiting { self.new.parked ≡ self.old.parked }
+        ensures waiting { self.new.waiting ≡ self.old.waiting }
         ensures err { OnErr result (self.new ≡ self.old) }
     {
         match outcome {
@@ -199,49 +199,50 @@ impl State {
                 self.reply(asked, results)?;
                 Ok(Tried::Ended)
             }
-            Outcome::Parked { deadline } => Ok(Tried::Waits { deadline }),
+            Outcome::Waiting { deadline } => Ok(Tried::Waiting { deadline }),
         }
     }
 
     /// Tries a transaction that waited: it ends, or waits again.
-    fn retried(&mut self, schema: &Schema, parked: Parked) -> Result<Option<Parked>, AllocError>
+    fn retried(&mut self, schema: &Schema, waiting: Waiting) -> Result<Option<Waiting>, AllocError>
         requires { IsSound schema.now self.old.db }
-        ensures ok { IfOk result (λ left. attempt (served_by schema.now) parked self.old ≡ (self.new, left)) }
+        ensures ok { IfOk result (λ left. attempt (served_by schema.now) waiting self.old ≡ (self.new, left)) }
         ensures sound { IsSound schema.now self.new.db }
     {
-        let outcome = self.outcome(schema, parked.submitted())?;
-        match self.conclude(schema, parked.submitted(), outcome)? {
+        let outcome = self.outcome(schema, waiting.submitted())?;
+        match self.attempt_with(schema, waiting.submitted(), outcome)? {
             Tried::Ended => Ok(None),
-            Tried::Waits { deadline } => Ok(Some(parked.tried_again(deadline, self.commits))),
+            Tried::Waiting { deadline } => Ok(Some(waiting.tried_again(deadline, self.commits))),
         }
     }
 
     /// Where the earliest transaction stands that wasn't tried since the newest commit. O(waiting).
     fn first_untried(&self) -> Option<usize>
-        ensures { result ≡ position (is_untried self.entry.now.commits) self.entry.now.parked }
+        ensures { result ≡ position (is_untried self.entry.now.commits) self.entry.now.waiting }
     {
-        self.parked
+        self.waiting
             .iter()
-            .position(|parked| parked.is_untried(self.commits))
+            .position(|waiting| waiting.is_untried(self.commits))
     }
 
     /// Tries the transaction that waits at this place again: where it has to wait it stays there.
     fn try_at(&mut self, schema: &Schema, place: usize) -> Result<(), AllocError>
         requires sound { IsSound schema.now self.old.db }
-        requires place { place < length self.old.parked }
-        ensures ok { OnOk result ((t : List model.Parked × model.Parked × List model.Parked) → split_at self.old.parked place ≡ Some t
+        requires place { place < length self.old.waiting }
+        ensures ok { OnOk result ((t : List model.Waiting × model.Waiting × List model.Waiting) → split_at self.old.waiting place ≡ Some t
             → try_one (served_by schema.now) t self.old ≡ self.new) }
         ensures sound { IsSound schema.now self.new.db }
     {
-        let parked = self.parked.remove(place);
-        if let Some(parked) = self.retried(schema, parked)? {
-            self.parked.insert(place, parked)?;
+        let waiting = self.waiting.remove(place);
+        if let Some(waiting) = self.retried(schema, waiting)? {
+            self.waiting.insert(place, waiting)?;
         }
         Ok(())
     }
 
-    /// Tries each transaction that waits and wasn't tried since the newest commit, the earliest first,
-    /// until there is none (RFC 7047, 5.2.6). After an error the state is of no further use.
+    /// Tries each transaction that waits and wasn't tried since the newest commit, the earliest
+    /// first, until there is none (RFC 7047, section 5.2.6). After an error the state is of no
+    /// further use.
     pub(crate) fn retry_all(&mut self, schema: &Schema) -> Result<(), AllocError>
         requires { IsSound schema.now self.old.db }
         ensures ok { OnOk result (retry_all (served_by schema.now) self.old ≡ self.new) }
@@ -258,34 +259,35 @@ impl State {
     /// no further use.
     pub(crate) fn try_due(&mut self, schema: &Schema) -> Result<(), AllocError>
         requires { IsSound schema.now self.old.db }
-        ensures ok { OnOk result (try_due (served_by schema.now) self.old.parked (record (self.old) { parked = [] }) ≡ self.new) }
+        ensures ok { OnOk result (try_due (served_by schema.now) self.old.waiting (record (self.old) { waiting = [] }) ≡ self.new) }
         ensures sound { IsSound schema.now self.new.db }
     {
-        let waiting = mem::replace(&mut self.parked, Vec::new(self.alloc));
-        for parked in waiting {
-            self.try_if_due(schema, parked)?;
+        let earlier = mem::replace(&mut self.waiting, Vec::new(self.alloc));
+        for waiting in earlier {
+            self.try_if_due(schema, waiting)?;
         }
         Ok(())
     }
 
-    fn try_if_due(&mut self, schema: &Schema, parked: Parked) -> Result<(), AllocError>
+    fn try_if_due(&mut self, schema: &Schema, waiting: Waiting) -> Result<(), AllocError>
         requires { IsSound schema.now self.old.db }
-        ensures ok { OnOk result ((ps : List model.Parked) → try_due (served_by schema.now) (parked ∷ ps) self.old ≡ try_due (served_by schema.now) ps self.new) }
+        ensures ok { OnOk result ((ps : List model.Waiting) → try_due (served_by schema.now) (waiting ∷ ps) self.old ≡ try_due (served_by schema.now) ps self.new) }
         ensures sound { IsSound schema.now self.new.db }
     {
-        if !parked.is_due(self.now) {
-            self.parked.push(parked)?;
+        if !waiting.is_due(self.now) {
+            self.waiting.push(waiting)?;
             return Ok(());
         }
-        if let Some(parked) = self.retried(schema, parked)? {
-            self.parked.push(parked)?;
+        if let Some(waiting) = self.retried(schema, waiting)? {
+            self.waiting.push(waiting)?;
         }
         Ok(())
     }
 
-    /// A new transaction (RFC 7047, 4.1.3): it ends, or waits behind the others. Where memory is refused
-    /// nothing changes, and it comes back. A commit while transactions wait works on a copy, O(rows); every
-    /// other costs what it changes.
+    /// A new transaction (RFC 7047, section 4.1.3): it ends, or waits after the others. Where
+    /// memory is refused nothing changes, and it comes back. It goes over all rows where its
+    /// operations succeed, since settlement does; a commit while others wait works on a copy,
+    /// O(rows + bytes queued).
     pub(crate) fn transact(
         &mut self,
         schema: &Schema,
@@ -293,28 +295,27 @@ impl State {
     ) -> Result<(), (Submitted, AllocError)>
         requires sound { IsSound schema.now self.old.db }
         requires tried { (h : Service) → untried h self.old ≡ None }
-        ensures ok { OnOk result (run_transaction (served_by schema.now) (parked_as asked None self.old.commits) self.old ≡ self.new) }
+        ensures ok { OnOk result (run_transaction (served_by schema.now) (waiting_as asked None self.old.commits) self.old ≡ self.new) }
         ensures sound { IsSound schema.now self.new.db }
         ensures tried { (h : Service) → untried h self.new ≡ None }
         ensures err { OnErr result (self.new ≡ self.old) }
         ensures back { IfErr result (λ back. back.0 ≡ asked) }
     {
         match self.outcome(schema, &asked) {
-            Ok(Outcome::Parked { deadline }) => self.park(asked, deadline),
+            Ok(Outcome::Waiting { deadline }) => self.make_wait(asked, deadline),
             Ok(Outcome::Failed { results }) => {
                 let ended = self.reply(&asked, results);
-                or_back(ended, asked)
+                back_on_error(ended, asked)
             }
             Ok(Outcome::Done { results, change }) => {
                 let ended = self.complete(schema, &asked, results, change);
-                or_back(ended, asked)
+                back_on_error(ended, asked)
             }
             Err(refused) => Err((asked, refused)),
         }
     }
 
-    /// Makes a transaction's change, and tries those that wait again where it is a commit. Where memory is
-    /// refused nothing changes.
+    /// Makes a transaction's change, and tries those that wait again where it is a commit.
     fn complete(
         &mut self,
         schema: &Schema,
@@ -325,7 +326,7 @@ impl State {
         requires sound { IsSound schema.now self.old.db }
         requires tried { (h : Service) → untried h self.old ≡ None }
         requires outcome { IsDone schema.now self.old asked.now results change }
-        ensures ok { OnOk result (run_transaction (served_by schema.now) (parked_as asked.now None self.old.commits) self.old ≡ self.new) }
+        ensures ok { OnOk result (run_transaction (served_by schema.now) (waiting_as asked.now None self.old.commits) self.old ≡ self.new) }
         ensures sound { IsSound schema.now self.new.db }
         ensures tried { (h : Service) → untried h self.new ≡ None }
         ensures err { OnErr result (self.new ≡ self.old) }
@@ -334,7 +335,7 @@ impl State {
             self.reply(asked, results)?;
             return Ok(());
         }
-        if self.parked.is_empty() {
+        if self.waiting.is_empty() {
             self.commit(asked, results, change)?;
             return Ok(());
         }
@@ -345,26 +346,25 @@ impl State {
         Ok(())
     }
 
-    /// Puts a transaction behind those that wait. Where memory is refused it comes back.
-    fn park(
+    /// Puts a transaction after those that wait. Where memory is refused it comes back.
+    fn make_wait(
         &mut self,
         asked: Submitted,
         deadline: Option<u64>,
     ) -> Result<(), (Submitted, AllocError)>
-        ensures ok { OnOk result (self.new ≡ record (self.old) { parked = self.old.parked ++ parked_as asked deadline self.old.commits ∷ [] }) }
+        ensures ok { OnOk result (self.new ≡ record (self.old) { waiting = self.old.waiting ++ waiting_as asked deadline self.old.commits ∷ [] }) }
         ensures err { OnErr result (self.new ≡ self.old) }
         ensures back { IfErr result (λ back. back.0 ≡ asked) }
     {
-        if self.parked.reserve(1).is_err() {
+        if self.waiting.reserve(1).is_err() {
             return Err((asked, AllocError));
         }
-        let parked = Parked::new(self.alloc, asked, deadline, self.commits)?;
-        self.parked.push_reserved(parked);
+        let waiting = Waiting::new(self.alloc, asked, deadline, self.commits)?;
+        self.waiting.push_reserved(waiting);
         Ok(())
     }
 
-    /// An equal state. O(rows + waiting transactions + claims + bytes queued); an error says that memory was
-    /// refused.
+    /// An equal state. O(rows + waiting transactions + claims + bytes queued).
     pub(crate) fn try_copy(&self) -> Result<State, AllocError>
         ensures { IfOk result (λ copy. copy ≡ self.entry.now) }
     {
@@ -373,7 +373,7 @@ impl State {
             db: self.db.try_copy(self.alloc)?,
             commits: self.commits,
             now: self.now,
-            parked: self.parked.clone()?,
+            waiting: self.waiting.clone()?,
             locks: self.locks.try_copy(self.alloc)?,
             sessions: self.sessions.try_copy(self.alloc)?,
         })
@@ -381,7 +381,7 @@ impl State {
 }
 
 /// The transaction comes back where memory was refused.
-fn or_back(ended: Result<(), AllocError>, asked: Submitted) -> Result<(), (Submitted, AllocError)>
+fn back_on_error(ended: Result<(), AllocError>, asked: Submitted) -> Result<(), (Submitted, AllocError)>
     ensures ok { IsOk result ↔ IsOk ended }
     ensures back { IfErr result (λ back. back.0 ≡ asked) }
 {

@@ -1,4 +1,4 @@
-//! Transactions as they are submitted (RFC 7047, 4.1.3).
+//! Transactions as they are submitted (RFC 7047, section 4.1.3).
 
 ghost use Rattle.std.specs.Prelude.{◌≡◌, false, map, IfErr, IfOk};
 ghost use Rattle.serde_json.specs.View.{view};
@@ -66,7 +66,7 @@ impl Submitted {
         self.request
     }
 
-    /// Its operations (RFC 7047, 4.1.3).
+    /// Its operations (RFC 7047, section 4.1.3).
     pub(crate) fn operations(&self) -> &[Value]
         ensures { map view result.now ≡ operations_of (request_data self.now.request) }
     {

@@ -1,4 +1,4 @@
--- What a strict client takes and what it refuses.
+-- What a strict client takes and what it refuses. [P 9.7]
 use Rattle.odb_examples.proofs.TestSchemas.{net, quoted}
 use Rattle.std.specs.Prelude.{◌≡◌, ◌++◌, ℕ, List, [], ◌∷◌, Option, Some, None, Ok, Err, codes, refl}
 use Rattle.odb_examples.proofs.Transcripts.{shows}

@@ -1,4 +1,4 @@
--- Examples of conditions and mutations.
+-- Examples of conditions and mutations. [P 3.1]
 use Rattle.odb_examples.proofs.TestSchemas.{quoted}
 use Rattle.std.specs.Prelude.{◌≡◌, ℕ, pos, Bool, true, List, map as map_list, [], ◌∷◌, codes, refl, Some, None, Ok, Err, Result}
 use Rattle.serde_json.specs.Written.{compact_text}

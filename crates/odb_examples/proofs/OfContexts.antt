@@ -1,11 +1,11 @@
--- Transactions in contexts of their own: the identifiers handed in, the moments of arrival and now, the locks owned, the rows that a database may have.
+-- Transactions in contexts of their own: the identifiers delivered in, the moments of arrival and now, the locks owned, the rows that a database may have.
 use Rattle.odb_examples.proofs.TestSchemas.{quoted}
 use Rattle.std.specs.Prelude.{◌≡◌, ℕ, List, [], ◌∷◌, codes, refl, Ok, Err, Result, Some, None, Option, Bool}
 use Rattle.serde_json.specs.Written.{compact_text}
 use Rattle.odb_atoms.specs.FinMap as map
 use Rattle.odb_atoms.specs.First.{◌>>=◌}
 use Rattle.odb_atoms.specs.Text.{same_text}
-use Rattle.odb_commit.specs.Transaction.{Outcome, done, parked, refused, transact}
+use Rattle.odb_commit.specs.Transaction.{Outcome, done, waiting, refused, transact}
 use Rattle.odb_examples.proofs.Examples.{computes, parsed}
 use Rattle.odb_examples.proofs.OfResults.{results, results_as, results_within}
 use Rattle.odb_schema.specs.Json.{Data, array, array_of, items_list}
@@ -14,7 +14,7 @@ use Rattle.odb_schema.specs.SchemaText.{SchemaFault, read_schema, schema_of_text
 abbrev of_outcome : Outcome → Result (List ℕ) (Option ℕ)
 of_outcome (done results new) = Ok (compact_text (array_of results))
 of_outcome (refused results) = Ok (compact_text (array_of results))
-of_outcome (parked moment) = Err moment
+of_outcome (waiting moment) = Err moment
 
 abbrev operations : Data → List Data
 operations (array ds) = items_list ds
@@ -69,17 +69,17 @@ pub second_identifier : results_as (7 ∷ 8 ∷ []) ((quoted (codes "{'name':'d'
 unfolding computes
 second_identifier = refl
 
-pub parked_none : results_as ([]) ((quoted (codes "{'name':'d','version':'1.0.0','tables':{'D':{'columns':{'n':{'type':{'key':{'type':'integer','minInteger':1}}}}}}}"))) ((quoted (codes "[{'op':'wait','table':'D','where':[],'until':'!=','rows':[]}]"))) ≡ Ok (codes "parked")
+pub waiting_for_ever : results_as ([]) ((quoted (codes "{'name':'d','version':'1.0.0','tables':{'D':{'columns':{'n':{'type':{'key':{'type':'integer','minInteger':1}}}}}}}"))) ((quoted (codes "[{'op':'wait','table':'D','where':[],'until':'!=','rows':[]}]"))) ≡ Ok (codes "waiting")
 unfolding computes
-parked_none = refl
+waiting_for_ever = refl
 
-pub parked_at : results_as ([]) ((quoted (codes "{'name':'d','version':'1.0.0','tables':{'D':{'columns':{'n':{'type':{'key':{'type':'integer','minInteger':1}}}}}}}"))) ((quoted (codes "[{'op':'wait','table':'D','where':[],'until':'!=','rows':[],'timeout':5}]"))) ≡ Ok (codes "parked until 5")
+pub waiting_till : results_as ([]) ((quoted (codes "{'name':'d','version':'1.0.0','tables':{'D':{'columns':{'n':{'type':{'key':{'type':'integer','minInteger':1}}}}}}}"))) ((quoted (codes "[{'op':'wait','table':'D','where':[],'until':'!=','rows':[],'timeout':5}]"))) ≡ Ok (codes "waiting until 5")
 unfolding computes
-parked_at = refl
+waiting_till = refl
 
-pub parked_after_insert : results_as (7 ∷ []) ((quoted (codes "{'name':'d','version':'1.0.0','tables':{'D':{'columns':{'n':{'type':{'key':{'type':'integer','minInteger':1}}}}}}}"))) ((quoted (codes "[{'op':'insert','table':'D','row':{'n':1}},{'op':'wait','table':'D','where':[],'until':'==','rows':[],'timeout':5}]"))) ≡ Ok (codes "parked until 5")
+pub waiting_after_an_insert : results_as (7 ∷ []) ((quoted (codes "{'name':'d','version':'1.0.0','tables':{'D':{'columns':{'n':{'type':{'key':{'type':'integer','minInteger':1}}}}}}}"))) ((quoted (codes "[{'op':'insert','table':'D','row':{'n':1}},{'op':'wait','table':'D','where':[],'until':'==','rows':[],'timeout':5}]"))) ≡ Ok (codes "waiting until 5")
 unfolding computes
-parked_after_insert = refl
+waiting_after_an_insert = refl
 
 pub timed_out : results_as ([]) ((quoted (codes "{'name':'d','version':'1.0.0','tables':{'D':{'columns':{'n':{'type':{'key':{'type':'integer','minInteger':1}}}}}}}"))) ((quoted (codes "[{'op':'wait','table':'D','where':[],'until':'!=','rows':[],'timeout':0},{'op':'abort'}]"))) ≡ Ok ((quoted (codes "[{'error':'timed out'},null]")))
 unfolding computes

@@ -1,4 +1,4 @@
--- The limits that are too large to compute, each by a lemma that names its number: lock names, sessions, messages, schema files.
+-- The limits that are too large to compute, each by a lemma that names its number: lock names, sessions, messages, schema files. [P 14]
 use Rattle.std.specs.Prelude.{◌≡◌, ℕ, ◌==◌, List, [], ◌∷◌, length, take, true, false, Some, None, Ok, Err}
 use mathlib.Core.Path.{refl}
 use Rattle.odb_atoms.specs.FinMap.{get, len, insert}
@@ -6,7 +6,7 @@ use Rattle.odb_locks.specs.Locks.{Locks, lock, steal, too_many_names}
 use Rattle.odb_service.specs.Run.{opened, step, too_many}
 use Rattle.odb_service.specs.Service.{Service}
 use Rattle.odb_service.specs.World.{World}
-use Rattle.odb_wire.specs.Stream.{front_of, closed_at, outside, waiting, too_long, max_message}
+use Rattle.odb_wire.specs.Stream.{front_of, closed_at, outside, incomplete, too_long, max_message}
 use Rattle.odb_schema.specs.SchemaText.{schema_of_text, too_large, max_file}
 
 -- ---- a lock's name, with 65,536 names claimed, and with one fewer
@@ -36,7 +36,7 @@ pub message_too_long : (cs : List ℕ) → closed_at outside 0 (take max_message
 unfolding max_message
 message_too_long cs unclosed long = rw (unclosed, long) refl
 
-pub message_not_yet_too_long : (cs : List ℕ) → closed_at outside 0 (take max_message (123 ∷ cs)) ≡ None → length (123 ∷ cs) ≡ 16777215 → front_of (123 ∷ cs) ≡ waiting
+pub message_not_yet_too_long : (cs : List ℕ) → closed_at outside 0 (take max_message (123 ∷ cs)) ≡ None → length (123 ∷ cs) ≡ 16777215 → front_of (123 ∷ cs) ≡ incomplete
 unfolding max_message
 message_not_yet_too_long cs unclosed long = rw (unclosed, long) refl
 

@@ -1,4 +1,4 @@
--- The law's statements as tests, each held against runs, after every event of each: what a machine gets wrong in one of them shows here, whatever is proved of it.
+-- The law's statements as tests, each held against runs, after every event of each: what a machine gets wrong in one of them shows here, whatever is proved of it. [P 9.7]
 use Rattle.odb_examples.proofs.TestSchemas.{net, quoted}
 use Rattle.std.specs.Prelude.{◌≡◌, ℕ, ◌+◌, ◌==◌, nat_le, Bool, true, false, not, ◌&&◌, ◌||◌, if◌then◌else◌, List, [], ◌∷◌, ◌++◌, length, take, drop, replicate, count_by, Option, Some, None, is_some, option_and_then, option_to_list, Ok, Err, codes, bytes_eq, refl}
 use Rattle.std.specs.List.{list_all, list_any}
@@ -12,7 +12,7 @@ use Rattle.odb_law.specs.Client.{Picture, Wish, adds, changes, client, drops, is
 use Rattle.odb_law.specs.Headline.{about, is_granted, pictured, updated}
 use Rattle.odb_law.specs.Law.{answers_one, asked_by, committed_by, open_after, refusal}
 use Rattle.odb_service.specs.Run.{Event, Refusal, State, beginning, busy, closed, gone, in_use, next, opened, opens, round, run, submitted, ticked, too_many}
-use Rattle.odb_service.specs.Service.{Service, ended, service, waits}
+use Rattle.odb_service.specs.Service.{Service, ended, service, waiting}
 use Rattle.odb_service.specs.Session.{Answers, Out, Session, Watch, asked, no_request, owed, to}
 use Rattle.odb_service.specs.World.{owed_replies, untried}
 use Rattle.odb_monitor.specs.View.{View, delta, is_none, query}
@@ -126,8 +126,8 @@ module _ (h : Service) where
   abbrev answered : State → ℕ → Session → Bool
   answered st s x =
       list_all (λ d. let is : Data → Bool = λ c. bytes_eq (h.printed c) (h.printed d) in
-      count_by is (st.requests s) == count_by (answers_one h is) (st.given s ++ owed h st.world.db x) + count_by (λ p. (p.session == s) && is p.request) st.world.parked) (st.requests s)
-      && (length (st.requests s) == count_by (answers_one h (λ d. true)) (st.given s ++ owed h st.world.db x) + count_by (λ p. p.session == s) st.world.parked)
+      count_by is (st.requests s) == count_by (answers_one h is) (st.given s ++ owed h st.world.db x) + count_by (λ p. (p.session == s) && is p.request) st.world.waiting) (st.requests s)
+      && (length (st.requests s) == count_by (answers_one h (λ d. true)) (st.given s ++ owed h st.world.db x) + count_by (λ p. p.session == s) st.world.waiting)
 
   abbrev counted : State → ℕ → Session → Bool
   counted st s x = (length (st.requests s) == count_by (answers_one h (λ d. true)) (st.given s) + owed_replies h s x st.world) && nat_le (owed_replies h s x st.world) 256
@@ -144,8 +144,8 @@ module _ (h : Service) where
       not (is_some (untried h st.world))
       && list_all (λ p. is_some (get st.world.sessions p.session) && elim (h.transact st.world.db (st.world.commits + 1) p.operations (record { fresh = p.fresh; arrival = p.arrival; now = p.arrival; owns = λ n. false })) [
         | ended r o ↦ false
-        | waits t ↦ same_deadline t p.deadline
-      ]) st.world.parked
+        | waiting t ↦ same_deadline t p.deadline
+      ]) st.world.waiting
 
   -- between a state and the next
   abbrev has_turn : ℕ → Event → Bool
@@ -189,7 +189,7 @@ module _ (h : Service) where
 
   -- where none waits; the databases are compared by how many rows they have
   abbrev committed : State → Event → State → Bool
-  committed st e now = elim st.world.parked [
+  committed st e now = elim st.world.waiting [
     | [] ↦ ((now.world.commits == (committed_by h e st.world).1) && pointwise (λ t u. len t == len u) now.world.db (committed_by h e st.world).0)
     | p ∷ ps ↦ true
   ]
@@ -203,7 +203,7 @@ module _ (h : Service) where
   told_before st (ticked t) now = true
   told_before st (closed s) now = true
   told_before st (round ss) now = true
-  told_before st (submitted s d fresh t) now = elim st.world.parked [
+  told_before st (submitted s d fresh t) now = elim st.world.waiting [
     | p ∷ ps ↦ true
     | [] ↦ (if now.world.commits == st.world.commits then true else elim (get now.world.sessions s) [ None ↦ true | Some y ↦ last_answers d (owed h now.world.db y) ])
   ]

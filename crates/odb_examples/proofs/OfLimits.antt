@@ -1,4 +1,4 @@
--- The limits that are too large to compute, by lemmas.
+-- The limits that are too large to compute, by lemmas. [P 14]
 use Rattle.std.specs.Prelude.{◌≡◌, ℕ, List, refl, Ok, Err, Result, Some, None, Option, pos, true, false, map as map_list}
 use Rattle.serde_json.specs.Written.{compact_text}
 use Rattle.std.specs.List.{range_with_len}

@@ -1,4 +1,4 @@
--- Examples of the notation of values.
+-- Examples of the notation of values. [P 2.2]
 use Rattle.odb_examples.proofs.TestSchemas.{quoted}
 use Rattle.std.specs.Prelude.{◌≡◌, ℕ, List, codes, refl, None, Ok, Err, Result}
 use Rattle.serde_json.specs.Written.{compact_text}

@@ -1,11 +1,11 @@
--- Examples of transactions, by the JSON of their operations and of their results.
+-- Examples of transactions, by the JSON of their operations and of their results. [P 4.2]
 use Rattle.odb_examples.proofs.TestSchemas.{quoted}
 use Rattle.std.specs.Prelude.{◌≡◌, ℕ, ◌+◌, false, cond, List, [], ◌∷◌, codes, refl, Ok, Result, map as map_list, length, replicate, count_by, ◌++◌, decimal, Some, None}
 use Rattle.std.specs.List.{range_with_len}
 use Rattle.serde_json.specs.Written.{compact_text}
 use Rattle.odb_atoms.specs.FinMap as map
 use Rattle.odb_atoms.specs.First.{◌>>=◌}
-use Rattle.odb_commit.specs.Transaction.{Outcome, done, parked, refused, transact}
+use Rattle.odb_commit.specs.Transaction.{Outcome, done, waiting, refused, transact}
 use Rattle.odb_examples.proofs.Examples.{computes, parsed}
 use Rattle.odb_examples.proofs.OfSchemas.{cnt}
 use Rattle.odb_atoms.specs.Uuid.{Uuid, uuid_from}
@@ -43,7 +43,7 @@ results_from limit s number k db (text ∷ texts) =
     elim (transact s limit number (at_once k (length ops)) db ops) as (λ _. List (List ℕ)) [
       | done results new ↦ compact_text (array_of results) ∷ results_from limit s (cond (is_changed db new) (number + 1) number) next new texts
       | refused results ↦ compact_text (array_of results) ∷ results_from limit s number next db texts
-      | parked moment ↦ [] ∷ results_from limit s number next db texts
+      | waiting moment ↦ [] ∷ results_from limit s number next db texts
     ]
 
 -- on an empty database of at most so many rows
@@ -58,8 +58,8 @@ results = results_within 1000000
 abbrev of_outcome : Outcome → List ℕ
 of_outcome (done results new) = compact_text (array_of results)
 of_outcome (refused results) = compact_text (array_of results)
-of_outcome (parked (Some moment)) = codes "parked until " ++ decimal moment
-of_outcome (parked None) = codes "parked"
+of_outcome (waiting (Some moment)) = codes "waiting until " ++ decimal moment
+of_outcome (waiting None) = codes "waiting"
 
 -- of one transaction, on an empty database with these identifiers
 abbrev pub results_as : List ℕ → List ℕ → List ℕ → Result (List ℕ) SchemaFault
@@ -103,7 +103,7 @@ pub an_index_is_unique : results net ((quoted (codes "[{'op':'insert','table':'B
 unfolding computes
 an_index_is_unique = refl
 
--- what stands behind an abort isn't carried out
+-- what stands after an abort isn't carried out
 pub abort_fails : results net ((quoted (codes "[{'op':'comment','comment':'x'},{'op':'abort'},{'op':'comment','comment':'y'}]")) ∷ [])
     ≡ Ok ((quoted (codes "[{},{'error':'aborted'},null]")) ∷ [])
 unfolding computes

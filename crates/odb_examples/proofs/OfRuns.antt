@@ -1,4 +1,4 @@
--- Runs of the machine, round by round.
+-- Runs of the machine, round by round. [P 13.1]
 use Rattle.odb_examples.proofs.TestSchemas.{net, quoted}
 use Rattle.std.specs.Prelude.{◌≡◌, ℕ, List, [], ◌∷◌, Option, Some, None, Ok, Err, codes, refl, length}
 use Rattle.odb_atoms.specs.FinMap as map

@@ -1,4 +1,4 @@
--- Examples of schemas that are read, printed or refused, one a rule and one a pair of neighbouring faults.
+-- Examples of schemas that are read, printed or refused, one a rule and one a pair of neighbouring faults. [P 1.5]
 use Rattle.odb_examples.proofs.TestSchemas.{quoted}
 use Rattle.std.specs.Prelude.{◌≡◌, ℕ, List, codes, refl, Ok, Err, Result}
 use Rattle.serde_json.specs.Written.{compact_text}

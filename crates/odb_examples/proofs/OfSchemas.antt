@@ -19,7 +19,7 @@ pub printed_in_byte_order : again cnt ≡ Ok ((quoted (codes "{'name':'cnt','tab
 unfolding computes
 printed_in_byte_order = refl
 
--- a schema of one table T with these columns, and with these members behind them
+-- a schema of one table T with these columns, and with these members after them
 abbrev of_columns : List ℕ → List ℕ → List ℕ
 of_columns columns more = (quoted (codes "{'name':'d','version':'1.0.0','tables':{'T':{'columns':{")) ++ columns ++ codes "}" ++ more ++ codes "}}}"
 

@@ -1,4 +1,4 @@
--- Examples of values and their notation, one a rule.
+-- Examples of values and their notation, one a rule. [P 2.1, 2.6]
 use Rattle.odb_examples.proofs.TestSchemas.{quoted}
 use Rattle.std.specs.Prelude.{◌≡◌, ℕ, List, [], ◌∷◌, codes, refl, Ok, Result, Some, None, Option, pos}
 use Rattle.serde_json.specs.Written.{compact_text}

@@ -27,7 +27,7 @@ shows = tt
 
 -- ---- short forms
 
--- the first word, and what stands behind its space
+-- the first word, and what stands after its space
 abbrev word : List ℕ → List ℕ
 word [] = []
 word (c ∷ cs) = elim (c == 32) as (λ _. List ℕ) [ true ↦ [] | false ↦ c ∷ word cs ]
@@ -39,7 +39,7 @@ abbrev is_letter : List ℕ → Bool
 is_letter [] = false
 is_letter (c ∷ cs) = (nat_le 97 c && nat_le c 122) || (nat_le 65 c && nat_le c 90)
 
--- `U` or `V` with digits and a quote: the text of that UUID, and what stands behind the quote
+-- `U` or `V` with digits and a quote: the text of that UUID, and what stands after the quote
 abbrev digits_at : ℕ → List ℕ → Option (ℕ × List ℕ)
 digits_at n [] = None
 digits_at n (c ∷ cs) = elim (c == 34) as (λ _. Option (ℕ × List ℕ)) [ true ↦ Some (n, cs) | false ↦ elim (nat_le 48 c && nat_le c 57) as (λ _. Option (ℕ × List ℕ)) [ true ↦ digits_at (10 * n + (c - 48)) cs | false ↦ None ] ]

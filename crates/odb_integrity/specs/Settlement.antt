@@ -1,4 +1,4 @@
--- Settlement at the end of a transaction: garbage collection, references and constraints (RFC 7047, clause 3).
+-- Settlement at the end of a transaction: garbage collection, references and constraints (RFC 7047, clause 3). [P 5]
 use Rattle.std.specs.Prelude.{◌≡◌, ◌⊎◌, ℕ, Bool, true, false, cond, not, ◌&&◌, ◌||◌, ◌==◌, List, [], ◌∷◌, ◌++◌, map as map_list, flat_map, filter_map, zip, nat_lt, nat_le, is_some, unwrap_or, Option, Some, None, option_and_then, option_map, sum_by}
 use Rattle.std.specs.List.{list_any, list_all, enumerate_from}
 use Rattle.odb_atoms.specs.FinMap as map

@@ -1,4 +1,4 @@
-//! The numbers of elements and of rows (RFC 7047, section 3.2, `min` and `maxRows`).
+//! The numbers of elements and of rows (RFC 7047, section 3.2, `min` and `maxRows`). [P 5]
 ghost use Rattle.std.specs.Prelude.{◌≡◌, not, IfOk};
 ghost use Rattle.std.specs.List.{list_all, list_any};
 ghost use Rattle.std.specs.Prelude.{length, zip};
@@ -52,8 +52,8 @@ fn has_fewer(column: &Column, value: &Value) -> bool
     value.len() < column.column_type().min as usize
 }
 
-/// Whether a table has more rows than its `maxRows`. O(n log n) for the n rows of tables that have it; an
-/// error says that memory was refused.
+/// Whether a table has more rows than its `maxRows`. O(n log n) for the n rows of tables that have
+/// it.
 pub(crate) fn has_too_many(draft: &Draft, schema: &Schema) -> Result<bool, AllocError>
     requires { length draft.now.now ≡ length schema.now.tables }
     ensures { IfOk result (λ too_many.

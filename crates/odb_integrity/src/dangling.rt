@@ -1,4 +1,4 @@
-//! Strong references to rows that aren't there (RFC 7047, section 3.2, `refType`).
+//! Strong references to rows that aren't there (RFC 7047, section 3.2, `refType`). [P 5]
 ghost use Rattle.std.specs.Prelude.{◌≡◌, not, IfOk};
 ghost use Rattle.std.specs.List.{list_any};
 ghost use Rattle.odb_integrity.specs.Settlement as model;
@@ -10,8 +10,7 @@ use odb_schema::Schema;
 use odb_tables::Draft;
 use std::alloc::{AllocError, Global};
 
-/// Whether a row has a strong reference to a row that isn't there. O(the rows and their atoms); an error
-/// says that memory was refused.
+/// Whether a row has a strong reference to a row that isn't there. O(the rows and their atoms).
 pub(crate) fn has_dangling(
     alloc: Global,
     draft: &Draft,

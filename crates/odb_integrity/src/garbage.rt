@@ -1,4 +1,4 @@
-//! Garbage collection (RFC 7047, section 3.2, `isRoot`).
+//! Garbage collection (RFC 7047, section 3.2, `isRoot`). [P 5]
 ghost use Rattle.std.specs.Prelude.{◌≡◌, ◌++◌, ◌&&◌, ◌||◌, filter, not, IfOk, OnOk};
 ghost use Rattle.std.specs.BTreeSet.{contains};
 ghost use Rattle.std.specs.List.{list_any};
@@ -29,8 +29,9 @@ pub(crate) fn collect_garbage(
     remove_all(draft, &lost)
 }
 
-/// The rows that nothing keeps. It goes over all rows in rounds, in each of which those go that no other
-/// row of what is left keeps, until none does: O(n log n) a round for n rows and their references.
+/// The rows that nothing keeps. It scans the remaining rows again and again, and takes out those to
+/// which no other remaining row has a strong reference, until a scan takes out none: O(n log n) a
+/// round for n rows and their references.
 fn lost_rows(alloc: Global, draft: &Draft, schema: &Schema) -> Result<Vec<RowId>, AllocError>
     ensures { IfOk result (λ lost. (x : model.RowId)
         → list_any (same_row x) lost.items

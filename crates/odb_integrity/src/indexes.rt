@@ -1,4 +1,4 @@
-//! Indexes (RFC 7047, section 3.2, `indexes`).
+//! Indexes (RFC 7047, section 3.2, `indexes`). [P 5]
 ghost use Rattle.std.specs.Prelude.{◌≡◌, filter_map, length, map, zip, IfOk, OnOk, ◌++◌, option_to_list};
 ghost use Rattle.std.specs.List.{list_any};
 ghost use Rattle.odb_atoms.specs.FinMap as finite;
@@ -19,8 +19,8 @@ use std::alloc::{AllocError, Global};
 use std::collections::BTreeSet;
 use uuid::Uuid;
 
-/// Whether two rows of a table have the same values in all columns of an index. O(n log n) comparisons of
-/// those values for each index of a table of n rows; an error says that memory was refused.
+/// Whether two rows of a table have the same values in all columns of an index. O(n log n)
+/// comparisons of those values for each index of a table of n rows.
 pub(crate) fn has_duplicates(
     alloc: Global,
     draft: &Draft,

@@ -1,4 +1,8 @@
-//! Settlement at the end of a transaction: garbage collection, references, constraints (RFC 7047, 3.2).
+//! Settlement at the end of a transaction: garbage collection, references, constraints (RFC 7047,
+//! section 3.2).
+//!
+//! Where memory is refused a call returns `AllocError`, and a draft that it changes is of no further
+//! use. A call whose result has no such error takes no memory.
 #![tactic(auto)]
 
 mod constraints;

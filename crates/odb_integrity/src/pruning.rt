@@ -1,4 +1,4 @@
-//! Weak references to rows that aren't there (RFC 7047, section 3.2, `refType`).
+//! Weak references to rows that aren't there (RFC 7047, section 3.2, `refType`). [P 5]
 ghost use Rattle.std.specs.Prelude.{◌≡◌, ◌++◌, ◌<◌, ◌||◌, filter, filter_map, length, map, not, option_to_list};
 ghost use Rattle.std.specs.Prelude.{zip, IfOk, IsTrue, None, OnOk, Some};
 ghost use Rattle.std.specs.List.{All, list_all, list_any};

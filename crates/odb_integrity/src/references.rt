@@ -63,8 +63,7 @@ pub(crate) fn referent(target: TableId, atom: &Atom) -> Option<RowId>
     }
 }
 
-/// The rows to which a row has strong references, in the order of its columns. O(atoms); an error says
-/// that memory was refused.
+/// The rows to which a row has strong references, in the order of its columns. O(atoms).
 pub(crate) fn strong_of_row(
     alloc: Global,
     schema: &Schema,

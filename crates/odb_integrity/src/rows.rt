@@ -11,8 +11,8 @@ use odb_schema::TableId;
 use odb_tables::Draft;
 use std::alloc::{AllocError, Global};
 
-/// The rows that the draft has now: table by table, in each by ascending identifier. O(n log n) for n
-/// rows; an error says that memory was refused.
+/// The rows that the draft has now: table by table, in each by ascending identifier. O(n log n) for
+/// n rows.
 pub(crate) fn rows_of(alloc: Global, draft: &Draft) -> Result<Vec<RowId>, AllocError>
     ensures { IfOk result (λ rows. rows.items ≡ row_ids draft.now.now) }
 {
@@ -35,8 +35,7 @@ fn append_table(draft: &Draft, table: TableId, rows: &mut Vec<RowId>) -> Result<
     Ok(())
 }
 
-/// Takes the rows out of the draft. O(1) for each; an error says that memory was refused, and some may be
-/// out.
+/// Takes the rows out of the draft. O(1) for each. After an error some may be out.
 pub(crate) fn remove_all(draft: &mut Draft, rows: &[RowId]) -> Result<(), AllocError>
     requires in_tables { All (λ x. x.0 < length draft.old.now) rows.now }
     ensures removed { OnOk result (draft.new.now ≡ without_rows rows.now draft.old.now) }

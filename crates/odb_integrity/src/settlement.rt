@@ -1,4 +1,4 @@
-//! Settlement at the end of a transaction (RFC 7047, section 3.2, and 4.1.3, "commit").
+//! Settlement at the end of a transaction (RFC 7047, section 3.2, and 4.1.3, "commit"). [P 5]
 ghost use Rattle.std.specs.Prelude.{◌≡◌, length, IfOk};
 ghost use Rattle.odb_integrity.specs.Represented.{answer_of};
 ghost use Rattle.odb_integrity.specs.Settlement as model;
@@ -16,7 +16,7 @@ use odb_tables::Draft;
 use std::alloc::{AllocError, Global};
 
 /// Settles what a transaction left in the draft, as its commit does (RFC 7047, section 3.2; and
-/// ovsdb-server(7)), or answers the first fault, in this order:
+/// ovsdb-server(7)), or returns the first fault, in this order:
 ///
 /// 1. Rows of tables that aren't root go out, unless another row that stays has a strong reference to
 ///    them. Rows that refer to each other strongly keep each other, and none keeps itself.
@@ -29,9 +29,9 @@ use std::alloc::{AllocError, Global};
 /// A fault leaves the draft somewhere on this way: it is to be dropped then. Rows that don't change aren't
 /// put. The draft's rows have to be of the schema.
 ///
-/// It goes over all rows, in as many rounds as rows keep each other in a chain that goes: O(n log n) for
-/// each round over n rows and their references, and O(n log n) for each index. An error of the outer
-/// result says that memory was refused.
+/// It scans all rows once a round; there are as many rounds as the longest chain of deleted rows
+/// has links: O(n log n) for each round over n rows and their references, and O(n log n) for each
+/// index. An error of the outer result says that memory was refused.
 #[tactic(auto, unfolding(crate::specs::Settlement::settle))]
 pub fn settle(
     alloc: Global,

@@ -28,7 +28,7 @@ module _ (names : Option Names) where
   no_text false true d u n = sym n
   no_text false false d u n = refl
 
-  -- an identifier by what stands behind the one tag, or behind the other
+  -- an identifier by what stands after the one tag, or after the other
   tags : (d : Data) → read_uuid names d ≡ by_tags (tagged (codes "uuid") d) (tagged (codes "named-uuid") d)
   tags (array (item (string tag) (item (string s) no_items))) = text (same_text tag (codes "uuid")) (same_text tag (codes "named-uuid")) s
   tags (array (item (string tag) (item null no_items))) = no_text (same_text tag (codes "uuid")) (same_text tag (codes "named-uuid")) null refl refl

@@ -27,7 +27,7 @@ use Rattle.odb_json.specs.Operation.{Op}
 use Rattle.odb_json.specs.Suited.{IsFor, are_of_kind, are_taken}
 use Rattle.odb_mutate.specs.Mutation as mutation
 use Rattle.odb_mutate.specs.Mutation.{Mutation, Mutator}
-use Rattle.odb_mutate.specs.Taken.{is_set_of, takes}
+use Rattle.odb_mutate.specs.MutationTyping.{is_set_of, takes}
 use Rattle.odb_schema.proofs.Holds.{Holds, behind, in_read, next, none_read, passed_holds, read_in, tested_holds, then_holds, with_holds}
 use Rattle.odb_schema.specs.Json as json
 use Rattle.odb_schema.specs.Json.{Data, Items, Members, item, no_items}
@@ -76,7 +76,7 @@ pairs_kind names k l seen (item d ds) h =
     (with_holds (OfKind l) (Each (of_map k l)) (read_atom names l pair.1) _ (atom_kind names l pair.1) (λ value f.
     pairs_kind names k l (map.insert seen key value) ds (each-insert atom_cmp_total atom_cmp-IsAntisymmetric (of_map k l) seen key value h (λ i. g i && f i))))))
 
--- `read_set` behind its test
+-- `read_set` after its test
 abbrev by_content : Option Names → Kind → Data → Option Data → Result Atoms Error
 by_content names k d None = next (read_atom names k d) (λ a. Ok (set.insert set.empty a))
 by_content names k d (Some content) = next (ok_or (json.as_array content) syntax_error) (λ items. read_elements names k set.empty items)
@@ -226,27 +226,27 @@ module _ (s : Schema) (names : Names) (ms : Members) where
   insert_suits : (t : ℕ) → t < length s.tables → Suits (model.read_insert names t (columns_at s t) ms)
   insert_suits t h =
       any (model.read_needed (codes "row") (model.read_row names (columns_at s t) (model.insertable (columns_at s t))) ms) _ (λ row.
-      any (json.if_given model.read_id (json.get_member (codes "uuid-name") ms)) _ (λ name. ends (Op.insert t row name) h (model.no_other (codes "table" ∷ codes "row" ∷ codes "uuid-name" ∷ []) ms)))
+      any (json.if_given model.read_id (json.get_member (codes "uuid-name") ms)) _ (λ name. ends (Op.insert t row name) h (model.refuse_other_members (codes "table" ∷ codes "row" ∷ codes "uuid-name" ∷ []) ms)))
 
   select_suits : (t : ℕ) → t < length s.tables → Suits (model.read_select names t (columns_at s t) ms)
-  select_suits t h = any (model.read_where names (columns_at s t) ms) _ (λ clauses. any (model.read_columns (columns_at s t) (json.get_member (codes "columns") ms)) _ (λ columns. ends (Op.select t clauses columns) h (model.no_other (codes "table" ∷ codes "where" ∷ codes "columns" ∷ []) ms)))
+  select_suits t h = any (model.read_where names (columns_at s t) ms) _ (λ clauses. any (model.read_columns (columns_at s t) (json.get_member (codes "columns") ms)) _ (λ columns. ends (Op.select t clauses columns) h (model.refuse_other_members (codes "table" ∷ codes "where" ∷ codes "columns" ∷ []) ms)))
 
   update_suits : (t : ℕ) → t < length s.tables → Suits (model.read_update names t (columns_at s t) ms)
   update_suits t h =
       any (model.read_where names (columns_at s t) ms) _ (λ clauses.
       with_holds (λ row. are_of_kind (columns_at s t) row ≡ true) (IsFor s) (model.read_needed (codes "row") (model.read_row names (columns_at s t) (changeable (columns_at s t))) ms) _
       (needed_holds (λ row. are_of_kind (columns_at s t) row ≡ true) (codes "row") (model.read_row names (columns_at s t) (changeable (columns_at s t))) ms (read_row_kind names (columns_at s t) (changeable (columns_at s t))))
-      (λ row g. ends (Op.update t clauses row) (h, g) (model.no_other (codes "table" ∷ codes "where" ∷ codes "row" ∷ []) ms)))
+      (λ row g. ends (Op.update t clauses row) (h, g) (model.refuse_other_members (codes "table" ∷ codes "where" ∷ codes "row" ∷ []) ms)))
 
   mutate_suits : (t : ℕ) → t < length s.tables → Suits (model.read_mutate names t (columns_at s t) ms)
   mutate_suits t h =
       any (model.read_where names (columns_at s t) ms) _ (λ clauses.
       with_holds (λ m. are_taken (columns_at s t) m ≡ true) (IsFor s) (model.read_mutations names (columns_at s t) ms) _
       (needed_holds (λ m. are_taken (columns_at s t) m ≡ true) (codes "mutations") (model.read_list (read_mutation (Some names) (columns_at s t))) ms (λ d. list_holds (is_taken (columns_at s t)) (read_mutation (Some names) (columns_at s t)) d (mutation_taken (Some names) (columns_at s t))))
-      (λ m g. ends (Op.mutate t clauses m) (h, g) (model.no_other (codes "table" ∷ codes "where" ∷ codes "mutations" ∷ []) ms)))
+      (λ m g. ends (Op.mutate t clauses m) (h, g) (model.refuse_other_members (codes "table" ∷ codes "where" ∷ codes "mutations" ∷ []) ms)))
 
   delete_suits : (t : ℕ) → t < length s.tables → Suits (model.read_delete names t (columns_at s t) ms)
-  delete_suits t h = any (model.read_where names (columns_at s t) ms) _ (λ clauses. ends (Op.delete t clauses) h (model.no_other (codes "table" ∷ codes "where" ∷ []) ms))
+  delete_suits t h = any (model.read_where names (columns_at s t) ms) _ (λ clauses. ends (Op.delete t clauses) h (model.refuse_other_members (codes "table" ∷ codes "where" ∷ []) ms))
 
   wait_suits : (t : ℕ) → t < length s.tables → Suits (model.read_wait names t (columns_at s t) ms)
   wait_suits t h =
@@ -255,7 +255,7 @@ module _ (s : Schema) (names : Names) (ms : Members) where
       any (model.read_needed (codes "until") model.read_until ms) _ (λ until.
       any (model.read_expected_rows names (columns_at s t) ms) _ (λ rows.
       any (json.if_given model.read_natural (json.get_member (codes "timeout") ms)) _ (λ timeout.
-      ends (Op.wait t clauses columns until rows timeout) h (model.no_other (codes "table" ∷ codes "where" ∷ codes "columns" ∷ codes "until" ∷ codes "rows" ∷ codes "timeout" ∷ []) ms))))))
+      ends (Op.wait t clauses columns until rows timeout) h (model.refuse_other_members (codes "table" ∷ codes "where" ∷ codes "columns" ∷ codes "until" ∷ codes "rows" ∷ codes "timeout" ∷ []) ms))))))
 
   members_suit : (v : model.Verb) → Suits (model.read_members s names ms v)
   members_suit model.Verb.insert = on_table model.read_insert insert_suits
@@ -264,10 +264,10 @@ module _ (s : Schema) (names : Names) (ms : Members) where
   members_suit model.Verb.mutate = on_table model.read_mutate mutate_suits
   members_suit model.Verb.delete = on_table model.read_delete delete_suits
   members_suit model.Verb.wait = on_table model.read_wait wait_suits
-  members_suit model.Verb.commit = any (model.read_needed (codes "durable") model.read_bool ms) _ (λ durable. ends (Op.commit durable) tt (model.no_other (codes "durable" ∷ []) ms))
-  members_suit model.Verb.abort = ends Op.abort tt (model.no_other [] ms)
-  members_suit model.Verb.comment = any (model.read_needed (codes "comment") read_text ms) _ (λ text. ends Op.comment tt (model.no_other (codes "comment" ∷ []) ms))
-  members_suit model.Verb.assert = any (model.read_needed (codes "lock") model.read_id ms) _ (λ lock. ends (Op.assert lock) tt (model.no_other (codes "lock" ∷ []) ms))
+  members_suit model.Verb.commit = any (model.read_needed (codes "durable") model.read_bool ms) _ (λ durable. ends (Op.commit durable) tt (model.refuse_other_members (codes "durable" ∷ []) ms))
+  members_suit model.Verb.abort = ends Op.abort tt (model.refuse_other_members [] ms)
+  members_suit model.Verb.comment = any (model.read_needed (codes "comment") read_text ms) _ (λ text. ends Op.comment tt (model.refuse_other_members (codes "comment" ∷ []) ms))
+  members_suit model.Verb.assert = any (model.read_needed (codes "lock") model.read_id ms) _ (λ lock. ends (Op.assert lock) tt (model.refuse_other_members (codes "lock" ∷ []) ms))
 
 pub op_suits : (s : Schema) (names : Names) (d : Data) → Holds (IsFor s) (model.read_op s names d)
 unfolding model.read_op

@@ -1,4 +1,4 @@
--- Values of columns in operations: of a row that is written, and of conditions, mutations and rows of `wait`.
+-- Values of columns in operations: of a row that is written, and of conditions, mutations and rows of `wait`. [P 2.4]
 use Rattle.std.specs.Prelude.{not, ◌||◌, ◌==◌, Option}
 use Rattle.odb_atoms.specs.ColType.{ColType, admits, is_scalar}
 use Rattle.odb_atoms.specs.Error.{Error, constraint_violation, resources_exhausted, syntax_error}

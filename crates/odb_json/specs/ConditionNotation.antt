@@ -1,4 +1,4 @@
--- The notation of conditions, `[column, function, value]` (RFC 7047, <condition>).
+-- The notation of conditions, `[column, function, value]` (RFC 7047, <condition>). [P 3.1]
 use Rattle.std.specs.Prelude.{ℕ, Bool, true, false, cond, not, ◌&&◌, ◌||◌, List, codes, Option, Some, None}
 use Rattle.odb_atoms.specs.Atom.{integers, same_kind}
 use Rattle.odb_atoms.specs.ColType.{ColType, is_scalar}

@@ -1,4 +1,4 @@
--- The notation of mutations, `[column, mutator, value]` (RFC 7047, <mutation>).
+-- The notation of mutations, `[column, mutator, value]` (RFC 7047, <mutation>). [P 3.2]
 use Rattle.std.specs.Prelude.{ℕ, Bool, true, false, cond, not, ◌&&◌, List, codes, is_some, Option, Some, None}
 use Rattle.odb_atoms.specs.Atom.{integers, same_kind}
 use Rattle.odb_atoms.specs.ColType.{ColType, is_scalar, scalar}

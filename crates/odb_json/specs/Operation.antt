@@ -1,4 +1,4 @@
--- Operations (RFC 7047, <operation>) and their reading.
+-- Operations (RFC 7047, <operation>) and their reading. [P 4.1, 16]
 use Rattle.std.specs.Prelude.{ℕ, ℤ, pos, negsuc, Bool, cond, not, List, [], ◌∷◌, map as map_list, length, ⊤, codes, Option, Some, None}
 use Rattle.std.specs.List.{list_any, list_all, range_with_len}
 use Rattle.odb_schema.specs.Json as json
@@ -65,8 +65,8 @@ abbrev pub are_known : List (List ℕ) → Members → Bool
 are_known ks ms = list_all (λ m. is_known ks m.0) (members_list ms)
 
 -- `op` and these are all the members that it has
-abbrev pub no_other : List (List ℕ) → Members → Result ⊤ Error
-no_other ks ms = demand (are_known ks ms) syntax_error
+abbrev pub refuse_other_members : List (List ℕ) → Members → Result ⊤ Error
+refuse_other_members ks ms = demand (are_known ks ms) syntax_error
 
 -- the member at the key, which has to be there
 abbrev pub read_needed : {A : Type 0} → List ℕ → (Data → Result A Error) → Members → Result A Error
@@ -167,34 +167,34 @@ module _ (names : Names) (table : ℕ) (cs : List Column) (ms : Members) where
   read_insert = do
     row ← read_needed (codes "row") (read_row names cs (insertable cs)) ms
     name ← if_given read_id (get_member (codes "uuid-name") ms)
-    no_other (codes "table" ∷ codes "row" ∷ codes "uuid-name" ∷ []) ms
+    refuse_other_members (codes "table" ∷ codes "row" ∷ codes "uuid-name" ∷ []) ms
     Ok (Op.insert table row name)
 
   abbrev pub read_select : Result Op Error
   read_select = do
     clauses ← read_where names cs ms
     columns ← read_columns cs (get_member (codes "columns") ms)
-    no_other (codes "table" ∷ codes "where" ∷ codes "columns" ∷ []) ms
+    refuse_other_members (codes "table" ∷ codes "where" ∷ codes "columns" ∷ []) ms
     Ok (Op.select table clauses columns)
 
   abbrev pub read_update : Result Op Error
   read_update = do
     clauses ← read_where names cs ms
     row ← read_needed (codes "row") (read_row names cs (changeable cs)) ms
-    no_other (codes "table" ∷ codes "where" ∷ codes "row" ∷ []) ms
+    refuse_other_members (codes "table" ∷ codes "where" ∷ codes "row" ∷ []) ms
     Ok (Op.update table clauses row)
 
   abbrev pub read_mutate : Result Op Error
   read_mutate = do
     clauses ← read_where names cs ms
     mutations ← read_mutations names cs ms
-    no_other (codes "table" ∷ codes "where" ∷ codes "mutations" ∷ []) ms
+    refuse_other_members (codes "table" ∷ codes "where" ∷ codes "mutations" ∷ []) ms
     Ok (Op.mutate table clauses mutations)
 
   abbrev pub read_delete : Result Op Error
   read_delete = do
     clauses ← read_where names cs ms
-    no_other (codes "table" ∷ codes "where" ∷ []) ms
+    refuse_other_members (codes "table" ∷ codes "where" ∷ []) ms
     Ok (Op.delete table clauses)
 
   abbrev pub read_wait : Result Op Error
@@ -204,30 +204,30 @@ module _ (names : Names) (table : ℕ) (cs : List Column) (ms : Members) where
     until ← read_needed (codes "until") read_until ms
     rows ← read_expected_rows names cs ms
     timeout ← if_given read_natural (get_member (codes "timeout") ms)
-    no_other (codes "table" ∷ codes "where" ∷ codes "columns" ∷ codes "until" ∷ codes "rows" ∷ codes "timeout" ∷ []) ms
+    refuse_other_members (codes "table" ∷ codes "where" ∷ codes "columns" ∷ codes "until" ∷ codes "rows" ∷ codes "timeout" ∷ []) ms
     Ok (Op.wait table clauses columns until rows timeout)
 
 abbrev pub read_commit : Members → Result Op Error
 read_commit ms = do
   durable ← read_needed (codes "durable") read_bool ms
-  no_other (codes "durable" ∷ []) ms
+  refuse_other_members (codes "durable" ∷ []) ms
   Ok (Op.commit durable)
 
 abbrev pub read_abort : Members → Result Op Error
 read_abort ms = do
-  no_other [] ms
+  refuse_other_members [] ms
   Ok Op.abort
 
 abbrev pub read_comment : Members → Result Op Error
 read_comment ms = do
   text ← read_needed (codes "comment") read_text ms
-  no_other (codes "comment" ∷ []) ms
+  refuse_other_members (codes "comment" ∷ []) ms
   Ok Op.comment
 
 abbrev pub read_assert : Members → Result Op Error
 read_assert ms = do
   lock ← read_needed (codes "lock") read_id ms
-  no_other (codes "lock" ∷ []) ms
+  refuse_other_members (codes "lock" ∷ []) ms
   Ok (Op.assert lock)
 
 pub data Verb : Type 0 where
@@ -252,7 +252,7 @@ on_table read s names ms = do
   table ← read_table s ms
   read names table (columns_at s table) ms
 
--- what stands behind `op`
+-- what stands after `op`
 abbrev pub read_members : Schema → Names → Members → Verb → Result Op Error
 read_members s names ms insert = on_table read_insert s names ms
 read_members s names ms select = on_table read_select s names ms

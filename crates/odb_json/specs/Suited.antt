@@ -5,7 +5,7 @@ use Rattle.odb_atoms.specs.ColType.{has_kind}
 use Rattle.odb_atoms.specs.Value.{Value}
 use Rattle.odb_json.specs.Operation.{Op, abort, assert, comment, commit, delete, insert, mutate, select, update, wait}
 use Rattle.odb_mutate.specs.Mutation.{Mutation}
-use Rattle.odb_mutate.specs.Taken.{takes}
+use Rattle.odb_mutate.specs.MutationTyping.{takes}
 use Rattle.odb_schema.specs.Schema.{Column, Schema, column_type, columns_at}
 
 -- values of the columns' kinds

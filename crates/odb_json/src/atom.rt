@@ -1,4 +1,4 @@
-//! Atoms (RFC 7047, section 5.1, `<atom>`), in a transaction or outside.
+//! Atoms (RFC 7047, section 5.1, `<atom>`), in a transaction or outside. [P 2.2, 2.3]
 
 ghost use Rattle.std.specs.Prelude.{option_map};
 ghost use Rattle.serde_json.specs.View.{view};
@@ -18,7 +18,7 @@ use uuid::Uuid;
 /// What reads nothing.
 pub const SYNTAX: OpFault = OpFault::Failed(Error::SyntaxError);
 
-/// The UUID that stands behind "uuid".
+/// The UUID that stands after "uuid".
 fn uuid_behind(content: &Value) -> Result<Uuid, OpFault>
     ensures { Gives uuid_of result (behind_uuid (view content.now)) }
 {
@@ -28,7 +28,7 @@ fn uuid_behind(content: &Value) -> Result<Uuid, OpFault>
     parse_uuid(text).ok_or(SYNTAX)
 }
 
-/// The UUID of the name that stands behind "named-uuid".
+/// The UUID of the name that stands after "named-uuid".
 fn named_behind(content: &Value, names: Option<&Names>) -> Result<Uuid, OpFault>
     ensures { Gives uuid_of result
         (behind_name (option_map (λ n. n.now) names.entry) (view content.now)) }

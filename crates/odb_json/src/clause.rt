@@ -1,4 +1,5 @@
 //! Conditions in the notation `[column, function, value]` (RFC 7047, section 5.1, `<condition>`).
+//! [P 3.1]
 
 ghost use Rattle.std.specs.Prelude.{◌≡◌, Some, option_map};
 ghost use Rattle.serde_json.specs.View.{items_view, members_view, view};
@@ -85,10 +86,10 @@ fn read_function(column: &ColType, value: &Value) -> Result<Function, OpFault>
 /// `<condition>`). `names` are the identifiers that the names of a transaction stand for; outside a
 /// transaction there are none, and no `["named-uuid", name]`.
 ///
-/// The first of these faults is the answer: an array of three members, else `syntax error`; the
-/// column's name, a string (`syntax error`) that the table has (`unknown column`); the function, one
-/// of `<`, `<=`, `==`, `!=`, `>=`, `>`, `includes` and `excludes`, of which `<`, `<=`, `>=` and `>`
-/// are for scalars of integers alone, else `syntax error`; and last the faults of the value, as
+/// The first of these faults is returned: an array of three members, else `syntax error`; the
+/// column's name, a string (`syntax error`) that the table has (`unknown column`); the function,
+/// one of `<`, `<=`, `==`, `!=`, `>=`, `>`, `includes` and `excludes`, of which `<`, `<=`, `>=` and
+/// `>` are for scalars of integers alone, else `syntax error`; and last the faults of the value, as
 /// `read_by_kind` says them. `Memory` may come in place of any of these.
 ///
 /// O(log c) comparisons of names for c columns, and what `read_by_kind` takes.

@@ -1,5 +1,5 @@
 //! The columns that operations name, `_uuid` and `_version` among them (RFC 7047, section 5.1,
-//! `<column>`).
+//! `<column>`). [P 4.1]
 
 ghost use Rattle.std.specs.Prelude.{◌≡◌, [], codes, map, option_map};
 ghost use Rattle.std.specs.List.{list_any};
@@ -108,7 +108,7 @@ fn distinct_columns(
 /// strings name, in their order, and where it is left out `_uuid`, `_version` and each declared
 /// column by ascending name (RFC 7047, section 5.2.2).
 ///
-/// The first of these faults is the answer: an array, else `syntax error`; then from the front a
+/// The first of these faults is returned: an array, else `syntax error`; then from the front a
 /// string (`syntax error`) that names a column of the table (`unknown column`) and stands for the
 /// first time (`syntax error`). `Memory` may come in place of any of these.
 ///

@@ -1,4 +1,4 @@
-//! Sets (RFC 7047, section 5.1, `<set>`).
+//! Sets (RFC 7047, section 5.1, `<set>`). [P 2.3]
 
 ghost use Rattle.std.specs.Prelude.{◌≡◌, ◌++◌, map, option_map, IfOk};
 ghost use Rattle.serde_json.specs.View.{items_view, view};

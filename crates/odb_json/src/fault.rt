@@ -11,7 +11,7 @@ pub enum OpFault {
     #[error("out of memory")]
     Memory,
     /// The operation fails, with this error.
-    #[error("an operation that fails")]
+    #[error("{0}")]
     Failed(odb_atoms::Error),
 }
 

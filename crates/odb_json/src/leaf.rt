@@ -1,4 +1,4 @@
-//! Reading what JSON gives: texts, booleans, numbers, and members of objects.
+//! Reading what JSON gives: texts, booleans, numbers, and members of objects. [P 4.1]
 
 ghost use Rattle.std.specs.Prelude.{◌≡◌, map, ok_or, string_bytes};
 ghost use Rattle.std.specs.List.{list_any};
@@ -79,9 +79,9 @@ pub fn needed<'a>(key: &str, members: &'a Map<String, Value>) -> Result<&'a Valu
 }
 
 /// Refuses a member that is neither `op` nor among the known ones.
-pub fn no_other(known: &[&str], members: &Map<String, Value>) -> Result<(), OpFault>
+pub fn refuse_other_members(known: &[&str], members: &Map<String, Value>) -> Result<(), OpFault>
     ensures { Gives (λ none. none) result
-        (model.no_other (map (λ name. name.now) known.now) (members_view members.now.entries)) }
+        (model.refuse_other_members (map (λ name. name.now) known.now) (members_view members.now.entries)) }
 {
     if !are_known(known, members) {
         return Err(SYNTAX);

@@ -1,4 +1,9 @@
-//! The JSON notation of values of columns, conditions, mutations and operations (RFC 7047, 5).
+//! The JSON notation of values of columns, conditions, mutations and operations (RFC 7047, section
+//! 5).
+//!
+//! Where memory is refused a call returns `AllocError` or the fault `Memory`, and what it was
+//! given is as it was, unless its own page says otherwise. A call whose result has no such error
+//! takes no memory.
 #![tactic(auto)]
 
 mod atom;
@@ -20,5 +25,5 @@ pub use fault::OpFault;
 pub use mutation::read_mutation;
 pub use names::Names;
 pub use operation::{Op, Until, read_op};
-pub use row::{Writing, read_row};
+pub use row::{WrittenBy, read_row};
 pub use value::{read_by_kind, read_value, write_value};

@@ -1,4 +1,4 @@
-//! Mutations in the notation `[column, mutator, value]` (RFC 7047, section 5.1, `<mutation>`).
+//! Mutations in the notation `[column, mutator, value]` (RFC 7047, section 5.1, `<mutation>`). [P 3.2]
 
 ghost use Rattle.std.specs.Prelude.{◌≡◌, None, Some, is_some, option_map};
 ghost use Rattle.serde_json.specs.View.{items_view, members_view, view};
@@ -177,7 +177,7 @@ fn read_operand(
 /// `<mutation>`). `names` are the identifiers that the names of a transaction stand for; without
 /// any there is no `["named-uuid", name]`.
 ///
-/// The first of these faults is the answer: an array of three members, else `syntax error`; the
+/// The first of these faults is returned: an array of three members, else `syntax error`; the
 /// column's name, a string (`syntax error`) that the table has (`unknown column`), of a column that
 /// can change (`constraint violation` for `_uuid`, `_version` and an immutable one); the mutator,
 /// else `syntax error`: `+=`, `-=`, `*=`, `/=` or `%=` where the type is of integers and no map,

@@ -1,4 +1,4 @@
-//! Operations (RFC 7047, section 5.2) and their reading.
+//! Operations (RFC 7047, section 5.2) and their reading. [P 4.1, 16]
 
 ghost use Rattle.std.specs.Prelude.{◌≡◌, ◌<◌, IfOk, codes, length, option_map, string_bytes};
 ghost use Rattle.serde_json.specs.View.{members_view, view};
@@ -12,10 +12,10 @@ use crate::atom::SYNTAX;
 use crate::clause::read_where;
 use crate::column::read_columns;
 use crate::fault::OpFault;
-use crate::leaf::{needed, no_other, read_bool, read_id, read_natural, read_object, read_text};
+use crate::leaf::{needed, refuse_other_members, read_bool, read_id, read_natural, read_object, read_text};
 use crate::mutation::read_mutations;
 use crate::names::Names;
-use crate::row::{Writing, read_expected_rows, read_row};
+use crate::row::{WrittenBy, read_expected_rows, read_row};
 use odb_atoms::Error;
 use odb_cond::{Selector, Where};
 use odb_mutate::Mutation;
@@ -153,7 +153,7 @@ fn read_name(alloc: Global, members: &Map<String, Value>) -> Result<Option<Strin
     }
 }
 
-/// `insert`, behind its table.
+/// `insert`, after its table.
 fn read_insert(
     alloc: Global,
     names: &Names,
@@ -165,9 +165,9 @@ fn read_insert(
         (model.read_insert names.now id table.now.columns (members_view members.now.entries)) }
 {
     let row = needed("row", members)?;
-    let row = read_row(alloc, row, table, Writing::Insert, names)?;
+    let row = read_row(alloc, row, table, WrittenBy::Insert, names)?;
     let name = read_name(alloc, members)?;
-    no_other(&["table", "row", "uuid-name"], members)?;
+    refuse_other_members(&["table", "row", "uuid-name"], members)?;
     Ok(Op::Insert {
         table: id,
         row,
@@ -175,7 +175,7 @@ fn read_insert(
     })
 }
 
-/// `select`, behind its table.
+/// `select`, after its table.
 fn read_select(
     alloc: Global,
     names: &Names,
@@ -188,7 +188,7 @@ fn read_select(
 {
     let conditions = read_where(alloc, members, table, names)?;
     let columns = read_columns(alloc, table, members)?;
-    no_other(&["table", "where", "columns"], members)?;
+    refuse_other_members(&["table", "where", "columns"], members)?;
     Ok(Op::Select {
         table: id,
         conditions,
@@ -196,7 +196,7 @@ fn read_select(
     })
 }
 
-/// `update`, behind its table.
+/// `update`, after its table.
 fn read_update(
     alloc: Global,
     names: &Names,
@@ -209,8 +209,8 @@ fn read_update(
 {
     let conditions = read_where(alloc, members, table, names)?;
     let row = needed("row", members)?;
-    let row = read_row(alloc, row, table, Writing::Update, names)?;
-    no_other(&["table", "where", "row"], members)?;
+    let row = read_row(alloc, row, table, WrittenBy::Update, names)?;
+    refuse_other_members(&["table", "where", "row"], members)?;
     Ok(Op::Update {
         table: id,
         conditions,
@@ -218,7 +218,7 @@ fn read_update(
     })
 }
 
-/// `mutate`, behind its table.
+/// `mutate`, after its table.
 fn read_mutate(
     alloc: Global,
     names: &Names,
@@ -231,7 +231,7 @@ fn read_mutate(
 {
     let conditions = read_where(alloc, members, table, names)?;
     let mutations = read_mutations(alloc, members, table, names)?;
-    no_other(&["table", "where", "mutations"], members)?;
+    refuse_other_members(&["table", "where", "mutations"], members)?;
     Ok(Op::Mutate {
         table: id,
         conditions,
@@ -239,7 +239,7 @@ fn read_mutate(
     })
 }
 
-/// `delete`, behind its table.
+/// `delete`, after its table.
 fn read_delete(
     alloc: Global,
     names: &Names,
@@ -251,7 +251,7 @@ fn read_delete(
         (model.read_delete names.now id table.now.columns (members_view members.now.entries)) }
 {
     let conditions = read_where(alloc, members, table, names)?;
-    no_other(&["table", "where"], members)?;
+    refuse_other_members(&["table", "where"], members)?;
     Ok(Op::Delete {
         table: id,
         conditions,
@@ -283,7 +283,7 @@ fn read_timeout(members: &Map<String, Value>) -> Result<Option<u64>, OpFault>
     }
 }
 
-/// `wait`, behind its table.
+/// `wait`, after its table.
 fn read_wait(
     alloc: Global,
     names: &Names,
@@ -299,7 +299,7 @@ fn read_wait(
     let until = read_until(members)?;
     let rows = read_expected_rows(alloc, members, table, names)?;
     let timeout = read_timeout(members)?;
-    no_other(
+    refuse_other_members(
         &["table", "where", "columns", "until", "rows", "timeout"],
         members,
     )?;
@@ -313,7 +313,7 @@ fn read_wait(
     })
 }
 
-/// An operation on a table, behind its table.
+/// An operation on a table, after its table.
 fn read_behind_table(
     alloc: Global,
     verb: TableVerb,
@@ -357,7 +357,7 @@ fn read_commit(members: &Map<String, Value>) -> Result<Op, OpFault>
     ensures { Gives op_of result (model.read_commit (members_view members.now.entries)) }
 {
     let durable = read_bool(needed("durable", members)?)?;
-    no_other(&["durable"], members)?;
+    refuse_other_members(&["durable"], members)?;
     Ok(Op::Commit { durable })
 }
 
@@ -365,7 +365,7 @@ fn read_commit(members: &Map<String, Value>) -> Result<Op, OpFault>
 fn read_abort(members: &Map<String, Value>) -> Result<Op, OpFault>
     ensures { Gives op_of result (model.read_abort (members_view members.now.entries)) }
 {
-    no_other(&[], members)?;
+    refuse_other_members(&[], members)?;
     Ok(Op::Abort)
 }
 
@@ -374,7 +374,7 @@ fn read_comment(members: &Map<String, Value>) -> Result<Op, OpFault>
     ensures { Gives op_of result (model.read_comment (members_view members.now.entries)) }
 {
     read_text(needed("comment", members)?)?;
-    no_other(&["comment"], members)?;
+    refuse_other_members(&["comment"], members)?;
     Ok(Op::Comment)
 }
 
@@ -383,11 +383,11 @@ fn read_assert(alloc: Global, members: &Map<String, Value>) -> Result<Op, OpFaul
     ensures { Reads op_of result (model.read_assert (members_view members.now.entries)) }
 {
     let lock = read_id(alloc, needed("lock", members)?)?;
-    no_other(&["lock"], members)?;
+    refuse_other_members(&["lock"], members)?;
     Ok(Op::Assert { lock })
 }
 
-/// What stands behind `op`.
+/// What stands after `op`.
 fn read_members(
     alloc: Global,
     verb: Verb,
@@ -411,10 +411,10 @@ fn read_members(
 /// An operation on a database of the schema (RFC 7047, section 5.2). `names` are the identifiers
 /// that the names of the transaction stand for.
 ///
-/// The first of these faults is the answer: an object with a string `op`, else `syntax error`; an
+/// The first of these faults is returned: an object with a string `op`, else `syntax error`; an
 /// `op` that is none of the ten (`unknown operation`); then its members, as below from left to
-/// right, where one that has to be there and isn't, or has another JSON kind, is `syntax error`; and
-/// last a member that isn't one of them (`syntax error`).
+/// right, where one that has to be there and isn't, or has another JSON kind, is `syntax error`;
+/// and last a member that isn't one of them (`syntax error`).
 ///
 /// - `insert`: `table`, `row`, [`uuid-name`], an id;
 /// - `select`: `table`, `where`, [`columns`];

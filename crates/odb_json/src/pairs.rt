@@ -1,4 +1,4 @@
-//! Maps (RFC 7047, section 5.1, `<map>`).
+//! Maps (RFC 7047, section 5.1, `<map>`). [P 2.3]
 
 ghost use Rattle.std.specs.Prelude.{◌≡◌, ◌++◌, map, option_map, IfOk};
 ghost use Rattle.serde_json.specs.View.{items_view, view};

@@ -1,5 +1,5 @@
 //! Rows in operations (RFC 7047, section 5.1, `<row>`): those that are written, and those that
-//! `wait` compares with.
+//! `wait` compares with. [P 4.1]
 
 ghost use Rattle.std.specs.Prelude.{◌≡◌, Some, map};
 ghost use Rattle.serde_json.specs.View.{items_view, members_view, view};
@@ -24,7 +24,7 @@ use std::alloc::Global;
 
 /// What a row is written by, which says what columns it may name.
 #[derive(Clone, Copy, Debug, PartialEq, Eq)]
-pub enum Writing {
+pub enum WrittenBy {
     /// `insert`: any declared column.
     Insert,
     /// `update`: any declared column that can change.
@@ -44,12 +44,12 @@ fn insertable(table: &TableSchema, name: &str) -> Result<ColumnId, OpFault>
 }
 
 /// The column with the name, if the row may name it.
-fn writable(table: &TableSchema, name: &str, writing: Writing) -> Result<ColumnId, OpFault>
+fn writable(table: &TableSchema, name: &str, writing: WrittenBy) -> Result<ColumnId, OpFault>
     ensures { Gives (λ column. column) result (written writing table.now.columns name.now) }
 {
     match writing {
-        Writing::Insert => insertable(table, name),
-        Writing::Update => changeable(table, name),
+        WrittenBy::Insert => insertable(table, name),
+        WrittenBy::Update => changeable(table, name),
     }
 }
 
@@ -59,7 +59,7 @@ fn read_cell(
     name: &str,
     value: &Value,
     table: &TableSchema,
-    writing: Writing,
+    writing: WrittenBy,
     names: &Names,
 ) -> Result<(ColumnId, odb_atoms::Value), OpFault>
     ensures { Reads (λ cell. cell) result
@@ -78,7 +78,7 @@ fn read_cells(
     alloc: Global,
     members: &Map<String, Value>,
     table: &TableSchema,
-    writing: Writing,
+    writing: WrittenBy,
     names: &Names,
 ) -> Result<Vec<(ColumnId, odb_atoms::Value)>, OpFault>
     ensures { Reads (λ v. v.items) result
@@ -96,8 +96,8 @@ fn read_cells(
 /// names and their values, by ascending name. `names` are the identifiers that the names of the
 /// transaction stand for.
 ///
-/// The first of these faults is the answer: an object, else `syntax error`; then by ascending name
-/// a column that the table doesn't have (`unknown column`), or that may not be written, as `_uuid`,
+/// The first of these faults is returned: an object, else `syntax error`; then by ascending name a
+/// column that the table doesn't have (`unknown column`), or that may not be written, as `_uuid`,
 /// `_version`, and in `update` an immutable one (`constraint violation`); and the faults of its
 /// value, as `read_value` says them. `Memory` may come in place of any of these.
 ///
@@ -106,7 +106,7 @@ pub fn read_row(
     alloc: Global,
     value: &Value,
     table: &TableSchema,
-    writing: Writing,
+    writing: WrittenBy,
     names: &Names,
 ) -> Result<Vec<(ColumnId, odb_atoms::Value)>, OpFault>
     ensures { Reads (λ v. v.items) result

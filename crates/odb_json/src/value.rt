@@ -1,4 +1,4 @@
-//! Values of columns (RFC 7047, section 5.1, `<value>`).
+//! Values of columns (RFC 7047, section 5.1, `<value>`). [P 2.3, 2.4, 14]
 
 ghost use Rattle.std.specs.Prelude.{◌≡◌, option_map, IfOk};
 ghost use Rattle.serde_json.specs.View.{view};
@@ -58,9 +58,9 @@ fn limited(value: odb_atoms::Value) -> Result<odb_atoms::Value, OpFault>
 /// that the type admits. `names` are those of the transaction, and `None` stands for the outside of
 /// one, where `["named-uuid", name]` isn't read.
 ///
-/// The first fault of the text from the front is the answer: `UnknownUuidName` for the name of a
-/// UUID that isn't among `names`, and `SyntaxError` for all else: another notation or kind, a
-/// U+0000, a number that is no integer of 64 bits, an element or a key that stands twice. Then comes
+/// The first fault of the text from the front is returned: `UnknownUuidName` for the name of a UUID
+/// that isn't among `names`, and `SyntaxError` for all else: another notation or kind, a U+0000, a
+/// number that is no integer of 64 bits, an element or a key that stands twice. Then comes
 /// `ResourcesExhausted` for more than 65,536 elements or pairs, and then `ConstraintViolation` for
 /// too few, too many, or a broken constraint. `Memory` may come in place of any of these.
 ///
@@ -109,8 +109,8 @@ pub fn read_by_kind(
 /// (RFC 7047, section 5.1, `<value>`).
 ///
 /// It is read back as the same value, by [`read_by_kind`] for each type of its kind and by
-/// [`read_value`] for each type that admits it, provided that it has no more than 65,536 elements and
-/// no U+0000 in its strings. O(the bytes written); an error says that memory was refused.
+/// [`read_value`] for each type that admits it, provided that it has no more than 65,536 elements
+/// and no U+0000 in its strings. O(the bytes written).
 pub fn write_value(alloc: Global, value: &odb_atoms::Value) -> Result<Value, AllocError>
     ensures written { IfOk result (λ v. view v ≡ notation.write_value value.now) }
     ensures read_back { IfOk result (λ v. ReadsBack value.now (view v)) }

@@ -6,13 +6,13 @@ use Rattle.serde_json.specs.Data.{Data}
 use Rattle.odb_rpc.specs.Message as message
 use Rattle.odb_atoms.specs.FinMap.{get, remove}
 use Rattle.odb_service.proofs.Splits.{Split}
-use Rattle.odb_law.proofs.Steps.{Stepped, next_is}
+use Rattle.odb_law.proofs.EventSteps.{Stepped, next_is}
 use Rattle.odb_law.specs.Law.{IsCommitted, committed_by, run_at_once, with_outcome}
 use Rattle.odb_service.specs.Run.{Event, Sent, State, after, closed, once, opened, round, submitted, ticked}
-use Rattle.odb_service.specs.Service.{Outcome, Service, ended, waits}
+use Rattle.odb_service.specs.Service.{Outcome, Service, ended, waiting}
 use Rattle.odb_service.specs.Session.{no_result, say, sync, to}
 use Rattle.odb_wire.specs.Message.{id_of}
-use Rattle.odb_service.specs.World.{Parked, World, asked_of, at_moment, cancel_one, handle, is_of, is_untried, locked, on_outcome, retry, retry_all, split_first, try_due, try_one, untried, watched, with_parked}
+use Rattle.odb_service.specs.World.{Waiting, World, asked_of, at_moment, cancel_one, handle, is_of, is_untried, locked, on_outcome, retry, retry_all, split_first, try_due, try_one, untried, watched, with_waiting}
 use Rattle.odb_locks.specs.Locks.{drop_session, lock, owns, steal, unlock}
 use Rattle.odb_rpc.specs.Message.{Call, call_of, reply}
 use Rattle.odb_tables.specs.Database.{Db}
@@ -32,31 +32,31 @@ module _ (h : Service) where
   retry_stays (suc n) w e = ap (λ o. elim o as (λ _. World) [ None ↦ w | Some t ↦ retry h n (try_one h t w) ]) e
 
   pub all_stays : (w : World) → untried h w ≡ None → retry_all h w ≡ w
-  all_stays w e = retry_stays ((length w.parked + 1) * (length w.parked + 1)) w e
+  all_stays w e = retry_stays ((length w.waiting + 1) * (length w.waiting + 1)) w e
 
-  abbrev pub behind : Parked → Outcome → World → World
-  behind p o w = with_parked h (λ ps q. ps ++ option_to_list q) w.parked (on_outcome h p o w)
+  abbrev pub behind : Waiting → Outcome → World → World
+  behind p o w = with_waiting h (λ ps q. ps ++ option_to_list q) w.waiting (on_outcome h p o w)
 
-  pub none_left : (p : Parked) (o : Outcome) (w : World) → w.parked ≡ [] → untried h (behind p o w) ≡ None
+  pub none_left : (p : Waiting) (o : Outcome) (w : World) → w.waiting ≡ [] → untried h (behind p o w) ≡ None
   none_left p (ended results changed) w e = ap (λ ps. split_first (is_untried (behind p (ended results changed) w).commits) (ps ++ [])) e
-  none_left p (waits deadline) w e =
+  none_left p (waiting deadline) w e =
       ap (λ ps. split_first (is_untried w.commits) (ps ++ record p { deadline = deadline; tried = w.commits } ∷ [])) e
-      ∙ ap (λ b. cond b (Some (let t : Split Parked = ([], record p { deadline = deadline; tried = w.commits }, []) in t)) None) (ap not (eq-eqb w.commits w.commits refl))
+      ∙ ap (λ b. cond b (Some (let t : Split Waiting = ([], record p { deadline = deadline; tried = w.commits }, []) in t)) None) (ap not (eq-eqb w.commits w.commits refl))
 
-  outcomes : (p : Parked) (o : Outcome) (w : World) → content (behind p o w) ≡ with_outcome h o (content w)
+  outcomes : (p : Waiting) (o : Outcome) (w : World) → content (behind p o w) ≡ with_outcome h o (content w)
   outcomes p (ended results None) w = ap of_rest (answers h p.session p.request (reply (id_of p.request) results) w)
   outcomes p (ended results (Some db)) w =
       ap of_rest (posts h p.session (map (λ k. sync k.id) (asked_of h (get w.sessions p.session)) ++ say (to p.request) (reply (id_of p.request) results) ∷ []) (record w { db = db; commits = w.commits + 1 }))
-  outcomes p (waits deadline) w = refl
+  outcomes p (waiting deadline) w = refl
 
-  transacts : (p : Parked) (o : Outcome) (w : World) → w.parked ≡ [] → content (retry_all h (behind p o w)) ≡ with_outcome h o (content w)
+  transacts : (p : Waiting) (o : Outcome) (w : World) → w.waiting ≡ [] → content (retry_all h (behind p o w)) ≡ with_outcome h o (content w)
   transacts p o w e = ap content (all_stays (behind p o w) (none_left p o w e)) ∙ outcomes p o w
 
-  cancelled : (s : ℕ) (o : Option (Split Parked)) (w : World) → content (cancel_one h s o w) ≡ content w
+  cancelled : (s : ℕ) (o : Option (Split Waiting)) (w : World) → content (cancel_one h s o w) ≡ content w
   cancelled s None w = refl
-  cancelled s (Some t) w = ap of_rest (fails h s t.1.request canceled (record w { parked = t.0 ++ t.2 }))
+  cancelled s (Some t) w = ap of_rest (fails h s t.1.request canceled (record w { waiting = t.0 ++ t.2 }))
 
-  handles : (s : ℕ) (d : Data) (fresh : List Uuid) (c : Call) (w : World) → w.parked ≡ [] → content (handle h s d fresh c w) ≡ run_at_once h s fresh c w
+  handles : (s : ℕ) (d : Data) (fresh : List Uuid) (c : Call) (w : World) → w.waiting ≡ [] → content (handle h s d fresh c w) ≡ run_at_once h s fresh c w
   handles s d fresh (message.answered m) w e = ap of_rest (answers h s d m w)
   handles s d fresh (message.transact id ops) w e =
       transacts (record { session = s; request = d; operations = ops; fresh = fresh; arrival = w.now; deadline = None; tried = w.commits })
@@ -67,18 +67,18 @@ module _ (h : Service) where
   handles s d fresh (message.lock id name) w e = ap of_rest (locks h s d (locked h) (lock w.locks s name) w)
   handles s d fresh (message.steal id name) w e = ap of_rest (locks h s d (locked h) (steal w.locks s name) w)
   handles s d fresh (message.unlock id name) w e = ap of_rest (locks h s d (λ b. no_result) (unlock w.locks s name) w)
-  handles s d fresh (message.cancel id) w e = cancelled s (split_first (is_of h s id) w.parked) w
+  handles s d fresh (message.cancel id) w e = cancelled s (split_first (is_of h s id) w.waiting) w
   handles s d fresh message.passed_over w e = refl
 
-  stepped_commits : (e : Event) (w : World) (r : World × List Sent) → Stepped h e w r → w.parked ≡ [] → content r.0 ≡ committed_by h e w
+  stepped_commits : (e : Event) (w : World) (r : World × List Sent) → Stepped h e w r → w.waiting ≡ [] → content r.0 ≡ committed_by h e w
   stepped_commits (opened t) w r is none = ap (λ (p : World × List Sent). content p.0) (sym is.1)
   stepped_commits (submitted t d fresh now) w r is none = ap (λ (p : World × List Sent). content p.0) (sym is.2) ∙ handles t d fresh (call_of h.db_name h.schema h.serves d) (at_moment h now w) none
   stepped_commits (ticked now) w r is none =
-      let w0 : World = record (at_moment h now w) { parked = [] } in
+      let w0 : World = record (at_moment h now w) { waiting = [] } in
       ap (λ (p : World × List Sent). content p.0) (sym is) ∙ ap (λ ps. content (retry_all h (try_due h ps w0))) none
   stepped_commits (closed t) w r is none =
       ap (λ (p : World × List Sent). content p.0) (sym is)
-      ∙ ap of_rest (notes h (drop_session w.locks t).1 (record w { locks = (drop_session w.locks t).0; sessions = remove w.sessions t; parked = filter (λ p. not (p.session == t)) w.parked }))
+      ∙ ap of_rest (notes h (drop_session w.locks t).1 (record w { locks = (drop_session w.locks t).0; sessions = remove w.sessions t; waiting = filter (λ p. not (p.session == t)) w.waiting }))
   stepped_commits (round ss) w r is none = ap (λ (p : World × List Sent). content p.0) (sym is) ∙ ap of_rest (takes_each h (once ss) w)
 
   pub is_committed : IsCommitted h

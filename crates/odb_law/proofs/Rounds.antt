@@ -4,7 +4,7 @@ use Rattle.std.specs.Prelude.{option_to_list, filter}
 use Rattle.std.specs.List.{list_any}
 use borrow.Author.Tests.{eqb-true}
 use Rattle.odb_atoms.specs.FinMap.{get}
-use Rattle.odb_law.proofs.Runs.{sent_to-append, sent_to_itself, sent_to_other}
+use Rattle.odb_law.proofs.HeadlineRuns.{sent_to-append, sent_to_itself, sent_to_other}
 use Rattle.odb_service.proofs.SessionMaps.{get-insert, key-itself}
 use Rattle.odb_service.specs.Run.{once, sent_to, take_each, take_of}
 use Rattle.odb_service.specs.Service.{Service}

@@ -1,5 +1,4 @@
--- A client, which knows its own requests and the messages that it was given, and nothing else: it keeps a view for each of its monitors.
--- It shares with the server how JSON, monitor requests and filters are read, how an id is printed, and the notation of table updates. What the server makes of a request it reads from its own.
+-- A client, which knows its own requests and the messages that it was given, and nothing else: it keeps a view for each of its monitors. It shares with the server how JSON, monitor requests and filters are read, how an id is printed, and the notation of table updates. What the server makes of a request it reads from its own. [P 9.7]
 use Rattle.std.specs.Prelude.{ℕ, Bool, true, false, ◌&&◌, if◌then◌else◌, List, [], ◌∷◌, ◌++◌, map, Option, Some, None, option_map, option_and_then, unwrap_or, Result, Ok, Err, codes, bytes_eq}
 use Rattle.std.specs.List.{list_all}
 use Rattle.std.specs.Cmp.Lexicographic.{pointwise}

@@ -7,10 +7,10 @@ use Rattle.odb_atoms.specs.FinMap.{get, insert, len}
 use Rattle.odb_law.specs.Headline.{IsReached}
 use Rattle.odb_service.specs.Run.{Event, Refusal, State, busy, closed, gone, in_use, max_owed, max_sessions, next, once, opened, opens, round, run, submitted, ticked, too_many}
 use Rattle.odb_wire.specs.Message.{is_request}
-use Rattle.odb_service.specs.Service.{Outcome, Service, ended, waits}
+use Rattle.odb_service.specs.Service.{Outcome, Service, ended, waiting}
 use Rattle.odb_service.specs.Session.{Answers, Out, Session, Watch, asked, at_first, changed, drop_first, no_request, owed, same_id, take, to}
 use Rattle.odb_wire.specs.Message.{id_of}
-use Rattle.odb_service.specs.World.{Parked, World, are_monitored, at_moment, is_conditional, owed_replies, untried, watched}
+use Rattle.odb_service.specs.World.{Waiting, World, are_monitored, at_moment, is_conditional, owed_replies, untried, watched}
 use Rattle.odb_locks.specs.Locks.{owns}
 use Rattle.odb_rpc.specs.Message.{Call, call_of, reply}
 use Rattle.odb_tables.specs.Database.{Db}
@@ -100,7 +100,7 @@ module _ (h : Service) where
   abbrev pub with_outcome : Outcome → Db × ℕ → Db × ℕ
   with_outcome (ended results None) p = p
   with_outcome (ended results (Some db)) p = (db, p.1 + 1)
-  with_outcome (waits deadline) p = p
+  with_outcome (waiting deadline) p = p
 
   abbrev pub run_at_once : ℕ → List Uuid → Call → World → Db × ℕ
   run_at_once s fresh (message.transact id operations) w =
@@ -113,12 +113,12 @@ module _ (h : Service) where
 
   -- Where no transaction waits, one that is submitted is run at once, and nothing else changes the database.
   abbrev pub IsCommitted : Type 0
-  IsCommitted = (st now : State) (e : Event) → next h e st ≡ Ok now → st.world.parked ≡ [] → (now.world.db, now.world.commits) ≡ committed_by e st.world
+  IsCommitted = (st now : State) (e : Event) → next h e st ≡ Ok now → st.world.waiting ≡ [] → (now.world.db, now.world.commits) ≡ committed_by e st.world
 
   -- Where no transaction waits, the reply to one that changed the database has its results, and is the last that its session is then owed: what the transaction changed is told before.
   abbrev pub IsToldBefore : Type 0
   IsToldBefore =
-      (st now : State) → IsReached h st → (s : ℕ) (d : Data) (fresh : List Uuid) (moment : ℕ) → next h (submitted s d fresh moment) st ≡ Ok now → st.world.parked ≡ []
+      (st now : State) → IsReached h st → (s : ℕ) (d : Data) (fresh : List Uuid) (moment : ℕ) → next h (submitted s d fresh moment) st ≡ Ok now → st.world.waiting ≡ []
       → (id : Data) (operations : List Data) → call_of h.db_name h.schema h.serves d ≡ message.transact id operations
       → (results : Data) (db : Db) → (let w = at_moment h moment st.world in h.transact w.db (w.commits + 1) operations (record { fresh = fresh; arrival = w.now; now = w.now; owns = owns w.locks s }) ≡ ended results (Some db))
       → (y : Session) → get now.world.sessions s ≡ Some y → (a : List Out) × (owed h db y ≡ a ++ record { answers = to d; message = reply (id_of d) results } ∷ [])
@@ -136,7 +136,7 @@ module _ (h : Service) where
   abbrev pub IsAnsweredOnce : State → ℕ → Session → Type 0
   IsAnsweredOnce st s x =
       (is : Data → Bool)
-      → count_by is (st.requests s) ≡ count_by (answers_one is) (st.given s ++ owed h st.world.db x) + count_by (λ p. (p.session == s) && is p.request) st.world.parked
+      → count_by is (st.requests s) ≡ count_by (answers_one is) (st.given s ++ owed h st.world.db x) + count_by (λ p. (p.session == s) && is p.request) st.world.waiting
 
   -- As many requests were submitted as replies were given and are owed; and more than 256 are never owed.
   pub record IsCounted (st : State) (s : ℕ) (x : Session) : Type 0 where
@@ -146,16 +146,16 @@ module _ (h : Service) where
   -- ---- waiting
 
   -- the transaction of an open session had to wait: at some moment so far, with the locks that its session then owned, it was tried on the database as it is
-  abbrev pub HadToWait : World → Parked → Type 0
+  abbrev pub HadToWait : World → Waiting → Type 0
   HadToWait w p =
       IsTrue (is_some (get w.sessions p.session)) × (moment : ℕ) × (moment ≤ w.now) × (owns : List ℕ → Bool)
-      × (h.transact w.db (w.commits + 1) p.operations (record { fresh = p.fresh; arrival = p.arrival; now = moment; owns = owns }) ≡ waits p.deadline)
+      × (h.transact w.db (w.commits + 1) p.operations (record { fresh = p.fresh; arrival = p.arrival; now = moment; owns = owns }) ≡ waiting p.deadline)
 
-  abbrev pub AllHadToWait : World → List Parked → Type 0
+  abbrev pub AllHadToWait : World → List Waiting → Type 0
   AllHadToWait w [] = Unit {0}
   AllHadToWait w (p ∷ ps) = HadToWait w p × AllHadToWait w ps
 
   -- Each waiting transaction is of an open session, and was tried on the database as it is now, and had to wait.
   pub record AllAreTried : Type 0 where
     pub tried : (st : State) → IsReached h st → untried h st.world ≡ None
-    pub waited : (st : State) → IsReached h st → AllHadToWait st.world st.world.parked
+    pub waited : (st : State) → IsReached h st → AllHadToWait st.world st.world.waiting

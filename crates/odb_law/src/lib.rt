@@ -1,4 +1,5 @@
-//! The monitor law, over every run of the service machine. It stands beside the server, which is that machine.
+//! The monitor law, over every run of the service machine. It stands beside the server, which is
+//! that machine. [P 9.7]
 #![tactic(auto)]
 
 ghost use Rattle.std.specs.Prelude.{Bool, List, ℕ};

@@ -1,4 +1,4 @@
--- Named locks: for each name its claims in order, of which the first owns, and the sessions that lost a stolen claim and still have to unlock.
+-- Named locks: for each name its claims in order, of which the first owns, and the sessions that lost a stolen claim and still have to unlock. [P 11.1, 11.2, 14]
 use Rattle.std.specs.Prelude.{ℕ, Bool, true, false, not, ◌&&◌, ◌||◌, ◌==◌, nat_lt, if◌then◌else◌, List, [], ◌∷◌, ◌++◌, filter, unwrap_or, Result, Ok, Err}
 use Rattle.std.specs.List.{list_any}
 use Rattle.std.specs.Ordering.{nat_cmp}
@@ -66,7 +66,7 @@ lock l s name =
     else (if is_free k && not (nat_lt (map.len l) max_names) then Err too_many_names
     else Ok (put_lock l name (record k { claims = k.claims ++ record { session = s; stolen = false } ∷ [] }), [], is_empty k.claims))
 
--- an owner by `lock` stays behind the thief, an owner by `steal` leaves and is robbed
+-- an owner by `lock` stays after the thief, an owner by `steal` leaves and is robbed
 abbrev pub claims_left : List Claim → List Claim
 claims_left [] = []
 claims_left (c ∷ cs) = if c.stolen then cs else c ∷ cs

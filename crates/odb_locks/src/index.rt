@@ -17,7 +17,7 @@ pub struct Index {
 impl Index {
     ghost use Rattle.odb_locks.specs.Represented.Index.{Forgets, IsUnchanged, Sets, has_name, names_have};
 
-    /// No names. It takes no memory.
+    /// No names.
     pub fn new(alloc: Global) -> Index
         ensures { (s : ℕ) (q : List ℕ) → has_name result s q ≡ false }
     {
@@ -33,7 +33,7 @@ impl Index {
         self.names.get(&session)
     }
 
-    /// Adds a name to the session's. Where there is no memory, nothing changes.
+    /// Adds a name to the session's.
     pub fn insert(&mut self, alloc: Global, session: usize, name: &str) -> Result<(), AllocError>
         ensures ok { OnOk result (Sets self.old self.new session name.now true) }
         ensures err { OnErr result (IsUnchanged self.old self.new) }

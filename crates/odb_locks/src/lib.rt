@@ -1,4 +1,8 @@
-//! Named locks (RFC 7047, 4.1.8 to 4.1.10).
+//! Named locks (RFC 7047, sections 4.1.8 to 4.1.10).
+//!
+//! Where memory is refused a call returns `AllocError` or the fault `Memory`, and what it was
+//! given is as it was, unless its own page says otherwise. A call whose result has no such error
+//! takes no memory.
 #![tactic(auto)]
 
 mod index;
@@ -7,5 +11,5 @@ mod locks;
 mod notice;
 mod table;
 
-pub use locks::{LockFault, Locks, SessionId, Taken};
+pub use locks::{LockFault, Locks, SessionId, LockOutcome};
 pub use notice::Notice;

@@ -1,4 +1,4 @@
-//! One lock: its claims in order, the first of which owns, and the sessions that were robbed.
+//! One lock: its claims in order, the first of which owns, and the sessions that were robbed. [P 11.1]
 
 ghost use Rattle.std.specs.Prelude.{◌≡◌, [], ◌==◌, OnOk, OnErr};
 ghost use Rattle.std.specs.List.{list_any};
@@ -110,7 +110,7 @@ impl Lock {
         }
     }
 
-    /// Takes up a claim of a session that has none. Where there is no memory, nothing changes.
+    /// Takes up a claim of a session that has none.
     pub fn claim(&mut self, claim: Claim) -> Result<(), AllocError>
         ensures ok { OnOk result (self.new ≡ with_claim claim self.old) }
         ensures err { OnErr result (self.new ≡ self.old) }

@@ -1,4 +1,4 @@
-//! The locks that sessions claim by `lock` and `steal`, and give back by `unlock`.
+//! The locks that sessions claim by `lock` and `steal`, and give back by `unlock`. [P 11.1, 11.2, 14]
 
 ghost use Rattle.std.specs.Prelude.{◌≡◌, ◌↔◌, ℕ, List, false, filter, map, IfOk, OnErr, IsErrOf};
 ghost use Rattle.std.specs.List.{list_any};
@@ -28,8 +28,8 @@ const MAX_NAMES: usize = 65_536;
 #[derive(Clone, Copy, Debug, PartialEq, Eq, Error)]
 pub enum LockFault {
     /// A `lock` or `steal` by a session with a claim of the name that it hasn't unlocked, or an
-    /// `unlock` by one without (RFC 7047, 4.1.8). A session that was robbed has a claim until it
-    /// unlocks.
+    /// `unlock` by one without (RFC 7047, section 4.1.8). A session that was robbed has a claim
+    /// until it unlocks.
     #[error("out of turn")]
     OutOfTurn,
     /// A `lock` or `steal` of a name that nobody claims, while 65,536 others are claimed.
@@ -50,14 +50,14 @@ impl From<AllocError> for LockFault {
 
 /// What a `lock` or a `steal` did: its result, and whom it concerns besides the caller.
 #[derive(Debug, Drop)]
-pub struct Taken {
-    /// Whether the caller owns the lock, the reply's `locked` (RFC 7047, 4.1.8).
+pub struct LockOutcome {
+    /// Whether the caller owns the lock, the reply's `locked` (RFC 7047, section 4.1.8).
     pub owns: bool,
     /// The notices to send, in this order: one to the owner that was robbed, or none.
     pub notices: Vec<Notice>,
 }
 
-/// Named locks (RFC 7047, 4.1.8 to 4.1.10).
+/// Named locks (RFC 7047, sections 4.1.8 to 4.1.10).
 ///
 /// For each name there are the claims in order, by `lock` or by `steal`, of which the first owns,
 /// and the sessions that were robbed: that lost a stolen claim, and haven't unlocked. A name that
@@ -87,7 +87,7 @@ impl Model for Locks {
 }
 
 impl Locks {
-    /// No locks. O(1), without memory.
+    /// No locks. O(1).
     pub fn new(alloc: Global) -> Locks
         ensures { result ≡ finite.empty }
     {
@@ -98,16 +98,16 @@ impl Locks {
         }
     }
 
-    /// Whether the session owns the lock of the name: has its first claim. O(log n), without memory.
+    /// Whether the session owns the lock of the name: has its first claim. O(log n).
     pub fn owns(&self, session: SessionId, name: &str) -> bool
         ensures { result ≡ model.owns self.now session name.now }
     {
         self.table.is_owned_by(name, session)
     }
 
-    /// `lock` (RFC 7047, 4.1.8): the session's claim joins the end, and owns if it's alone. It
-    /// notifies nobody. O(log n + c).
-    pub fn lock(&mut self, session: SessionId, name: &str) -> Result<Taken, LockFault>
+    /// `lock` (RFC 7047, section 4.1.8): the session's claim joins the end, and owns if it's alone.
+    /// It notifies nobody. O(log n + c).
+    pub fn lock(&mut self, session: SessionId, name: &str) -> Result<LockOutcome, LockFault>
         ensures ok { IfOk result (λ taken. model.lock self.old session name.now
             ≡ Ok (self.new, notices_of taken.notices.items, taken.owns)) }
         ensures out_of_turn { IsErrOf result LockFault.OutOfTurn
@@ -119,10 +119,11 @@ impl Locks {
         self.claim(session, name, false)
     }
 
-    /// `steal` (RFC 7047, 4.1.8): the session's claim goes in front, and owns. The owner before is
-    /// told `stolen`. If its claim was by `lock` it stands behind the thief; if it was by `steal` it
-    /// leaves and was robbed: it won't own again by itself, yet has to unlock. O(log n + c).
-    pub fn steal(&mut self, session: SessionId, name: &str) -> Result<Taken, LockFault>
+    /// `steal` (RFC 7047, section 4.1.8): the session's claim goes in front, and owns. The owner
+    /// before is told `stolen`. If its claim was by `lock` it stands after the thief; if it was by
+    /// `steal` it leaves and was robbed: it won't own again by itself, yet has to unlock. O(log n +
+    /// c).
+    pub fn steal(&mut self, session: SessionId, name: &str) -> Result<LockOutcome, LockFault>
         ensures ok { IfOk result (λ taken. model.steal self.old session name.now
             ≡ Ok (self.new, notices_of taken.notices.items, taken.owns)) }
         ensures out_of_turn { IsErrOf result LockFault.OutOfTurn
@@ -134,7 +135,13 @@ impl Locks {
         self.claim(session, name, true)
     }
 
-    fn claim(&mut self, session: SessionId, name: &str, stolen: bool) -> Result<Taken, LockFault>
+    /// `steal` where it is `stolen`, and else `lock`. O(log n + c).
+    pub fn claim(
+        &mut self,
+        session: SessionId,
+        name: &str,
+        stolen: bool,
+    ) -> Result<LockOutcome, LockFault>
         ensures ok { IfOk result (λ taken. claim_by stolen self.old session name.now
             ≡ Ok (self.new, notices_of taken.notices.items, taken.owns)) }
         ensures out_of_turn { IsErrOf result LockFault.OutOfTurn
@@ -156,36 +163,13 @@ impl Locks {
         }
     }
 
-    /// What `lock` would answer now, without doing it. O(log n + c).
-    pub fn preview_lock(&self, session: SessionId, name: &str) -> Result<Taken, LockFault>
-        ensures ok { IfOk result (λ taken. answer_of (model.lock self.now session name.now)
-            ≡ Ok (notices_of taken.notices.items, taken.owns)) }
-        ensures out_of_turn { IsErrOf result LockFault.OutOfTurn
-            ↔ (model.lock self.now session name.now ≡ Err out_of_turn) }
-        ensures too_many { IsErrOf result LockFault.TooMany
-            ↔ (model.lock self.now session name.now ≡ Err too_many_names) }
-    {
-        self.preview_claim(session, name, false)
-    }
-
-    /// What `steal` would answer now, without doing it. O(log n + c).
-    pub fn preview_steal(&self, session: SessionId, name: &str) -> Result<Taken, LockFault>
-        ensures ok { IfOk result (λ taken. answer_of (model.steal self.now session name.now)
-            ≡ Ok (notices_of taken.notices.items, taken.owns)) }
-        ensures out_of_turn { IsErrOf result LockFault.OutOfTurn
-            ↔ (model.steal self.now session name.now ≡ Err out_of_turn) }
-        ensures too_many { IsErrOf result LockFault.TooMany
-            ↔ (model.steal self.now session name.now ≡ Err too_many_names) }
-    {
-        self.preview_claim(session, name, true)
-    }
-
-    fn preview_claim(
+    /// What `claim` would return now. Nothing changes. O(log n + c).
+    pub fn preview_claim(
         &self,
         session: SessionId,
         name: &str,
         stolen: bool,
-    ) -> Result<Taken, LockFault>
+    ) -> Result<LockOutcome, LockFault>
         ensures ok { IfOk result (λ taken. claim_by stolen self.now session name.now
             ≡ Ok (claimed stolen self.now session name.now, notices_of taken.notices.items, taken.owns)) }
         ensures out_of_turn { IsErrOf result LockFault.OutOfTurn
@@ -204,14 +188,14 @@ impl Locks {
         if stolen {
             tell(&mut notices, self.alloc, owner, true, name)?;
         }
-        Ok(Taken {
+        Ok(LockOutcome {
             owns: stolen || owner.is_none(),
             notices,
         })
     }
 
-    /// `unlock` (RFC 7047, 4.1.8): the session's claim goes, or its having been robbed. If it owned
-    /// and another claim is first now, that one's session is told `locked`. O(log n + c).
+    /// `unlock` (RFC 7047, section 4.1.8): the session's claim goes, or its having been robbed. If
+    /// it owned and another claim is first now, that one's session is told `locked`. O(log n + c).
     pub fn unlock(&mut self, session: SessionId, name: &str) -> Result<Vec<Notice>, LockFault>
         ensures ok { IfOk result (λ notices. model.unlock self.old session name.now
             ≡ Ok (self.new, notices_of notices.items, false)) }
@@ -227,7 +211,7 @@ impl Locks {
         Ok(notices)
     }
 
-    /// What `unlock` would answer now, without doing it. O(log n + c).
+    /// What `unlock` would return now. Nothing changes. O(log n + c).
     pub fn preview_unlock(&self, session: SessionId, name: &str) -> Result<Vec<Notice>, LockFault>
         ensures ok { IfOk result (λ notices. answer_of (model.unlock self.now session name.now)
             ≡ Ok (notices_of notices.items, false)) }
@@ -245,9 +229,9 @@ impl Locks {
         Ok(notices)
     }
 
-    /// Takes back all of a session's claims, as its end does: an `unlock` of each name that it has a
-    /// claim of, by ascending name, with the notices of each. For each of these names O(log n + c),
-    /// whatever other names there are. Where memory is refused, nothing changes.
+    /// Takes back all of a session's claims, as its end does: an `unlock` of each name that it has
+    /// a claim of, by ascending name, with the notices of each. For each of these names O(log n +
+    /// c), whatever other names there are.
     pub fn drop_session(&mut self, session: SessionId) -> Result<Vec<Notice>, AllocError>
         ensures ok { IfOk result (λ notices. model.drop_session self.old session
             ≡ (self.new, notices_of notices.items)) }
@@ -260,7 +244,7 @@ impl Locks {
     }
 
     /// The notices of `drop_session`, without doing it. For each name that the session has a claim
-    /// of O(log n + c); an error says that memory was refused.
+    /// of O(log n + c).
     pub fn preview_drop(&self, session: SessionId) -> Result<Vec<Notice>, AllocError>
         ensures { IfOk result (λ notices.
             (model.drop_session self.now session).1 ≡ notices_of notices.items) }
@@ -271,8 +255,8 @@ impl Locks {
         }
     }
 
-    /// Takes back all of a session's claims, as `drop_session` does, and tells nobody. For each name
-    /// that it has a claim of O(log n + c), without memory.
+    /// Takes back all of a session's claims, as `drop_session` does, and tells nobody. For each
+    /// name that it has a claim of O(log n + c).
     pub fn forget_session(&mut self, session: SessionId)
         ensures { self.new ≡ (model.drop_session self.old session).0 }
     {
@@ -283,8 +267,8 @@ impl Locks {
         self.index.forget(session);
     }
 
-    /// The names of the locks that the session owns, has the first claim of, by ascending bytes. For
-    /// each name that it has a claim of O(log n); an error says that memory was refused.
+    /// The names of the locks that the session owns, has the first claim of, by ascending bytes.
+    /// For each name that it has a claim of O(log n).
     pub fn owned(&self, alloc: Global, session: SessionId) -> Result<Vec<&str>, AllocError>
         ensures ascending { IfOk result (λ names. map (λ name. name.now) names.items
             ≡ filter (model.owns self.now session) (finite.keys self.now)) }
@@ -298,7 +282,7 @@ impl Locks {
         }
     }
 
-    /// Equal locks. O(the bytes copied); an error says that memory was refused.
+    /// Equal locks. O(the bytes copied).
     pub fn try_copy(&self, alloc: Global) -> Result<Locks, AllocError>
         ensures { IfOk result (λ copy. copy ≡ self.now) }
     {

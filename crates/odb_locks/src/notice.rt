@@ -1,4 +1,4 @@
-//! Notices to sessions: `locked` and `stolen` (RFC 7047, 4.1.9 and 4.1.10).
+//! Notices to sessions: `locked` and `stolen` (RFC 7047, sections 4.1.9 and 4.1.10).
 
 ghost use Rattle.std.specs.Prelude.{◌≡◌, ◌++◌, OnOk};
 ghost use Rattle.odb_locks.specs.Represented.Notice.{notice_to, notices_of};
@@ -10,13 +10,13 @@ use std::alloc::{AllocError, Global};
 pub struct Notice {
     /// The session to tell.
     pub session: usize,
-    /// A `stolen` notification (RFC 7047, 4.1.10), and else a `locked` one (4.1.9).
+    /// A `stolen` notification (RFC 7047, section 4.1.10), and else a `locked` one (4.1.9).
     pub stolen: bool,
     /// The lock's name.
     pub name: String,
 }
 
-/// Adds a notice to the session, if there is one. Where there is no memory, nothing is added.
+/// Adds a notice to the session, if there is one.
 pub fn tell(
     notices: &mut Vec<Notice>,
     alloc: Global,

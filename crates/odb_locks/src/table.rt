@@ -1,4 +1,4 @@
-//! The locks by their names.
+//! The locks by their names. [P 11.1, 11.2]
 
 ghost use Rattle.std.specs.Prelude.{◌≡◌, filter, map, string_bytes, IfOk, OnOk, OnErr};
 ghost use Rattle.std.specs.BTreeSet.{IsOrdered};
@@ -35,7 +35,7 @@ impl Model for Table {
 }
 
 impl Table {
-    /// No locks. It takes no memory.
+    /// No locks.
     pub fn new(alloc: Global) -> Table
         ensures { result ≡ finite.empty }
     {
@@ -85,8 +85,7 @@ impl Table {
         self.locks.get(name)
     }
 
-    /// Takes up a claim of a session that has none of the name. Where there is no memory, nothing
-    /// changes.
+    /// Takes up a claim of a session that has none of the name.
     pub fn claim(&mut self, alloc: Global, name: &str, claim: Claim) -> Result<(), AllocError>
         ensures ok { OnOk result (self.new
             ≡ finite.insert self.old name.now (with_claim claim (lock_of self.old name.now))) }
@@ -114,7 +113,8 @@ impl Table {
         }
     }
 
-    /// The notices that it takes to take back the session's claims of the names, in their order.
+    /// The notices that releasing the claims of the session on `names` causes, in the order of
+    /// `names`.
     pub fn notices_of_release(
         &self,
         alloc: Global,

@@ -24,7 +24,7 @@ use Rattle.odb_atoms.proofs.FinMaps.{contains_key-keys}
 use Rattle.odb_mutate.specs.Mutation.{calculate_atom, calculate_each, delete, insert, result_of, set_of_results}
 use Rattle.odb_mutate.specs.Represented.Kinds.{AreAlike, AreIntegers, HasKinds, HasOneElement, IsOf, elements_in, has_at}
 use Rattle.odb_mutate.specs.Represented.Mutation.{operator_of}
-use Rattle.odb_mutate.specs.Taken.{is_set_of}
+use Rattle.odb_mutate.specs.MutationTyping.{is_set_of}
 use Rattle.odb_mutate.specs.declared.operator.Operator.{Operator}
 use Rattle.odb_mutate.proofs.Distinct.{IsDistinct, distinct-filter, distinct-joined, distinct-rising, map_fault-none, set_fault-none}
 use Rattle.odb_mutate.proofs.Each.{all-++, all-filter, filter-map}

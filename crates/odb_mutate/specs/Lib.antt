@@ -1,3 +1,3 @@
 pub mod Mutation
 pub mod Represented
-pub mod Taken
+pub mod MutationTyping

@@ -1,4 +1,4 @@
--- Mutations (RFC 7047, <mutation>): what they make of a value.
+-- Mutations (RFC 7047, <mutation>): what they make of a value. [P 3.3]
 use Rattle.std.specs.Prelude.{ℕ, ◌^◌, ℤ, pos, ◌+ℤ◌, ◌-ℤ◌, ◌*ℤ◌, neg_ℤ, int_div, int_rem, int_lt, int_le, Bool, cond, not, ◌&&◌, ◌==◌, List, [], ◌∷◌, length, Option, Some, None}
 use Rattle.odb_atoms.specs.FinMap as map
 use Rattle.odb_atoms.specs.FinSet as set

@@ -1,4 +1,4 @@
-//! Lists of elements that become sets.
+//! Lists of elements that become sets. [P 3.3]
 
 ghost use Rattle.std.specs.Prelude.{◌≡◌, ◌++◌, ◌∷◌, [], false, map, filter, not, None, OnOk};
 ghost use Rattle.odb_atoms.specs.Members.{has, set_fault};

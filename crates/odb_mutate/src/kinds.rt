@@ -7,7 +7,7 @@ ghost use Rattle.odb_atoms.specs.Represented.Atom.{kind_in};
 ghost use Rattle.odb_atoms.specs.Represented.ColType.{type_of};
 ghost use Rattle.odb_atoms.specs.Represented.Value.{each_element};
 ghost use Rattle.odb_atoms.specs.Value.{size};
-ghost use Rattle.odb_mutate.specs.Taken.{is_set_of};
+ghost use Rattle.odb_mutate.specs.MutationTyping.{is_set_of};
 
 use odb_atoms::{Admit, Atom, ColType, Entries, Kind, Value};
 

@@ -1,4 +1,4 @@
-//! Mutations (RFC 7047, section 5.1, `<mutation>`).
+//! Mutations (RFC 7047, section 5.1, `<mutation>`). [P 3.3]
 
 ghost use Rattle.std.specs.Prelude.{◌≡◌, map, IfOk, IsTrue, Ok};
 ghost use Rattle.odb_atoms.specs.Atom.{integers};
@@ -11,7 +11,7 @@ ghost use Rattle.odb_mutate.specs.Mutation as model;
 ghost use Rattle.odb_mutate.specs.Mutation.{admitted, mutate, result_of, set_of_results};
 ghost use Rattle.odb_mutate.specs.Represented.Kinds.{AreAlike, AreIntegers, HasKinds, HasOneElement};
 ghost use Rattle.odb_mutate.specs.Represented.Mutation.{answered, mutator_of, operator_of};
-ghost use Rattle.odb_mutate.specs.Taken.{takes};
+ghost use Rattle.odb_mutate.specs.MutationTyping.{takes};
 
 use crate::operator::Operator;
 use crate::{elements, kinds, pairs};
@@ -73,7 +73,7 @@ impl Model for Mutation {
 
 impl Mutation {
     /// The mutation of the declared column at the place, from 0, in the order of the columns'
-    /// names. O(1), without memory.
+    /// names. O(1).
     pub fn new(column: usize, mutator: Mutator, value: Value) -> Mutation
         ensures { result ≡ record {
           column = column;
@@ -100,8 +100,7 @@ impl Mutation {
     /// `insert` with a value of the type's kind; and `delete` with such a value, or on a map with a
     /// set of keys.
     ///
-    /// O(n) for n elements or pairs of the operand, times what `Value::admit` takes for one; it
-    /// takes no memory.
+    /// O(n) for n elements or pairs of the operand, times what `Value::admit` takes for one.
     pub fn suits(&self, column: &ColType) -> bool
         ensures { result ≡ takes (type_of column.now) self.now.mutator self.now.value }
     {

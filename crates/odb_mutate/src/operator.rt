@@ -1,4 +1,4 @@
-//! Arithmetic on integers and on sets of integers (RFC 7047, section 5.1, `<mutator>`).
+//! Arithmetic on integers and on sets of integers (RFC 7047, section 5.1, `<mutator>`). [P 3.3]
 
 ghost use Rattle.std.specs.Prelude.{◌≡◌, IfOk, IsTrue, map, ok_or};
 ghost use Rattle.odb_atoms.specs.Atom.{integer, integers};

@@ -1,4 +1,4 @@
-//! Lists of pairs that become maps.
+//! Lists of pairs that become maps. [P 3.3]
 
 ghost use Rattle.std.specs.Prelude.{◌≡◌, ◌++◌, map, filter, not, None, IfOk, OnOk};
 ghost use Rattle.odb_atoms.specs.FinMap as finite;

@@ -26,7 +26,7 @@ or_there : (o p : Option Uuid) (u : Uuid) → is_some o ≡ false → Some u ≡
 or_there None p u e = refl
 or_there (Some x) p u e = absurd (false≢true (sym e))
 
--- what is bound now, or else behind, where one more name is bound
+-- what is bound now, or else after, where one more name is bound
 one_name : (n : List ℕ) (u : Uuid) (names rest : Names) (q : List ℕ) (b : Bool) → map.contains_key names n ≡ b
     → option_or (map.get (cond b names (map.insert names n u)) q) (map.get rest q) ≡ option_or (map.get names q) (map.get (map.insert rest n u) q)
 one_name n u names rest q true e = by (eq_by_cmp text_cmp q n) refl ∙ sym (ap (option_or (map.get names q)) (get-insert nat_list_cmp_total rest n u q))

@@ -30,7 +30,7 @@ reads_renamed named view (Ok a) r e = ap (renamed named) e
 reads_renamed named view (Err Memory) r e = tt
 reads_renamed named view (Err (Failed x)) r e = ap (renamed named) e
 
--- behind tests of which the first has passed
+-- after tests of which the first has passed
 two_tests : (named : List (List ℕ)) (used admitted : Bool) (p : Draft × Data)
     → ◌>>◌ (demand (not used) duplicate_uuid) (◌>>◌ (demand admitted constraint_violation) (Ok (naming named p.0, p.1)))
     ≡ renamed named (◌>>◌ (demand (not used) duplicate_uuid) (◌>>◌ (demand admitted constraint_violation) (Ok p)))

@@ -155,12 +155,12 @@ perform_whole s c u d (Op.assert lock) = goes_on (c.owns lock) d _
 abbrev pub ResultsWhole : Ran → Type 0
 ResultsWhole (model.finished d results) = AllWhole results
 ResultsWhole (model.failed results) = AllWhole results
-ResultsWhole (model.must_wait moment) = ⊤
+ResultsWhole (model.waiting moment) = ⊤
 
 with_result_whole : (result : Data) (r : Ran) → IsWhole result → ResultsWhole r → ResultsWhole (model.with_result result r)
 with_result_whole result (model.finished d results) h g = (h, g)
 with_result_whole result (model.failed results) h g = (h, g)
-with_result_whole result (model.must_wait moment) h g = tt
+with_result_whole result (model.waiting moment) h g = tt
 
 nulls_whole : (n : ℕ) → AllWhole (replicate n null)
 nulls_whole zero = tt
@@ -171,7 +171,7 @@ error_whole e = refl
 
 stopped_whole : (stop : Stop) (later : ℕ) → ResultsWhole (model.stopped stop later)
 stopped_whole (model.fails e) later = (error_whole e, nulls_whole later)
-stopped_whole (model.waits moment) later = tt
+stopped_whole (model.must_wait moment) later = tt
 
 run_from_whole : (s : Schema) (c : Context) (names : Names) (fresh : List Uuid) (d : Draft) (ops : List Data) → ResultsWhole (model.run_from s c names fresh d ops)
 run_from_whole s c names fresh d [] = tt

@@ -9,7 +9,7 @@ use Rattle.odb_atoms.specs.Uuid.{Uuid}
 use Rattle.odb_json.specs.Operation.{Op, read_op}
 use Rattle.odb_json.specs.Suited.{IsFor}
 use Rattle.odb_ops.specs.Execution as model
-use Rattle.odb_ops.specs.Execution.{Context, Ran, error_result, failed, fails, finished, fresh_after, first_fresh, must_wait, perform, read_and_perform, run_from, stopped, waits, with_result}
+use Rattle.odb_ops.specs.Execution.{Context, Ran, error_result, failed, fails, finished, fresh_after, first_fresh, waiting, perform, read_and_perform, run_from, stopped, must_wait, with_result}
 use Rattle.odb_ops.specs.Represented.Draft.{begun, naming}
 use Rattle.odb_ops.specs.Represented.Parts.{AreTaken}
 use Rattle.odb_ops.specs.Represented.Ran.{Answers, Ends}
@@ -63,12 +63,12 @@ with_results-failed : (xs ys : List Data) → with_results xs (failed ys) ≡ fa
 with_results-failed [] ys = refl
 with_results-failed (x ∷ xs) ys = ap (with_result x) (with_results-failed xs ys)
 
-with_results-waits : (xs : List Data) (moment : Option ℕ) → with_results xs (must_wait moment) ≡ must_wait moment
+with_results-waits : (xs : List Data) (moment : Option ℕ) → with_results xs (waiting moment) ≡ waiting moment
 with_results-waits [] moment = refl
 with_results-waits (x ∷ xs) moment = ap (with_result x) (with_results-waits xs moment)
 
 module _ (s : Schema) (c : Context) (names : Names) where
-  -- what remains of the operations, behind these results
+  -- what remains of the operations, after these results
   abbrev pub remains : List Data → List Uuid → model.Draft → List Data → Ran
   remains results fresh d ops = with_results results (run_from s c names fresh d ops)
 
@@ -139,12 +139,12 @@ pub answers_stopped : (answer : declared.Ran) (db : Db) (whole : Ran) (results :
     → Ends answer results stop later → ((x : model.Stop) → stop ≡ Some x → with_results results (stopped x later) ≡ whole) → Answers answer db whole
 answers_stopped (ran.Failed vs) db whole results (Some (fails e)) later ends h =
     subst (Answers (ran.Failed vs) db) (sym (with_results-failed results (error_result e ∷ replicate later null)) ∙ h (fails e) refl) (sym ends)
-answers_stopped (ran.MustWait moment) db whole results (Some (waits answer)) later ends h =
-    subst (Answers (ran.MustWait moment) db) (sym (with_results-waits results answer) ∙ h (waits answer) refl) (sym ends)
-answers_stopped (ran.Failed vs) db whole results (Some (waits answer)) later ends h = absurd ends
+answers_stopped (ran.Waiting moment) db whole results (Some (must_wait answer)) later ends h =
+    subst (Answers (ran.Waiting moment) db) (sym (with_results-waits results answer) ∙ h (must_wait answer) refl) (sym ends)
+answers_stopped (ran.Failed vs) db whole results (Some (must_wait answer)) later ends h = absurd ends
 answers_stopped (ran.Failed vs) db whole results None later ends h = absurd ends
-answers_stopped (ran.MustWait moment) db whole results (Some (fails e)) later ends h = absurd ends
-answers_stopped (ran.MustWait moment) db whole results None later ends h = absurd ends
+answers_stopped (ran.Waiting moment) db whole results (Some (fails e)) later ends h = absurd ends
+answers_stopped (ran.Waiting moment) db whole results None later ends h = absurd ends
 answers_stopped (ran.Finished vs) db whole results (Some (fails e)) later ends h = absurd ends
-answers_stopped (ran.Finished vs) db whole results (Some (waits answer)) later ends h = absurd ends
+answers_stopped (ran.Finished vs) db whole results (Some (must_wait answer)) later ends h = absurd ends
 answers_stopped (ran.Finished vs) db whole results None later ends h = absurd ends

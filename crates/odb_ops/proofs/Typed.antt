@@ -163,7 +163,7 @@ perform_typed s c u d (Op.assert lock) suits h = goes_on s (c.owns lock) d _ h
 abbrev pub EndsTyped : Schema → Ran → Type 0
 EndsTyped s (model.finished d results) = IsTyped s d.db
 EndsTyped s (model.failed results) = ⊤
-EndsTyped s (model.must_wait moment) = ⊤
+EndsTyped s (model.waiting moment) = ⊤
 
 read_typed : (s : Schema) (c : Context) (names : Names) (u : Uuid) (d : Draft) (op : Data) → IsTyped s d.db → KeepsTyped s (model.read_and_perform s c names u d op)
 read_typed s c names u d op h =
@@ -172,11 +172,11 @@ read_typed s c names u d op h =
 with_result_typed : (s : Schema) (result : Data) (r : Ran) → EndsTyped s r → EndsTyped s (model.with_result result r)
 with_result_typed s result (model.finished d results) h = h
 with_result_typed s result (model.failed results) h = h
-with_result_typed s result (model.must_wait moment) h = h
+with_result_typed s result (model.waiting moment) h = h
 
 stopped_typed : (s : Schema) (stop : Stop) (later : ℕ) → EndsTyped s (model.stopped stop later)
 stopped_typed s (model.fails e) later = tt
-stopped_typed s (model.waits moment) later = tt
+stopped_typed s (model.must_wait moment) later = tt
 
 run_from_typed : (s : Schema) (c : Context) (names : Names) (fresh : List Uuid) (d : Draft) (ops : List Data) → IsTyped s d.db → EndsTyped s (model.run_from s c names fresh d ops)
 run_from_typed s c names fresh d [] h = h

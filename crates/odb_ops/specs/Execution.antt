@@ -1,4 +1,4 @@
--- What each operation makes of the database, and its result (RFC 7047, Database Operations).
+-- What each operation makes of the database, and its result (RFC 7047, Database Operations). [P 4.2, 6.1, 6.2, 12.1]
 use Rattle.std.specs.Prelude.{ℕ, ◌+◌, ◌^◌, pos, Bool, true, false, cond, not, ◌&&◌, ◌||◌, ◌==◌, List, [], ◌∷◌, ◌++◌, map as map_list, length, codes, find, filter, filter_map, zip, drop, replicate, slice_get, slice_set, nat_lt, nat_le, unwrap_or, Option, Some, None, option_map}
 use Rattle.std.specs.List.{list_any, list_all, enumerate_from}
 use Rattle.std.specs.Result.{result_ok, result_err}
@@ -37,7 +37,7 @@ pub record Draft : Type 0 where
 -- why a transaction doesn't go on: an error, or a `wait` that has time until its deadline, if it has one
 pub data Stop : Type 0 where
   fails : Error → Stop
-  waits : Option ℕ → Stop
+  must_wait : Option ℕ → Stop
 
 abbrev pub or_stop : {A : Type 0} → Result A Error → Result A Stop
 or_stop (Ok x) = Ok x
@@ -181,7 +181,7 @@ go_on false d stop = Err stop
 
 -- what a `wait` that isn't met comes to
 abbrev pub unmet : Context → Option ℕ → Stop
-unmet c moment = cond (has_passed c moment) (fails timed_out) (waits moment)
+unmet c moment = cond (has_passed c moment) (fails timed_out) (must_wait moment)
 
 abbrev pub without : Draft → ℕ → Table → Draft
 without d t gone = record (with_table d t (map.retain_keys (table_of d t) (λ u. not (map.contains_key gone u)))) { deleted = slice_set d.deleted t (set.insert_all (deleted_at d t) (map.keys gone)) }
@@ -230,7 +230,7 @@ names_of (d ∷ ds) fresh = cond (is_insert d) (bind_name (string_member (codes 
 pub data Ran : Type 0 where
   finished : Draft → List Data → Ran
   failed : List Data → Ran
-  must_wait : Option ℕ → Ran
+  waiting : Option ℕ → Ran
 
 abbrev pub error_result : Error → Data
 error_result e = object_of ((codes "error", string (error_name e)) ∷ [])
@@ -238,12 +238,12 @@ error_result e = object_of ((codes "error", string (error_name e)) ∷ [])
 abbrev pub with_result : Data → Ran → Ran
 with_result result (finished d results) = finished d (result ∷ results)
 with_result result (failed results) = failed (result ∷ results)
-with_result result (must_wait moment) = must_wait moment
+with_result result (waiting moment) = waiting moment
 
 -- the later operations have null for their results
 abbrev pub stopped : Stop → ℕ → Ran
 stopped (fails e) later = failed (error_result e ∷ replicate later null)
-stopped (waits moment) later = must_wait moment
+stopped (must_wait moment) later = waiting moment
 
 -- an operation is read whole, then carried out
 abbrev pub read_and_perform : Schema → Context → Names → Uuid → Draft → Data → Result (Draft × Data) Stop

@@ -12,7 +12,7 @@ use std::collections::BTreeSet;
 
 /// The rows, of each that are equal the first.
 ///
-/// O(n log n) comparisons of rows for n rows. An error says that memory was refused.
+/// O(n log n) comparisons of rows for n rows.
 pub fn first_of_each(alloc: Global, rows: &[Cells]) -> Result<Vec<&Cells>, AllocError>
     ensures { IfOk result (λ kept. AreFirst kept.items rows.now) }
 {
@@ -50,7 +50,7 @@ fn is_new<'a>(seen: &mut BTreeSet<&'a [Value]>, row: &'a Cells) -> Result<bool, 
     }
 }
 
-/// The contents of the rows. O(n log n) comparisons for n rows; an error says that memory was refused.
+/// The contents of the rows. O(n log n) comparisons for n rows.
 pub fn contents(alloc: Global, rows: &[Cells]) -> Result<BTreeSet<&[Value]>, AllocError>
     ensures { IfOk result (λ set. IsSetOf set rows.now) }
 {
@@ -61,8 +61,8 @@ pub fn contents(alloc: Global, rows: &[Cells]) -> Result<BTreeSet<&[Value]>, All
     Ok(seen)
 }
 
-/// Whether each of the rows is among those of which these are the contents. O(n log m) comparisons for
-/// n rows and m contents; it takes no memory.
+/// Whether each of the rows is among those of which these are the contents. O(n log m) comparisons
+/// for n rows and m contents.
 pub fn are_among<'a>(rows: &'a [Cells], set: &BTreeSet<&'a [Value]>) -> bool
     ensures { (others : List (List model.Value)) → IsSetOf set.now others → result ≡ each_in rows.now others }
 {

@@ -1,4 +1,4 @@
-//! How long a `wait` has time (RFC 7047, section 5.2.6, `timeout`).
+//! How long a `wait` has time (RFC 7047, section 5.2.6, `timeout`). [P 12.1]
 ghost use Rattle.std.specs.Prelude.{◌≡◌, Some};
 ghost use Rattle.odb_ops.specs.Execution as model;
 ghost use Rattle.odb_ops.specs.Represented.Context.{context_of};
@@ -34,5 +34,5 @@ pub fn unmet(context: &Context, timeout: Option<u64>) -> Stop
     if has_passed(context, moment) {
         return Stop::Fails(Error::TimedOut);
     }
-    Stop::Waits(moment)
+    Stop::MustWait(moment)
 }

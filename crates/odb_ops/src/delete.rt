@@ -1,4 +1,4 @@
-//! `delete` (RFC 7047, section 5.2.5).
+//! `delete` (RFC 7047, section 5.2.5). [P 4.2]
 ghost use Rattle.std.specs.Prelude.{◌≡◌, ◌<◌, IfOk, OnOk, length, map};
 ghost use Rattle.serde_json.specs.View.{view};
 ghost use Rattle.odb_atoms.specs.Represented.Atom.{uuid_of};

@@ -1,4 +1,5 @@
-//! Transactions: their operations, one after another, on a draft (RFC 7047, sections 4.1.3 and 5.2).
+//! Transactions: their operations, one after another, on a draft (RFC 7047, sections 4.1.3 and
+//! 5.2). [P 6.1]
 ghost use Rattle.std.specs.Prelude.{◌≡◌, ◌<◌, ◌+◌, ◌++◌, ◌∷◌, [], IfOk, List, length, map, replicate, ℕ};
 ghost use Rattle.serde_json.specs.View.{view};
 ghost use Rattle.odb_atoms.specs.Represented.Atom.{uuid_of};
@@ -13,7 +14,7 @@ ghost use Rattle.odb_schema.specs.Json.{null};
 ghost use Rattle.odb_tables.specs.Typed.{IsTyped};
 
 use crate::context::Context;
-use crate::fresh::{behind, first};
+use crate::fresh::{next_uuid, remaining_uuids};
 use crate::names::names_of;
 use crate::operation::perform;
 use crate::results;
@@ -34,7 +35,7 @@ pub enum Ran {
     /// One failed: its result names the error, and those of the later ones are null.
     Failed(Vec<Value>),
     /// A `wait` isn't met, and has time until this moment, in milliseconds, or for ever.
-    MustWait(Option<u64>),
+    Waiting(Option<u64>),
 }
 
 /// Reads an operation, whole, and carries it out.
@@ -60,7 +61,7 @@ fn read_and_perform(
     perform(alloc, draft, schema, context, taken, uuid, op)
 }
 
-/// So many nulls behind the results.
+/// The results, and a `null` for each of the later operations.
 fn with_nulls(mut results: Vec<Value>, nulls: usize) -> Result<Vec<Value>, AllocError>
     ensures { IfOk result (λ v. map view v.items
         ≡ map view results.items ++ replicate nulls null) }
@@ -85,14 +86,14 @@ fn with_failure(
     with_nulls(results, later)
 }
 
-/// What a transaction comes to where an operation doesn't go through, and so many are behind it.
+/// How a transaction ends when an operation fails or must wait, with `later` operations after it.
 fn stopped(alloc: Global, results: Vec<Value>, stop: Stop, later: usize) -> Result<Ran, AllocError>
     ensures { IfOk result (λ ran. Ends ran (map view results.items) (stop_of stop) later) }
 {
     match stop {
         Stop::Memory => Err(AllocError),
         Stop::Fails(error) => Ok(Ran::Failed(with_failure(alloc, results, error, later)?)),
-        Stop::Waits(moment) => Ok(Ran::MustWait(moment)),
+        Stop::MustWait(moment) => Ok(Ran::Waiting(moment)),
     }
 }
 
@@ -116,8 +117,8 @@ fn run_all(
     let mut left = context.fresh;
     let mut results = Vec::with_capacity(alloc, operations.len())?;
     for (place, operation) in operations.iter().enumerate() {
-        let uuid = first(left);
-        left = behind(operation, left);
+        let uuid = next_uuid(left);
+        left = remaining_uuids(operation, left);
         match read_and_perform(
             alloc, draft, schema, context, names, &mut taken, uuid, operation,
         ) {

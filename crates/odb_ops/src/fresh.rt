@@ -1,4 +1,4 @@
-//! The identifiers of inserts.
+//! The identifiers of inserts. [P 6.2]
 ghost use Rattle.std.specs.Prelude.{◌≡◌, map, option_map};
 ghost use Rattle.serde_json.specs.View.{view};
 ghost use Rattle.odb_atoms.specs.Represented.Atom.{uuid_of};
@@ -27,7 +27,7 @@ pub fn is_insert(operation: &Value) -> bool
 }
 
 /// The first of the identifiers that are left, and zero where there is none.
-pub fn first(fresh: &[Uuid]) -> Uuid
+pub fn next_uuid(fresh: &[Uuid]) -> Uuid
     ensures { uuid_of result ≡ model.first_fresh (map uuid_of fresh.now) }
 {
     match fresh.first() {
@@ -36,8 +36,8 @@ pub fn first(fresh: &[Uuid]) -> Uuid
     }
 }
 
-/// The identifiers that are left behind the operation.
-pub fn behind<'a>(operation: &Value, fresh: &'a [Uuid]) -> &'a [Uuid]
+/// The identifiers that are left after the operation.
+pub fn remaining_uuids<'a>(operation: &Value, fresh: &'a [Uuid]) -> &'a [Uuid]
     ensures { map uuid_of result.now
         ≡ model.fresh_after (view operation.now) (map uuid_of fresh.now) }
 {

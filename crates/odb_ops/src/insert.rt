@@ -1,4 +1,4 @@
-//! `insert` (RFC 7047, section 5.2.1).
+//! `insert` (RFC 7047, section 5.2.1). [P 4.2]
 ghost use Rattle.std.specs.Prelude.{◌≡◌, ◌<◌, ◌||◌, IfOk, OnOk, length, map, slice_set};
 ghost use Rattle.serde_json.specs.View.{view};
 ghost use Rattle.odb_atoms.specs.ColType.{default_of};
@@ -83,7 +83,7 @@ fn all_admit(columns: &[Column], values: &[Value]) -> bool
 
 /// Puts a row of these values, and defaults for the other columns, into the table; its result.
 ///
-/// The first of these faults is the answer: an identifier that a row of the table has or had
+/// The first of these faults is returned: an identifier that a row of the table has or had
 /// (`duplicate uuid`), and a value that its column doesn't admit (`constraint violation`).
 pub fn insert(
     alloc: Global,

@@ -1,4 +1,7 @@
-//! The ten database operations (RFC 7047, 5.2).
+//! The ten database operations (RFC 7047, section 5.2).
+//!
+//! Where memory is refused a call returns `AllocError`, and a draft that it changes is of no further
+//! use. A call whose result has no such error takes no memory.
 #![tactic(auto)]
 
 mod cells;

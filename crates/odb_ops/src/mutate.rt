@@ -1,4 +1,4 @@
-//! `mutate` (RFC 7047, section 5.2.4).
+//! `mutate` (RFC 7047, section 5.2.4). [P 4.2]
 ghost use Rattle.std.specs.Prelude.{◌≡◌, ◌<◌, ◌++◌, ◌∷◌, [], IfOk, OnOk, length, map, option_map, option_to_list, true};
 ghost use Rattle.std.specs.Result.{result_ok};
 ghost use Rattle.serde_json.specs.View.{view};
@@ -16,7 +16,7 @@ ghost use Rattle.odb_json.specs.Represented.Fault.{Reads};
 ghost use Rattle.odb_json.specs.Suited.{are_taken};
 ghost use Rattle.odb_mutate.specs.Mutation as model;
 ghost use Rattle.odb_mutate.specs.Represented.Mutation.{answered, error_of};
-ghost use Rattle.odb_mutate.specs.Taken.{takes};
+ghost use Rattle.odb_mutate.specs.MutationTyping.{takes};
 ghost use Rattle.odb_ops.specs.Execution.{first_fault, mutated};
 ghost use Rattle.odb_ops.specs.Represented.Parts.{AllFit, all_faults, all_rewritten, mutate_rows, rewritten, row_fault, with_value};
 ghost use Rattle.odb_schema.specs.Schema.{column_type};
@@ -207,7 +207,7 @@ fn error_in(fault: MutationFault) -> Error
 
 /// Makes the mutations of each row that matches; the result is how many they are.
 ///
-/// Where rows have faults, the first of them in this order is the answer: `domain error`, `range
+/// Where rows have faults, the first of them in this order is returned: `domain error`, `range
 /// error`, `resources exhausted`, `constraint violation`. The draft isn't of use then.
 pub fn mutate(
     alloc: Global,

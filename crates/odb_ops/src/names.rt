@@ -1,5 +1,5 @@
 //! The names that a transaction gives to the rows that it inserts (RFC 7047, section 5.2.1,
-//! `uuid-name`).
+//! `uuid-name`). [P 6.2]
 ghost use Rattle.std.specs.Prelude.{◌≡◌, cond, codes, IfOk, OnOk, map, option_map, string_bytes};
 ghost use Rattle.serde_json.specs.View.{view};
 ghost use Rattle.odb_atoms.specs.Represented.Atom.{uuid_of};
@@ -8,7 +8,7 @@ ghost use Rattle.odb_ops.specs.Execution as model;
 ghost use Rattle.odb_ops.specs.Represented.Parts.{bound, claimed};
 ghost use Rattle.odb_schema.specs.Json.{string_member};
 
-use crate::fresh::{behind, first, is_insert, string_member};
+use crate::fresh::{is_insert, next_uuid, remaining_uuids, string_member};
 use odb_atoms::Error;
 use odb_json::{Names, OpFault};
 use serde_json::Value;
@@ -50,8 +50,7 @@ fn bind_insert(
 }
 
 /// What the names of a transaction stand for: each insert takes the next identifier, and a name
-/// stands for that of the first insert that has it. O(log n) for each of n names; an error says that
-/// memory was refused.
+/// stands for that of the first insert that has it. O(log n) for each of n names.
 pub fn names_of(alloc: Global, operations: &[Value], fresh: &[Uuid]) -> Result<Names, AllocError>
     ensures { IfOk result (λ names. names
         ≡ model.names_of (map view operations.now) (map uuid_of fresh.now)) }
@@ -59,8 +58,8 @@ pub fn names_of(alloc: Global, operations: &[Value], fresh: &[Uuid]) -> Result<N
     let mut names = Names::new(alloc);
     let mut left = fresh;
     for operation in operations {
-        bind_insert(alloc, &mut names, operation, first(left))?;
-        left = behind(operation, left);
+        bind_insert(alloc, &mut names, operation, next_uuid(left))?;
+        left = remaining_uuids(operation, left);
     }
     Ok(names)
 }

@@ -1,4 +1,4 @@
-//! Operations (RFC 7047, section 5.2), carried out on a draft.
+//! Operations (RFC 7047, section 5.2), carried out on a draft. [P 4.2]
 ghost use Rattle.std.specs.Prelude.{◌≡◌, ◌<◌, ◌++◌, List, OnOk, Some, length, map, option_map, string_bytes, ℕ};
 ghost use Rattle.std.specs.List.{list_any};
 ghost use Rattle.serde_json.specs.View.{view};
@@ -35,7 +35,7 @@ use std::alloc::Global;
 use uuid::Uuid;
 
 /// The result of an operation that goes on where a test holds.
-fn go_on(alloc: Global, holds: bool, stop: Stop) -> Result<Value, Stop>
+fn empty_result_if(alloc: Global, holds: bool, stop: Stop) -> Result<Value, Stop>
     ensures { (d : model.Draft) (s : model.Stop) → stop_of stop ≡ Some s
         → Performs (λ v. (d, view v)) result (model.go_on holds d s) }
 {
@@ -93,7 +93,7 @@ fn wait_or_go_on(
         (model.go_on reached d (model.unmet (context_of context.entry.now)
         (model.deadline (context_of context.entry.now) timeout))) }
 {
-    go_on(alloc, reached, unmet(context, timeout))
+    empty_result_if(alloc, reached, unmet(context, timeout))
 }
 
 /// Whether the name is among them.
@@ -185,12 +185,12 @@ pub fn perform(
             )?;
             wait_or_go_on(alloc, context, reached, timeout)
         }
-        Op::Commit { durable } => go_on(alloc, !durable, Stop::Fails(Error::NotSupported)),
+        Op::Commit { durable } => empty_result_if(alloc, !durable, Stop::Fails(Error::NotSupported)),
         Op::Abort => Err(Stop::Fails(Error::Aborted)),
         Op::Comment => Ok(results::nothing(alloc)),
         Op::Assert { lock } => {
             let owns = owns(context, lock.as_str());
-            go_on(alloc, owns, Stop::Fails(Error::NotOwner))
+            empty_result_if(alloc, owns, Stop::Fails(Error::NotOwner))
         }
     }
 }

@@ -16,7 +16,7 @@ use serde_json::{Map, Value, json};
 use std::alloc::{AllocError, Global};
 use uuid::Uuid;
 
-/// `{}`, the result of the operations that give none. O(1), without memory.
+/// `{}`, the result of the operations that give none. O(1).
 pub fn nothing(alloc: Global) -> Value
     ensures { view result ≡ empty_result }
 {

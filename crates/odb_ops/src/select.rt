@@ -1,4 +1,4 @@
-//! `select` (RFC 7047, section 5.2.2).
+//! `select` (RFC 7047, section 5.2.2). [P 4.2]
 ghost use Rattle.std.specs.Prelude.{◌≡◌, ◌∷◌, [], IfOk, OnOk, map};
 ghost use Rattle.serde_json.specs.Data.{put as with_member};
 ghost use Rattle.serde_json.specs.View.{members_view, view};
@@ -24,8 +24,7 @@ use std::alloc::{AllocError, Global};
 /// The result of `select`: these columns of the rows that match, each of the rows that come out equal once,
 /// in the order of the least identifier with that content.
 ///
-/// What `Draft::matching` costs, and O(n log n) comparisons of rows for the n that match. An error says
-/// that memory was refused.
+/// What `Draft::matching` costs, and O(n log n) comparisons of rows for the n that match.
 pub fn select(
     alloc: Global,
     draft: &Draft,

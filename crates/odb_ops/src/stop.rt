@@ -12,7 +12,7 @@ pub enum Stop {
     /// It fails, with this error.
     Fails(Error),
     /// It is a `wait` that isn't met, and has time until this moment, in milliseconds, or for ever.
-    Waits(Option<u64>),
+    MustWait(Option<u64>),
 }
 
 impl From<AllocError> for Stop {

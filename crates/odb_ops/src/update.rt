@@ -1,4 +1,4 @@
-//! `update` (RFC 7047, section 5.2.3).
+//! `update` (RFC 7047, section 5.2.3). [P 4.2]
 ghost use Rattle.std.specs.Prelude.{◌≡◌, ◌<◌, IfOk, OnOk, Some, length, map};
 ghost use Rattle.serde_json.specs.View.{view};
 ghost use Rattle.odb_atoms.specs.Represented.Atom.{uuid_of};

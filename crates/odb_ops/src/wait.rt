@@ -1,4 +1,4 @@
-//! `wait` (RFC 7047, section 5.2.6).
+//! `wait` (RFC 7047, section 5.2.6). [P 4.2, 12.1]
 ghost use Rattle.std.specs.Prelude.{◌≡◌, IfOk, find, map, option_map};
 ghost use Rattle.std.specs.Option.{option_copied};
 ghost use Rattle.odb_atoms.specs.ColType as column_type;
@@ -23,8 +23,8 @@ use std::alloc::{AllocError, Global};
 
 /// Whether these columns of the rows that match are the rows, or aren't, as `until` wants it.
 ///
-/// What `Draft::matching` costs, and O((m + n) log (m + n)) comparisons of rows for the m that match and n
-/// that are given. An error says that memory was refused.
+/// What `Draft::matching` costs, and O((m + n) log (m + n)) comparisons of rows for the m that
+/// match and n that are given.
 pub fn wait(
     alloc: Global,
     draft: &Draft,

@@ -1,4 +1,4 @@
-//! Answers to requests, and notices, as they are queued.
+//! Replies to requests, and notices, as they are queued. [P 7.3, 8.1]
 ghost use Rattle.std.specs.Prelude.{◌≡◌, false, if◌then◌else◌, codes, map, Option, Some, IsSome, IfOk, option_map};
 ghost use Rattle.serde_json.specs.Data.{Data};
 ghost use Rattle.serde_json.specs.View.{view};
@@ -17,21 +17,21 @@ ghost use Rattle.odb_rpc.specs.Represented.Failure.{failure_of};
 ghost use Rattle.odb_rpc.specs.Represented.Printable.{printable_data};
 ghost use Rattle.odb_schema.specs.SchemaText.{write_schema};
 
-use crate::meaning::Meaning;
+use crate::meaning::{Meaning, Printed};
 use crate::post::Post;
 use crate::queue::Finished;
 use crate::served_schema::ServedSchema;
 use odb_locks::Notice;
 use odb_rpc::{
-    Call, CallFault, Failure, Printable, array_of_one, failure, notice, reply, reply_id,
-    reply_printed,
+    Call, CallFault, Failure, Printable, array_of_one, failure, reply, reply_id, reply_printed,
 };
 use odb_wire::Request;
 use serde_json::Value;
 use std::alloc::{AllocError, Global};
 
-/// The answer of a call that is over at once. `None` where there is no answer, and for a call that isn't
-/// over at once. O(n) for an answer of n bytes.
+/// The reply to a call that is done at once: `echo`, `list_dbs`, `get_schema`, or a request that is
+/// refused before anything is done. `None` where there is no reply, and for any other call. O(n)
+/// for a reply of n bytes.
 pub fn answer_at_once(
     alloc: Global,
     served: &ServedSchema,
@@ -50,7 +50,7 @@ pub fn answer_at_once(
     Ok(Some(Finished {
         text,
         is_reply: true,
-        meaning: Meaning::of_answer(request, served.schema()),
+        meaning: Meaning::of(&Printed::AtOnce(request, served.schema())),
     }))
 }
 
@@ -94,7 +94,7 @@ fn called_text(
     }
 }
 
-/// The reply of a success, with this result (RFC 7047, 4). O(n) for a text of n bytes.
+/// The reply of a success, with this result (RFC 7047, section 4). O(n) for a text of n bytes.
 pub fn replied(alloc: Global, request: &Request, value: &Value) -> Result<Finished, AllocError>
     requires id { has_left_out (id_of (request_data request.now)) ≡ false }
     requires value { has_float (view value.now) ≡ false }
@@ -106,11 +106,11 @@ pub fn replied(alloc: Global, request: &Request, value: &Value) -> Result<Finish
     Ok(Finished {
         text,
         is_reply: true,
-        meaning: Meaning::of_reply(request, value),
+        meaning: Meaning::of(&Printed::Success(request, value)),
     })
 }
 
-/// The reply of a failure (RFC 7047, 4). O(n) for a text of n bytes.
+/// The reply of a failure (RFC 7047, section 4). O(n) for a text of n bytes.
 pub fn failed(alloc: Global, request: &Request, why: Failure) -> Result<Finished, AllocError>
     requires id { has_left_out (id_of (request_data request.now)) ≡ false }
     ensures { IfOk result (λ item. item_of item
@@ -120,11 +120,12 @@ pub fn failed(alloc: Global, request: &Request, why: Failure) -> Result<Finished
     Ok(Finished {
         text,
         is_reply: true,
-        meaning: Meaning::of_failure(request, &why),
+        meaning: Meaning::of(&Printed::Failure(request, &why)),
     })
 }
 
-/// The notices as they are sent (RFC 7047, 4.1.9 and 4.1.10), in their order. O(n) for texts of n bytes.
+/// The notices as they are sent (RFC 7047, sections 4.1.9 and 4.1.10), in their order. O(n) for
+/// texts of n bytes.
 pub fn notices(alloc: Global, notices: &[Notice]) -> Result<Vec<Post>, AllocError>
     ensures { IfOk result (λ posts. map post_of posts.items ≡ map told_of (notices_of notices.now)) }
 {
@@ -139,21 +140,21 @@ pub fn notices(alloc: Global, notices: &[Notice]) -> Result<Vec<Post>, AllocErro
 }
 
 /// A notice as it is sent. O(n) for a text of n bytes.
-fn noticed(alloc: Global, told: &Notice) -> Result<Finished, AllocError>
+fn noticed(alloc: Global, notice: &Notice) -> Result<Finished, AllocError>
     ensures { IfOk result (λ item. item_of item
-        ≡ say no_request (world.notice_of (notice_of told.now))) }
+        ≡ say no_request (world.notice_of (notice_of notice.now))) }
 {
-    let params = array_of_one(alloc, told.name.as_str())?;
-    let text = notice(alloc, method(told), params.as_slice())?;
+    let params = array_of_one(alloc, notice.name.as_str())?;
+    let text = odb_rpc::notice(alloc, method(notice), params.as_slice())?;
     Ok(Finished {
         text,
         is_reply: false,
-        meaning: Meaning::of_notice(told),
+        meaning: Meaning::of(&Printed::Notice(notice)),
     })
 }
 
-fn method(told: &Notice) -> &'static str
-    ensures { result.now ≡ (if told.now.stolen then codes "stolen" else codes "locked") }
+fn method(notice: &Notice) -> &'static str
+    ensures { result.now ≡ (if notice.now.stolen then codes "stolen" else codes "locked") }
 {
-    if told.stolen { "stolen" } else { "locked" }
+    if notice.stolen { "stolen" } else { "locked" }
 }

@@ -1,4 +1,8 @@
-//! What is queued for sessions: finished texts, with what they mean, and the answers and notices that are queued.
+//! What is queued for sessions: finished texts, with what they mean, and the replies and notices
+//! that are queued.
+//!
+//! Where memory is refused a call returns `AllocError`, and what it was given is as it was,
+//! unless its own page says otherwise. A call whose result has no such error takes no memory.
 #![tactic(auto)]
 
 mod answer;

@@ -1,18 +1,11 @@
-//! What a finished text means, which proofs alone read. It takes no memory, and its call does nothing at run time.
+//! What a finished text means, which proofs alone read. It takes no memory, and its calls do nothing at run time.
 ghost use Rattle.std.specs.Prelude.{◌≡◌};
 ghost use Rattle.std.specs.Borrow.{ftrue};
 ghost use Rattle.serde_json.specs.Data.{Data};
-ghost use Rattle.serde_json.specs.View.{view};
-ghost use Rattle.odb_service.specs.Session.{Answers, no_request, to};
-ghost use Rattle.odb_service.specs.World as world;
+ghost use Rattle.odb_service.specs.Session.{Answers};
 ghost use Rattle.odb_service.specs.WorldCode.{answers_code};
-ghost use Rattle.odb_queue.specs.Represented.Answer.{answer_to};
-ghost use Rattle.odb_locks.specs.Represented.Notice.{notice_of};
-ghost use Rattle.odb_rpc.specs.Message.{failure, reply};
-ghost use Rattle.odb_rpc.specs.Represented.Failure.{failure_of};
 ghost use Rattle.odb_schema.specs.JsonCode.{data_code};
-ghost use Rattle.odb_wire.specs.Message.{id_of};
-ghost use Rattle.odb_wire.specs.Shown.{request_data};
+ghost use Rattle.odb_queue.specs.Represented.Printed.{out_of};
 
 use odb_locks::Notice;
 use odb_rpc::Failure;
@@ -21,7 +14,20 @@ use odb_wire::Request;
 use serde_json::Value;
 use std::marker::Model;
 
-/// Which request a message answers, and the message as data.
+/// What a message is printed from.
+#[derive(Drop)]
+pub(crate) enum Printed<'a> {
+    /// The reply to a request that is done at once, by a server of the schema.
+    AtOnce(&'a Request, &'a Schema),
+    /// The reply of a success, with this result.
+    Success(&'a Request, &'a Value),
+    /// The reply of a failure.
+    Failure(&'a Request, &'a Failure),
+    /// A notice of locks, which replies to no request.
+    Notice(&'a Notice),
+}
+
+/// Which request a message replies to, and the message as data.
 #[derive(Drop)]
 pub struct Meaning {
     pub ghost answers: { Answers } by { answers_code },
@@ -36,34 +42,10 @@ impl Model for Meaning {
 unsafe impl Send for Meaning {}
 
 impl Meaning {
-    /// That of the answer that a request gets at once.
-    pub fn of_answer(_request: &Request, _schema: &Schema) -> Meaning
-        ensures { (result.answers ≡ to (request_data _request.now))
-            × (result.message ≡ answer_to _schema.now (request_data _request.now)) }
-    {
-        Meaning {}
-    }
-
-    /// That of a success with this result.
-    pub fn of_reply(_request: &Request, _value: &Value) -> Meaning
-        ensures { (result.answers ≡ to (request_data _request.now))
-            × (result.message ≡ reply (id_of (request_data _request.now)) (view _value.now)) }
-    {
-        Meaning {}
-    }
-
-    /// That of a failure.
-    pub fn of_failure(_request: &Request, _why: &Failure) -> Meaning
-        ensures { (result.answers ≡ to (request_data _request.now))
-            × (result.message ≡ failure (id_of (request_data _request.now)) (failure_of _why.now)) }
-    {
-        Meaning {}
-    }
-
-    /// That of a notice of locks, which answers no request.
-    pub fn of_notice(_notice: &Notice) -> Meaning
-        ensures { (result.answers ≡ no_request)
-            × (result.message ≡ world.notice_of (notice_of _notice.now)) }
+    /// The meaning of what is printed from these.
+    pub(crate) fn of(_printed: &Printed<'_>) -> Meaning
+        ensures { (result.answers ≡ (out_of _printed.now).answers)
+            × (result.message ≡ (out_of _printed.now).message) }
     {
         Meaning {}
     }

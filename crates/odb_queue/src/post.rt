@@ -1,4 +1,4 @@
-//! Items on their way to sessions.
+//! Items on their way to sessions. [P 10.1]
 
 use crate::queue::Finished;
 use odb_locks::SessionId;

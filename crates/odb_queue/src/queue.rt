@@ -1,4 +1,4 @@
-//! What is queued for a session.
+//! What is queued for a session. [P 10.1]
 
 ghost use Rattle.std.specs.Prelude.{◌≡◌, ◌++◌, [], ◌∷◌, IfNone, OnOk, OnErr, option_map, option_to_list};
 ghost use Rattle.serde_json.specs.Written.{compact_text};
@@ -25,7 +25,7 @@ impl Clone for Finished {
 
     ghost is_clone = { λ x y. item_of y ≡ item_of x };
 
-    /// The same text with the same meaning. O(bytes); an error says that memory was refused.
+    /// The same text with the same meaning. O(bytes).
     fn clone(&self) -> Result<Finished, AllocError> {
         let text = self.text.clone()?;
         Ok(Finished {
@@ -64,7 +64,7 @@ impl Queue {
     ghost use Rattle.odb_service.specs.Session.{asked_after, replies_in};
     ghost use Rattle.odb_queue.specs.Represented.Item.{item_of};
 
-    /// Nothing is queued. It takes no memory.
+    /// Nothing is queued.
     pub fn new(alloc: Global) -> Queue
         ensures { result ≡ [] }
     {
@@ -81,8 +81,7 @@ impl Queue {
         self.replies
     }
 
-    /// Puts an item at the end. Where memory is refused, nothing changes. What is queued asks for no
-    /// monitors.
+    /// Puts an item at the end. What is queued asks for no monitors.
     pub fn push(&mut self, item: Finished) -> Result<(), AllocError>
         ensures ok { OnOk result (self.new ≡ self.old ++ item_of item ∷ []) }
         ensures monitors { (h : Service) → asked_after h self.old [] ≡ [] }
@@ -126,7 +125,7 @@ impl Clone for Queue {
 
     ghost is_clone = { λ x y. y ≡ x };
 
-    /// An equal queue. O(bytes queued); an error says that memory was refused.
+    /// An equal queue. O(bytes queued).
     fn clone(&self) -> Result<Queue, AllocError> {
         Ok(Queue {
             items: self.items.clone()?,

@@ -63,15 +63,14 @@ impl ServedSchema {
         Ok(self.schema.clone()?)
     }
 
-    /// Its text, as `get_schema` prints it (RFC 7047, 4.1.2). O(1).
+    /// Its text, as `get_schema` prints it (RFC 7047, section 4.1.2). O(1).
     pub fn text(&self) -> &[u8]
         ensures { result.now ≡ compact_text (write_schema self.now) }
     {
         self.text.as_slice()
     }
 
-    /// An equal one, which shares the schema. O(bytes of the schema); an error says that memory was
-    /// refused.
+    /// An equal one, which shares the schema. O(bytes of the schema).
     pub fn try_copy(&self) -> Result<ServedSchema, AllocError>
         ensures { IfOk result (λ copy. copy ≡ self.now) }
     {

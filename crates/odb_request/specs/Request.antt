@@ -1,4 +1,4 @@
--- What a monitor asks for (RFC 7047, 4.1.5; ovsdb-server(7), monitor_cond): of each table the columns, the kinds of change and the filter.
+-- What a monitor asks for (RFC 7047, section 4.1.5; ovsdb-server(7), monitor_cond): of each table the columns, the kinds of change and the filter. [P 9.1]
 use Rattle.std.specs.Prelude.{ℕ, Bool, ◌&&◌, List, map}
 use Rattle.std.specs.List.{list_all}
 use Rattle.odb_atoms.specs.ColType.{ColType}

@@ -1,4 +1,4 @@
--- Monitor requests, read in the order in which their faults count: by ascending table name, in each `columns`, `where`, `select`, and last a member not named.
+-- Monitor requests, read in the order in which their faults count: by ascending table name, in each `columns`, `where`, `select`, and last a member not named. [P 9.1, 9.5]
 use Rattle.std.specs.Prelude.{ℕ, Bool, true, not, ◌&&◌, cond, List, [], ◌∷◌, map, codes, Option, Some, None, Result, Ok, Err, ⊤}
 use Rattle.std.specs.Ordering.{is_lt}
 use Rattle.std.specs.List.{list_all, list_any}

@@ -1,4 +1,4 @@
-//! The columns of requests, in the order of their names (RFC 7047, 4.1.5, `columns`).
+//! The columns of requests, in the order of their names (RFC 7047, section 4.1.5, `columns`).
 
 ghost use Rattle.std.specs.Prelude.{◌≡◌, Ok, OnOk, IfOk, codes, map};
 ghost use Rattle.std.specs.List.{position};

@@ -1,4 +1,8 @@
-//! Requests of monitors (RFC 7047, 4.1.5; ovsdb-server(7), monitor_cond).
+//! Requests of monitors (RFC 7047, section 4.1.5; ovsdb-server(7), monitor_cond).
+//!
+//! Where memory is refused a call returns `AllocError` or the fault `Memory`, and what it was
+//! given is as it was, unless its own page says otherwise. A call whose result has no such error
+//! takes no memory.
 #![tactic(auto)]
 
 mod alike;

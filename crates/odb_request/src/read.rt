@@ -1,4 +1,4 @@
-//! Requests from JSON (RFC 7047, 4.1.5; ovsdb-server(7), 4.1.12 and 4.1.13).
+//! Requests from JSON (RFC 7047, section 4.1.5; ovsdb-server(7), 4.1.12 and 4.1.13). [P 9.1, 9.5]
 
 ghost use Rattle.std.specs.Prelude.{◌≡◌, ◌<◌, IfOk, length, map, ok_or};
 ghost use Rattle.std.specs.Arc.{arc_value};
@@ -135,10 +135,10 @@ fn read_all(
     Ok(requests)
 }
 
-/// The requests of a monitor, `{table: request}`, by ascending table name, where `kind` says what asks
-/// (RFC 7047, 4.1.5; ovsdb-server(7), 4.1.12).
+/// The requests of a monitor, `{table: request}`, by ascending table name, where `kind` says what
+/// asks (RFC 7047, section 4.1.5; ovsdb-server(7), 4.1.12).
 ///
-/// The first of these faults is the answer: an object, else `syntax error`; then table by table by
+/// The first of these faults is returned: an object, else `syntax error`; then table by table by
 /// ascending name
 ///
 /// - a table of the schema, else `unknown table`;
@@ -208,10 +208,11 @@ fn read_all_changes(
 /// What `monitor_cond_change` asks, `{table: change}`: the new filters, by ascending table name
 /// (ovsdb-server(7), 4.1.13).
 ///
-/// The first of these faults is the answer: an object, else `syntax error`; then table by table by
-/// ascending name a table of the schema, else `unknown table`; an object, or an array of exactly one,
-/// else `syntax error`; `where`, as `read_requests` says; another member, `columns` and `select` among
-/// them, `syntax error`. `Memory` may come in place of any of these. Nothing is kept of what is refused.
+/// The first of these faults is returned: an object, else `syntax error`; then table by table by
+/// ascending name a table of the schema, else `unknown table`; an object, or an array of exactly
+/// one, else `syntax error`; `where`, as `read_requests` says; another member, `columns` and
+/// `select` among them, `syntax error`. `Memory` may come in place of any of these. Nothing is kept
+/// of what is refused.
 ///
 /// For each table O(log t) comparisons of names for t tables, and what `read_clause` takes.
 pub fn read_changes(alloc: Global, json: &Value, schema: &Schema) -> Result<Vec<Change>, OpFault>

@@ -15,8 +15,9 @@ use std::alloc::{AllocError, Global};
 use std::marker::Model;
 use std::sync::Arc;
 
-/// What a monitor asks of one table (RFC 7047, 4.1.5; ovsdb-server(7), 4.1.12): columns, kinds of change,
-/// and a filter. It shares both halves with its copies, so that a copy is two counts.
+/// What a monitor asks of one table (RFC 7047, section 4.1.5; ovsdb-server(7), 4.1.12): columns,
+/// kinds of change, and a filter. It shares both halves with its copies, so that a copy is two
+/// counts.
 #[derive(Drop)]
 pub struct Request {
     shape: Arc<Shape>,
@@ -36,7 +37,7 @@ impl Model for Request {
 }
 
 impl Request {
-    /// This of a table, under the filter. An error says that memory was refused.
+    /// This of a table, under the filter.
     pub(crate) fn new(alloc: Global, shape: Shape, filter: Filter) -> Result<Request, AllocError>
         ensures { IfOk result (λ request. request ≡ filtered shape filter) }
     {
@@ -46,35 +47,35 @@ impl Request {
         })
     }
 
-    /// All but the filter, for whoever keeps it too. O(1), without memory.
+    /// All but the filter, for whoever keeps it too. O(1).
     pub fn shape(&self) -> &Arc<Shape>
         ensures { arc_value result.now ≡ asked_by self.now }
     {
         &self.shape
     }
 
-    /// The filter (ovsdb-server(7), 4.1.12, `where`), for whoever keeps it too. O(1), without memory.
+    /// The filter (ovsdb-server(7), 4.1.12, `where`), for whoever keeps it too. O(1).
     pub fn filter(&self) -> &Arc<Filter>
         ensures { arc_value result.now ≡ self.now.filter }
     {
         &self.filter
     }
 
-    /// The table's place in the schema. O(1), without memory.
+    /// The table's place in the schema. O(1).
     pub fn table(&self) -> TableId
         ensures { result ≡ self.now.place }
     {
         self.shape.table()
     }
 
-    /// The columns, by ascending name, as they stand in the schema. O(1), without memory.
+    /// The columns, by ascending name, as they stand in the schema. O(1).
     pub fn columns(&self) -> &[Selector]
         ensures { map selector_of result.now ≡ map (λ c. c.source) self.now.shape.columns }
     {
         self.shape.columns()
     }
 
-    /// The kinds of change that are sent (RFC 7047, 4.1.5, `<monitor-select>`). O(1), without memory.
+    /// The kinds of change that are sent (RFC 7047, section 4.1.5, `<monitor-select>`). O(1).
     pub fn select(&self) -> Select
         ensures { select_of result ≡ self.now.select }
     {
@@ -84,7 +85,7 @@ impl Request {
     /// Whether the two ask the same: the same of the same table, and with the same members in their filters
     /// in the same order. `false` says nothing.
     ///
-    /// O(the columns with their constraints, and the filters), without memory.
+    /// O(the columns with their constraints, and the filters).
     pub fn same(&self, other: &Request) -> bool
         ensures { OnTrue result (self.now ≡ other.now) }
     {

@@ -17,8 +17,9 @@ use odb_schema::{Schema, TableId, TableSchema};
 use std::marker::Model;
 use std::sync::Arc;
 
-/// What is asked of one table, but for its filter (RFC 7047, 4.1.5): its columns by ascending name, and
-/// the kinds of change that are sent. Names and types are those of the schema, which it shares.
+/// What is asked of one table, but for its filter (RFC 7047, section 4.1.5): its columns by
+/// ascending name, and the kinds of change that are sent. Names and types are those of the schema,
+/// which it shares.
 #[derive(Drop)]
 pub struct Shape {
     schema: Arc<Schema>,
@@ -65,14 +66,14 @@ impl Shape {
         }
     }
 
-    /// The table's place in the schema. O(1), without memory.
+    /// The table's place in the schema. O(1).
     pub fn table(&self) -> TableId
         ensures { result ≡ self.now.place }
     {
         self.table
     }
 
-    /// The table in the schema, which has the names and the types. O(1), without memory.
+    /// The table in the schema, which has the names and the types. O(1).
     pub fn table_schema(&self) -> &TableSchema
         ensures name { result.now.name ≡ self.now.shape.name }
         ensures columns { self.now.shape.columns
@@ -81,14 +82,14 @@ impl Shape {
         table_at(&self.schema, self.table)
     }
 
-    /// The columns, by ascending name, as they stand in the schema. O(1), without memory.
+    /// The columns, by ascending name, as they stand in the schema. O(1).
     pub fn columns(&self) -> &[Selector]
         ensures { map selector_of result.now ≡ map (λ c. c.source) self.now.shape.columns }
     {
         self.columns.as_slice()
     }
 
-    /// The kinds of change that are sent (RFC 7047, 4.1.5, `<monitor-select>`). O(1), without memory.
+    /// The kinds of change that are sent (RFC 7047, section 4.1.5, `<monitor-select>`). O(1).
     pub fn select(&self) -> Select
         ensures { select_of result ≡ self.now.select }
     {
@@ -97,7 +98,7 @@ impl Shape {
 
     /// Whether the two ask the same of the same table, names and types included. `false` says nothing.
     ///
-    /// O(the columns and their constraints); it takes no memory.
+    /// O(the columns and their constraints).
     pub fn same(&self, other: &Shape) -> bool
         ensures { OnTrue result (self.now ≡ other.now) }
     {

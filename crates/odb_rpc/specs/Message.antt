@@ -1,4 +1,4 @@
--- Replies, notifications and calls of JSON-RPC 1.0 (RFC 7047, 4).
+-- Replies, notifications and calls of JSON-RPC 1.0 (RFC 7047, section 4). [P 7.3, 8.1, 8.2, 8.3]
 use Rattle.std.specs.Prelude.{ℕ, Bool, true, false, if◌then◌else◌, List, [], ◌∷◌, Option, Some, None, codes, bytes_eq, drop}
 use Rattle.odb_atoms.specs.Error.{Error, error_name, syntax_error}
 use Rattle.odb_atoms.specs.Text.{is_id}
@@ -150,7 +150,7 @@ module _ (db : List ℕ) (schema : Data) (serves : List ℕ → Bool) where
             else of_request id m (params_of d)))
       ]
 
--- the operations of a `transact`: what is behind the first of its `params`
+-- the operations of a `transact`: what is after the first of its `params`
 abbrev pub operations_of : Data → List Data
 operations_of d = elim (as_array (params_of d)) [ None ↦ [] | Some ds ↦ drop 1 (items_list ds) ]
 

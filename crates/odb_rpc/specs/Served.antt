@@ -1,4 +1,4 @@
--- The methods of requests that are served (RFC 7047, 4.1).
+-- The methods of requests that are served (RFC 7047, section 4.1). [P 8.1, 16]
 use Rattle.std.specs.Prelude.{ℕ, Bool, ◌||◌, List, codes, bytes_eq}
 
 -- all but the four of monitors: `monitor`, `monitor_cond`, `monitor_cond_change` and `monitor_cancel`

@@ -1,4 +1,4 @@
-//! Calls: what a request or a notification asks (RFC 7047, 4.1).
+//! Calls: what a request or a notification asks (RFC 7047, section 4.1). [P 8.1, 8.2, 16]
 ghost use Rattle.std.specs.Prelude.{◌≡◌, ℕ, List, Bool, Some, None, false, drop, map, option_map, if◌then◌else◌};
 ghost use Rattle.serde_json.specs.Data.{Data};
 ghost use Rattle.serde_json.specs.View.{view};
@@ -20,31 +20,31 @@ use odb_schema::{Schema, is_id};
 use odb_wire::Request;
 use serde_json::Value;
 
-/// What a request or a notification asks (RFC 7047, 4.1). It borrows from the request.
+/// What a request or a notification asks (RFC 7047, section 4.1). It borrows from the request.
 #[derive(Clone, Copy, Debug)]
 pub enum Call<'a> {
-    /// `list_dbs` (RFC 7047, 4.1.1): the result is the array of the database's name.
+    /// `list_dbs` (RFC 7047, section 4.1.1): the result is the array of the database's name.
     ListDatabases,
-    /// `get_schema` of the database (RFC 7047, 4.1.2): the result is its schema.
+    /// `get_schema` of the database (RFC 7047, section 4.1.2): the result is its schema.
     GetSchema,
-    /// `echo` (RFC 7047, 4.1.11): the result is these `params`, an array.
+    /// `echo` (RFC 7047, section 4.1.11): the result is these `params`, an array.
     Echo(Printable<'a>),
-    /// `transact` on the database (RFC 7047, 4.1.3): these are its operations.
+    /// `transact` on the database (RFC 7047, section 4.1.3): these are its operations.
     Transact(&'a [Value]),
-    /// `lock` of this name (RFC 7047, 4.1.8), which is an id (3.1).
+    /// `lock` of this name (RFC 7047, section 4.1.8), which is an id (3.1).
     Lock(&'a str),
-    /// `steal` of this name (RFC 7047, 4.1.8), which is an id.
+    /// `steal` of this name (RFC 7047, section 4.1.8), which is an id.
     Steal(&'a str),
-    /// `unlock` of this name (RFC 7047, 4.1.8), which is an id.
+    /// `unlock` of this name (RFC 7047, section 4.1.8), which is an id.
     Unlock(&'a str),
-    /// The notification `cancel` of the request with this id (RFC 7047, 4.1.4).
+    /// The notification `cancel` of the request with this id (RFC 7047, section 4.1.4).
     Cancel(Printable<'a>),
     /// Any other notification, a faulty `cancel` among them: nothing is done.
     PassedOver,
 }
 
-/// Why a request is answered by an error before anything is done. Reading takes no memory, so its
-/// want is no fault here.
+/// Why a request gets an error before anything is done. Reading doesn't allocate, so there is no
+/// fault for memory.
 #[derive(Clone, Copy, Debug, PartialEq, Eq, thiserror::Error)]
 pub enum CallFault {
     /// The method is not served, or isn't one of requests.
@@ -278,7 +278,7 @@ fn lock_name(params: &[Value]) -> Result<&str, CallFault>
     }
 }
 
-/// The id that the JSON is (RFC 7047, 3.1).
+/// The id that the JSON is (RFC 7047, section 3.1).
 fn id_in(name: &Value) -> Result<&str, CallFault>
     ensures { (id : Data) → (call : List ℕ → message.Call)
         → of_name (λ name. name.now) id call result ≡ of_lock id call (view name.now) }
@@ -307,8 +307,8 @@ fn check_database(name: &Value, database: &str) -> Result<(), CallFault>
     }
 }
 
-/// The operations of a `transact` (RFC 7047, 4.1.3): the members of `params` behind the first; none
-/// where `params` are no array, or empty. O(1), without memory.
+/// The operations of a `transact` (RFC 7047, section 4.1.3): the members of `params` after the
+/// first; none where `params` are no array, or empty. O(1).
 pub fn operations(request: &Request) -> &[Value]
     ensures { map view result.now ≡ operations_of (request_data request.now) }
 {
@@ -327,7 +327,7 @@ fn behind_first(params: &[Value]) -> &[Value]
     }
 }
 
-/// Whether requests of the method are served: all of RFC 7047, 4.1 but `monitor` and
+/// Whether requests of the method are served: all of RFC 7047, section 4.1 but `monitor` and
 /// `monitor_cancel` are, and none of ovsdb-server(7)'s. O(1).
 pub fn is_served(method: &str) -> bool
     ensures { result ≡ served method.now }
@@ -335,7 +335,7 @@ pub fn is_served(method: &str) -> bool
     Method::named(method).is_some()
 }
 
-/// Whether the message is answered: notifications aren't. O(1), without memory.
+/// Whether the message gets a reply: notifications don't. O(1).
 #[tactic(auto, using(crate::proofs::Answered::request_replies))]
 pub fn has_reply(request: &Request) -> bool
     ensures { (db : List ℕ) → (schema : Data) → (serves : List ℕ → Bool)
@@ -345,7 +345,7 @@ pub fn has_reply(request: &Request) -> bool
 }
 
 /// The id that a reply to the request carries: the request's own, or null where that has a left-out
-/// number. It goes through the id, and takes no memory.
+/// number. It goes through the id,.
 pub fn reply_id<'a>(request: &'a Request) -> Printable<'a>
     ensures { printable_data result ≡ reply_id (id_of (request_data request.now)) }
 {

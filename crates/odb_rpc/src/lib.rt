@@ -1,4 +1,7 @@
-//! Calls and replies of JSON-RPC (RFC 7047, 4).
+//! Calls and replies of JSON-RPC (RFC 7047, section 4).
+//!
+//! Where memory is refused a call returns `AllocError`, and what it was given is as it was,
+//! unless its own page says otherwise. A call whose result has no such error takes no memory.
 #![tactic(auto)]
 
 mod call;

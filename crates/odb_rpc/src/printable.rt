@@ -1,4 +1,4 @@
-//! JSON that can be printed: without numbers that are left out.
+//! JSON that can be printed: without numbers that are left out. [P 0.2]
 ghost use Rattle.std.specs.Prelude.{◌≡◌, false, Some, None, IfOk, option_map, unwrap_or, if◌then◌else◌};
 ghost use Rattle.serde_json.specs.Data.{null};
 ghost use Rattle.serde_json.specs.View.{view};
@@ -26,8 +26,7 @@ impl<'a> Printable<'a> {
         Printable { value: None }
     }
 
-    /// The value, unless it has a left-out number anywhere. It goes through the whole value, and
-    /// takes no memory.
+    /// The value, unless it has a left-out number anywhere. It goes through the whole value,.
     pub fn of(value: &'a Value) -> Option<Printable<'a>>
         ensures { option_map printable_data result
             ≡ (if has_left_out (view value.now) then None else Some (view value.now)) }
@@ -46,15 +45,16 @@ impl<'a> Printable<'a> {
         Printable { value: Some(value) }
     }
 
-    /// The value as it stands in the message; `None` where it is a `null` that stands nowhere. O(1).
+    /// The JSON value in the message, or `None` for the `null` of `Printable::null`, which is in no
+    /// message. O(1).
     pub fn value(self) -> Option<&'a Value>
         ensures { unwrap_or (option_map (λ v. view v.now) result) null ≡ printable_data self.entry }
     {
         self.value
     }
 
-    /// Its compact text: no space between tokens, the members of objects by ascending keys. O(n) for
-    /// a text of n bytes; an error says that there was no memory.
+    /// Its compact text: no space between tokens, the members of objects by ascending keys. O(n)
+    /// for a text of n bytes.
     pub fn to_vec(self, alloc: Global) -> Result<Vec<u8>, AllocError>
         ensures { IfOk result (λ text. text.items ≡ compact_text (printable_data self.entry)) }
     {

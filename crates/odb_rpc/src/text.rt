@@ -1,4 +1,4 @@
-//! Replies and notifications as they are sent (RFC 7047, 4).
+//! Replies and notifications as they are sent (RFC 7047, section 4). [P 0.2, 7.3]
 ghost use Rattle.std.specs.Prelude.{◌≡◌, ◌++◌, ◌∷◌, [], List, IfOk, codes};
 ghost use Rattle.serde_json.specs.Data.{Data, string};
 ghost use Rattle.serde_json.specs.Written.{compact_text};
@@ -13,8 +13,8 @@ use crate::printable::Printable;
 use json::Writer;
 use std::alloc::{AllocError, Global};
 
-/// The reply of a success (RFC 7047, 4): `{"error":null,"id":ID,"result":RESULT}`. O(n) for a text
-/// of n bytes; an error says that there was no memory.
+/// The reply of a success (RFC 7047, section 4): `{"error":null,"id":ID,"result":RESULT}`. O(n) for
+/// a text of n bytes.
 pub fn reply(alloc: Global, id: Printable<'_>, value: Printable<'_>) -> Result<Vec<u8>, AllocError>
     ensures { IfOk result (λ text. text.items
         ≡ compact_text (reply (printable_data id.entry) (printable_data value.entry))) }
@@ -37,7 +37,7 @@ pub fn reply_printed(
 
 /// The reply of a failure: `{"error":ERROR,"id":ID,"result":null}`. The error is the name alone of
 /// `unknown method`, `unknown database`, `unknown monitor` and `canceled`, and `{"error":NAME}` of
-/// every other one. O(n) for a text of n bytes; an error says that there was no memory.
+/// every other one. O(n) for a text of n bytes.
 pub fn failure(alloc: Global, id: Printable<'_>, why: Failure) -> Result<Vec<u8>, AllocError>
     ensures { IfOk result (λ text. text.items
         ≡ compact_text (failure (printable_data id.entry) (failure_of why))) }
@@ -46,9 +46,8 @@ pub fn failure(alloc: Global, id: Printable<'_>, why: Failure) -> Result<Vec<u8>
     response(alloc, error.as_slice(), id, b"null")
 }
 
-/// A notification (RFC 7047, 4): `{"id":null,"method":METHOD,"params":PARAMS}`, for `params` that
-/// are printed already: an array, as compact text. O(n) for a text of n bytes; an error says that
-/// there was no memory.
+/// A notification (RFC 7047, section 4): `{"id":null,"method":METHOD,"params":PARAMS}`, for
+/// `params` that are printed already: an array, as compact text. O(n) for a text of n bytes.
 pub fn notice(alloc: Global, method: &str, params: &[u8]) -> Result<Vec<u8>, AllocError>
     ensures { IfOk result (λ text. (ds : List Data) → params.now ≡ compact_text (array_of ds)
         → text.items ≡ compact_text (notification method.now ds)) }
@@ -61,9 +60,8 @@ pub fn notice(alloc: Global, method: &str, params: &[u8]) -> Result<Vec<u8>, All
     Ok(text)
 }
 
-/// The compact text of the array of one string: the result of `list_dbs` (RFC 7047, 4.1.1), and the
-/// `params` of `locked` and `stolen` (4.1.9, 4.1.10). O(n) for a text of n bytes; an error says
-/// that there was no memory.
+/// The compact text of the array of one string: the result of `list_dbs` (RFC 7047, section 4.1.1),
+/// and the `params` of `locked` and `stolen` (4.1.9, 4.1.10). O(n) for a text of n bytes.
 pub fn array_of_one(alloc: Global, name: &str) -> Result<Vec<u8>, AllocError>
     ensures { IfOk result (λ text. text.items ≡ compact_text (array_of (string name.now ∷ []))) }
 {

@@ -20,7 +20,7 @@ use Rattle.odb_schema.specs.SchemaText.{SchemaFault, bad_index, distinct_names, 
 abbrev next : {A B E : Type 0} → Result A E → (A → Result B E) → Result B E
 next = ◌>>=◌
 
--- a reading of a rest, behind what was read in front of it
+-- a reading of a rest, after what was read in front of it
 abbrev pub after : {B E : Type 0} → List B → Result (List B) E → Result (List B) E
 after done r = next r (λ ys. Ok (done ++ ys))
 

@@ -48,7 +48,7 @@ unfolding Holds
 with_holds P Q (Ok x) f h g = g x h
 with_holds P Q (Err e) f h g = tt
 
--- behind a test, which holds there
+-- after a test, which holds there
 pub passed_holds : {A E : Type 0} (P : A → Type 0) (b : Bool) (e : E) (q : Result A E) → (b ≡ true → Holds P q) → Holds P (behind (demand b e) q)
 unfolding Holds
 passed_holds P true e q h = h refl
@@ -71,7 +71,7 @@ unfolding Holds
 both_hold P Q (Ok x) h g = (h, g)
 both_hold P Q (Err e) h g = tt
 
--- behind a test, by another reading that is the same where it holds
+-- after a test, by another reading that is the same where it holds
 pub same_behind : {A E : Type 0} (P : A → Type 0) (b : Bool) (e : E) (q r : Result A E) → (b ≡ true → r ≡ behind (demand b e) q) → (b ≡ true → Holds P r) → Holds P (behind (demand b e) q)
 unfolding Holds
 same_behind P true e q r same h = subst (Holds P) (same refl) (h refl)

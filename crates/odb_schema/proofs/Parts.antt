@@ -143,7 +143,7 @@ type_members tables (object ns) ms e h = let same : ns ≡ ms = cc in type_in-is
 
 -- ---- columns, tables and schemas
 
--- the rest, behind a name that is tested and the object's members
+-- the rest, after a name that is tested and the object's members
 behind_name : {A : Type 0} (b : Bool) (r : Result Members SchemaFault) (ms : Members) (f : Members → Result A SchemaFault) → b ≡ true → r ≡ Ok ms → f ms ≡ behind (demand b bad_id) (next r f)
 behind_name true r ms f e h = ap (λ r. next r f) (sym h)
 behind_name false r ms f e h = cc
@@ -154,7 +154,7 @@ column_members tables name d ms e h = apart (needed syntax (codes "type") ms) (r
 pub table_members : (tables : List (List ℕ)) (name : List ℕ) (d : Data) (ms : Members) → is_name name ≡ true → read_object d ≡ Ok ms → table_in tables name ms ≡ read_table tables (name, d)
 table_members tables name d ms e h = three (needed syntax (codes "columns") ms) read_object (columns_in tables) _ ∙ behind_name (is_name name) (read_object d) ms _ e h
 
--- the rest, behind a test of the size
+-- the rest, after a test of the size
 in_size : {A : Type 0} (b : Bool) (r : Result A SchemaFault) → b ≡ false → r ≡ behind (demand (not b) too_large) r
 in_size true r e = absurd (true≢false e)
 in_size false r e = refl

@@ -1,4 +1,4 @@
--- JSON as `serde_json`'s data, by lists.
+-- JSON as `serde_json`'s data, by lists. [P 0.1]
 use Rattle.std.specs.Prelude.{ℕ, ℤ, List, [], ◌∷◌, Option, Some, None, option_and_then, Bool, true, false, ◌&&◌, ◌==◌}
 use Rattle.std.specs.Ordering.{int_eq, bool_cmp, is_eq}
 use Rattle.odb_atoms.specs.Text.{same_text}

@@ -94,7 +94,7 @@ apart d r q e = wrong (tag (tokens d r)) 7 (starts d r) (ap tag e)
 abbrev Same : (D : Type 0) → D → D → List Token → List Token → Type 0
 Same D d e r q = (d ≡ e) × (r ≡ q)
 
--- data with the same tokens are the same, and so is what stands behind them
+-- data with the same tokens are the same, and so is what stands after them
 mutual
   pub tokens_are : (d e : Data) (r q : List Token) → tokens d r ≡ tokens e q → Same Data d e r q
   tokens_are null null r q h = (refl, ap tail h)

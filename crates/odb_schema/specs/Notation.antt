@@ -1,4 +1,4 @@
--- The JSON notation of atoms and values (RFC 7047, <atom>, <set>, <map>), with the first fault where a text has none.
+-- The JSON notation of atoms and values (RFC 7047, <atom>, <set>, <map>), with the first fault where a text has none. [P 2.2, 2.3, 2.5]
 use Rattle.std.specs.Prelude.{ℕ, ◌^◌, ◌&&◌, pos, neg_ℤ, int_le, int_lt, Bool, true, cond, not, ◌==◌, List, [], ◌∷◌, codes, is_some, Option, Some, None, option_map, map as map_list}
 use Rattle.std.specs.List.{list_any}
 use Rattle.odb_atoms.specs.FinMap as map

@@ -1,4 +1,4 @@
--- Schemas (RFC 7047, <database-schema>): tables by ascending name, in each its columns by ascending name.
+-- Schemas (RFC 7047, <database-schema>): tables by ascending name, in each its columns by ascending name. [P 1.2, 1.3]
 use Rattle.std.specs.Prelude.{ℕ, Bool, false, not, ◌||◌, List, [], Option, option_map, slice_get, position, unwrap_or, cond, codes, Some}
 use Rattle.std.specs.List.{list_any}
 use Rattle.odb_atoms.specs.Atom.{uuids}

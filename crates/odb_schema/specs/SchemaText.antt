@@ -1,4 +1,4 @@
--- The JSON of schemas (RFC 7047, <database-schema>): reading, with the first fault where a text has one, and printing.
+-- The JSON of schemas (RFC 7047, <database-schema>): reading, with the first fault where a text has one, and printing. [P 1.1, 1.2, 1.4, 1.5, 1.6, 14, 16]
 use Rattle.std.specs.Prelude.{◌≡◌, ℕ, ℤ, pos, negsuc, Bool, true, false, cond, not, ◌&&◌, ◌||◌, ◌==◌, List, [], ◌∷◌, ◌++◌, map as map_list, length, codes, nat_lt, nat_le, int_le, slice_index, is_some, is_none, unwrap_or, Option, Some, None, option_map, option_and_then, find}
 use Rattle.std.specs.List.{list_any, list_all, slice_split}
 use Rattle.std.specs.Str.{is_utf8}

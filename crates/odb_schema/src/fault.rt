@@ -1,4 +1,4 @@
-//! Why a text is no schema.
+//! Why a text is no schema. [P 1.4]
 
 ghost use Rattle.std.specs.Prelude.{◌≡◌};
 ghost use Rattle.odb_schema.specs.Represented.Fault.{number_of};

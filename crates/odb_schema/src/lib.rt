@@ -1,4 +1,8 @@
-//! Database schemas (RFC 7047, 3.2): read from JSON, and printed.
+//! Database schemas (RFC 7047, section 3.2): read from JSON, and printed.
+//!
+//! Where memory is refused a call returns `AllocError` or the fault `Memory`, and what it was
+//! given is as it was, unless its own page says otherwise. A call whose result has no such error
+//! takes no memory.
 #![tactic(auto)]
 
 mod fault;

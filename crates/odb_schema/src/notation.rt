@@ -1,6 +1,6 @@
 //! The notation of atoms and values (RFC 7047, section 5.1, `<atom>`, `<set>`, `<map>`), as far as
-//! schemas and operations share it: what stands behind a tag, identifiers and strings; and the
-//! writing of values.
+//! schemas and operations share it: what stands after a tag, identifiers and strings; and the
+//! writing of values. [P 2.2, 2.5]
 
 ghost use Rattle.std.specs.Prelude.{◌≡◌, ◌==◌, ◌∷◌, [], IfOk, map, ok_or, option_map};
 ghost use Rattle.std.specs.List.{list_any};
@@ -73,8 +73,7 @@ fn write_tagged(alloc: Global, tag: &str, content: Value) -> Result<Value, Alloc
     Ok(Value::from(items))
 }
 
-/// `["uuid", text]`, with the digits in lower case (RFC 7047, section 5.1, `<uuid>`). O(1); an
-/// error says that memory was refused.
+/// `["uuid", text]`, with the digits in lower case (RFC 7047, section 5.1, `<uuid>`). O(1).
 pub fn write_uuid(alloc: Global, uuid: Uuid) -> Result<Value, AllocError>
     ensures { IfOk result (λ v. view v ≡ notation.write_uuid (uuid_of uuid)) }
 {
@@ -139,7 +138,7 @@ fn write_pairs(alloc: Global, pairs: &[(Atom, Atom)]) -> Result<Vec<Value>, Allo
 
 /// The notation of a value, with elements and keys ascending: a set of exactly one element as the
 /// atom, any other as `["set", [atom, ..]]`, and a map as `["map", [[key, value], ..]]` (RFC 7047,
-/// section 5.1). O(the bytes written); an error says that memory was refused.
+/// section 5.1). O(the bytes written).
 pub fn write_value(alloc: Global, value: &odb_atoms::Value) -> Result<Value, AllocError>
     ensures { IfOk result (λ v. view v ≡ notation.write_value value.now) }
 {

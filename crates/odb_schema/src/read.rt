@@ -1,5 +1,4 @@
-//! Reading schemas from JSON (RFC 7047, section 3.2): the first fault in a fixed order is the
-//! answer.
+//! Reading schemas from JSON (RFC 7047, section 3.2): the first fault in a fixed order is returned.
 
 mod atom;
 mod base;

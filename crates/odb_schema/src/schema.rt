@@ -1,5 +1,5 @@
 //! Schemas (RFC 7047, section 3.2, `<database-schema>`): tables by ascending name, in each its
-//! columns by ascending name.
+//! columns by ascending name. [P 1.3]
 
 ghost use Rattle.std.specs.Prelude.{◌≡◌, Bool, List, length, slice_get, map, Option, option_map};
 ghost use Rattle.std.specs.Prelude.{IfOk, string_bytes};
@@ -202,7 +202,7 @@ impl Column {
         self.is_mutable
     }
 
-    /// An equal column. O(the bytes copied); an error says that there was no memory.
+    /// An equal column. O(the bytes copied).
     pub fn try_copy(&self, alloc: Global) -> Result<Column, AllocError>
         ensures { IfOk result (λ copy. copy ≡ self.now) }
     {
@@ -275,8 +275,7 @@ impl TableSchema {
         self.indexes.as_slice()
     }
 
-    /// The declared column with the name, if there is one. O(log n) comparisons of names; it takes
-    /// no memory.
+    /// The declared column with the name, if there is one. O(log n) comparisons of names.
     pub fn column(&self, name: &str) -> Option<ColumnId>
         ensures { result ≡ model.column_place self.now.columns name.now }
     {
@@ -289,7 +288,7 @@ impl TableSchema {
         }
     }
 
-    /// An equal table. O(the bytes copied); an error says that there was no memory.
+    /// An equal table. O(the bytes copied).
     pub fn try_copy(&self, alloc: Global) -> Result<TableSchema, AllocError>
         ensures { IfOk result (λ copy. copy ≡ self.now) }
     {
@@ -360,7 +359,7 @@ impl Schema {
         self.tables.as_slice()
     }
 
-    /// The table with the name, if there is one. O(log n) comparisons of names; it takes no memory.
+    /// The table with the name, if there is one. O(log n) comparisons of names.
     pub fn table(&self, name: &str) -> Option<TableId>
         ensures { result ≡ model.table_place self.now name.now }
     {
@@ -381,7 +380,7 @@ impl Schema {
     }
 
     /// The declared column of the table with the name, if there is one. O(log n) comparisons of
-    /// names; it takes no memory.
+    /// names.
     pub fn column(&self, table: TableId, name: &str) -> Option<ColumnId>
         ensures { result ≡ model.column_place (model.columns_at self.now table) name.now }
     {
@@ -402,7 +401,7 @@ impl Schema {
         is_marked || !self.marks_roots
     }
 
-    /// An equal schema. O(the bytes copied); an error says that there was no memory.
+    /// An equal schema. O(the bytes copied).
     pub fn try_copy(&self, alloc: Global) -> Result<Schema, AllocError>
         ensures { IfOk result (λ copy. copy ≡ self.now) }
     {

@@ -1,4 +1,4 @@
-//! Texts in schemas: ids, names, versions and atomic types (RFC 7047, section 3.1 and 3.2).
+//! Texts in schemas: ids, names, versions and atomic types (RFC 7047, section 3.1 and 3.2). [P 1.1, 16]
 
 ghost use Rattle.std.specs.Prelude.{◌≡◌, ◌&&◌, ◌||◌, ◌==◌, length, nat_lt};
 ghost use Rattle.std.specs.List.{list_all, slice_split};
@@ -11,7 +11,7 @@ use crate::fault::SchemaFault;
 use odb_atoms::Kind;
 
 /// Whether the text is an id (RFC 7047, section 3.1, `<id>`): a letter or `_`, then letters, digits
-/// and `_`. O(n); it takes no memory.
+/// and `_`. O(n).
 pub fn is_id(text: &str) -> bool
     ensures { result ≡ model_text.is_id text.now }
 {
@@ -40,8 +40,8 @@ fn is_digit(byte: u8) -> bool
     b'0' <= byte && byte <= b'9'
 }
 
-/// Whether the text is a name of a database, a table or a column (RFC 7047, section 3.2): an id that
-/// does not begin with `_`. O(n); it takes no memory.
+/// Whether the text is a name of a database, a table or a column (RFC 7047, section 3.2): an id
+/// that does not begin with `_`. O(n).
 pub fn is_name(text: &str) -> bool
     ensures { result ≡ model.is_name text.now }
 {
@@ -49,7 +49,7 @@ pub fn is_name(text: &str) -> bool
 }
 
 /// Whether the text is three decimal numbers joined by dots (RFC 7047, section 3.1, `<version>`).
-/// O(n); it takes no memory.
+/// O(n).
 pub(crate) fn is_version(text: &str) -> bool
     ensures { result ≡ model.is_version text.now }
 {

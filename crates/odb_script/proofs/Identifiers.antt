@@ -1,4 +1,4 @@
--- Identifiers for inserts, one behind the other.
+-- Identifiers for inserts, one after the other.
 use Rattle.std.proofs.Common.{◌≡◌, ℕ, zero, suc, ◌+◌, List, [], ◌∷◌, ◌++◌, length, refl, ap, sym, ◌∙◌, arith}
 use Rattle.odb_atoms.specs.Uuid.{Uuid}
 use Rattle.odb_script.specs.Script.{fresh_from, script_uuid}

@@ -1,15 +1,15 @@
-pub mod AllDry
+pub mod DrainAll
 mod Identifiers
-mod Fronts
-mod Holding
+mod AppendedParts
+mod HeldSessions
 mod LineStep
 mod Lines
-mod Opening
-mod Places
-mod Reading
-mod Runs
-mod Serves
-mod Splits
-mod Steps
-mod Taking
-pub mod Drying
+mod OpenedSessions
+mod NamePlaces
+mod Numbers
+mod ScriptRuns
+mod ServerInScript
+mod ByteSplits
+mod CommandSteps
+mod ReceivedBytes
+pub mod DrainOne

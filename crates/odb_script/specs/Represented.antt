@@ -1,5 +1,5 @@
 pub mod Command
-pub mod Dry
+pub mod Draining
 pub mod Ending
 pub mod Names
 pub mod Run

@@ -4,20 +4,20 @@ use Rattle.std.specs.Coded.{Coded, code_by, coded×, coded_ℕ, coded_bool, code
 use Rattle.odb_service.specs.WorldCode.{world_code}
 use Rattle.odb_schema.specs.Schema.{Schema}
 use Rattle.odb_schema.specs.Represented.Codes.{schema_code, text_code}
-use Rattle.odb_script.specs.Script.{Named, Script}
+use Rattle.odb_script.specs.Script.{ScriptSession, Script}
 
 pub record Running : Type 0 where
   pub schema : Schema
   pub script : Script
 
-abbrev pub named_code : Coded Named
-named_code =
+abbrev pub script_session_code : Coded ScriptSession
+script_session_code =
     code_by (List ℕ × (ℕ × (List ℕ × (ℕ × Bool)))) (coded× text_code (coded× coded_ℕ (coded× text_code (coded× coded_ℕ coded_bool))))
-    (λ n. (n.name, (n.session, (n.bytes, (n.handed, n.held))))) (λ p. record { name = p.0; session = p.1.0; bytes = p.1.1.0; handed = p.1.1.1.0; held = p.1.1.1.1 }) (λ _. refl)
+    (λ n. (n.name, (n.session, (n.bytes, (n.delivered, n.held))))) (λ p. record { name = p.0; session = p.1.0; bytes = p.1.1.0; delivered = p.1.1.1.0; held = p.1.1.1.1 }) (λ _. refl)
 
 abbrev pub script_code : Coded Script
 script_code =
-    code_by (_ × (List Named × (ℕ × (ℕ × ℕ)))) (coded× world_code (coded× (coded_list named_code) (coded× coded_ℕ (coded× coded_ℕ coded_ℕ))))
+    code_by (_ × (List ScriptSession × (ℕ × (ℕ × ℕ)))) (coded× world_code (coded× (coded_list script_session_code) (coded× coded_ℕ (coded× coded_ℕ coded_ℕ))))
     (λ s. (s.world, (s.sessions, (s.opened_so_far, (s.inserts, s.moment))))) (λ p. record { world = p.0; sessions = p.1.0; opened_so_far = p.1.1.0; inserts = p.1.1.1.0; moment = p.1.1.1.1 }) (λ _. refl)
 
 abbrev pub running_code : Coded Running

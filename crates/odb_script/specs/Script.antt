@@ -1,4 +1,4 @@
--- Scripts: lines of commands for named sessions, and the text that they print.
+-- Scripts: lines of commands for named sessions, and the text that they print. [P 15.1]
 use Rattle.std.specs.Prelude.{ℕ, zero, suc, ◌+◌, ◌-◌, ◌*◌, ◌%◌, ◌^◌, ◌==◌, nat_lt, nat_le, length, Bool, true, false, not, ◌&&◌, ◌||◌, if◌then◌else◌, List, [], ◌∷◌, ◌++◌, map, filter, find, flat_map, drop, Option, Some, None, is_some, Result, Ok, Err, codes, bytes_eq}
 use Rattle.std.specs.List.{list_all}
 use Rattle.serde_json.specs.Data.{Data}
@@ -7,25 +7,25 @@ use Rattle.odb_service.specs.Run.{Event, Refusal, busy, closed, gone, if_ok, in_
 use Rattle.odb_service.specs.Server.{served_by}
 use Rattle.odb_service.specs.Service.{Service, service}
 use Rattle.odb_schema.specs.Schema.{Schema}
-use Rattle.odb_service.specs.Session.{Session, dried, owed}
+use Rattle.odb_service.specs.Session.{Session, drained, owed}
 use Rattle.odb_service.specs.World.{World}
 use Rattle.odb_wire.specs.Stream.{Ending, fault_bad, fault_too_long, goes_on, messages}
 use Rattle.odb_atoms.specs.Text.{is_digit}
 use Rattle.odb_atoms.specs.Uuid.{Uuid, uuid_from}
 use Rattle.odb_wire.specs.Message.{inserts_of, method_of}
 
--- a session of the script: its name, its identifier, the bytes that came, how many of its messages were handed on, and whether it is held
-pub record Named : Type 0 where
+-- a session of the script: its name, its identifier, the bytes that came, how many of its messages were delivered on, and whether it is held
+pub record ScriptSession : Type 0 where
   pub name : List ℕ
   pub session : ℕ
   pub bytes : List ℕ
-  pub handed : ℕ
+  pub delivered : ℕ
   pub held : Bool
 
 -- open sessions in order of opening; how many were opened; how many inserts were counted; the moment
 pub record Script : Type 0 where
   pub world : World
-  pub sessions : List Named
+  pub sessions : List ScriptSession
   pub opened_so_far : ℕ
   pub inserts : ℕ
   pub moment : ℕ
@@ -35,7 +35,7 @@ pub data Command : Type 0 where
   open_session : List ℕ → Command
   close_session : List ℕ → Command
   hold : List ℕ → Command
-  take_dry : List ℕ → Command
+  drain : List ℕ → Command
   tick_to : ℕ → Command
 
 -- ---- lines
@@ -68,7 +68,7 @@ command_by word (Some rest) =
     if bytes_eq word (codes "!open") then with_name open_session rest
     else (if bytes_eq word (codes "!close") then with_name close_session rest
     else (if bytes_eq word (codes "!hold") then with_name hold rest
-    else (if bytes_eq word (codes "!take") then with_name take_dry rest
+    else (if bytes_eq word (codes "!take") then with_name drain rest
     else (if bytes_eq word (codes "!tick") then tick_of rest
     else with_name (λ n. piece n rest) word))))
 
@@ -88,38 +88,38 @@ abbrev pub fresh_from : ℕ → ℕ → List Uuid
 fresh_from k zero = []
 fresh_from k (suc n) = script_uuid (k + 1) ∷ fresh_from (k + 1) n
 
-abbrev pub at_name : List ℕ → (Named → Named) → List Named → List Named
+abbrev pub at_name : List ℕ → (ScriptSession → ScriptSession) → List ScriptSession → List ScriptSession
 at_name n f xs = map (λ x. if bytes_eq x.name n then f x else x) xs
 
--- a session to which bytes came, all of whose messages are handed on
-abbrev pub with_bytes : List ℕ → Named → Named
-with_bytes bytes x = record { name = x.name; session = x.session; bytes = x.bytes ++ bytes; handed = length (messages (x.bytes ++ bytes)).0; held = x.held }
+-- a session to which bytes came, all of whose messages are delivered on
+abbrev pub with_bytes : List ℕ → ScriptSession → ScriptSession
+with_bytes bytes x = record { name = x.name; session = x.session; bytes = x.bytes ++ bytes; delivered = length (messages (x.bytes ++ bytes)).0; held = x.held }
 
 -- a session whose messages are kept back, or no longer
-abbrev pub with_held : Bool → Named → Named
-with_held b x = record { name = x.name; session = x.session; bytes = x.bytes; handed = x.handed; held = b }
+abbrev pub with_held : Bool → ScriptSession → ScriptSession
+with_held b x = record { name = x.name; session = x.session; bytes = x.bytes; delivered = x.delivered; held = b }
 
 abbrev pub set_held : Bool → List ℕ → Script → Script
 set_held b n p = record p { sessions = at_name n (with_held b) p.sessions }
 
 module _ (h : Service) where
-  -- every open session that isn't held is taken dry, in order of opening
-  abbrev pub dry_one : Named → Option Session → Script → Script × List ℕ
-  dry_one x None p = (p, [])
-  dry_one x (Some s) p = (
-    record p { world = record (p.world) { sessions = finmap.insert p.world.sessions x.session (dried h p.world.db s) } },
+  -- every open session that isn't held is drained, in order of opening
+  abbrev pub drain_one : ScriptSession → Option Session → Script → Script × List ℕ
+  drain_one x None p = (p, [])
+  drain_one x (Some s) p = (
+    record p { world = record (p.world) { sessions = finmap.insert p.world.sessions x.session (drained h p.world.db s) } },
     flat_map (λ o. line_of x.name (h.printed o.message)) (owed h p.world.db s),
   )
 
-  abbrev pub dry_each : List Named → Script → Script × List ℕ
-  dry_each [] p = (p, [])
-  dry_each (x ∷ xs) p =
-      let one = if x.held then (p, []) else dry_one x (finmap.get p.world.sessions x.session) p in
-      let rest = dry_each xs one.0 in
+  abbrev pub drain_each : List ScriptSession → Script → Script × List ℕ
+  drain_each [] p = (p, [])
+  drain_each (x ∷ xs) p =
+      let one = if x.held then (p, []) else drain_one x (finmap.get p.world.sessions x.session) p in
+      let rest = drain_each xs one.0 in
       (rest.0, one.1 ++ rest.1)
 
-  abbrev pub dry_all : Script × List ℕ → Script × List ℕ
-  dry_all r = let d = dry_each r.0.sessions r.0 in (d.0, r.1 ++ d.1)
+  abbrev pub drain_all : Script × List ℕ → Script × List ℕ
+  drain_all r = let d = drain_each r.0.sessions r.0 in (d.0, r.1 ++ d.1)
 
   abbrev pub in_world : Result World Refusal → Script → Script
   in_world (Err e) p = p
@@ -146,14 +146,14 @@ module _ (h : Service) where
       let q = record p { inserts = p.inserts + inserts_of d } in
       submit_result n (world_after (submitted s d (fresh_from p.inserts (inserts_of d)) p.moment) q) q
 
-  abbrev pub hand_on : List ℕ → ℕ → Data → Script → Script × List ℕ
-  hand_on n s d p = if is_some (method_of d) then submit_as n s d p else (p, [])
+  abbrev pub dispatch : List ℕ → ℕ → Data → Script → Script × List ℕ
+  dispatch n s d p = if is_some (method_of d) then submit_as n s d p else (p, [])
 
-  abbrev pub hand_each : List ℕ → ℕ → List Data → Script → Script × List ℕ
-  hand_each n s [] p = (p, [])
-  hand_each n s (d ∷ ds) p =
-      let one = dry_all (hand_on n s d p) in
-      let rest = hand_each n s ds one.0 in
+  abbrev pub deliver_all : List ℕ → ℕ → List Data → Script → Script × List ℕ
+  deliver_all n s [] p = (p, [])
+  deliver_all n s (d ∷ ds) p =
+      let one = drain_all (dispatch n s d p) in
+      let rest = deliver_all n s ds one.0 in
       (rest.0, one.1 ++ rest.1)
 
   -- the session of this name and identifier ends
@@ -161,7 +161,7 @@ module _ (h : Service) where
   shut n s p = record (in_world (world_after (closed s) p) p) { sessions = filter (λ y. not (bytes_eq y.name n)) p.sessions }
 
   abbrev pub shut_with : List ℕ → ℕ → List ℕ → Script × List ℕ → Script × List ℕ
-  shut_with n s line r = let d = dry_all (shut n s r.0, line_of n line) in (d.0, r.1 ++ d.1)
+  shut_with n s line r = let d = drain_all (shut n s r.0, line_of n line) in (d.0, r.1 ++ d.1)
 
   -- a stream that is at a fault ends its session
   abbrev pub at_ending : List ℕ → ℕ → Ending → Script × List ℕ → Script × List ℕ
@@ -169,23 +169,23 @@ module _ (h : Service) where
   at_ending n s fault_too_long r = shut_with n s (codes "!fault 2") r
   at_ending n s fault_bad r = shut_with n s (codes "!fault 3") r
 
-  -- the bytes that came, and of their messages the ones that weren't handed on yet
-  abbrev pub take_in : Named → List ℕ → Script → Script × List ℕ
-  take_in x bytes p =
+  -- the bytes that came, and of their messages the ones that weren't delivered on yet
+  abbrev pub receive : ScriptSession → List ℕ → Script → Script × List ℕ
+  receive x bytes p =
       let ms = messages (x.bytes ++ bytes) in
       let q = record p { sessions = at_name x.name (with_bytes bytes) p.sessions } in
-      at_ending x.name x.session ms.1 (hand_each x.name x.session (drop x.handed ms.0) q)
+      at_ending x.name x.session ms.1 (deliver_all x.name x.session (drop x.delivered ms.0) q)
 
-  abbrev pub session_named : List ℕ → Script → Option Named
+  abbrev pub session_named : List ℕ → Script → Option ScriptSession
   session_named n p = find (λ x. bytes_eq x.name n) p.sessions
 
-  abbrev pub when_open : List ℕ → (Named → Script → Script × List ℕ) → Script → Script × List ℕ
+  abbrev pub when_open : List ℕ → (ScriptSession → Script → Script × List ℕ) → Script → Script × List ℕ
   when_open n f p = elim (session_named n p) [ None ↦ (p, line_of n (codes "!gone")) | Some x ↦ f x p ]
 
   abbrev pub open_as : List ℕ → Result World Refusal → Script → Script × List ℕ
   open_as n (Err e) p = (p, line_of n (refusal_text e))
   open_as n (Ok w) p =
-      (record { world = w; sessions = p.sessions ++ record { name = n; session = p.opened_so_far; bytes = []; handed = 0; held = false } ∷ []; opened_so_far = p.opened_so_far + 1; inserts = p.inserts; moment = p.moment }, [])
+      (record { world = w; sessions = p.sessions ++ record { name = n; session = p.opened_so_far; bytes = []; delivered = 0; held = false } ∷ []; opened_so_far = p.opened_so_far + 1; inserts = p.inserts; moment = p.moment }, [])
 
   -- a session of the name is opened, if none is open
   abbrev pub open_named : List ℕ → Script → Script × List ℕ
@@ -201,19 +201,19 @@ module _ (h : Service) where
 
   -- it is given what it is owed, and is no longer held
   abbrev pub take_named : List ℕ → Script → Script × List ℕ
-  take_named n = when_open n (λ x q. let d = dry_one x (finmap.get q.world.sessions x.session) q in (set_held false n d.0, d.1))
+  take_named n = when_open n (λ x q. let d = drain_one x (finmap.get q.world.sessions x.session) q in (set_held false n d.0, d.1))
 
   -- the moment is this one
   abbrev pub at_moment : ℕ → Script → Script
   at_moment now p = in_world (world_after (ticked now) p) (record p { moment = now })
 
   abbrev pub perform : Command → Script → Script × List ℕ
-  perform (piece n bytes) p = when_open n (λ x q. take_in x bytes q) p
-  perform (open_session n) p = dry_all (open_named n p)
-  perform (close_session n) p = dry_all (close_named n p)
-  perform (hold n) p = dry_all (hold_named n p)
-  perform (take_dry n) p = dry_all (take_named n p)
-  perform (tick_to now) p = dry_all (at_moment now p, [])
+  perform (piece n bytes) p = when_open n (λ x q. receive x bytes q) p
+  perform (open_session n) p = drain_all (open_named n p)
+  perform (close_session n) p = drain_all (close_named n p)
+  perform (hold n) p = drain_all (hold_named n p)
+  perform (drain n) p = drain_all (take_named n p)
+  perform (tick_to now) p = drain_all (at_moment now p, [])
 
   -- the text of the lines, up to the first that isn't a command; its number, from 1
   abbrev pub perform_lines : (List ℕ → Option Command) → ℕ → List (List ℕ) → Script → List ℕ × Option ℕ

@@ -1,4 +1,4 @@
-//! The commands of a script.
+//! The commands of a script. [P 15.1]
 ghost use Rattle.std.specs.Prelude.{◌≡◌, option_map, MatchOption, None, Some, ◌==◌, ◌+◌, ◌-◌, ◌*◌, ◌^◌};
 ghost use Rattle.std.specs.List.{list_all, position};
 ghost use Rattle.odb_atoms.specs.Text.{is_digit};
@@ -94,7 +94,7 @@ fn are_digits(bytes: &[u8]) -> bool
     bytes.iter().all(|byte| byte.is_ascii_digit())
 }
 
-/// The bytes before the first space, and those behind it. `None` where there is no space.
+/// The bytes before the first space, and those after it. `None` where there is no space.
 fn split_at_space(line: &[u8]) -> Option<(&[u8], &[u8])>
     ensures { MatchOption result ((model.split_at 32 line.now).1 ≡ None)
         (λ parts. model.split_at 32 line.now ≡ (parts.0.now, Some parts.1.now)) }

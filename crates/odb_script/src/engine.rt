@@ -1,4 +1,4 @@
-//! The engine of scripts.
+//! The engine of scripts. [P 15.1]
 ghost use Rattle.std.specs.Prelude.{◌≡◌, All, IfOk, Ok, OnOk, bytes_eq, map};
 ghost use Rattle.odb_wire.specs.Feeding.{fault_of};
 ghost use Rattle.odb_wire.specs.Shown.{message_data, request_data, IsOfItsKind};
@@ -9,9 +9,9 @@ ghost use Rattle.odb_service.specs.Server.{served_by};
 ghost use Rattle.odb_script.specs.Script.{Script, in_world, world_after};
 
 use crate::command::Command;
-use crate::dry::{print_line, take_all_dry, take_dry};
+use crate::draining::{print_line, drain_all, drain};
 use crate::fresh::fresh_uuids;
-use crate::named::Named;
+use crate::session::ScriptSession;
 use odb_core::{Core, Refused, SessionId};
 use odb_schema::Schema;
 use odb_wire::{Framer, Message, Request, WireFault};
@@ -25,7 +25,7 @@ use std::marker::Model;
 pub(crate) struct Engine {
     alloc: Global,
     core: Core,
-    sessions: Vec<Named>,
+    sessions: Vec<ScriptSession>,
     inserts: u64,
     moment: u64,
 }
@@ -53,10 +53,10 @@ impl Model for Engine {
 }
 
 impl Engine {
-    ghost use Rattle.odb_script.specs.Script.{at_ending, at_moment, close_named, close_session, dry_all};
-    ghost use Rattle.odb_script.specs.Script.{fresh_script, hand_each, hand_on, hold, hold_named};
+    ghost use Rattle.odb_script.specs.Script.{at_ending, at_moment, close_named, close_session, drain_all};
+    ghost use Rattle.odb_script.specs.Script.{fresh_script, deliver_all, dispatch, hold, hold_named};
     ghost use Rattle.odb_script.specs.Script.{open_named, open_session, perform, piece, shut, shut_with};
-    ghost use Rattle.odb_script.specs.Script.{submit_as, take_dry, take_named, tick_to};
+    ghost use Rattle.odb_script.specs.Script.{submit_as, drain, take_named, tick_to};
     ghost use Rattle.odb_script.specs.Represented.Command.{command_in};
     ghost use Rattle.odb_script.specs.Represented.Steps.{Performs};
 
@@ -81,8 +81,8 @@ impl Engine {
         }
     }
 
-    /// Carries a command out, and answers what is printed. After an error, which says that memory was
-    /// refused, the engine is of no further use.
+    /// Carries a command out, and returns what is printed. After an error, which says that memory
+    /// was refused, the engine is of no further use.
     pub(crate) fn perform(&mut self, command: Command<'_>) -> Result<Vec<u8>, AllocError>
         ensures text { IfOk result (λ text.
             perform (served_by self.old.schema) (command_in command.entry) self.old.script
@@ -91,7 +91,7 @@ impl Engine {
     {
         let mut text = Vec::new(self.alloc);
         match command {
-            Command::Piece { name, bytes } => self.take_in(name, bytes, &mut text)?,
+            Command::Piece { name, bytes } => self.receive(name, bytes, &mut text)?,
             Command::Open(name) => self.open(name, &mut text)?,
             Command::Close(name) => self.close(name, &mut text)?,
             Command::Hold(name) => self.hold(name, &mut text)?,
@@ -101,12 +101,12 @@ impl Engine {
         Ok(text)
     }
 
-    fn take_all_dry(&mut self, text: &mut Vec<u8>) -> Result<(), AllocError>
-        ensures done { OnOk result (dry_all (served_by self.old.schema) (self.old.script, text.old.items)
+    fn drain_all(&mut self, text: &mut Vec<u8>) -> Result<(), AllocError>
+        ensures done { OnOk result (drain_all (served_by self.old.schema) (self.old.script, text.old.items)
             ≡ (self.new.script, text.new.items)) }
         ensures schema { OnOk result (self.new.schema ≡ self.old.schema) }
     {
-        take_all_dry(&mut self.core, self.sessions.as_slice(), text)
+        drain_all(&mut self.core, self.sessions.as_slice(), text)
     }
 
     fn open(&mut self, name: &[u8], text: &mut Vec<u8>) -> Result<(), AllocError>
@@ -115,7 +115,7 @@ impl Engine {
         ensures schema { OnOk result (self.new.schema ≡ self.old.schema) }
     {
         self.open_named(name, text)?;
-        self.take_all_dry(text)
+        self.drain_all(text)
     }
 
     fn open_named(&mut self, name: &[u8], text: &mut Vec<u8>) -> Result<(), AllocError>
@@ -130,7 +130,7 @@ impl Engine {
             Ok(session) => {
                 let name = Vec::from_slice(self.alloc, name)?;
                 let framer = Framer::new(self.alloc);
-                self.sessions.push(Named {
+                self.sessions.push(ScriptSession {
                     name,
                     session,
                     framer,
@@ -149,7 +149,7 @@ impl Engine {
         ensures schema { OnOk result (self.new.schema ≡ self.old.schema) }
     {
         self.close_named(name, text)?;
-        self.take_all_dry(text)
+        self.drain_all(text)
     }
 
     fn close_named(&mut self, name: &[u8], text: &mut Vec<u8>) -> Result<(), AllocError>
@@ -181,7 +181,7 @@ impl Engine {
         ensures schema { OnOk result (self.new.schema ≡ self.old.schema) }
     {
         self.hold_named(name, text)?;
-        self.take_all_dry(text)
+        self.drain_all(text)
     }
 
     fn hold_named(&mut self, name: &[u8], text: &mut Vec<u8>) -> Result<(), AllocError>
@@ -197,12 +197,12 @@ impl Engine {
     }
 
     fn take(&mut self, name: &[u8], text: &mut Vec<u8>) -> Result<(), AllocError>
-        ensures done { OnOk result (Performs (λ h. perform h (take_dry name.now))
+        ensures done { OnOk result (Performs (λ h. perform h (drain name.now))
             self.old text.old.items self.new text.new.items) }
         ensures schema { OnOk result (self.new.schema ≡ self.old.schema) }
     {
         self.take_named(name, text)?;
-        self.take_all_dry(text)
+        self.drain_all(text)
     }
 
     fn take_named(&mut self, name: &[u8], text: &mut Vec<u8>) -> Result<(), AllocError>
@@ -214,7 +214,7 @@ impl Engine {
             return print_line(text, name, "!gone");
         };
         let session = self.sessions[place].session;
-        take_dry(&mut self.core, session, name, text)?;
+        drain(&mut self.core, session, name, text)?;
         self.sessions[place].set_held(false);
         Ok(())
     }
@@ -225,7 +225,7 @@ impl Engine {
         ensures schema { OnOk result (self.new.schema ≡ self.old.schema) }
     {
         self.set_moment(moment)?;
-        self.take_all_dry(text)
+        self.drain_all(text)
     }
 
     fn set_moment(&mut self, moment: u64) -> Result<(), AllocError>
@@ -238,7 +238,7 @@ impl Engine {
         Ok(())
     }
 
-    fn take_in(&mut self, name: &[u8], bytes: &[u8], text: &mut Vec<u8>) -> Result<(), AllocError>
+    fn receive(&mut self, name: &[u8], bytes: &[u8], text: &mut Vec<u8>) -> Result<(), AllocError>
         ensures done { OnOk result (Performs (λ h. perform h (piece name.now bytes.now))
             self.old text.old.items self.new text.new.items) }
         ensures schema { OnOk result (self.new.schema ≡ self.old.schema) }
@@ -248,7 +248,7 @@ impl Engine {
         };
         let session = self.sessions[place].session;
         let fed = self.sessions[place].feed(self.alloc, bytes)?;
-        self.hand_each(name, session, fed.messages, text)?;
+        self.deliver_all(name, session, fed.messages, text)?;
         self.end(name, session, fed.fault, text)
     }
 
@@ -286,10 +286,10 @@ impl Engine {
     {
         self.shut(name, session)?;
         print_line(text, name, line)?;
-        self.take_all_dry(text)
+        self.drain_all(text)
     }
 
-    fn hand_each(
+    fn deliver_all(
         &mut self,
         name: &[u8],
         session: SessionId,
@@ -297,18 +297,18 @@ impl Engine {
         text: &mut Vec<u8>,
     ) -> Result<(), AllocError>
         requires { All IsOfItsKind messages.items }
-        ensures done { OnOk result (Performs (λ h. hand_each h name.now session (map message_data messages.items))
+        ensures done { OnOk result (Performs (λ h. deliver_all h name.now session (map message_data messages.items))
             self.old text.old.items self.new text.new.items) }
         ensures schema { OnOk result (self.new.schema ≡ self.old.schema) }
     {
         for message in messages {
-            self.hand(name, session, message, text)?;
+            self.deliver(name, session, message, text)?;
         }
         Ok(())
     }
 
-    /// A message goes in, and all sessions are taken dry.
-    fn hand(
+    /// A message goes in, and all sessions are drained.
+    fn deliver(
         &mut self,
         name: &[u8],
         session: SessionId,
@@ -316,16 +316,16 @@ impl Engine {
         text: &mut Vec<u8>,
     ) -> Result<(), AllocError>
         requires { IsOfItsKind message }
-        ensures done { OnOk result (Performs (λ h p. dry_all h (hand_on h name.now session (message_data message) p))
+        ensures done { OnOk result (Performs (λ h p. drain_all h (dispatch h name.now session (message_data message) p))
             self.old text.old.items self.new text.new.items) }
         ensures schema { OnOk result (self.new.schema ≡ self.old.schema) }
     {
-        self.hand_on(name, session, message, text)?;
-        self.take_all_dry(text)
+        self.dispatch(name, session, message, text)?;
+        self.drain_all(text)
     }
 
     /// A request or a notification goes in, or is refused; a response does nothing.
-    fn hand_on(
+    fn dispatch(
         &mut self,
         name: &[u8],
         session: SessionId,
@@ -333,7 +333,7 @@ impl Engine {
         text: &mut Vec<u8>,
     ) -> Result<(), AllocError>
         requires { IsOfItsKind message }
-        ensures done { OnOk result (Performs (λ h. hand_on h name.now session (message_data message))
+        ensures done { OnOk result (Performs (λ h. dispatch h name.now session (message_data message))
             self.old text.old.items self.new text.new.items) }
         ensures schema { OnOk result (self.new.schema ≡ self.old.schema) }
     {
@@ -400,7 +400,7 @@ fn tick_core(core: &mut Core, moment: u64) -> Result<(), AllocError>
 }
 
 /// Where the session of a name stands.
-fn place_of(name: &[u8], sessions: &[Named]) -> Option<usize>
+fn place_of(name: &[u8], sessions: &[ScriptSession]) -> Option<usize>
     ensures { result ≡ position (λ x. bytes_eq x.name name.now) sessions.now }
 {
     sessions

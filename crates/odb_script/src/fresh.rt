@@ -1,5 +1,5 @@
-//! Identifiers for inserts: the k-th insert of a script has the UUID `00000000-0000-4000-8000-` and k modulo 2^48 as
-//! twelve hexadecimal digits.
+//! Identifiers for inserts: the k-th insert of a script has the UUID `00000000-0000-4000-8000-` and
+//! k modulo 2^48 as twelve hexadecimal digits. [P 15.1]
 ghost use Rattle.std.specs.Prelude.{◌≡◌, IfOk, map};
 ghost use Rattle.odb_atoms.specs.Represented.Atom.{uuid_of};
 ghost use Rattle.odb_script.specs.Script.{fresh_from, script_uuid};

@@ -1,12 +1,14 @@
 //! Scripts: lines of commands for named sessions of a server, and what they print.
+//!
+//! Where memory is refused the run ends with the fault `Memory`.
 #![tactic(auto)]
 
 mod command;
-mod dry;
+mod draining;
 mod engine;
 mod fault;
 mod fresh;
-mod named;
+mod session;
 mod script;
 mod watched;
 

@@ -7,8 +7,9 @@ ghost use Rattle.odb_script.specs.Represented.Run.{AppendsFront};
 
 use std::io::{Error, ErrorKind, Read, Result, Write};
 
-/// A reader or a writer, and whether a call of it failed. A script tells by it a failed read or write from refused
-/// memory, which the calls of std that read and write whole lines answer as the same kind of error.
+/// A reader or a writer, and whether a call of it failed. A script tells by it a failed read or
+/// write from refused memory, which the calls of std that read and write whole lines return as an
+/// error of the same kind.
 #[derive(Drop)]
 pub struct Watched<T> {
     inner: T,
@@ -27,7 +28,8 @@ impl<T> Watched<T> {
         }
     }
 
-    /// Whether a call failed since: one that answered an error, or a write that took none of some bytes.
+    /// Whether a call failed since: one that returned an error, or a write that took none of some
+    /// bytes.
     pub fn failed(&self) -> bool
         ensures { result ≡ has_failed self.now }
     {

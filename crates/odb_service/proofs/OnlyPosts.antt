@@ -9,7 +9,7 @@ use Rattle.odb_service.specs.Run.{take_each, take_of}
 use Rattle.odb_service.specs.Service.{Service}
 use Rattle.odb_service.specs.Session.{Item, Session, Watch, no_request, renamed, same_id, say, shift, start, stopped, sync, take, to}
 use Rattle.odb_wire.specs.Message.{id_of}
-use Rattle.odb_service.specs.World.{Parked, World, answer, are_monitored, asked_of, change_of, fail, is_conditional, notice_of, on_cancel_monitor, on_lock, on_monitor, post, post_notices, post_to, push, shift_with, start_with, watched}
+use Rattle.odb_service.specs.World.{Waiting, World, answer, are_monitored, asked_of, change_of, fail, is_conditional, notice_of, on_cancel_monitor, on_lock, on_monitor, post, post_notices, post_to, push, shift_with, start_with, watched}
 use Rattle.odb_locks.specs.Locks.{Answered, Notice}
 use Rattle.odb_request.specs.Request.{Notation, Request}
 use Rattle.odb_rpc.specs.Message.{failure, reply}
@@ -20,10 +20,10 @@ use Rattle.odb_rpc.specs.Message.{Failure, failed, unknown_monitor}
 
 -- what a waiting transaction sees of the world
 abbrev pub Rest : Type 0
-Rest = Db × ℕ × ℕ × (ℕ → Bool) × List Parked
+Rest = Db × ℕ × ℕ × (ℕ → Bool) × List Waiting
 
 abbrev pub rest : World → Rest
-rest w = (w.db, w.commits, w.now, (λ s. is_some (get w.sessions s)), w.parked)
+rest w = (w.db, w.commits, w.now, (λ s. is_some (get w.sessions s)), w.waiting)
 
 -- who is open stays so where a session is replaced
 replaced : (ss : FinMap nat_cmp Session) (s : ℕ) (x y : Session) → get ss s ≡ Some x → (t : ℕ) → is_some (get (insert ss s y) t) ≡ is_some (get ss t)
@@ -48,7 +48,7 @@ module _ (h : Service) where
     where
       by : (o : Option Session) → get w.sessions s ≡ o → rest (post_to s is o w) ≡ rest w
       by None e = refl
-      by (Some x) e = λ i. (w.db, w.commits, w.now, (λ t. replaced w.sessions s x (push is x) e t i), w.parked)
+      by (Some x) e = λ i. (w.db, w.commits, w.now, (λ t. replaced w.sessions s x (push is x) e t i), w.waiting)
 
   pub notes : (ns : List Notice) (w : World) → rest (post_notices ns w) ≡ rest w
   notes [] w = refl
@@ -98,7 +98,7 @@ module _ (h : Service) where
 
   takes_one : (s : ℕ) (o : Option Session) (w : World) → get w.sessions s ≡ o → rest (take_of h s o w).0 ≡ rest w
   takes_one s None w e = refl
-  takes_one s (Some x) w e = λ i. (w.db, w.commits, w.now, (λ t. replaced w.sessions s x (take h w.db x).1 e t i), w.parked)
+  takes_one s (Some x) w e = λ i. (w.db, w.commits, w.now, (λ t. replaced w.sessions s x (take h w.db x).1 e t i), w.waiting)
 
   pub takes_each : (ss : List ℕ) (w : World) → rest (take_each h ss w).0 ≡ rest w
   takes_each [] w = refl

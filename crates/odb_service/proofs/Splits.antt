@@ -1,4 +1,4 @@
--- The first element that passes a test, with what stands before it and behind it.
+-- The first element that passes a test, with what stands before it and after it.
 use Rattle.std.proofs.Common.{◌≡◌, Bool, true, false, cond, List, [], ◌∷◌, ◌++◌, Option, Some, None, refl, ap, subst, sym, is_some, true≢false}
 use Rattle.std.specs.Prelude.{option_map}
 use Rattle.odb_service.specs.World.{split_first}

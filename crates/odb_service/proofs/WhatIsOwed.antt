@@ -5,7 +5,7 @@ use Rattle.std.specs.List.{cons_option}
 use Rattle.std.specs.FinMap.Entries.{find}
 use Rattle.odb_atoms.specs.FinMap.{FinMap, combine, get, map_entries}
 use Rattle.odb_service.specs.Service.{Service}
-use Rattle.odb_service.specs.Session.{Item, Monitor, Out, Session, brought, dried, gives, leaves, owed, owed_from, rested, stop_at, take, take_from, take_rest, update_to}
+use Rattle.odb_service.specs.Session.{Item, Monitor, Out, Session, brought, drained, gives, leaves, owed, owed_from, rested, stop_at, take, take_from, take_rest, update_to}
 use Rattle.odb_monitor.proofs.Cells.{same_cells-itself}
 use Rattle.odb_monitor.proofs.Maps.{get-combine, get-map_entries, key-itself}
 use Rattle.odb_monitor.specs.View.{Cells, Change, Delta, View, change, delta, differs, is_empty, is_none, is_shown, query, shown}
@@ -108,8 +108,8 @@ module _ (h : Service) where
   -- one taking: it gives the first of what is owed, the rest stays owed, and the session ends alike
   pub record Takes (db : Db) (x : Session) (r : Option Out × Session) : Type 0 where
     pub owes : owed h db x ≡ option_to_list r.0 ++ owed h db r.1
-    pub ends : dried h db r.1 ≡ dried h db x
-    pub none : r.0 ≡ None → r.1 ≡ dried h db x
+    pub ends : drained h db r.1 ≡ drained h db x
+    pub none : r.0 ≡ None → r.1 ≡ drained h db x
 
   stop_item : (db : Db) (i : Item) (is : List Item) (ms : List Monitor) (o : Option Out) → gives h db i ms ≡ o → (r : Option Out × Session) → Takes db (record { queue = is; monitors = leaves h db i ms }) r
       → Takes db (record { queue = i ∷ is; monitors = ms }) (stop_at o (record { queue = is; monitors = leaves h db i ms }) r)

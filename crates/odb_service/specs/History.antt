@@ -1,4 +1,4 @@
--- Legal histories: events that the service can take from a base state, with what they give each session and the state in which they end.
+-- Legal histories: events that the service can take from a base state, with what they give each session and the state in which they end. [P 13.1]
 use Rattle.std.specs.Prelude.{◌≡◌, ℕ, List, [], Ok}
 use Rattle.serde_json.specs.Data.{Data}
 use Rattle.odb_service.specs.Run.{Event, run}

@@ -1,4 +1,4 @@
--- Runs: lists of events from the state with empty tables, and what each session is given.
+-- Runs: lists of events from the state with empty tables, and what each session is given. [P 10.3, 10.5, 13.1, 14]
 use Rattle.odb_wire.specs.Message.{is_request}
 use Rattle.std.specs.Prelude.{ℕ, ◌==◌, nat_lt, Bool, false, not, ◌&&◌, if◌then◌else◌, List, [], ◌∷◌, ◌++◌, filter, Option, Some, None, is_some, replicate, Result, Ok, Err}
 use Rattle.serde_json.specs.Data.{Data}
@@ -105,7 +105,7 @@ requests_after (round ss) f s = f s
 -- the state with empty tables and no session
 abbrev pub beginning : ℕ → State
 beginning tables = record {
-  world = record { db = replicate tables map.empty; commits = 0; now = 0; parked = []; locks = map.empty; sessions = map.empty };
+  world = record { db = replicate tables map.empty; commits = 0; now = 0; waiting = []; locks = map.empty; sessions = map.empty };
   given = λ s. [];
   requests = λ s. [];
 }

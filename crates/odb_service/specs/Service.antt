@@ -1,4 +1,4 @@
--- What the machine takes from the data: transactions, the requests of monitors, the text of JSON; and which methods it serves.
+-- What the machine takes from the data: transactions, the requests of monitors, the text of JSON; and which methods it serves. [P 14]
 use Rattle.std.specs.Prelude.{ℕ, Bool, true, cond, List, Option, Some, None, Result}
 use Rattle.serde_json.specs.Written.{compact_text}
 use Rattle.odb_atoms.specs.Error.{Error}
@@ -16,7 +16,7 @@ use Rattle.odb_tables.specs.Database.{Db}
 -- results, with the new database where a row changed; or a wait that holds until a deadline, if it has one
 pub data Outcome : Type 0 where
   ended : Data → Option Db → Outcome
-  waits : Option ℕ → Outcome
+  waiting : Option ℕ → Outcome
 
 pub record Service : Type 0 where
   -- of the database, the next commit's number and the operations
@@ -36,7 +36,7 @@ max_rows = 1000000
 abbrev pub outcome_of : Db → transaction.Outcome → Outcome
 outcome_of old (transaction.done results new) = ended (array_of results) (cond (is_changed old new) (Some new) None)
 outcome_of old (transaction.refused results) = ended (array_of results) None
-outcome_of old (transaction.parked deadline) = waits deadline
+outcome_of old (transaction.waiting deadline) = waiting deadline
 
 -- the service of a schema, with the methods that are served
 abbrev pub service_of : (List ℕ → Bool) → Schema → Service

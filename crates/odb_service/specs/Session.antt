@@ -1,4 +1,4 @@
--- A session: what is queued for it, its monitors as they were told, and what a taking gives.
+-- A session: what is queued for it, its monitors as they were told, and what a taking gives. [P 7.3, 8.2, 9.5, 9.6, 10.1, 10.2, 10.3, 10.4]
 use Rattle.odb_wire.specs.Message.{id_of}
 use Rattle.std.specs.Prelude.{ℕ, Bool, true, false, if◌then◌else◌, List, [], ◌∷◌, ◌++◌, map, find, Option, Some, None, option_and_then, option_to_list, filter_map, codes, bytes_eq, count_by}
 use Rattle.serde_json.specs.Data.{Data, object, no_members}
@@ -174,8 +174,8 @@ module _ (h : Service) where
   rested db [] ms = map (λ m. brought db m.watch.requests m) ms
   rested db (i ∷ is) ms = rested db is (leaves db i ms)
 
-  abbrev pub dried : Db → Session → Session
-  dried db s = record { queue = []; monitors = rested db s.queue s.monitors }
+  abbrev pub drained : Db → Session → Session
+  drained db s = record { queue = []; monitors = rested db s.queue s.monitors }
 
   -- what an item does to the monitors as asked
   abbrev pub asks : Item → List Watch → List Watch

@@ -1,4 +1,4 @@
--- The service as a machine: requests, transactions that wait, moments, and sessions that close.
+-- The service as a machine: requests, transactions that wait, moments, and sessions that close. [P 6.3, 7.3, 9.1, 9.5, 9.6, 10.1, 10.5, 11.2, 12.1, 12.2, 12.3, 12.4, 13.2]
 use Rattle.std.specs.Prelude.{ℕ, zero, suc, ◌+◌, ◌*◌, ◌==◌, max, nat_le, length, Bool, true, false, not, ◌&&◌, if◌then◌else◌, List, [], ◌∷◌, ◌++◌, map, filter, find, count_by, Option, Some, None, is_some, option_map, option_to_list, Result, Ok, Err, codes, bytes_eq}
 use Rattle.std.specs.List.{list_any, list_all}
 use Rattle.std.specs.Ordering.{nat_cmp}
@@ -6,7 +6,7 @@ use Rattle.serde_json.specs.Data.{Data, string, boolean}
 use Rattle.odb_rpc.specs.Message as message
 use Rattle.odb_atoms.specs.FinMap.{FinMap, get, insert, remove}
 use Rattle.odb_cond.specs.Filter.{Filter}
-use Rattle.odb_service.specs.Service.{Outcome, Service, ended, waits}
+use Rattle.odb_service.specs.Service.{Outcome, Service, ended, waiting}
 use Rattle.odb_service.specs.Session.{Item, Session, Watch, asked, no_request, no_result, renamed, replies_in, same_id, say, shift, start, stopped, sync, to}
 use Rattle.odb_wire.specs.Message.{id_of}
 use Rattle.odb_locks.specs.Locks.{Answered, Locks, Notice, drop_session, lock, owns, steal, unlock}
@@ -20,7 +20,7 @@ use Rattle.odb_rpc.specs.Message.{Failure, failed, unknown_monitor, canceled}
 use Rattle.odb_locks.specs.Locks.{LockFault, out_of_turn, too_many_names}
 
 -- a transaction that waits: its request, and the number of commits when it was tried last
-pub record Parked : Type 0 where
+pub record Waiting : Type 0 where
   pub session : ℕ
   pub request : Data
   pub operations : List Data
@@ -33,7 +33,7 @@ pub record World : Type 0 where
   pub db : Db
   pub commits : ℕ
   pub now : ℕ
-  pub parked : List Parked
+  pub waiting : List Waiting
   pub locks : Locks
   pub sessions : FinMap nat_cmp Session
 
@@ -65,12 +65,12 @@ succeed s d result w = answer s d (reply (id_of d) result) w
 abbrev pub fail : ℕ → Data → Failure → World → World
 fail s d name w = answer s d (failure (id_of d) name) w
 
--- the first element that passes the test, with what stands before it and behind it
+-- the first element that passes the test, with what stands before it and after it
 abbrev pub split_first : {A : Type 0} → (A → Bool) → List A → Option (List A × A × List A)
 split_first p [] = None
 split_first p (x ∷ xs) = if p x then Some ([], x, xs) else option_map (λ t. (x ∷ t.0, t.1, t.2)) (split_first p xs)
 
-abbrev pub is_untried : ℕ → Parked → Bool
+abbrev pub is_untried : ℕ → Waiting → Bool
 is_untried commits p = not (p.tried == commits)
 
 -- a deadline that has come
@@ -93,30 +93,30 @@ module _ (h : Service) where
 
   -- ---- transactions
 
-  -- the reply, behind one Sync for each monitor of the session where the database changed
+  -- the reply, after one Sync for each monitor of the session where the database changed
   abbrev pub end_transaction : ℕ → Data → Data → Option Db → World → World
   end_transaction s d results None w = succeed s d results w
   end_transaction s d results (Some db) w =
       post s (map (λ k. sync k.id) (asked_of (get w.sessions s)) ++ say (to d) (reply (id_of d) results) ∷ []) (record w { db = db; commits = w.commits + 1 })
 
-  abbrev pub on_outcome : Parked → Outcome → World → World × Option Parked
+  abbrev pub on_outcome : Waiting → Outcome → World → World × Option Waiting
   on_outcome p (ended results changed) w = (end_transaction p.session p.request results changed w, None)
-  on_outcome p (waits deadline) w = (w, Some (record p { deadline = deadline; tried = w.commits }))
+  on_outcome p (waiting deadline) w = (w, Some (record p { deadline = deadline; tried = w.commits }))
 
   -- tries a transaction, which ends or waits
-  abbrev pub attempt : Parked → World → World × Option Parked
+  abbrev pub attempt : Waiting → World → World × Option Waiting
   attempt p w = on_outcome p (h.transact w.db (w.commits + 1) p.operations (record { fresh = p.fresh; arrival = p.arrival; now = w.now; owns = owns w.locks p.session })) w
 
-  abbrev pub with_parked : (List Parked → Option Parked → List Parked) → List Parked → World × Option Parked → World
-  with_parked f ps r = record (r.0) { parked = f ps r.1 }
+  abbrev pub with_waiting : (List Waiting → Option Waiting → List Waiting) → List Waiting → World × Option Waiting → World
+  with_waiting f ps r = record (r.0) { waiting = f ps r.1 }
 
   -- the one that waits again stays where it was
-  abbrev pub try_one : List Parked × Parked × List Parked → World → World
-  try_one t w = with_parked (λ ps o. t.0 ++ option_to_list o ++ t.2) w.parked (attempt t.1 w)
+  abbrev pub try_one : List Waiting × Waiting × List Waiting → World → World
+  try_one t w = with_waiting (λ ps o. t.0 ++ option_to_list o ++ t.2) w.waiting (attempt t.1 w)
 
   -- the earliest one that wasn't tried since the newest commit
-  abbrev pub untried : World → Option (List Parked × Parked × List Parked)
-  untried w = split_first (is_untried w.commits) w.parked
+  abbrev pub untried : World → Option (List Waiting × Waiting × List Waiting)
+  untried w = split_first (is_untried w.commits) w.waiting
 
   -- while there is such a one it is tried; each try ends one or marks one
   abbrev pub retry : ℕ → World → World
@@ -124,35 +124,35 @@ module _ (h : Service) where
   retry (suc n) w = elim (untried w) [ None ↦ w | Some t ↦ retry n (try_one t w) ]
 
   abbrev pub retry_all : World → World
-  retry_all w = retry ((length w.parked + 1) * (length w.parked + 1)) w
+  retry_all w = retry ((length w.waiting + 1) * (length w.waiting + 1)) w
 
-  -- a new transaction is tried, and waits behind the others if it has to
-  abbrev pub run_transaction : Parked → World → World
-  run_transaction p w = retry_all (with_parked (λ ps o. ps ++ option_to_list o) w.parked (attempt p w))
+  -- a new transaction is tried, and waits after the others if it has to
+  abbrev pub run_transaction : Waiting → World → World
+  run_transaction p w = retry_all (with_waiting (λ ps o. ps ++ option_to_list o) w.waiting (attempt p w))
 
   -- the ones whose deadline has come are tried once each, in order of arrival
-  abbrev pub try_due : List Parked → World → World
+  abbrev pub try_due : List Waiting → World → World
   try_due [] w = w
   try_due (p ∷ ps) w =
-      try_due ps (if is_due w.now p.deadline then with_parked (λ ps o. ps ++ option_to_list o) w.parked (attempt p w)
-      else record w { parked = w.parked ++ p ∷ [] })
+      try_due ps (if is_due w.now p.deadline then with_waiting (λ ps o. ps ++ option_to_list o) w.waiting (attempt p w)
+      else record w { waiting = w.waiting ++ p ∷ [] })
 
   abbrev pub at_moment : ℕ → World → World
   at_moment now w = record w { now = max w.now now }
 
   abbrev pub tick : ℕ → World → World
-  tick now w = retry_all (try_due w.parked (record (at_moment now w) { parked = [] }))
+  tick now w = retry_all (try_due w.waiting (record (at_moment now w) { waiting = [] }))
 
   -- the earliest waiting transaction of the session with that id
-  abbrev pub is_of : ℕ → Data → Parked → Bool
+  abbrev pub is_of : ℕ → Data → Waiting → Bool
   is_of s id p = (p.session == s) && same_id h id (id_of p.request)
 
-  abbrev pub cancel_one : ℕ → Option (List Parked × Parked × List Parked) → World → World
+  abbrev pub cancel_one : ℕ → Option (List Waiting × Waiting × List Waiting) → World → World
   cancel_one s None w = w
-  cancel_one s (Some t) w = fail s t.1.request canceled (record w { parked = t.0 ++ t.2 })
+  cancel_one s (Some t) w = fail s t.1.request canceled (record w { waiting = t.0 ++ t.2 })
 
   abbrev pub cancel : ℕ → Data → World → World
-  cancel s id w = cancel_one s (split_first (is_of s id) w.parked) w
+  cancel s id w = cancel_one s (split_first (is_of s id) w.waiting) w
 
   -- ---- monitors
 
@@ -218,8 +218,8 @@ module _ (h : Service) where
   abbrev pub close : ℕ → World → World
   close s w =
       let l = drop_session w.locks s in
-      post_notices l.1 (record w { locks = l.0; sessions = remove w.sessions s; parked = filter (λ p. not (p.session == s)) w.parked })
+      post_notices l.1 (record w { locks = l.0; sessions = remove w.sessions s; waiting = filter (λ p. not (p.session == s)) w.waiting })
 
   -- replies that are queued or wait
   abbrev pub owed_replies : ℕ → Session → World → ℕ
-  owed_replies s x w = replies_in x.queue + count_by (λ p. p.session == s) w.parked
+  owed_replies s x w = replies_in x.queue + count_by (λ p. p.session == s) w.waiting

@@ -17,7 +17,7 @@ use Rattle.odb_schema.specs.JsonCode.{data_code}
 use Rattle.odb_schema.specs.Represented.Codes.{text_code}
 use Rattle.odb_tables.specs.Database.{Db, db_code}
 use Rattle.odb_service.specs.Session.{Answers, no_request, to, Item, say, start, sync, shift, renamed, stopped, Monitor, Session, Watch}
-use Rattle.odb_service.specs.World.{Parked, World}
+use Rattle.odb_service.specs.World.{Waiting, World}
 
 abbrev Text : Type 0
 Text = List ℕ
@@ -96,8 +96,8 @@ session_code = code_by (List Item × List Monitor) (coded× (coded_list item_cod
 
 -- ---- the state
 
-abbrev pub parked_code : Coded Parked
-parked_code =
+abbrev pub waiting_code : Coded Waiting
+waiting_code =
     code_by (ℕ × (Data × (List Data × (List Uuid × (ℕ × (Option ℕ × ℕ))))))
     (coded× coded_ℕ (coded× data_code (coded× (coded_list data_code) (coded× (coded_list uuid_code) (coded× coded_ℕ (coded× (coded_option coded_ℕ) coded_ℕ))))))
     (λ p. (p.session, (p.request, (p.operations, (p.fresh, (p.arrival, (p.deadline, p.tried)))))))
@@ -105,7 +105,7 @@ parked_code =
 
 abbrev pub world_code : Coded World
 world_code =
-    code_by (Db × (ℕ × (ℕ × (List Parked × (Locks × map.FinMap nat_cmp Session)))))
-    (coded× db_code (coded× coded_ℕ (coded× coded_ℕ (coded× (coded_list parked_code) (coded× locks_code (map.code coded_ℕ session_code))))))
-    (λ w. (w.db, (w.commits, (w.now, (w.parked, (w.locks, w.sessions))))))
-    (λ p. record { db = p.0; commits = p.1.0; now = p.1.1.0; parked = p.1.1.1.0; locks = p.1.1.1.1.0; sessions = p.1.1.1.1.1 }) (λ w. refl)
+    code_by (Db × (ℕ × (ℕ × (List Waiting × (Locks × map.FinMap nat_cmp Session)))))
+    (coded× db_code (coded× coded_ℕ (coded× coded_ℕ (coded× (coded_list waiting_code) (coded× locks_code (map.code coded_ℕ session_code))))))
+    (λ w. (w.db, (w.commits, (w.now, (w.waiting, (w.locks, w.sessions))))))
+    (λ p. record { db = p.0; commits = p.1.0; now = p.1.1.0; waiting = p.1.1.1.0; locks = p.1.1.1.1.0; sessions = p.1.1.1.1.1 }) (λ w. refl)

@@ -1,4 +1,4 @@
--- Identifiers that were found, each once: those of a part of a table behind those of the rest, and in order they are the keys of the whole.
+-- Identifiers that were found, each once: those of a part of a table after those of the rest, and in order they are the keys of the whole.
 use Rattle.std.proofs.Common.{◌≡◌, ◌+◌, ◌<◌, Bool, true, false, cond, not, ◌&&◌, ◌||◌, List, [], ◌∷◌, ◌++◌, length, map, filter, get_or, Option, Some, None, option_and_then, option_map, is_some, IsPermutation, IsTrue, refl, sym, ap, subst, ◌∙◌, arith}
 use lib.Dec.{T}
 use mathlib.Core.Bool.{true≢false}
@@ -194,7 +194,7 @@ listed-standing {Z = Z} cs m distinct =
     by q None = refl
     by q (Some v) = refl
 
--- ---- the two parts behind each other
+-- ---- the two parts after each other
 
 none_of : (p : Uuid → Bool) (us : List Uuid) → list_any p us ≡ false → AllByRecursion (λ y. p y ≡ false) us
 none_of p [] e = tt

@@ -27,7 +27,7 @@ find-shown : {V X : Type 0} (f : V → X) (q : Uuid) (es : List (Uuid × V)) →
 find-shown f q [] = refl
 find-shown f q (e ∷ es) = ap (cond (eq_by_cmp uuid_cmp q e.0) (Some (f e.1))) (find-shown f q es) ∙ shown-cond f (eq_by_cmp uuid_cmp q e.0) e.1 (lookup (eq_by_cmp uuid_cmp q) es)
 
--- of keys that are distinct, none stands behind its own entry
+-- of keys that are distinct, none stands after its own entry
 pub none_behind : {X : Type 0} (k : Uuid) (es : List (Uuid × X)) → AllByRecursion (λ y. eq_by_cmp uuid_cmp k y ≡ false) (keys_of es) → find uuid_cmp k es ≡ None
 none_behind k [] h = refl
 none_behind k (e ∷ es) h = ap (λ b. cond b (Some e.1) (find uuid_cmp k es)) h.0 ∙ none_behind k es h.1

@@ -1,4 +1,4 @@
--- Changes: the rows by which two contents differ, and what a change makes of a content, forwards and back.
+-- Changes: the rows by which two contents differ, and what a change makes of a content, forwards and back. [P 6.3]
 use Rattle.std.specs.Prelude.{Bool, cond, ◌&&◌, nat_lt, zip, List, map as map_list, Option, Some, None}
 use Rattle.std.specs.List.{list_any}
 use Rattle.odb_atoms.specs.FinMap as map

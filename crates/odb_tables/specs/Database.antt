@@ -1,4 +1,4 @@
--- Databases: for each table of the schema, in its order, a finite map from UUIDs to rows.
+-- Databases: for each table of the schema, in its order, a finite map from UUIDs to rows. [P 2.1]
 use Rattle.std.specs.Prelude.{ℕ, List, slice_get, unwrap_or}
 use Rattle.std.specs.Coded.{Coded, coded_list}
 use Rattle.odb_atoms.specs.FinMap as map

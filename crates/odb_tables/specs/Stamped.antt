@@ -1,4 +1,4 @@
--- Versions: what a commit makes of the rows that it changes (RFC 7047, section 3.2, `_version`).
+-- Versions: what a commit makes of the rows that it changes (RFC 7047, section 3.2, `_version`). [P 6.3]
 use Rattle.std.specs.Prelude.{cond, map as map_list, zip, Option, Some, None}
 use Rattle.odb_atoms.specs.FinMap as map
 use Rattle.odb_atoms.specs.Row.{Row}

@@ -1,4 +1,4 @@
-//! Databases: the tables of a schema, in its order (RFC 7047, section 3.2).
+//! Databases: the tables of a schema, in its order (RFC 7047, section 3.2). [P 2.1, 6.3]
 ghost use Rattle.std.specs.Prelude.{◌≡◌, IfErr, IfOk, OnErr, OnOk, length, replicate, slice_get};
 ghost use Rattle.std.specs.Option.{option_copied};
 ghost use Rattle.odb_atoms.specs.FinMap as finite;
@@ -37,7 +37,7 @@ impl Model for Db {
 }
 
 impl Db {
-    /// A database of so many tables, all of them without rows. An error says that memory was refused.
+    /// A database of so many tables, all of them without rows.
     pub fn new(alloc: Global, tables: usize, hashing: RandomState) -> Result<Db, AllocError>
         ensures { IfOk result (λ db. db ≡ replicate tables finite.empty) }
     {
@@ -65,7 +65,7 @@ impl Db {
         self.tables.get(table.place())
     }
 
-    /// The row of an identifier, if the table has one. O(1), without memory.
+    /// The row of an identifier, if the table has one. O(1).
     pub fn get(&self, table: TableId, uuid: Uuid) -> Option<&Row>
         ensures { option_copied result ≡ finite.get (table_at self.now table) (uuid_of uuid) }
     {
@@ -105,8 +105,7 @@ impl Db {
         Ok(())
     }
 
-    /// An equal database, whose rows are shared with this one. O(rows); an error says that memory was
-    /// refused.
+    /// An equal database, whose rows are shared with this one. O(rows).
     pub fn try_copy(&self, alloc: Global) -> Result<Db, AllocError>
         ensures { IfOk result (λ copy. copy ≡ self.now) }
     {

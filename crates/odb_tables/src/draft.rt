@@ -1,4 +1,4 @@
-//! Drafts: a database under a transaction.
+//! Drafts: a database under a transaction. [P 6.3]
 ghost use Rattle.std.specs.Prelude.{◌≡◌, ◌<◌, false, length, map, IfOk, IfSome, IsPermutation, IsTrue, OnErr, OnOk, option_map};
 ghost use Rattle.std.specs.List.{IsDistinct, list_any};
 ghost use Rattle.std.specs.List.Sorted.{IsSortedByKey};
@@ -62,8 +62,7 @@ impl<'a> Model for Draft<'a> {
 }
 
 impl<'a> Draft<'a> {
-    /// A draft of the database, in which nothing is changed yet. O(tables); an error says that memory
-    /// was refused.
+    /// A draft of the database, in which nothing is changed yet. O(tables).
     pub fn new(alloc: Global, base: &'a Db) -> Result<Draft<'a>, AllocError>
         ensures { IfOk result (λ draft. draft ≡ draft_of base.now) }
     {
@@ -86,7 +85,7 @@ impl<'a> Draft<'a> {
         self.base.len()
     }
 
-    /// The row of an identifier as it is now, if the table has one. O(1), without memory.
+    /// The row of an identifier as it is now, if the table has one. O(1).
     pub fn get(&self, table: TableId, uuid: Uuid) -> Option<&Row>
         ensures row { option_copied result ≡ finite.get (table_at self.now.now table) (uuid_of uuid) }
         ensures not_removed { IfSome result (λ _. set.contains (removed_at self.now table) (uuid_of uuid) ≡ false) }
@@ -97,7 +96,7 @@ impl<'a> Draft<'a> {
         }
     }
 
-    /// Whether a row of this identifier was taken out of the table. O(1), without memory.
+    /// Whether a row of this identifier was taken out of the table. O(1).
     pub fn was_removed(&self, table: TableId, uuid: Uuid) -> bool
         ensures { result ≡ set.contains (removed_at self.now table) (uuid_of uuid) }
     {
@@ -107,9 +106,9 @@ impl<'a> Draft<'a> {
         }
     }
 
-    /// The identifiers of the rows that were touched since the draft was made, each of them once, in no order
-    /// that is told. A row that isn't among them is as it was; one among them may be as it was, too, or may
-    /// never have been there. O(rows touched); an error says that memory was refused.
+    /// The identifiers of the rows that were touched since the draft was made, each of them once,
+    /// in no order that is told. A row that isn't among them is as it was; one among them may be as
+    /// it was, too, or may never have been there. O(rows touched).
     pub fn touched(&self, alloc: Global, table: TableId) -> Result<Vec<Uuid>, AllocError>
         ensures as_it_was { IfOk result (λ uuids. (u : model_uuid.Uuid) → list_any (eq_by_cmp uuid_cmp u) (map uuid_of uuids.items) ≡ false
             → finite.get (table_at self.now.now table) u ≡ finite.get (table_at self.now.old table) u) }
@@ -142,8 +141,7 @@ impl<'a> Draft<'a> {
         self.overlays[table.place()].put(uuid, None)
     }
 
-    /// The identifiers of the table's rows as they are now, ascending. O(n log n) for n rows; an error says
-    /// that memory was refused.
+    /// The identifiers of the table's rows as they are now, ascending. O(n log n) for n rows.
     pub fn uuids(&self, table: TableId) -> Result<Vec<Uuid>, AllocError>
         ensures { IfOk result (λ uuids. map uuid_of uuids.items ≡ finite.keys (table_at self.now.now table)) }
     {
@@ -154,9 +152,8 @@ impl<'a> Draft<'a> {
     /// The identifiers of the rows, as they are now, of which all conditions hold, ascending (RFC 7047,
     /// section 5.2, `where`).
     ///
-    /// Where the conditions pin `_uuid` it looks that row up: O(the conditions). Else it tests each row of
-    /// the table once, and orders the m that it found: O(rows of the table) and O(m log m). An error says
-    /// that memory was refused.
+    /// Where the conditions pin `_uuid` it looks that row up: O(the conditions). Else it tests each
+    /// row of the table once, and orders the m that it found: O(rows of the table) and O(m log m).
     pub fn matching(&self, table: TableId, conditions: &Where) -> Result<Vec<Uuid>, AllocError>
         ensures { IfOk result (λ uuids. map uuid_of uuids.items
             ≡ finite.keys (matching conditions.now (table_at self.now.now table))) }
@@ -167,7 +164,7 @@ impl<'a> Draft<'a> {
         }
     }
 
-    /// What `matching` answers where no row under another identifier can match.
+    /// What `matching` returns where no row under another identifier can match.
     fn look_up(
         &self,
         table: TableId,
@@ -197,7 +194,7 @@ impl<'a> Draft<'a> {
         }
     }
 
-    /// What `matching` answers, by a test of each row.
+    /// What `matching` returns, by a test of each row.
     fn scan(&self, table: TableId, conditions: &Where) -> Result<Vec<Uuid>, AllocError>
         ensures { IfOk result (λ uuids. map uuid_of uuids.items
             ≡ finite.keys (matching conditions.now (table_at self.now.now table))) }
@@ -209,10 +206,12 @@ impl<'a> Draft<'a> {
         found_in(self.alloc, base, overlay, conditions)
     }
 
-    /// What leads from the database as it was to the one as it is now. O(rows touched) and O(tables); an
-    /// error says that memory was refused.
+    /// What leads from the database as it was to the one as it is now. O(rows touched) and
+    /// O(tables).
     pub fn changes(self) -> Result<ChangeSet, AllocError>
-        ensures { IfOk result (λ changes. changes ≡ change_between self.entry.old self.entry.now) }
+        ensures changes { IfOk result (λ changes. changes ≡ change_between self.entry.old self.entry.now) }
+        ensures change_of { IfOk result (λ changes. IsChangeOf self.entry.old changes) }
+        ensures leads_to { IfOk result (λ changes. all_changed_by self.entry.old changes ≡ self.entry.now) }
     {
         let mut tables = Vec::with_capacity(self.alloc, self.overlays.len())?;
         for place in 0..self.overlays.len() {
@@ -222,9 +221,9 @@ impl<'a> Draft<'a> {
         Ok(ChangeSet::new(tables))
     }
 
-    /// What leads from the database as it was to the one as it is now, in which each row that is new, or
-    /// has another value in a column, has this `_version` (RFC 7047, section 3.2). O(rows touched) and
-    /// O(tables); an error says that memory was refused.
+    /// What leads from the database as it was to the one as it is now, in which each row that is
+    /// new, or has another value in a column, has this `_version` (RFC 7047, section 3.2). O(rows
+    /// touched) and O(tables).
     pub fn commit(self, version: Uuid) -> Result<ChangeSet, AllocError>
         ensures changes { IfOk result (λ changes. changes
             ≡ change_between self.entry.old (stamped (uuid_of version) self.entry.old self.entry.now)) }
@@ -273,7 +272,7 @@ fn found_in(
     Ok(found)
 }
 
-/// Puts the identifiers into their order. O(n log n), without memory.
+/// Puts the identifiers into their order. O(n log n).
 fn sort(uuids: &mut Vec<Uuid>)
     ensures permutation { IsPermutation uuids.old.items uuids.new.items }
     ensures sorted { IsSortedByKey uuid_of uuid_cmp uuids.new.items }

@@ -37,7 +37,7 @@ impl Model for Key {
 }
 
 impl Key {
-    /// The identifier as a key. O(1), without memory.
+    /// The identifier as a key. O(1).
     pub fn of(uuid: Uuid) -> Key
         ensures { result ≡ uuid_of uuid }
     {
@@ -46,7 +46,7 @@ impl Key {
         }
     }
 
-    /// The identifier. O(1), without memory.
+    /// The identifier. O(1).
     pub fn uuid(self) -> Uuid
         ensures { uuid_of result ≡ self }
     {

@@ -1,4 +1,7 @@
 //! Databases: tables of rows, and changes of them.
+//!
+//! Where memory is refused a call returns `AllocError`, and what it was given is as it was,
+//! unless its own page says otherwise. A call whose result has no such error takes no memory.
 #![tactic(auto)]
 
 mod change_set;

@@ -47,7 +47,7 @@ impl Model for Overlay {
 }
 
 impl Overlay {
-    /// No row is touched. O(1), without memory.
+    /// No row is touched. O(1).
     pub(crate) fn new(alloc: Global, hashing: RandomState) -> Overlay
         ensures { result ≡ finite.empty }
     {
@@ -56,8 +56,8 @@ impl Overlay {
         }
     }
 
-    /// What the row of an identifier is now, if it was touched: `Some(None)` where it was taken out.
-    /// O(1), without memory.
+    /// What the row of an identifier is now, if it was touched: `Some(None)` where it was taken
+    /// out. O(1).
     pub(crate) fn get(&self, uuid: Uuid) -> Option<Option<&Row>>
         ensures { option_map option_copied result ≡ finite.get self.now (uuid_of uuid) }
     {
@@ -80,7 +80,7 @@ impl Overlay {
         }
     }
 
-    /// Whether the row of an identifier was taken out. O(1), without memory.
+    /// Whether the row of an identifier was taken out. O(1).
     pub(crate) fn is_removed(&self, uuid: Uuid) -> bool
         ensures { result ≡ set.contains (taken_out self.now) (uuid_of uuid) }
     {
@@ -91,7 +91,7 @@ impl Overlay {
         }
     }
 
-    /// Whether the row of a key was touched. O(1), without memory.
+    /// Whether the row of a key was touched. O(1).
     pub(crate) fn touches(&self, key: Key) -> bool
         ensures { result ≡ finite.contains_key self.now key }
     {
@@ -99,7 +99,7 @@ impl Overlay {
     }
 
     /// Appends the identifiers of the rows that are there and of which the conditions hold. O(rows
-    /// touched); an error says that memory was refused.
+    /// touched).
     pub(crate) fn find(&self, conditions: &Where, found: &mut Vec<Uuid>) -> Result<(), AllocError>
         ensures { OnOk result (Appends (map uuid_of found.old.items) (map uuid_of found.new.items)
             (matching conditions.now (standing self.now))) }
@@ -112,8 +112,7 @@ impl Overlay {
         Ok(())
     }
 
-    /// The identifiers of the rows that were touched, each of them once. O(rows touched); an error says that
-    /// memory was refused.
+    /// The identifiers of the rows that were touched, each of them once. O(rows touched).
     pub(crate) fn list(&self, alloc: Global) -> Result<Vec<Uuid>, AllocError>
         ensures touched { IfOk result (λ uuids. (u : model_uuid.Uuid) → list_any (eq_by_cmp uuid_cmp u) (map uuid_of uuids.items) ≡ finite.contains_key self.now u) }
         ensures distinct { IfOk result (λ uuids. IsDistinct (eq_by_cmp uuid_cmp) (map uuid_of uuids.items)) }
@@ -125,8 +124,7 @@ impl Overlay {
         Ok(uuids)
     }
 
-    /// What leads from the rows of the table to those that are over it. O(rows touched); an error says
-    /// that memory was refused.
+    /// What leads from the rows of the table to those that are over it. O(rows touched).
     pub(crate) fn changes(&self, alloc: Global, base: &Table) -> Result<TableChange, AllocError>
         ensures { IfOk result (λ changes. changes ≡ change base.now (overlaid base.now self.now)) }
     {
@@ -138,8 +136,8 @@ impl Overlay {
         Ok(TableChange::new(rows))
     }
 
-    /// The same, where each row that is new, or has another value in a column, has this version. O(rows
-    /// touched); an error says that memory was refused.
+    /// The same, where each row that is new, or has another value in a column, has this version.
+    /// O(rows touched).
     pub(crate) fn commit(
         self,
         alloc: Global,

@@ -1,4 +1,4 @@
-//! Changes of single rows.
+//! Changes of single rows. [P 6.3]
 ghost use Rattle.std.specs.Prelude.{◌≡◌, ◌&&◌, IfOk, is_some, not, option_map};
 ghost use Rattle.std.specs.Arc.{arc_value};
 ghost use Rattle.std.specs.Option.{option_copied};
@@ -46,7 +46,7 @@ impl RowChange {
     /// What leads from the old row of the key to the new one; `None` where there is none on both sides, or
     /// they are the same, `_version` included (RFC 7047, section 3.2). The rows are shared, and not copied.
     ///
-    /// O(the values compared). An error says that memory was refused.
+    /// O(the values compared).
     pub fn between(
         key: Key,
         old: Option<&Arc<Row>>,
@@ -62,8 +62,8 @@ impl RowChange {
         Ok(Some(RowChange { key, old, new }))
     }
 
-    /// What leads from the old row to the new one with this version; `None` where there is no row, or one
-    /// with the same columns. An error says that memory was refused.
+    /// What leads from the old row to the new one with this version; `None` where there is no row,
+    /// or one with the same columns.
     pub(crate) fn stamped(
         alloc: Global,
         key: Key,

@@ -1,4 +1,4 @@
-//! Tables: rows by their identifiers (RFC 7047, section 3.2).
+//! Tables: rows by their identifiers (RFC 7047, section 3.2). [P 2.1]
 ghost use Rattle.std.specs.Prelude.{◌≡◌, ◌&&◌, IfOk, OnOk, OnErr, IfErr, map, not, option_map};
 ghost use Rattle.std.specs.Arc.{arc_value};
 ghost use Rattle.std.specs.List.{IsDistinct};
@@ -47,7 +47,7 @@ impl Model for Table {
 }
 
 impl Table {
-    /// A table without rows. O(1), without memory.
+    /// A table without rows. O(1).
     pub fn new(alloc: Global, hashing: RandomState) -> Table
         ensures { result ≡ finite.empty }
     {
@@ -63,7 +63,7 @@ impl Table {
         self.rows.len()
     }
 
-    /// The row of an identifier, if it has one. O(1), without memory.
+    /// The row of an identifier, if it has one. O(1).
     pub fn get(&self, uuid: Uuid) -> Option<&Row>
         ensures { option_copied result ≡ finite.get self.now (uuid_of uuid) }
     {
@@ -84,7 +84,7 @@ impl Table {
         }
     }
 
-    /// Takes the row of the identifier out, if it has one. O(1), without memory.
+    /// Takes the row of the identifier out, if it has one. O(1).
     pub(crate) fn remove(&mut self, uuid: Uuid) -> Option<Arc<Row>>
         ensures row { option_map arc_value result ≡ finite.get self.old (uuid_of uuid) }
         ensures rest { self.new ≡ finite.remove self.old (uuid_of uuid) }
@@ -92,16 +92,15 @@ impl Table {
         self.rows.swap_remove(&Key::of(uuid))
     }
 
-    /// The row of a key, if the table has one, to be shared: its clone is the same row, and costs a count. It
-    /// stays as it is when the table changes. O(1), without memory.
+    /// The row of a key, if the table has one, to be shared: its clone is the same row, and costs a
+    /// count. It stays as it is when the table changes. O(1).
     pub fn share(&self, key: Key) -> Option<&Arc<Row>>
         ensures { row_of (option_copied result) ≡ finite.get self.now key }
     {
         self.rows.get(&key)
     }
 
-    /// Each of its rows once, with its identifier, in no order that is told. O(rows); an error says that
-    /// memory was refused.
+    /// Each of its rows once, with its identifier, in no order that is told. O(rows).
     pub fn list(&self, alloc: Global) -> Result<Vec<(Uuid, &Row)>, AllocError>
         ensures rows { IfOk result (λ rows. finite.from_entries (map listed rows.items) ≡ self.now) }
         ensures distinct { IfOk result (λ rows. IsDistinct (eq_by_cmp uuid_cmp) (keys_of (map listed rows.items))) }
@@ -115,7 +114,7 @@ impl Table {
         Ok(rows)
     }
 
-    /// An equal table, whose rows are shared with this one. O(rows); an error says that memory was refused.
+    /// An equal table, whose rows are shared with this one. O(rows).
     pub(crate) fn try_copy(&self, alloc: Global, hashing: RandomState) -> Result<Table, AllocError>
         ensures { IfOk result (λ copy. copy ≡ self.now) }
     {
@@ -152,7 +151,7 @@ impl Table {
         Ok(self.insert(row.uuid(), new)?)
     }
 
-    /// Takes out the rows that are new by the change. O(rows changed), without memory.
+    /// Takes out the rows that are new by the change. O(rows changed).
     pub(crate) fn take_back(&mut self, change: &TableChange)
         ensures { self.new ≡ each_row taken_back self.old change.now }
     {
@@ -170,7 +169,7 @@ impl Table {
         drop(self.remove(row.uuid()));
     }
 
-    /// Replaces and removes the rows that aren't new by the change. O(rows changed), without memory.
+    /// Replaces and removes the rows that aren't new by the change. O(rows changed).
     pub(crate) fn settle(&mut self, change: TableChange)
         ensures { self.new ≡ each_row settled self.old change }
     {
@@ -202,8 +201,8 @@ impl Table {
         *place = row;
     }
 
-    /// Appends the identifiers of the rows of which the conditions hold, but for those that the overlay
-    /// touched. O(rows); an error says that memory was refused.
+    /// Appends the identifiers of the rows of which the conditions hold, but for those that the
+    /// overlay touched. O(rows).
     pub(crate) fn find_untouched(
         &self,
         overlay: &Overlay,

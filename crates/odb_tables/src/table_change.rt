@@ -27,8 +27,8 @@ impl Model for TableChange {
 }
 
 impl TableChange {
-    /// The change of a table by these changes of its rows, which have to be of different rows. O(1), without
-    /// memory.
+    /// The change of a table by these changes of its rows, which have to be of different rows.
+    /// O(1).
     pub fn new(rows: Vec<RowChange>) -> TableChange
         requires { AreDistinct rows.items }
         ensures { result ≡ finite.from_entries rows.items }

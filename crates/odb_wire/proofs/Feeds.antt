@@ -4,7 +4,7 @@ use Rattle.std.proofs.lemmas.List.{append-nil}
 use Rattle.serde_json.specs.Data.{Data}
 use Rattle.odb_wire.specs.Stream.{Ending, goes_on, fault_too_long, fault_bad, messages}
 use Rattle.odb_wire.specs.Feeding.{Adds, Leaves, fault_of}
-use Rattle.odb_wire.specs.Standing.{behind}
+use Rattle.odb_wire.specs.Standing.{prepended}
 use Rattle.odb_wire.specs.Shown.{message_data}
 use Rattle.odb_wire.specs.Standing.{IsStanding, TakesIn, Follows, messages_after}
 use Rattle.odb_wire.specs.declared.fault.WireFault.{WireFault}
@@ -25,9 +25,9 @@ ending_is bytes s follows = ap (λ u. (messages u).1) (sym (append-nil bytes)) �
 
 -- what a piece makes of the messages
 messages_with : (bytes piece : List ℕ) (old new : State) (found : List Data) → Follows bytes old → TakesIn old piece found new → (more : List ℕ)
-    → messages ((bytes ++ piece) ++ more) ≡ behind ((messages bytes).0 ++ found) (messages_after new more)
+    → messages ((bytes ++ piece) ++ more) ≡ prepended ((messages bytes).0 ++ found) (messages_after new more)
 messages_with bytes piece old new found follows takes more =
-    ap messages (append_assoc bytes piece more) ∙ follows.further (piece ++ more) ∙ ap (behind (messages bytes).0) (takes.further more)
+    ap messages (append_assoc bytes piece more) ∙ follows.further (piece ++ more) ∙ ap (prepended (messages bytes).0) (takes.further more)
     ∙ ap (λ ds. (ds, (messages_after new more).1)) (sym (append_assoc (messages bytes).0 found (messages_after new more).0))
 
 pub adds : (bytes piece taken : List ℕ) (old new : State) (found : List Data) → Follows bytes old → TakesIn old piece found new → taken ≡ bytes ++ piece → Adds bytes piece taken found
@@ -43,7 +43,7 @@ follows-next bytes piece taken old new found follows takes e =
     let here : Adds bytes piece taken found = adds bytes piece taken old new found follows takes e in
     record {
       stands = takes.stands;
-      further = λ more. ap (λ u. messages (u ++ more)) e ∙ messages_with bytes piece old new found follows takes more ∙ ap (λ ds. behind ds (messages_after new more)) (sym here.messages);
+      further = λ more. ap (λ u. messages (u ++ more)) e ∙ messages_with bytes piece old new found follows takes more ∙ ap (λ ds. prepended ds (messages_after new more)) (sym here.messages);
     }
 
 -- ---- what is answered: the messages ms, or the fault where there are none

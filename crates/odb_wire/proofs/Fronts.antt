@@ -32,7 +32,7 @@ closed_at-text p n (c ∷ cs) t e =
         subst (λ (v : List ℕ). closed_at p n v ≡ Some v) all
         (ap (λ b. if b then Some (c ∷ []) else option_map (λ v. c ∷ v) (closed_at (place_after p c) (open_after p c n) u)) isnt ∙ ap (option_map (λ v. c ∷ v)) (again u refl))
 
--- a scan of some bytes, and of those behind them
+-- a scan of some bytes, and of those after them
 pub goes_on-both : (p : Place) (n : ℕ) (first : List ℕ) (p' : Place) (n' : ℕ) (next : List ℕ) (p″ : Place) (n″ : ℕ) → GoesOn p n first p' n' → GoesOn p' n' next p″ n″ → GoesOn p n (first ++ next) p″ n″
 goes_on-both p n first p' n' next p″ n″ one two =
     record { further = λ more. ap (closed_at p n) (append_assoc first next more) ∙ one.further (next ++ more) ∙ ap (option_map (λ t. first ++ t)) (two.further more) ∙ joined (closed_at p″ n″ more) }
@@ -78,7 +78,7 @@ pub front_of-other : (s : List ℕ) → 0 < length s → (get_or s 0 0 == 123) �
 front_of-other [] h isnt = absurd (omega arith)
 front_of-other (c ∷ cs) h isnt = ap (λ b. if b then of_text (closed_at outside 0 (take max_message (c ∷ cs))) (not (nat_lt (suc (length cs)) max_message)) else bad) isnt
 
--- ---- what a scan of the bytes behind a brace says: m of them are within the limit k + 1
+-- ---- what a scan of the bytes after a brace says: m of them are within the limit k + 1
 
 pub take_within : (m : ℕ) (s : List ℕ) (n : ℕ) → n ≤ length (take m s) → take n (take m s) ≡ take n s
 take_within m s n h =
@@ -86,49 +86,49 @@ take_within m s n h =
     take-take n m s (omega (arith, bound))
 
 -- the object ends among them
-pub is_whole-scanned : (k : ℕ) → max_message ≡ suc k → (s : List ℕ) (first : ℕ) (behind : List ℕ) (m n : ℕ) (p : Place) (d : ℕ) → s ≡ first ∷ behind → first ≡ 123 → m ≡ min (length behind) k
-    → p ≡ outside → d ≡ 1 → IsEnd p d (take m behind) n → IsWhole s (n + 1)
-is_whole-scanned k limit s first behind m n p d is_s is_first is_m is_p is_d end =
-    let bound : length (take m behind) ≡ min m (length behind) = length-take m behind in
-    let same : take n (take m behind) ≡ take n behind = take_within m behind n end.within in
-    let scanned : closed_at outside 1 (take m behind) ≡ Some (take n behind) = subst (λ (q : Place). closed_at q 1 (take m behind) ≡ Some (take n behind)) is_p (subst (λ (e : ℕ). closed_at p e (take m behind) ≡ Some (take n behind)) is_d (end.closed ∙ ap (λ t. Some t) same)) in
-    let alone : closed_at outside 1 (take n behind) ≡ Some (take n behind) = closed_at-text outside 1 (take m behind) (take n behind) scanned in
-    let closed : closed_at outside 0 (123 ∷ take n behind) ≡ Some (123 ∷ take n behind) = ap (option_map (λ t. 123 ∷ t)) alone in
-    let size : length (take n behind) ≡ min n (length behind) = length-take n behind in
-    let fits : length (123 ∷ take n behind) ≤ max_message = omega (arith, bound, size, limit, end.within, is_m) in
-    let text : front_of (123 ∷ take n behind) ≡ whole (123 ∷ take n behind) = front_of-text (123 ∷ take n behind) refl fits closed in
-    let further : front_of ((123 ∷ take n behind) ++ drop n behind) ≡ whole (123 ∷ take n behind) = front_of-whole_more (123 ∷ take n behind) (drop n behind) (123 ∷ take n behind) text in
-    let is : s ≡ 123 ∷ behind = is_s ∙ ap (λ c. c ∷ behind) is_first in
-    let joined : front_of (123 ∷ behind) ≡ whole (123 ∷ take n behind) = ap (λ t. front_of (123 ∷ t)) (sym (take-append-drop n behind)) ∙ further in
-    let text_is : take (n + 1) (123 ∷ behind) ≡ 123 ∷ take n behind = ap (λ j. take j (123 ∷ behind)) (add-one n) in
+pub is_whole-scanned : (k : ℕ) → max_message ≡ suc k → (s : List ℕ) (first : ℕ) (later : List ℕ) (m n : ℕ) (p : Place) (d : ℕ) → s ≡ first ∷ later → first ≡ 123 → m ≡ min (length later) k
+    → p ≡ outside → d ≡ 1 → IsEnd p d (take m later) n → IsWhole s (n + 1)
+is_whole-scanned k limit s first later m n p d is_s is_first is_m is_p is_d end =
+    let bound : length (take m later) ≡ min m (length later) = length-take m later in
+    let same : take n (take m later) ≡ take n later = take_within m later n end.within in
+    let scanned : closed_at outside 1 (take m later) ≡ Some (take n later) = subst (λ (q : Place). closed_at q 1 (take m later) ≡ Some (take n later)) is_p (subst (λ (e : ℕ). closed_at p e (take m later) ≡ Some (take n later)) is_d (end.closed ∙ ap (λ t. Some t) same)) in
+    let alone : closed_at outside 1 (take n later) ≡ Some (take n later) = closed_at-text outside 1 (take m later) (take n later) scanned in
+    let closed : closed_at outside 0 (123 ∷ take n later) ≡ Some (123 ∷ take n later) = ap (option_map (λ t. 123 ∷ t)) alone in
+    let size : length (take n later) ≡ min n (length later) = length-take n later in
+    let fits : length (123 ∷ take n later) ≤ max_message = omega (arith, bound, size, limit, end.within, is_m) in
+    let text : front_of (123 ∷ take n later) ≡ whole (123 ∷ take n later) = front_of-text (123 ∷ take n later) refl fits closed in
+    let further : front_of ((123 ∷ take n later) ++ drop n later) ≡ whole (123 ∷ take n later) = front_of-whole_more (123 ∷ take n later) (drop n later) (123 ∷ take n later) text in
+    let is : s ≡ 123 ∷ later = is_s ∙ ap (λ c. c ∷ later) is_first in
+    let joined : front_of (123 ∷ later) ≡ whole (123 ∷ take n later) = ap (λ t. front_of (123 ∷ t)) (sym (take-append-drop n later)) ∙ further in
+    let text_is : take (n + 1) (123 ∷ later) ≡ 123 ∷ take n later = ap (λ j. take j (123 ∷ later)) (add-one n) in
     subst (λ (u : List ℕ). IsWhole u (n + 1)) (sym is)
     (record { within = omega (arith, bound, end.within); text = joined ∙ ap whole (sym text_is) })
 
--- it goes on behind all of the bytes
-pub is_unfinished-scanned : (k : ℕ) → max_message ≡ suc k → (s : List ℕ) (first : ℕ) (behind : List ℕ) (m : ℕ) (p : Place) (d : ℕ) (scan : Scan) → s ≡ first ∷ behind → first ≡ 123
-    → m ≡ min (length behind) k → p ≡ outside → d ≡ 1 → GoesOn p d (take m behind) (place_of scan.place) scan.depth → scan.depth ≤ d + length (take m behind) → length s < suc k → IsUnfinished s scan
-is_unfinished-scanned k limit s first behind m p d scan is_s is_first is_m is_p is_d goes bound short =
-    let is : s ≡ 123 ∷ behind = is_s ∙ ap (λ c. c ∷ behind) is_first in
-    let size : length s ≡ suc (length behind) = ap length is in
-    let all : take m behind ≡ behind = take_all m behind (omega (arith, size, is_m)) in
-    let scanned : GoesOn outside 1 behind (place_of scan.place) scan.depth =
-    subst (λ (q : Place). GoesOn q 1 behind (place_of scan.place) scan.depth) is_p (subst (λ (e : ℕ). GoesOn p e behind (place_of scan.place) scan.depth) is_d (subst (λ (u : List ℕ). GoesOn p d u (place_of scan.place) scan.depth) all goes)) in
+-- it goes on after all of the bytes
+pub is_unfinished-scanned : (k : ℕ) → max_message ≡ suc k → (s : List ℕ) (first : ℕ) (later : List ℕ) (m : ℕ) (p : Place) (d : ℕ) (scan : Scan) → s ≡ first ∷ later → first ≡ 123
+    → m ≡ min (length later) k → p ≡ outside → d ≡ 1 → GoesOn p d (take m later) (place_of scan.place) scan.depth → scan.depth ≤ d + length (take m later) → length s < suc k → IsUnfinished s scan
+is_unfinished-scanned k limit s first later m p d scan is_s is_first is_m is_p is_d goes bound short =
+    let is : s ≡ 123 ∷ later = is_s ∙ ap (λ c. c ∷ later) is_first in
+    let size : length s ≡ suc (length later) = ap length is in
+    let all : take m later ≡ later = take_all m later (omega (arith, size, is_m)) in
+    let scanned : GoesOn outside 1 later (place_of scan.place) scan.depth =
+    subst (λ (q : Place). GoesOn q 1 later (place_of scan.place) scan.depth) is_p (subst (λ (e : ℕ). GoesOn p e later (place_of scan.place) scan.depth) is_d (subst (λ (u : List ℕ). GoesOn p d u (place_of scan.place) scan.depth) all goes)) in
     record {
       short = omega (arith, limit);
       brace = ap (λ u. get_or u 0 0 == 123) is;
       depth = omega (arith, size, ap length all, is_d);
-      further = subst (λ (u : List ℕ). GoesOn outside 0 u (place_of scan.place) scan.depth) (sym is) (goes_on-brace behind (place_of scan.place) scan.depth scanned);
+      further = subst (λ (u : List ℕ). GoesOn outside 0 u (place_of scan.place) scan.depth) (sym is) (goes_on-brace later (place_of scan.place) scan.depth scanned);
     }
 
--- it goes on behind as many as a message may have
-pub front_of-scanned : (k : ℕ) → max_message ≡ suc k → (s : List ℕ) (first : ℕ) (behind : List ℕ) (m : ℕ) (p : Place) (d : ℕ) (p' : Place) (d' : ℕ) → s ≡ first ∷ behind → first ≡ 123
-    → m ≡ min (length behind) k → p ≡ outside → d ≡ 1 → GoesOn p d (take m behind) p' d' → suc k ≤ length s → front_of s ≡ too_long
-front_of-scanned k limit s first behind m p d p' d' is_s is_first is_m is_p is_d goes long =
-    let is : s ≡ 123 ∷ behind = is_s ∙ ap (λ c. c ∷ behind) is_first in
-    let size : length s ≡ suc (length behind) = ap length is in
+-- it goes on after as many as a message may have
+pub front_of-scanned : (k : ℕ) → max_message ≡ suc k → (s : List ℕ) (first : ℕ) (later : List ℕ) (m : ℕ) (p : Place) (d : ℕ) (p' : Place) (d' : ℕ) → s ≡ first ∷ later → first ≡ 123
+    → m ≡ min (length later) k → p ≡ outside → d ≡ 1 → GoesOn p d (take m later) p' d' → suc k ≤ length s → front_of s ≡ too_long
+front_of-scanned k limit s first later m p d p' d' is_s is_first is_m is_p is_d goes long =
+    let is : s ≡ 123 ∷ later = is_s ∙ ap (λ c. c ∷ later) is_first in
+    let size : length s ≡ suc (length later) = ap length is in
     let same : m ≡ k = omega (arith, size, is_m) in
-    let scanned : GoesOn outside 1 (take k behind) p' d' =
-    subst (λ (q : Place). GoesOn q 1 (take k behind) p' d') is_p (subst (λ (e : ℕ). GoesOn p e (take k behind) p' d') is_d (subst (λ (j : ℕ). GoesOn p d (take j behind) p' d') same goes)) in
+    let scanned : GoesOn outside 1 (take k later) p' d' =
+    subst (λ (q : Place). GoesOn q 1 (take k later) p' d') is_p (subst (λ (e : ℕ). GoesOn p e (take k later) p' d') is_d (subst (λ (j : ℕ). GoesOn p d (take j later) p' d') same goes)) in
     let unclosed : closed_at outside 0 (take max_message s) ≡ None =
-    ap (λ j. closed_at outside 0 (take j s)) limit ∙ ap (λ u. closed_at outside 0 (take (suc k) u)) is ∙ goes_on-unclosed outside 0 (123 ∷ take k behind) p' d' (goes_on-brace (take k behind) p' d' scanned) in
+    ap (λ j. closed_at outside 0 (take j s)) limit ∙ ap (λ u. closed_at outside 0 (take (suc k) u)) is ∙ goes_on-unclosed outside 0 (123 ∷ take k later) p' d' (goes_on-brace (take k later) p' d' scanned) in
     front_of-endless s (ap (λ u. get_or u 0 0 == 123) is) (omega (arith, limit)) unclosed

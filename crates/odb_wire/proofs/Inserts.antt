@@ -1,4 +1,4 @@
--- The operations behind the first member of `params`.
+-- The operations after the first member of `params`.
 use Rattle.std.proofs.Common.{◌≡◌, ℕ, Bool, true, false, not, ◌&&◌, if◌then◌else◌, List, [], ◌∷◌, Option, Some, option_map, unwrap_or, is_some, codes, bytes_eq, count_by, drop, map, refl, sym, ap, ◌∙◌}
 use Rattle.serde_json.specs.Data.{Data, Items}
 use Rattle.serde_json.specs.Find.{as_array}

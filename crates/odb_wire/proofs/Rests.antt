@@ -15,7 +15,7 @@ use Rattle.odb_wire.specs.declared.split.State.{State}
 use Rattle.odb_wire.specs.declared.split.State.TheVariants.{Going, Stopped}
 use Rattle.odb_wire.specs.declared.split.Stop.TheVariants as stop
 use Rattle.odb_wire.proofs.Fronts.{closed_at-text, goes_on-both, goes_on-unclosed, front_of-text, front_of-endless, take_within}
-use Rattle.odb_wire.proofs.Streams.{messages-too_long, messages-waiting}
+use Rattle.odb_wire.proofs.Streams.{messages-too_long, messages-incomplete}
 use Rattle.odb_wire.proofs.Steps.{SoFar, going}
 
 -- a rest that isn't empty
@@ -80,7 +80,7 @@ pub messages-rest : (text : List ℕ) (scan : Scan) → IsRest text scan → mes
 messages-rest [] scan rest = refl
 messages-rest (c ∷ cs) scan rest =
     ap messages (append-nil (c ∷ cs))
-    ∙ messages-waiting c cs rest.brace rest.short (goes_on-unclosed outside 0 (c ∷ cs) (place_of scan.place) scan.depth rest.further)
+    ∙ messages-incomplete c cs rest.brace rest.short (goes_on-unclosed outside 0 (c ∷ cs) (place_of scan.place) scan.depth rest.further)
 
 -- a stream that goes on is at no fault
 pub no_fault : (s : State) (rest : Rest) → IsStanding s → s ≡ Going rest → None ≡ fault_of (messages_after s []).1

@@ -5,17 +5,17 @@ use Rattle.std.proofs.lemmas.Bool.{ne_eqb}
 use Rattle.odb_wire.specs.Stream.{Place, closed_at, place_after, open_after}
 use Rattle.odb_wire.specs.Scanning.{GoesOn, IsEnd}
 
--- a byte and the rest put behind the bytes, one after the other or at once
+-- a byte and the rest put after the bytes, one after the other or at once
 join_twice : (bytes : List ℕ) (c : ℕ) (o : Option (List ℕ)) → option_map (λ t. bytes ++ t) (option_map (λ t. c ∷ t) o) ≡ option_map (λ t. (bytes ++ c ∷ []) ++ t) o
 join_twice bytes c None = refl
 join_twice bytes c (Some t) = rw append_assoc refl
 
--- behind a byte that closes the text
+-- after a byte that closes the text
 closes_at : (p : Place) (n : ℕ) (bytes : List ℕ) (p' : Place) (n' : ℕ) (c : ℕ) (more : List ℕ) → GoesOn p n bytes p' n' → (open_after p' c n' == 0) ≡ true
     → closed_at p n (bytes ++ c ∷ more) ≡ Some (bytes ++ c ∷ [])
 closes_at p n bytes p' n' c more goes e = goes.further (c ∷ more) ∙ rw e refl
 
--- behind any other
+-- after any other
 goes_on-byte : (p : Place) (n : ℕ) (bytes : List ℕ) (p' : Place) (n' : ℕ) (c : ℕ) → GoesOn p n bytes p' n' → (open_after p' c n' == 0) ≡ false
     → GoesOn p n (bytes ++ c ∷ []) (place_after p' c) (open_after p' c n')
 goes_on-byte p n bytes p' n' c goes e =

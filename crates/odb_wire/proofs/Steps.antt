@@ -4,7 +4,7 @@ use Rattle.std.proofs.lemmas.List.{length-take, length-drop, map_push, drop_all}
 use Rattle.std.proofs.lemmas.List.Elements.{All-push}
 use Rattle.serde_json.specs.Data.{Data}
 use Rattle.odb_wire.specs.Stream.{front_of, whole, too_long, bad, skip_blanks, message_of, Ending, fault_bad, messages}
-use Rattle.odb_wire.specs.Standing.{behind}
+use Rattle.odb_wire.specs.Standing.{prepended}
 use Rattle.odb_wire.specs.Shown.{message_data, IsOfItsKind}
 use Rattle.odb_wire.specs.declared.message.Message.{Message}
 use Rattle.odb_wire.specs.Standing.{IsWhole, IsUnfinished, IsRest, IsStanding, ReadsOn, messages_after, ending_of}
@@ -15,14 +15,14 @@ use Rattle.odb_wire.specs.declared.split.State.{State}
 use Rattle.odb_wire.specs.declared.split.State.TheVariants.{Going, Stopped}
 use Rattle.odb_wire.proofs.Streams.{messages-skip, messages-whole, messages-no_message, messages-too_long, messages-bad, not_blank, no_brace, front_of-length, skip_blanks-length}
 
--- behind the messages given, those of the bytes were found so far, and these bytes are left
+-- after the messages given, those of the bytes were found so far, and these bytes are left
 pub record SoFar (given : List Data) (bytes : List ℕ) (found : List Data) (left : List ℕ) : Type 0 where
-  pub further : (more : List ℕ) → behind given (messages (bytes ++ more)) ≡ behind found (messages (left ++ more))
+  pub further : (more : List ℕ) → prepended given (messages (bytes ++ more)) ≡ prepended found (messages (left ++ more))
 
 pub so_far-start : (given : List Data) (bytes left : List ℕ) → left ≡ skip_blanks bytes → SoFar given bytes given left
-so_far-start given bytes left e = record { further = λ more. ap (behind given) (messages-skip bytes more ∙ ap (λ u. messages (u ++ more)) (sym e)) }
+so_far-start given bytes left e = record { further = λ more. ap (prepended given) (messages-skip bytes more ∙ ap (λ u. messages (u ++ more)) (sym e)) }
 
-behind-more : (found : List Data) (d : Data) (rest : List Data × Ending) → behind found (behind (d ∷ []) rest) ≡ behind (found ++ d ∷ []) rest
+behind-more : (found : List Data) (d : Data) (rest : List Data × Ending) → prepended found (prepended (d ∷ []) rest) ≡ prepended (found ++ d ∷ []) rest
 behind-more found d rest = ap (λ ds. (ds, rest.1)) (sym (append_assoc found (d ∷ []) rest.0))
 
 -- a whole message
@@ -31,15 +31,15 @@ pub so_far-message : (given : List Data) (bytes : List ℕ) (found : List Data) 
 so_far-message given bytes found left n d after so is_whole is e =
     let size : length (take n left) ≡ n = length-take n left ∙ omega (arith, is_whole.within) in
     record {
-      further = λ more. so.further more ∙ ap (behind found) (messages-whole left more (take n left) d is_whole.text is) ∙ behind-more found d (messages (drop (length (take n left)) left ++ more))
-          ∙ ap (λ j. behind (found ++ d ∷ []) (messages (drop j left ++ more))) size
-          ∙ ap (behind (found ++ d ∷ [])) (messages-skip (drop n left) more ∙ ap (λ u. messages (u ++ more)) (sym e));
+      further = λ more. so.further more ∙ ap (prepended found) (messages-whole left more (take n left) d is_whole.text is) ∙ behind-more found d (messages (drop (length (take n left)) left ++ more))
+          ∙ ap (λ j. prepended (found ++ d ∷ []) (messages (drop j left ++ more))) size
+          ∙ ap (prepended (found ++ d ∷ [])) (messages-skip (drop n left) more ∙ ap (λ u. messages (u ++ more)) (sym e));
     }
 
 -- a fault
 stopped : (given : List Data) (bytes : List ℕ) (found : List Data) (left : List ℕ) (stop : Stop) → SoFar given bytes found left → ((more : List ℕ) → messages (left ++ more) ≡ ([], ending_of stop))
     → ReadsOn given bytes found (Stopped stop)
-stopped given bytes found left stop so at = record { stands = tt; further = λ more. so.further more ∙ ap (behind found) (at more) }
+stopped given bytes found left stop so at = record { stands = tt; further = λ more. so.further more ∙ ap (prepended found) (at more) }
 
 -- a whole object that is no message
 pub stopped-no_message : (given : List Data) (bytes : List ℕ) (found : List Data) (left : List ℕ) (n : ℕ) → SoFar given bytes found left → IsWhole left n → message_of (take n left) ≡ None
@@ -64,7 +64,7 @@ pub going : (given : List Data) (bytes : List ℕ) (found : List Data) (left : L
 going given bytes found left rest so unfinished e =
     record {
       stands = subst (λ (u : List ℕ). IsRest u rest.scan) (sym e) (is_rest left unfinished);
-      further = λ more. so.further more ∙ ap (λ u. behind found (messages (u ++ more))) (sym e);
+      further = λ more. so.further more ∙ ap (λ u. prepended found (messages (u ++ more))) (sym e);
     }
   where
     is_rest : (s : List ℕ) → IsUnfinished s rest.scan → IsRest s rest.scan
@@ -75,7 +75,7 @@ going given bytes found left rest so unfinished e =
 pub between : (given : List Data) (bytes : List ℕ) (found : List Data) (left : List ℕ) (new : State) → SoFar given bytes found left → left ≡ [] → IsStanding new
     → ((more : List ℕ) → messages_after new more ≡ messages more) → ReadsOn given bytes found new
 between given bytes found left new so e stands fresh =
-    record { stands = stands; further = λ more. so.further more ∙ ap (λ u. behind found (messages (u ++ more))) e ∙ ap (behind found) (sym (fresh more)) }
+    record { stands = stands; further = λ more. so.further more ∙ ap (λ u. prepended found (messages (u ++ more))) e ∙ ap (prepended found) (sym (fresh more)) }
 
 -- what is left gets shorter
 pub left_shorter : (left : List ℕ) (n : ℕ) (after : List ℕ) → IsWhole left n → after ≡ skip_blanks (drop n left) → length after < length left
@@ -114,7 +114,7 @@ first_message t behind_it d found new front is reads =
     record {
       stands = reads.stands;
       further = λ more. ap messages (append_assoc t behind_it more) ∙ messages-whole t (behind_it ++ more) t d front is
-          ∙ ap (λ u. behind (d ∷ []) (messages (u ++ (behind_it ++ more)))) (nothing_left t) ∙ reads.further more;
+          ∙ ap (λ u. prepended (d ∷ []) (messages (u ++ (behind_it ++ more)))) (nothing_left t) ∙ reads.further more;
     }
 
 pub reads_first : (t behind_it text : List ℕ) (o : Option Message) (m : Message) (none pushed : List Message) (found : List Data) (new : State) → front_of t ≡ whole t → text ≡ t

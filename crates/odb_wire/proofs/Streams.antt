@@ -3,8 +3,8 @@ use Rattle.std.proofs.Common.{◌≡◌, ◌≢◌, ℕ, zero, suc, ◌==◌, �
 use Rattle.std.proofs.lemmas.List.{length-take, take-append-le, drop-append-le, take_all, drop_more}
 use Rattle.std.proofs.lemmas.Bool.{lt-ltb, ltb-true, eqb-true}
 use Rattle.serde_json.specs.Data.{Data}
-use Rattle.odb_wire.specs.Stream.{is_blank, Place, outside, closed_at, place_after, open_after, Front, waiting, too_long, bad, whole, of_text, front_of, max_message, skip_blanks, message_of, Ending, goes_on, fault_too_long, fault_bad, messages_in, messages}
-use Rattle.odb_wire.specs.Standing.{behind}
+use Rattle.odb_wire.specs.Stream.{is_blank, Place, outside, closed_at, place_after, open_after, Front, incomplete, too_long, bad, whole, of_text, front_of, max_message, skip_blanks, message_of, Ending, goes_on, fault_too_long, fault_bad, messages_in, messages}
+use Rattle.odb_wire.specs.Standing.{prepended}
 
 -- ---- where the text of an object ends
 
@@ -123,14 +123,14 @@ front_of-too_long_more (c ∷ cs) more e =
 
 -- ---- one step of `messages_in`
 
--- with what the text of a whole object is, and what is left behind it
+-- with what the text of a whole object is, and what is left after it
 abbrev with_message : ℕ → Option Data → List ℕ → List Data × Ending
 with_message n None left = ([], fault_bad)
-with_message n (Some d) left = behind (d ∷ []) (messages_in n left)
+with_message n (Some d) left = prepended (d ∷ []) (messages_in n left)
 
 -- with what stands at the front of s
 abbrev with_front : ℕ → Front → List ℕ → List Data × Ending
-with_front n waiting s = ([], goes_on)
+with_front n incomplete s = ([], goes_on)
 with_front n too_long s = ([], fault_too_long)
 with_front n bad s = ([], fault_bad)
 with_front n (whole t) s = with_message n (message_of t) (drop (length t) s)
@@ -145,7 +145,7 @@ messages_in-step n s = at_front (front_of (skip_blanks s))
 
     at_front : (f : Front)
         → (elim f as (λ _. List Data × Ending) [
-          | waiting ↦ ([], goes_on)
+          | incomplete ↦ ([], goes_on)
           | too_long ↦ ([], fault_too_long)
           | bad ↦ ([], fault_bad)
           | whole t ↦ elim (message_of t) [
@@ -153,7 +153,7 @@ messages_in-step n s = at_front (front_of (skip_blanks s))
             | Some d ↦ (let rest = messages_in n (drop (length t) (skip_blanks s)) in (d ∷ rest.0, rest.1))
           ]
         ]) ≡ with_front n f (skip_blanks s)
-    at_front waiting = refl
+    at_front incomplete = refl
     at_front too_long = refl
     at_front bad = refl
     at_front (whole t) = at_message (message_of t) (drop (length t) (skip_blanks s))
@@ -167,11 +167,11 @@ skip_blanks-length (c ∷ cs) =
 -- two numbers of steps that give the same of each shorter stream give the same
 same_message : (n m : ℕ) (o : Option Data) (left : List ℕ) → messages_in n left ≡ messages_in m left → with_message n o left ≡ with_message m o left
 same_message n m None left e = refl
-same_message n m (Some d) left e = ap (behind (d ∷ [])) e
+same_message n m (Some d) left e = ap (prepended (d ∷ [])) e
 
 same_front : (n m : ℕ) (f : Front) (s : List ℕ) → front_of s ≡ f → length s < suc n → length s < suc m → ((left : List ℕ) → length left < n → length left < m → messages_in n left ≡ messages_in m left)
     → with_front n f s ≡ with_front m f s
-same_front n m waiting s e h k again = refl
+same_front n m incomplete s e h k again = refl
 same_front n m too_long s e h k again = refl
 same_front n m bad s e h k again = refl
 same_front n m (whole t) s e h k again =
@@ -217,7 +217,7 @@ no_blank : (c : ℕ) → (c == 123) ≡ true → is_blank c ≡ false
 no_blank c is = subst (λ (k : ℕ). is_blank k ≡ false) (sym (eqb-true c 123 is)) refl
 
 -- a whole object that is a message
-pub messages-whole : (s more t : List ℕ) (d : Data) → front_of s ≡ whole t → message_of t ≡ Some d → messages (s ++ more) ≡ behind (d ∷ []) (messages (drop (length t) s ++ more))
+pub messages-whole : (s more t : List ℕ) (d : Data) → front_of s ≡ whole t → message_of t ≡ Some d → messages (s ++ more) ≡ prepended (d ∷ []) (messages (drop (length t) s ++ more))
 messages-whole [] more t d e is = absurd (cc)
 messages-whole (c ∷ cs) more t d e is =
     let bound : (0 < length t) × (length t ≤ length (c ∷ cs)) = front_of-length (c ∷ cs) t e in
@@ -226,8 +226,8 @@ messages-whole (c ∷ cs) more t d e is =
     omega (arith, bound.0, bound.1, length-append (drop (length t) (c ∷ cs)) more, length-drop (length t) (c ∷ cs), length-append cs more) in
     messages-front c (cs ++ more) (whole t) (no_blank c (at_brace c cs t e)) (front_of-whole_more (c ∷ cs) more t e)
     ∙ ap (λ o. with_message (suc (length (cs ++ more))) o (drop (length t) (c ∷ (cs ++ more)))) is
-    ∙ ap (λ u. behind (d ∷ []) (messages_in (suc (length (cs ++ more))) u)) left
-    ∙ ap (behind (d ∷ [])) (messages_in-enough (suc (length (cs ++ more))) (suc (length (drop (length t) (c ∷ cs) ++ more))) (drop (length t) (c ∷ cs) ++ more) size (omega arith))
+    ∙ ap (λ u. prepended (d ∷ []) (messages_in (suc (length (cs ++ more))) u)) left
+    ∙ ap (prepended (d ∷ [])) (messages_in-enough (suc (length (cs ++ more))) (suc (length (drop (length t) (c ∷ cs) ++ more))) (drop (length t) (c ∷ cs) ++ more) size (omega arith))
 
 -- a whole object that is none
 pub messages-no_message : (s more t : List ℕ) → front_of s ≡ whole t → message_of t ≡ None → messages (s ++ more) ≡ ([], fault_bad)
@@ -247,9 +247,9 @@ messages-bad c cs more isnt apart =
     messages-front c (cs ++ more) bad isnt (ap (λ b. if b then of_text (closed_at outside 0 (take max_message (c ∷ (cs ++ more)))) (not (nat_lt (suc (length (cs ++ more))) max_message)) else bad) apart)
 
 -- an object that goes on
-pub messages-waiting : (c : ℕ) (cs : List ℕ) → (c == 123) ≡ true → length (c ∷ cs) < max_message → closed_at outside 0 (c ∷ cs) ≡ None → messages (c ∷ cs) ≡ ([], goes_on)
-messages-waiting c cs is short unclosed =
-    messages-front c cs waiting (no_blank c is)
+pub messages-incomplete : (c : ℕ) (cs : List ℕ) → (c == 123) ≡ true → length (c ∷ cs) < max_message → closed_at outside 0 (c ∷ cs) ≡ None → messages (c ∷ cs) ≡ ([], goes_on)
+messages-incomplete c cs is short unclosed =
+    messages-front c cs incomplete (no_blank c is)
     (ap (λ b. if b then of_text (closed_at outside 0 (take max_message (c ∷ cs))) (not (nat_lt (suc (length cs)) max_message)) else bad) is
     ∙ ap (λ t. of_text (closed_at outside 0 t) (not (nat_lt (suc (length cs)) max_message))) (take_all max_message (c ∷ cs) (omega arith))
     ∙ ap (λ o. of_text o (not (nat_lt (suc (length cs)) max_message))) unclosed ∙ ap (λ b. of_text None (not b)) (lt-ltb (suc (length cs)) max_message short))

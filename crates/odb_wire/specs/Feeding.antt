@@ -12,12 +12,12 @@ fault_of goes_on = None
 fault_of fault_too_long = Some TooLong
 fault_of fault_bad = Some BadStream
 
--- the piece comes behind the bytes, and with it these messages are whole that weren't before
+-- the piece comes after the bytes, and with it these messages are whole that weren't before
 pub record Adds (old piece new : List ℕ) (found : List Data) : Type 0 where
   pub bytes : new ≡ old ++ piece
   pub messages : (stream.messages new).0 ≡ (stream.messages old).0 ++ found
 
--- the piece comes behind the bytes, and no further message is whole, since the stream is at a fault
+-- the piece comes after the bytes, and no further message is whole, since the stream is at a fault
 pub record StopsAt (old piece new : List ℕ) (fault : Ending) : Type 0 where
   pub bytes : new ≡ old ++ piece
   pub messages : stream.messages new ≡ ((stream.messages old).0, fault)

@@ -1,4 +1,4 @@
--- What a response is, beside requests and notifications.
+-- What a response is, beside requests and notifications. [P 7.2]
 use Rattle.std.specs.Prelude.{Bool, ◌&&◌, ◌||◌, is_some, is_none, codes}
 use Rattle.serde_json.specs.Data.{Data}
 use Rattle.serde_json.specs.Find.{get}

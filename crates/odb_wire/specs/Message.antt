@@ -1,4 +1,4 @@
--- Messages of JSON-RPC 1.0 (RFC 7047, 4): a request has a text `method` and an `id` that isn't null, a notification a `method` and no such `id`, a response no `method`.
+-- Messages of JSON-RPC 1.0 (RFC 7047, section 4): a request has a text `method` and an `id` that isn't null, a notification a `method` and no such `id`, a response no `method`. [P 0.1, 6.2, 7.2]
 use Rattle.std.specs.Prelude.{ℕ, ◌^◌, Bool, true, false, not, ◌&&◌, ◌||◌, nat_lt, count_by, drop, if◌then◌else◌, List, [], ◌∷◌, Option, Some, None, is_some, codes, bytes_eq, unwrap_or, option_map, option_and_then}
 use Rattle.serde_json.specs.Data.{Data, null, boolean, number, string, array, object, Num, unsigned, negative, float, Items, no_items, item, Members, no_members, member}
 use Rattle.serde_json.specs.Find.{get, as_str, as_array}
@@ -68,7 +68,7 @@ items_list (item d ds) = d ∷ items_list ds
 abbrev pub is_insert : Data → Bool
 is_insert d = elim (option_and_then as_str (get (codes "op") d)) [ None ↦ false | Some s ↦ bytes_eq s (codes "insert") ]
 
--- the objects with `op` "insert" behind the first member of the params of a `transact` that is a request
+-- the objects with `op` "insert" after the first member of the params of a `transact` that is a request
 abbrev pub inserts_of : Data → ℕ
 inserts_of d =
     if is_request d && bytes_eq (unwrap_or (method_of d) (codes "")) (codes "transact")

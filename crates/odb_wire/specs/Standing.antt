@@ -11,15 +11,15 @@ use Rattle.odb_wire.specs.declared.split.State.TheVariants as state
 use Rattle.odb_wire.specs.declared.split.Front.{Front}
 use Rattle.odb_wire.specs.declared.split.Front.TheVariants as front
 
--- messages, and behind them those that come of what is left
-abbrev pub behind : List Data → List Data × Ending → List Data × Ending
-behind found rest = (found ++ rest.0, rest.1)
+-- messages, and after them those that come of what is left
+abbrev pub prepended : List Data → List Data × Ending → List Data × Ending
+prepended found rest = (found ++ rest.0, rest.1)
 
 abbrev pub ending_of : Stop → Ending
 ending_of stop.TooLong = fault_too_long
 ending_of stop.BadStream = fault_bad
 
--- the text of an object that goes on, and a scan that stands behind it
+-- the text of an object that goes on, and a scan that stands after it
 pub record IsUnfinished (text : List ℕ) (scan : Scan) : Type 0 where
   pub short : length text < max_message
   pub brace : IsTrue (slice_index text 0 == 123)
@@ -40,15 +40,15 @@ abbrev pub messages_after : State → List ℕ → List Data × Ending
 messages_after (state.Going rest) more = messages (rest.text.items ++ more)
 messages_after (state.Stopped stop) more = ([], ending_of stop)
 
--- behind the messages given, those of the bytes were found, and the stream stands there
+-- after the messages given, those of the bytes were found, and the stream stands there
 pub record ReadsOn (given : List Data) (bytes : List ℕ) (found : List Data) (new : State) : Type 0 where
   pub stands : IsStanding new
-  pub further : (more : List ℕ) → behind given (messages (bytes ++ more)) ≡ behind found (messages_after new more)
+  pub further : (more : List ℕ) → prepended given (messages (bytes ++ more)) ≡ prepended found (messages_after new more)
 
 -- the same of a state and a piece
 pub record TakesIn (old : State) (piece : List ℕ) (found : List Data) (new : State) : Type 0 where
   pub stands : IsStanding new
-  pub further : (more : List ℕ) → messages_after old (piece ++ more) ≡ behind found (messages_after new more)
+  pub further : (more : List ℕ) → messages_after old (piece ++ more) ≡ prepended found (messages_after new more)
 
 -- a state that stands for the same
 pub record IsAsBefore (old new : State) : Type 0 where
@@ -62,11 +62,11 @@ pub record IsWhole (bytes : List ℕ) (n : ℕ) : Type 0 where
 -- what stands at the front of the bytes
 abbrev pub IsFront : List ℕ → Front → Type 0
 IsFront bytes (front.Whole n) = IsWhole bytes n
-IsFront bytes (front.Waiting scan) = IsUnfinished bytes scan
+IsFront bytes (front.Incomplete scan) = IsUnfinished bytes scan
 IsFront bytes front.TooLong = front_of bytes ≡ too_long
 IsFront bytes front.Bad = front_of bytes ≡ bad
 
 -- the state is that of a stream of which these bytes came
 pub record Follows (bytes : List ℕ) (now : State) : Type 0 where
   pub stands : IsStanding now
-  pub further : (more : List ℕ) → messages (bytes ++ more) ≡ behind (messages bytes).0 (messages_after now more)
+  pub further : (more : List ℕ) → messages (bytes ++ more) ≡ prepended (messages bytes).0 (messages_after now more)

@@ -1,4 +1,4 @@
--- Streams of JSON-RPC messages (RFC 7047, 4; RFC 4627): blanks and objects. The whole messages that a stream has, and how it stands behind them.
+-- Streams of JSON-RPC messages (RFC 7047, section 4; RFC 4627): blanks and objects. The whole messages that a stream has, and how it stands after them. [P 7.1, 14]
 use Rattle.std.specs.Prelude.{ℕ, zero, suc, ◌+◌, ◌-◌, ◌==◌, nat_lt, length, take, drop, Bool, not, ◌||◌, if◌then◌else◌, List, [], ◌∷◌, Option, Some, None, option_map, option_and_then}
 use Rattle.std.specs.Str.{is_utf8}
 use Rattle.serde_json.specs.Data.{Data}
@@ -9,7 +9,7 @@ use Rattle.odb_wire.specs.Message.{is_message}
 abbrev pub is_blank : ℕ → Bool
 is_blank c = (c == 32) || ((c == 9) || ((c == 10) || (c == 13)))
 
--- outside a string, inside one, or behind a backslash inside one
+-- outside a string, inside one, or after a backslash inside one
 pub data Place : Type 0 where
   outside inside escaped : Place
 
@@ -35,18 +35,18 @@ max_message = 16777216
 
 -- what stands at the front of a stream: no whole message yet, a fault, or the text of an object
 pub data Front : Type 0 where
-  waiting : Front
+  incomplete : Front
   too_long : Front
   bad : Front
   whole : List ℕ → Front
 
 abbrev pub of_text : Option (List ℕ) → Bool → Front
 of_text (Some t) full = whole t
-of_text None full = if full then too_long else waiting
+of_text None full = if full then too_long else incomplete
 
 -- at the first byte that isn't blank
 abbrev pub front_of : List ℕ → Front
-front_of [] = waiting
+front_of [] = incomplete
 front_of (c ∷ cs) =
     if c == 123 then of_text (closed_at outside 0 (take max_message (c ∷ cs))) (not (nat_lt (length (c ∷ cs)) max_message)) else bad
 
@@ -58,7 +58,7 @@ skip_blanks (c ∷ cs) = if is_blank c then skip_blanks cs else c ∷ cs
 abbrev pub message_of : List ℕ → Option Data
 message_of t = if is_utf8 t then option_and_then (λ d. if is_message d then Some d else None) (read t) else None
 
--- how a stream stands behind its whole messages: it may go on, or it is at a fault
+-- how a stream stands after its whole messages: it may go on, or it is at a fault
 pub data Ending : Type 0 where
   goes_on : Ending
   fault_too_long : Ending
@@ -69,7 +69,7 @@ abbrev pub messages_in : ℕ → List ℕ → List Data × Ending
 messages_in zero s = ([], goes_on)
 messages_in (suc n) s =
     elim (front_of (skip_blanks s)) [
-      | waiting ↦ ([], goes_on)
+      | incomplete ↦ ([], goes_on)
       | too_long ↦ ([], fault_too_long)
       | bad ↦ ([], fault_bad)
       | whole t ↦ elim (message_of t) [

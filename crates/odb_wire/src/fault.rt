@@ -1,7 +1,7 @@
 //! Why a stream can't be read on.
 use thiserror::Error;
 
-/// Why a call of `Framer::feed` answers no messages.
+/// Why a call of `Framer::feed` returns no messages.
 #[derive(Clone, Copy, Debug, Drop, PartialEq, Eq, Error)]
 pub enum WireFault {
     /// An allocation failed. Nothing was taken in.

@@ -1,4 +1,4 @@
-//! The framer: pieces of a stream go in, and messages come out.
+//! The framer: pieces of a stream go in, and messages come out. [P 7.1]
 ghost use Rattle.std.specs.Prelude.{◌≡◌, [], map, All, IfOk, IfErr, IfSome, Err, Some, None};
 ghost use Rattle.std.specs.List.{flat_map};
 ghost use Rattle.odb_wire.specs.Stream.{goes_on, messages};
@@ -13,9 +13,9 @@ use std::alloc::{AllocError, Global};
 use std::marker::Model;
 use std::mem;
 
-/// Takes a stream of messages in, piece by piece, and answers each message once it is whole. Contracts see a framer as
-/// the list of all bytes that it has taken in, so each call's promise is about the whole stream so far, and it doesn't
-/// matter how the stream was cut.
+/// Takes a stream of messages in, piece by piece, and returns each message once it is whole.
+/// Contracts see a framer as the list of all bytes that it has taken in, so each call's promise is
+/// about the whole stream so far, and it doesn't matter how the stream was cut.
 ///
 /// It keeps the text of the message that isn't whole yet, at most 16,777,215 bytes, and nothing between messages.
 #[derive(Drop)]
@@ -48,18 +48,19 @@ impl Framer {
         }
     }
 
-    /// Takes the next piece in, and answers the messages that are whole now. A fault of the stream comes with this call
-    /// where no message stands before it, and else with the next one, whose piece may be empty; from then on each
-    /// call answers it. After `Memory` nothing was taken in, and the same piece can be fed again.
+    /// Takes the next piece in, and returns the messages that are whole now. A fault of the stream
+    /// comes with this call where no message stands before it, and else with the next one, whose
+    /// piece may be empty; from then on each call returns it. After `Memory` nothing was taken in,
+    /// and the same piece can be fed again.
     ///
     /// Each byte is looked at once to find where messages end, and each message is read once, so a call costs what its
     /// piece and the messages that it makes whole are long. What an unfinished message grows into is given back with
-    /// the message: behind it only the bytes that follow it are kept, in a buffer of their own.
+    /// the message: after it only the bytes that follow it are kept, in a buffer of their own.
     pub fn feed(&mut self, piece: &[u8]) -> Result<Vec<Message>, WireFault>
         ensures ok { IfOk result (λ found. Adds self.old piece.now self.new (map message_data found.items)) }
         ensures kinds { IfOk result (λ found. All IsOfItsKind found.items) }
 
-        // Where no message is answered, no fault waits.
+        // Where no message is returned, no fault is kept for the next call.
         ensures quiet { IfOk result (λ found. found.items ≡ [] → (messages self.new).1 ≡ goes_on) }
 
         ensures err { IfErr result (Leaves self.old piece.now self.new) }
@@ -93,7 +94,7 @@ fn answer(messages: Vec<Message>, fault: Option<WireFault>) -> Result<Vec<Messag
     }
 }
 
-/// The messages of a stream that comes in these pieces, and the fault that it stands at behind them. They are those of
+/// The messages of a stream that comes in these pieces, and the fault that it stands at after them. They are those of
 /// the pieces joined together: two ways to cut one stream give the same.
 pub fn read_pieces(
     alloc: Global,

@@ -1,4 +1,4 @@
-//! Messages of JSON-RPC 1.0: requests, notifications and responses.
+//! Messages of JSON-RPC 1.0: requests, notifications and responses. [P 0.1, 6.2, 7.2]
 ghost use Rattle.std.specs.Prelude.{◌≡◌, Some, None, IsTrue, IfSome, IfOk, option_map, is_some, codes, count_by, drop, map, if◌then◌else◌};
 ghost use Rattle.serde_json.specs.View.{view, items_view};
 ghost use Rattle.serde_json.specs.Find.{get, as_array};
@@ -64,7 +64,7 @@ impl Request {
         self.message.get("id")
     }
 
-    /// Whether `id` is absent or null: then nothing is answered.
+    /// Whether `id` is absent or null: then there is no reply.
     pub fn is_notification(&self) -> bool
         ensures { result ≡ is_notification (request_data self.now) }
     {
@@ -74,8 +74,8 @@ impl Request {
         }
     }
 
-    /// How many identifiers the request needs: one for each object with `op` "insert" behind the first member of
-    /// `params`, where it is a `transact` and no notification. It takes no memory.
+    /// How many identifiers the request needs: one for each object with `op` "insert" after the
+    /// first member of `params`, where it is a `transact` and no notification.
     #[tactic(auto, using(crate::proofs::Inserts::inserts_found))]
     pub fn inserts(&self) -> usize
         ensures { result ≡ inserts_of (request_data self.now) }
@@ -96,8 +96,8 @@ impl Request {
         self.params().and_then(Value::as_array)
     }
 
-    /// Whether a number that is no integer from -(2^63) to 2^63-1 stands anywhere in the message. Each call goes
-    /// through the whole message, and takes no memory.
+    /// Whether a number that is no integer from -(2^63) to 2^63-1 stands anywhere in the message.
+    /// Each call goes through the whole message,.
     pub fn has_left_out_number(&self) -> bool
         ensures { result ≡ has_left_out (request_data self.now) }
     {

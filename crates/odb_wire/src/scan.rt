@@ -1,9 +1,9 @@
-//! The byte machine that finds where the text of an object ends.
+//! The byte machine that finds where the text of an object ends. [P 7.1]
 ghost use Rattle.std.specs.Prelude.{◌≡◌, ◌+◌, ◌<◌, ◌≤◌, ◌^◌, length, IfSome, IfNone};
 ghost use Rattle.odb_wire.specs.Stream.{outside, place_after, open_after};
 ghost use Rattle.odb_wire.specs.Scanning.{place_of, IsEnd, GoesOn};
 
-/// Whether the next byte is outside a string, inside one, or behind a backslash inside one.
+/// Whether the next byte is outside a string, inside one, or after a backslash inside one.
 #[derive(Clone, Copy)]
 pub(crate) enum Place {
     Outside,
@@ -11,7 +11,7 @@ pub(crate) enum Place {
     Escaped,
 }
 
-/// How the text of an object stands behind what was read of it.
+/// How the text of an object stands after what was read of it.
 #[derive(Clone, Copy)]
 pub(crate) struct Scan {
     place: Place,
@@ -21,7 +21,7 @@ pub(crate) struct Scan {
 }
 
 impl Scan {
-    /// Behind the brace that opens the object.
+    /// After the brace that opens the object.
     pub(crate) fn begun() -> Scan
         ensures place { place_of result.place ≡ outside }
         ensures depth { result.depth ≡ 1 }
@@ -57,7 +57,7 @@ impl Scan {
     }
 }
 
-/// The place and the open braces behind a byte.
+/// The place and the open braces after a byte.
 #[inline(always)]
 fn after(place: Place, depth: usize, byte: u8) -> (Place, usize)
     requires within { 0 < depth }

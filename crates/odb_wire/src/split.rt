@@ -1,4 +1,4 @@
-//! The whole messages at the front of a stream, and what is left of it.
+//! The whole messages at the front of a stream, and what is left of it. [P 7.1, 14]
 ghost use Rattle.std.specs.Prelude.{◌≡◌, ℕ, List, ◌+◌, ◌<◌, ◌++◌, length, take, map, All, IfOk, IfErr, OnErr, vec_len, [], IsTrue, Some, None, if◌then◌else◌};
 ghost use Rattle.odb_wire.specs.Stream.{is_blank, skip_blanks, front_of, whole, messages};
 ghost use Rattle.odb_wire.specs.Feeding.{fault_of};
@@ -39,14 +39,14 @@ pub(crate) struct Rest {
     scan: Scan,
 }
 
-/// How a stream stands behind the messages that were answered.
+/// How a stream stands after the messages that were returned.
 #[derive(Drop)]
 pub(crate) enum State {
     Going(Rest),
     Stopped(Stop),
 }
 
-/// The messages that became whole, and how the stream stands behind them.
+/// The messages that became whole, and how the stream stands after them.
 #[derive(Drop)]
 pub(crate) struct Step {
     pub(crate) messages: Vec<Message>,
@@ -56,7 +56,7 @@ pub(crate) struct Step {
 /// What stands at the front of bytes that don't begin with a blank.
 enum Front {
     Whole(usize),
-    Waiting(Scan),
+    Incomplete(Scan),
     TooLong,
     Bad,
 }
@@ -143,8 +143,8 @@ impl Rest {
         let mut further = scan;
         match further.end_in(&piece[..piece.len().min(room)]) {
             Some(end) => {
-                let (last, behind) = piece.split_at(end);
-                match complete(alloc, &mut text, last, behind) {
+                let (last, later) = piece.split_at(end);
+                match complete(alloc, &mut text, last, later) {
                     Ok(step) => Ok(step),
                     Err(_) => {
                         text.truncate(kept);
@@ -166,15 +166,15 @@ impl Rest {
     }
 }
 
-/// The unfinished message with its last bytes, and the messages behind it.
+/// The unfinished message with its last bytes, and the messages after it.
 fn complete(
     alloc: Global,
     text: &mut Vec<u8>,
     last: &[u8],
-    behind: &[u8],
+    later: &[u8],
 ) -> Result<Step, AllocError>
     requires { front_of (text.old.items ++ last.now) ≡ whole (text.old.items ++ last.now) }
-    ensures ok { IfOk result (λ step. ReadsOn [] ((text.old.items ++ last.now) ++ behind.now)
+    ensures ok { IfOk result (λ step. ReadsOn [] ((text.old.items ++ last.now) ++ later.now)
         (map message_data step.messages.items) step.state) }
     ensures kinds { IfOk result (λ step. All IsOfItsKind step.messages.items) }
     ensures err { take (vec_len text.old) text.new.items ≡ text.old.items }
@@ -184,13 +184,13 @@ fn complete(
     match Message::read(alloc, text.as_slice())? {
         Some(message) => {
             messages.push(message)?;
-            split(alloc, messages, behind)
+            split(alloc, messages, later)
         }
         None => Ok(Step::stopped(messages, Stop::BadStream)),
     }
 }
 
-/// The messages given, with those at the front of the bytes, and how these stand behind them.
+/// The messages given, with those at the front of the bytes, and how these stand after them.
 fn split(alloc: Global, mut messages: Vec<Message>, bytes: &[u8]) -> Result<Step, AllocError>
     ensures ok { IfOk result (λ step. ReadsOn (map message_data messages.items) bytes.now
         (map message_data step.messages.items) step.state) }
@@ -201,14 +201,14 @@ fn split(alloc: Global, mut messages: Vec<Message>, bytes: &[u8]) -> Result<Step
     while !left.is_empty() {
         match front_at(left) {
             Front::Whole(end) => {
-                let (text, behind) = left.split_at(end);
+                let (text, later) = left.split_at(end);
                 match Message::read(alloc, text)? {
                     Some(message) => messages.push(message)?,
                     None => return Ok(Step::stopped(messages, Stop::BadStream)),
                 }
-                left = skip_blanks(behind);
+                left = skip_blanks(later);
             }
-            Front::Waiting(scan) => {
+            Front::Incomplete(scan) => {
                 let text = Vec::from_slice(alloc, left)?;
                 return Ok(Step::going(messages, Rest { text, scan }));
             }
@@ -245,14 +245,14 @@ fn front_at(bytes: &[u8]) -> Front
     requires { 0 < length bytes.now }
     ensures { IsFront bytes.now result }
 {
-    let Some((b'{', behind)) = bytes.split_first() else {
+    let Some((b'{', later)) = bytes.split_first() else {
         return Front::Bad;
     };
     let mut scan = Scan::begun();
-    match scan.end_in(&behind[..behind.len().min(MAX_MESSAGE - 1)]) {
+    match scan.end_in(&later[..later.len().min(MAX_MESSAGE - 1)]) {
         Some(end) => Front::Whole(end + 1),
         None => if bytes.len() < MAX_MESSAGE {
-            Front::Waiting(scan)
+            Front::Incomplete(scan)
         } else {
             Front::TooLong
         },

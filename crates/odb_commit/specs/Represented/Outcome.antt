@@ -14,5 +14,5 @@ use Rattle.odb_tables.specs.Installing.{IsChangeOf}
 abbrev pub Answers : Schema → Db → Outcome → model.Outcome → Type 0
 Answers s old (outcome.Done results change) (model.done answer new) = (answer ≡ results_of results) × (change ≡ change_between old new) × IsChangeOf old change × (all_changed_by old change ≡ new) × IsSound s new
 Answers s old (outcome.Failed results) (model.refused answer) = answer ≡ results_of results
-Answers s old (outcome.Parked deadline) (model.parked moment) = moment ≡ deadline
+Answers s old (outcome.Waiting deadline) (model.waiting moment) = moment ≡ deadline
 Answers s old o answer = ⊥

@@ -29,7 +29,7 @@ empty_world tables = record {
   db = replicate tables finite.empty;
   commits = 0;
   now = 0;
-  parked = [];
+  waiting = [];
   locks = finite.empty;
   sessions = finite.empty;
 }

@@ -27,14 +27,14 @@ posted m p = at_session (push (p.1 ∷ [])) m p.0
 abbrev pub all_posted : Sessions → List (ℕ × Item) → Sessions
 all_posted = fold posted
 
--- a transaction's reply, behind a sync for each monitor
+-- a transaction's reply, after a sync for each monitor
 abbrev pub ended_in : Service → Item → Session → Session
 ended_in h reply x = push (map (λ k. sync k.id) (asked h x) ++ reply ∷ []) x
 
 -- the newest items of these sessions go, that of the last session first
-abbrev pub taken_back : List ℕ → Sessions → Sessions
-taken_back [] m = m
-taken_back (s ∷ ss) m = at_session without_last (taken_back ss m) s
+abbrev pub unposted : List ℕ → Sessions → Sessions
+unposted [] m = m
+unposted (s ∷ ss) m = at_session without_last (unposted ss m) s
 
 -- the text that a taking gives
 abbrev pub text_taken : Service → Db → Option Session → Option (List ℕ)

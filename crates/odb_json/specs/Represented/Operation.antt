@@ -48,7 +48,7 @@ verb_of verb.Abort = model.Verb.abort
 verb_of verb.Comment = model.Verb.comment
 verb_of verb.Assert = model.Verb.assert
 
--- what stands behind the table
+-- what stands after the table
 abbrev pub table_reader : TableVerb → Names → ℕ → List Column → Members → Result model.Op Error
 table_reader table_verb.Insert = model.read_insert
 table_reader table_verb.Select = model.read_select

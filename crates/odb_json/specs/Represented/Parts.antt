@@ -11,7 +11,7 @@ use Rattle.odb_schema.specs.Notation.{Names, named_uuid, pair_of, read_atom}
 
 -- ---- identifiers
 
--- the identifier that stands behind "uuid", and behind "named-uuid"
+-- the identifier that stands after "uuid", and after "named-uuid"
 abbrev pub behind_uuid : Data → Result Uuid Error
 behind_uuid (string s) = ok_or (uuid_of_text s) syntax_error
 behind_uuid d = Err syntax_error
@@ -22,7 +22,7 @@ behind_name names d = Err syntax_error
 
 -- ---- arrays
 
--- the entries, and the fault behind them if there is one
+-- the entries, and the fault after them if there is one
 abbrev pub Front : Type 0 → Type 0
 Front A = List A × Option Error
 

@@ -9,12 +9,12 @@ use Rattle.odb_cond.specs.Represented.Clause.{selector_of}
 use Rattle.odb_cond.specs.declared.clause.Selector.{Selector}
 use Rattle.odb_json.specs.MutationNotation.{changeable}
 use Rattle.odb_json.specs.Operation.{insertable}
-use Rattle.odb_json.specs.declared.row.Writing.{Writing}
-use Rattle.odb_json.specs.declared.row.Writing.TheVariants.{Insert, Update}
+use Rattle.odb_json.specs.declared.row.WrittenBy.{WrittenBy}
+use Rattle.odb_json.specs.declared.row.WrittenBy.TheVariants.{Insert, Update}
 use Rattle.odb_schema.specs.Schema.{Column}
 
 -- the place of a column that a row may name
-abbrev pub written : Writing → List Column → List ℕ → Result ℕ Error
+abbrev pub written : WrittenBy → List Column → List ℕ → Result ℕ Error
 written Insert = insertable
 written Update = changeable
 

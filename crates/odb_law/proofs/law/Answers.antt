@@ -1,16 +1,16 @@
 -- The law holds of any service whose requests name each table and column once; those of a schema do.
 use Rattle.odb_service.specs.Service.{service_of}
-use Rattle.odb_law.proofs.Reading.{reads_named}
-use Rattle.odb_law.proofs.Runs as runs
-use Rattle.odb_law.proofs.Dropped as dropped
-use Rattle.odb_law.proofs.Opened as events
+use Rattle.odb_law.proofs.RequestNames.{reads_named}
+use Rattle.odb_law.proofs.HeadlineRuns as runs
+use Rattle.odb_law.proofs.BroughtToNow as dropped
+use Rattle.odb_law.proofs.RefusedEvents as events
 use Rattle.odb_law.proofs.Committed as committed
-use Rattle.odb_law.proofs.Last as last
-use Rattle.odb_law.proofs.Granted as granted
-use Rattle.odb_law.proofs.Owed as owed
-use Rattle.odb_law.proofs.Whole as whole
-use Rattle.odb_law.proofs.Busy as busy
-use Rattle.odb_law.proofs.Waiting as waiting
+use Rattle.odb_law.proofs.ToldBeforeReply as last
+use Rattle.odb_law.proofs.GrantedMonitors as granted
+use Rattle.odb_law.proofs.OwedByRounds as owed
+use Rattle.odb_law.proofs.WholeMessages as whole
+use Rattle.odb_law.proofs.AnsweredOnce as busy
+use Rattle.odb_law.proofs.WaitingTried as waiting
 use Rattle.odb_monitor.proofs.OnlyViews.{fold-only}
 use Rattle.odb_law.proofs.law.Goals as goal
 

@@ -26,7 +26,7 @@ use Rattle.odb_tables.specs.Typed.{fits}
 abbrev pub with_rows : ℕ → Table → Draft → Draft
 with_rows t rows d = record d { now = slice_set d.now t rows }
 
--- an insert behind the test of its name: the draft with the row, and the result
+-- an insert after the test of its name: the draft with the row, and the result
 abbrev pub insert_row : List Column → ℕ → Uuid → List (ℕ × Value) → Draft → Result (Draft × Data) Error
 insert_row cs t u given d = do
   demand (not (has_used (begun d) t u)) duplicate_uuid

@@ -17,11 +17,11 @@ results_of results = map view results.items
 abbrev pub Answers : Ran → Db → model.Ran → Type 0
 Answers (ran.Finished results) db (model.finished d answer) = (d.db ≡ db) × (answer ≡ results_of results)
 Answers (ran.Failed results) db (model.failed answer) = answer ≡ results_of results
-Answers (ran.MustWait moment) db (model.must_wait answer) = answer ≡ moment
+Answers (ran.Waiting moment) db (model.waiting answer) = answer ≡ moment
 Answers r db answer = ⊥
 
--- what was answered where an operation stopped with so many behind it
+-- what was answered where an operation stopped with so many after it
 abbrev pub Ends : Ran → List Data → Option model.Stop → ℕ → Type 0
 Ends (ran.Failed results) before (Some (model.fails e)) later = results_of results ≡ before ++ (error_result e ∷ replicate later null)
-Ends (ran.MustWait moment) before (Some (model.waits answer)) later = moment ≡ answer
+Ends (ran.Waiting moment) before (Some (model.must_wait answer)) later = moment ≡ answer
 Ends r before stop later = ⊥

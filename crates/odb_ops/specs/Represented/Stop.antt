@@ -28,7 +28,7 @@ IsOfFault (fault.Failed e) s = s ≡ stop.Fails e
 abbrev pub stop_of : Stop → Option model.Stop
 stop_of stop.Memory = None
 stop_of (stop.Fails e) = Some (model.fails (error_of e))
-stop_of (stop.Waits moment) = Some (model.waits moment)
+stop_of (stop.MustWait moment) = Some (model.must_wait moment)
 
 abbrev pub IsStopped : {A : Type 0} → Option model.Stop → Result A model.Stop → Type 0
 IsStopped None r = ⊤
@@ -39,7 +39,7 @@ abbrev pub Performs : {A B : Type 0} → (A → B) → Result A Stop → Result 
 Performs view (Ok a) r = r ≡ Ok (view a)
 Performs view (Err s) r = IsStopped (stop_of s) r
 
--- the names that inserts have had behind the operation
+-- the names that inserts have had after the operation
 abbrev pub named_after : Op → List (List ℕ) → List (List ℕ)
 named_after (insert t given name) named = name_list name ++ named
 named_after op named = named

@@ -1,4 +1,4 @@
--- What the faults of the code stand for, and when the code's reading is the one of the definitions.
+-- What the faults of the code stand for, and when the code's reading is the one of the definitions. [P 1.4]
 use Rattle.std.specs.Prelude.{◌≡◌, ℕ, Result, Ok, Err}
 use Rattle.odb_schema.specs.SchemaText as model
 use Rattle.odb_schema.specs.declared.fault.SchemaFault.{SchemaFault}

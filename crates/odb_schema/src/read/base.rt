@@ -1,4 +1,4 @@
-//! Base types (RFC 7047, section 3.2, `<base-type>`).
+//! Base types (RFC 7047, section 3.2, `<base-type>`). [P 1.2, 1.5]
 
 ghost use Rattle.std.specs.Prelude.{◌≡◌};
 ghost use Rattle.serde_json.specs.View.{members_view, view};

@@ -1,4 +1,4 @@
-//! Types of columns (RFC 7047, section 3.2, `<type>`).
+//! Types of columns (RFC 7047, section 3.2, `<type>`). [P 1.2, 1.5]
 
 ghost use Rattle.std.specs.Prelude.{◌≡◌, codes, option_map};
 ghost use Rattle.serde_json.specs.View.{members_view, view};

@@ -1,4 +1,4 @@
-//! Schemas (RFC 7047, section 3.2, `<database-schema>`).
+//! Schemas (RFC 7047, section 3.2, `<database-schema>`). [P 1.2, 1.5]
 
 ghost use Rattle.std.specs.Prelude.{◌≡◌, false, IfOk, option_map};
 ghost use Rattle.serde_json.specs.View.{members_view, view};

@@ -1,4 +1,4 @@
-//! Sets of atoms in the notation of RFC 7047, section 5.1 (`<set>`), and `enum` (section 3.2).
+//! Sets of atoms in the notation of RFC 7047, section 5.1 (`<set>`), and `enum` (section 3.2). [P 1.5]
 
 ghost use Rattle.std.specs.Prelude.{◌≡◌, map};
 ghost use Rattle.serde_json.specs.View.{items_view, view};

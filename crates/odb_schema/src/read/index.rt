@@ -1,4 +1,4 @@
-//! Indexes of tables (RFC 7047, section 3.2, `indexes`).
+//! Indexes of tables (RFC 7047, section 3.2, `indexes`). [P 1.5]
 
 ghost use Rattle.std.specs.Prelude.{◌≡◌, ◌&&◌, map, not, string_bytes};
 ghost use Rattle.std.specs.List.{list_any};
@@ -31,7 +31,7 @@ fn has_name(names: &[String], name: &str) -> bool
     names.iter().any(|other| name == other.as_str())
 }
 
-/// Whether the name may stand in an index behind the names.
+/// Whether the name may stand in an index after the names.
 fn may_follow(columns: &[Column], names: &[String], name: &str) -> bool
     ensures { result ≡ (model.is_indexable columns.now name.now
         && not (list_any (λ other. same_text name.now (string_bytes other)) names.now)) }

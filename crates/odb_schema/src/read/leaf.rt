@@ -1,4 +1,4 @@
-//! Reading what JSON gives: texts, booleans, integers, and members of objects.
+//! Reading what JSON gives: texts, booleans, integers, and members of objects. [P 0.1]
 
 ghost use Rattle.std.specs.Prelude.{◌≡◌, ok_or, option_map, nat_le, true, unwrap_or};
 ghost use Rattle.serde_json.specs.View.{items_view, members_view, view};
@@ -58,7 +58,7 @@ pub fn needed<'a>(key: &str, members: &'a Map<String, Value>) -> Result<&'a Valu
     member(key, members).ok_or(SchemaFault::Syntax)
 }
 
-/// The member of an object at a key, if there is one. O(log n) for n members; it takes no memory.
+/// The member of an object at a key, if there is one. O(log n) for n members.
 pub fn member<'a>(key: &str, members: &'a Map<String, Value>) -> Option<&'a Value>
     ensures { option_map (λ value. view value.now) result
         ≡ json.get_member key.now (members_view members.now.entries) }

@@ -1,4 +1,4 @@
-//! References to tables (RFC 7047, section 3.2, `refTable` and `refType`).
+//! References to tables (RFC 7047, section 3.2, `refTable` and `refType`). [P 1.5]
 
 ghost use Rattle.std.specs.Prelude.{◌≡◌, false, is_some, option_map};
 ghost use Rattle.std.specs.List.{list_any};

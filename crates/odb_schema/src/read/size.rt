@@ -1,4 +1,4 @@
-//! How many tables a schema may have, and how many columns a table.
+//! How many tables a schema may have, and how many columns a table. [P 1.5, 14]
 
 ghost use Rattle.std.specs.Prelude.{◌≡◌, [], length, nat_lt, option_map, unwrap_or};
 ghost use Rattle.serde_json.specs.View.{members_view, view};

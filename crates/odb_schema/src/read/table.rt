@@ -1,4 +1,4 @@
-//! Tables (RFC 7047, section 3.2, `<table-schema>`).
+//! Tables (RFC 7047, section 3.2, `<table-schema>`). [P 1.2, 1.5]
 
 ghost use Rattle.std.specs.Prelude.{◌≡◌, IfOk};
 ghost use Rattle.serde_json.specs.View.{members_view, view};

@@ -1,4 +1,4 @@
-//! Base types and types (RFC 7047, section 3.2, `<base-type>` and `<type>`).
+//! Base types and types (RFC 7047, section 3.2, `<base-type>` and `<type>`). [P 1.6]
 
 ghost use Rattle.std.specs.Prelude.{◌≡◌, [], IfOk, OnOk, option_map, unwrap_or};
 ghost use Rattle.serde_json.specs.View.{members_view, view};

@@ -1,4 +1,4 @@
-//! Columns (RFC 7047, section 3.2, `<column-schema>`).
+//! Columns (RFC 7047, section 3.2, `<column-schema>`). [P 1.6]
 
 ghost use Rattle.std.specs.Prelude.{◌≡◌, IfOk};
 ghost use Rattle.serde_json.specs.View.{view};

@@ -1,4 +1,4 @@
-//! Schemas (RFC 7047, section 3.2, `<database-schema>`).
+//! Schemas (RFC 7047, section 3.2, `<database-schema>`). [P 1.6]
 
 ghost use Rattle.std.specs.Prelude.{◌≡◌, ◌≤◌, ◌++◌, length, IfOk, IsUtf8, Ok, OnErr, OnOk, Some, option_map};
 ghost use Rattle.serde_json.specs.Read.{read};
@@ -31,7 +31,7 @@ fn put_cksum(
 impl Schema {
     /// The schema as JSON (RFC 7047, section 3.2). Members that equal their defaults are left out,
     /// and so are those that were passed over when it was read. It is the JSON of the same schema.
-    /// O(n log n) for the n bytes of its text; an error says that there was no memory.
+    /// O(n log n) for the n bytes of its text.
     pub fn to_value(&self, alloc: Global) -> Result<Value, AllocError>
         ensures exact { IfOk result (λ v. view v ≡ model.write_schema self.now) }
         ensures read_back { IfOk result (λ v. model.read_schema (view v) ≡ Ok self.now) }
@@ -46,9 +46,9 @@ impl Schema {
         Ok(Value::from(members))
     }
 
-    /// The schema's text: its JSON in UTF-8, with no space between tokens and the keys of objects in
-    /// ascending order. Where it has at most 16,777,216 bytes, `Schema::read` makes the same schema
-    /// of it. O(n log n) for n bytes; an error says that there was no memory.
+    /// The schema's text: its JSON in UTF-8, with no space between tokens and the keys of objects
+    /// in ascending order. Where it has at most 16,777,216 bytes, `Schema::read` makes the same
+    /// schema of it. O(n log n) for n bytes.
     pub fn to_json(&self, alloc: Global) -> Result<Vec<u8>, AllocError>
         ensures text { IfOk result (λ bytes. bytes.items ≡ compact_text (model.write_schema self.now)) }
         ensures utf8 { IfOk result (λ bytes. IsUtf8 bytes.items) }
@@ -66,7 +66,7 @@ impl Schema {
     }
 
     /// Appends the schema's text to the bytes, as `to_json` writes it. O(n log n) for n bytes that
-    /// are added; an error says that there was no memory, and nothing was added.
+    /// are added, and nothing was added.
     pub fn write_json(&self, alloc: Global, bytes: &mut Vec<u8>) -> Result<(), AllocError>
         ensures ok { OnOk result (bytes.new.items
             ≡ bytes.old.items ++ compact_text (model.write_schema self.now)) }

@@ -9,7 +9,7 @@ command_in (command.Piece name bytes) = model.piece name.now bytes.now
 command_in (command.Open name) = model.open_session name.now
 command_in (command.Close name) = model.close_session name.now
 command_in (command.Hold name) = model.hold name.now
-command_in (command.Take name) = model.take_dry name.now
+command_in (command.Take name) = model.drain name.now
 command_in (command.Tick now) = model.tick_to now
 
 -- the number, if it is below the limit

@@ -19,6 +19,6 @@ standing o = map.map_entries (λ u now. now) o
 abbrev pub Lists : List Uuid → Table → Type 0
 Lists us t = IsDistinct (eq_by_cmp uuid_cmp) us × ((q : Uuid) → list_any (eq_by_cmp uuid_cmp q) us ≡ map.contains_key t q)
 
--- behind the old list stand the rows of the table
+-- after the old list stand the rows of the table
 abbrev pub Appends : List Uuid → List Uuid → Table → Type 0
 Appends old new t = (us : List Uuid) × (new ≡ old ++ us) × Lists us t

@@ -3,7 +3,7 @@ use Rattle.std.proofs.lemmas.Result.{IfOk-weaker}
 use Rattle.serde_json.specs.View.{view}
 use Rattle.odb_commit.specs.Represented.Outcome.{Answers}
 use Rattle.odb_commit.proofs.Sound.{sound_typed}
-use Rattle.odb_commit.proofs.Outcomes.{failed, in_parts, parked, went, went_typed}
+use Rattle.odb_commit.proofs.Outcomes.{failed, in_parts, waiting, went, went_typed}
 use Rattle.odb_commit.proofs.transaction.transact.Goals as goal
 use Rattle.odb_integrity.specs.Settlement.{settle}
 use Rattle.odb_commit.specs.Transaction as model
@@ -64,17 +64,17 @@ returns-in-Failed c =
           (failed c.args.schema.now c.args.max_rows c.args.number c.args.db.now c.run.new.draft.now c.in-Failed.results ran answers);
     }
 
-pub returns-in-MustWait : goal.returns-in-MustWait
-returns-in-MustWait c =
+pub returns-in-Waiting : goal.returns-in-Waiting
+returns-in-Waiting c =
     let operations : List Data = map view c.args.operations.now in
     let draft : Draft = c.in_ok-draft.draft in
     let begins : draft ≡ draft_of c.args.db.now = search rules in
     let ran : Ran = ops.run c.args.schema.now (context_of c.args.context.now) (begun draft) operations in
-    let answers : answered.Answers (code.MustWait c.in-MustWait.deadline) c.run.new.draft.now ran = search rules in
+    let answers : answered.Answers (code.Waiting c.in-Waiting.deadline) c.run.new.draft.now ran = search rules in
     record {
       outcome =
-          subst (Answers c.args.schema.now c.args.db.now (outcome.Parked c.in-MustWait.deadline))
+          subst (Answers c.args.schema.now c.args.db.now (outcome.Waiting c.in-Waiting.deadline))
           (sym (in_parts c.args.schema.now c.args.max_rows c.args.number (context_of c.args.context.now) c.args.db.now operations
           ∙ ap (λ (d : Draft). model.outcome c.args.schema.now c.args.max_rows c.args.number c.args.db.now (ops.run c.args.schema.now (context_of c.args.context.now) (begun d) operations)) (sym begins)))
-          (parked c.args.schema.now c.args.max_rows c.args.number c.args.db.now c.run.new.draft.now c.in-MustWait.deadline ran answers);
+          (waiting c.args.schema.now c.args.max_rows c.args.number c.args.db.now c.run.new.draft.now c.in-Waiting.deadline ran answers);
     }

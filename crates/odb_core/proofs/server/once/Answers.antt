@@ -5,7 +5,7 @@ use Rattle.std.specs.List.{filter, list_any}
 use Rattle.std.specs.Ordering.{nat_cmp}
 use Rattle.std.proofs.lemmas.List.{drop_more}
 use Rattle.odb_service.specs.Run.{once}
-use Rattle.odb_core.proofs.Listed.{left_over, none_seen, seen_again, seen_first}
+use Rattle.odb_core.proofs.ListedSessions.{left_over, none_seen, seen_again, seen_first}
 use Rattle.odb_core.proofs.server.once.Goals as goal
 use Rattle.odb_core.proofs.server.once.Goals.{then-branch+in_ok-push, else-branch}
 

@@ -1,6 +1,6 @@
 use Rattle.std.proofs.Common.{rules, ◌≡◌, not, nat_lt, length, sym, ap, ◌∙◌}
 use Rattle.odb_atoms.specs.FinMap as finite
-use Rattle.odb_core.proofs.Changed.{has_rows}
+use Rattle.odb_core.proofs.ChangedTables.{has_rows}
 use Rattle.odb_core.proofs.state.has_rows.Goals as goal
 
 pub returns : goal.returns

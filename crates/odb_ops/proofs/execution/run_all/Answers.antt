@@ -56,8 +56,8 @@ loop-place-preserved c =
     let inside : i < length ops = search rules in
     let here : op ≡ get_or ops i op = search rules in
     let split : map view (drop i ops) ≡ view op ∷ rest = ap (map view) (drop_more ops i op inside ∙ ap (λ x. x ∷ drop (i + 1) ops) (sym here)) in
-    let first : uuid_of c.first-uuid.result ≡ model.first_fresh left = search rules in
-    let behind : map uuid_of c.behind-left.result.now ≡ model.fresh_after (view op) left = search rules in
+    let first : uuid_of c.next_uuid-uuid.result ≡ model.first_fresh left = search rules in
+    let behind : map uuid_of c.remaining_uuids-left.result.now ≡ model.fresh_after (view op) left = search rules in
     let pushed : c.push.new.self.items ≡ c.loop-place.results.items ++ v ∷ [] = search rules in
     let going : Going s ctx names whole results left taken d (view op ∷ rest) = subst (Going s ctx names whole results left taken d) split c.loop-place.invariant.going in
     let ran : (named : List (List ℕ)) → AreTaken taken named → Carried s (Ok v) after new (model.read_and_perform s ctx names (model.first_fresh left) (naming named d) (view op))
@@ -91,7 +91,7 @@ returns-in-Err-clause-ran c =
     let inside : i < length ops = search rules in
     let here : op ≡ get_or ops i op = search rules in
     let split : map view (drop i ops) ≡ view op ∷ rest = ap (map view) (drop_more ops i op inside ∙ ap (λ x. x ∷ drop (i + 1) ops) (sym here)) in
-    let first : uuid_of c.first-uuid.result ≡ model.first_fresh left = search rules in
+    let first : uuid_of c.next_uuid-uuid.result ≡ model.first_fresh left = search rules in
     let going : Going s ctx names whole results left taken d (view op ∷ rest) = subst (Going s ctx names whole results left taken d) split c.loop-place.invariant.going in
     let ran : (named : List (List ℕ)) → AreTaken taken named → Carried s (Err stop) after new (model.read_and_perform s ctx names (model.first_fresh left) (naming named d) (view op))
     = λ named h. subst (λ (u : Uuid). Carried s (Err stop) after new (model.read_and_perform s ctx names u (naming named d) (view op))) first (c.in-Err.ensures.ran named h) in

@@ -1,7 +1,7 @@
 use Rattle.std.proofs.Common.{◌≡◌, ◌+◌, ◌-◌, ◌*◌, ℕ, List, ◌∷◌, drop, get_or, ap, sym, ◌∙◌}
 use Rattle.odb_script.specs.Script.{number_in}
 use Rattle.odb_script.specs.Represented.Command.{below}
-use Rattle.odb_script.proofs.Reading.{ends_below, next_digit, same_below, too_large}
+use Rattle.odb_script.proofs.Numbers.{ends_below, next_digit, same_below, too_large}
 use Rattle.odb_script.proofs.command.number_in.Goals as goal
 
 pub returns-in_default : goal.returns-in_default

@@ -1,5 +1,5 @@
 use Rattle.std.proofs.Common.{subst}
-use Rattle.odb_script.proofs.Splits.{splits, SplitsAt}
+use Rattle.odb_script.proofs.ByteSplits.{splits, SplitsAt}
 use Rattle.odb_script.proofs.command.split_at_space.Goals as goal
 
 pub returns-in_err-at : goal.returns-in_err-at

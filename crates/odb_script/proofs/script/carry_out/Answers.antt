@@ -3,7 +3,7 @@ use Rattle.odb_service.specs.Server.{served_by}
 use Rattle.odb_script.specs.Represented.Command.{command_in}
 use Rattle.odb_script.specs.Script.{command_of, perform}
 use Rattle.odb_script.proofs.LineStep.{step_is, carried}
-use Rattle.odb_script.proofs.Fronts.{appends_nothing}
+use Rattle.odb_script.proofs.AppendedParts.{appends_nothing}
 use Rattle.odb_script.proofs.script.carry_out.Goals as goal
 
 pub returns-clause-done : goal.returns-clause-done

@@ -5,7 +5,7 @@ use Rattle.std.proofs.lemmas.Result.{err_from_is_err_and}
 use Rattle.odb_service.specs.Server.{served_by}
 use Rattle.odb_script.specs.Script.{lines_of, perform_lines, command_of}
 use Rattle.odb_script.specs.Represented.Watched.{watched}
-use Rattle.odb_script.proofs.Runs.{begun_if, unread_if, goes_on_if, stops_if, Taken}
+use Rattle.odb_script.proofs.ScriptRuns.{begun_if, unread_if, goes_on_if, stops_if, Taken}
 use Rattle.odb_script.proofs.script.run_lines.Goals as goal
 
 pub loop-number-init : goal.loop-number-init

@@ -3,7 +3,7 @@ use Rattle.std.specs.Io.Buffered.{reader_remaining}
 use Rattle.odb_service.specs.Server.{served_by}
 use Rattle.odb_script.specs.Script.{lines_of, perform_lines, command_of}
 use Rattle.odb_script.specs.Represented.Watched.{watched}
-use Rattle.odb_script.proofs.Runs.{Going}
+use Rattle.odb_script.proofs.ScriptRuns.{Going}
 use Rattle.odb_script.proofs.script.run_lines.Given as goal
 
 abbrev pub invariant-loop-number : goal.invariant-loop-number

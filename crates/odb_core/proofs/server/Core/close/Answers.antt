@@ -5,8 +5,8 @@ use Rattle.odb_service.specs.Run.{Refusal, closed}
 use Rattle.odb_service.specs.Server.{Server, serve, served_by}
 use Rattle.odb_service.specs.World.{World}
 use Rattle.odb_core.specs.Represented.Core.{IsValid}
-use Rattle.odb_core.proofs.Serving.{at, closes}
-use Rattle.odb_core.proofs.Soundness.{shown, unused_closed}
+use Rattle.odb_core.proofs.ServerSteps.{at, closes}
+use Rattle.odb_core.proofs.CoreInvariant.{shown, unused_closed}
 use Rattle.odb_commit.specs.Sound.{IsSound}
 use Rattle.odb_core.proofs.server.Core.close.Goals as goal
 

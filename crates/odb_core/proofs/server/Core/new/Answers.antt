@@ -1,7 +1,7 @@
 use Rattle.std.proofs.Common.{rules, ◌≡◌, length, subst, sym}
 use Rattle.odb_service.specs.World.{World}
 use Rattle.odb_core.specs.Represented.Core.{IsValid, empty_world}
-use Rattle.odb_core.proofs.Soundness.{new_sound}
+use Rattle.odb_core.proofs.CoreInvariant.{new_sound}
 use Rattle.odb_core.proofs.server.Core.new.Goals as goal
 
 pub invariant_of-result : goal.invariant_of-result

@@ -11,8 +11,8 @@ use Rattle.odb_queue.specs.Represented.Answer.{call_at}
 use Rattle.odb_core.specs.Represented.Core.{AreUnused, IsValid}
 use Rattle.odb_core.specs.Represented.Reason.{IsReason}
 use Rattle.odb_service.proofs.Results.{either_way}
-use Rattle.odb_core.proofs.Serving.{at, submit-busy, submit-gone, submit-ok}
-use Rattle.odb_core.proofs.Unused.{found_none, found_some, unused_same}
+use Rattle.odb_core.proofs.ServerSteps.{at, submit-busy, submit-gone, submit-ok}
+use Rattle.odb_core.proofs.SessionNumbers.{found_none, found_some, unused_same}
 use Rattle.odb_core.proofs.server.Core.submit.Goals as goal
 use Rattle.odb_core.proofs.server.Core.submit.Goals.{in-Ok, in-Err}
 use Rattle.odb_service.proofs.WhoIsOpen.{handles}
@@ -50,17 +50,17 @@ invariant_of-self c =
     let s = i.served in
     let h = served_by s in
     let w : World = i.state in
-    let v : World = c.take_in.new.self in
+    let v : World = c.receive.new.self in
     let d = request_data c.args.request in
     let fresh = map uuid_of c.args.fresh.now in
     let sound : IsValid s w i.opened = c.self.invariant in
     let u : World = at_moment h c.args.now w in
     let unused : AreUnused v.sessions i.opened =
-    either_way (handle h c.args.session d fresh (call_at s d) u ≡ v) (v ≡ w) (AreUnused v.sessions i.opened) c.take_in.result c.take_in.ensures.ok c.take_in.ensures.err
+    either_way (handle h c.args.session d fresh (call_at s d) u ≡ v) (v ≡ w) (AreUnused v.sessions i.opened) c.receive.result c.receive.ensures.ok c.receive.ensures.err
     (λ e. unused_same w.sessions v.sessions i.opened (λ q. ap (λ (u : World). is_some (get u.sessions q)) (sym e) ∙ handles h c.args.session d fresh (call_at s d) u q) sound.2)
     (λ e. subst (λ (u : World). AreUnused u.sessions i.opened) (sym e) sound.2)
     in
-    (c.take_in.ensures.sound, c.take_in.ensures.tried, unused)
+    (c.receive.ensures.sound, c.receive.ensures.tried, unused)
 
 pub returns-clause-ok : goal.returns-clause-ok
 returns-clause-ok c =
@@ -68,7 +68,7 @@ returns-clause-ok c =
     let s = i.served in
     let h = served_by s in
     let w : World = i.state in
-    let v : World = c.take_in.new.self in
+    let v : World = c.receive.new.self in
     let n = c.args.session in
     let d = request_data c.args.request in
     let fresh = map uuid_of c.args.fresh.now in
@@ -79,7 +79,7 @@ returns-clause-ok c =
     ap (serve (submitted n d fresh c.args.now)) (sym c.self.view_is) ∙ submit-ok s w i.opened n d fresh c.args.now one.0 one.1 one.2
     ∙ ap (λ (u : World). let r : Result (Server × List (ℕ × List ℕ)) Refusal = Ok (at s u i.opened, []) in r) e
     in
-    elim c.match-take_in.branch [
+    elim c.match-receive.branch [
       | in-Ok k ↦ subst (λ r. OnOk r (serve (submitted n d fresh c.args.now) c.args.self.now ≡ Ok (at s v i.opened, []))) (sym k.result-is) (taken k.in-Ok.ensures.ok)
       | in-Err k ↦ subst (λ r. OnOk r (serve (submitted n d fresh c.args.now) c.args.self.now ≡ Ok (at s v i.opened, []))) (sym k.result-is) tt
     ]
@@ -99,7 +99,7 @@ returns-clause-why c =
     let served : serve (submitted n d fresh c.args.now) c.args.self.now ≡ Ok (at s (handle h n d fresh (call_at s d) (at_moment h c.args.now w)) i.opened, []) =
     ap (serve (submitted n d fresh c.args.now)) (sym c.self.view_is) ∙ submit-ok s w i.opened n d fresh c.args.now one.0 one.1 one.2
     in
-    elim c.match-take_in.branch [
+    elim c.match-receive.branch [
       | in-Ok k ↦ subst (λ r. IfErr r (λ back. IsReason back.1 (serve (submitted n d fresh c.args.now) c.args.self.now))) (sym k.result-is) tt
       | in-Err k ↦ subst (λ r. IfErr r (λ back. IsReason back.1 (serve (submitted n d fresh c.args.now) c.args.self.now))) (sym k.result-is) (ap is_ok served)
     ]

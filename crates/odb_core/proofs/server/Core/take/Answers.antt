@@ -8,8 +8,8 @@ use Rattle.odb_core.specs.Represented.Core.{IsValid, takes}
 use Rattle.odb_core.specs.Represented.Out.{sent_in}
 use Rattle.odb_core.specs.declared.out.Out.{Out}
 use Rattle.odb_core.specs.Represented.Sessions.{text_taken}
-use Rattle.odb_core.proofs.Serving.{at}
-use Rattle.odb_core.proofs.Soundness.{taken_as, unused_at}
+use Rattle.odb_core.proofs.ServerSteps.{at}
+use Rattle.odb_core.proofs.CoreInvariant.{taken_as, unused_at}
 use Rattle.odb_core.proofs.server.Core.take.Goals as goal
 
 pub invariant_of-self : goal.invariant_of-self
@@ -17,7 +17,7 @@ invariant_of-self c =
     let n = c.self-inside.inside.0.1.1.0 in
     let s = c.self-inside.inside.0.1.0 in
     let r = c.self-inside.inside.0.1.1.1.0 in
-    let w : World = record { db = r.db; commits = r.commits; now = r.now; parked = r.parked.items; locks = r.locks; sessions = r.sessions } in
+    let w : World = record { db = r.db; commits = r.commits; now = r.now; waiting = r.waiting.items; locks = r.locks; sessions = r.sessions } in
     let sound : IsValid s w n = subst (λ i. IsValid i.served i.state i.opened) (sym c.self-inside.view_is) c.self.invariant in
     (sound.0, sound.1, unused_at (λ x. (take (served_by s) w.db x).1) r.sessions c.take.new.self c.args.session n (c.take.ensures.sessions (served_by s) w.db) sound.2)
 
@@ -26,7 +26,7 @@ returns-in_err-text c =
     let n = c.self-inside.inside.0.1.1.0 in
     let s = c.self-inside.inside.0.1.0 in
     let r = c.self-inside.inside.0.1.1.1.0 in
-    let w : World = record { db = r.db; commits = r.commits; now = r.now; parked = r.parked.items; locks = r.locks; sessions = r.sessions } in
+    let w : World = record { db = r.db; commits = r.commits; now = r.now; waiting = r.waiting.items; locks = r.locks; sessions = r.sessions } in
     let is : c.args.self.now ≡ at s w n = sym (ap (λ i. at i.served i.state i.opened) c.self-inside.view_is ∙ c.self.view_is) in
     let v : Server = at s (record w { sessions = c.take.new.self }) n in
     let gone : c.from_residual.result ≡ None = search rules in
@@ -40,7 +40,7 @@ invariant_of-self-2 c =
     let n = c.self-inside.inside.0.1.1.0 in
     let s = c.self-inside.inside.0.1.0 in
     let r = c.self-inside.inside.0.1.1.1.0 in
-    let w : World = record { db = r.db; commits = r.commits; now = r.now; parked = r.parked.items; locks = r.locks; sessions = r.sessions } in
+    let w : World = record { db = r.db; commits = r.commits; now = r.now; waiting = r.waiting.items; locks = r.locks; sessions = r.sessions } in
     let sound : IsValid s w n = subst (λ i. IsValid i.served i.state i.opened) (sym c.self-inside.view_is) c.self.invariant in
     (sound.0, sound.1, unused_at (λ x. (take (served_by s) w.db x).1) r.sessions c.take.new.self c.args.session n (c.take.ensures.sessions (served_by s) w.db) sound.2)
 
@@ -49,7 +49,7 @@ returns c =
     let n = c.self-inside.inside.0.1.1.0 in
     let s = c.self-inside.inside.0.1.0 in
     let r = c.self-inside.inside.0.1.1.1.0 in
-    let w : World = record { db = r.db; commits = r.commits; now = r.now; parked = r.parked.items; locks = r.locks; sessions = r.sessions } in
+    let w : World = record { db = r.db; commits = r.commits; now = r.now; waiting = r.waiting.items; locks = r.locks; sessions = r.sessions } in
     let text = c.in_ok-text.text.items in
     let after = c.new.result.items in
     let v : Server = at s (record w { sessions = c.take.new.self }) n in

@@ -6,7 +6,7 @@ use Rattle.odb_service.specs.Server.{served_by}
 use Rattle.odb_service.specs.World.{World, tick}
 use Rattle.odb_core.specs.Represented.Core.{AreUnused, IsValid}
 use Rattle.odb_service.proofs.Results.{either_way}
-use Rattle.odb_core.proofs.Unused.{unused_same}
+use Rattle.odb_core.proofs.SessionNumbers.{unused_same}
 use Rattle.odb_core.proofs.server.Core.tick.Goals as goal
 use Rattle.odb_service.proofs.WhoIsOpen.{ticks}
 

@@ -1,6 +1,6 @@
 use Rattle.std.proofs.Common.{ap, ◌∙◌}
 use Rattle.odb_atoms.specs.FinMap.{remove}
-use Rattle.odb_core.proofs.SessionsIn.{removed}
+use Rattle.odb_core.proofs.SessionTables.{removed}
 use Rattle.odb_core.proofs.sessions.Sessions.close.Goals as goal
 
 pub returns : goal.returns

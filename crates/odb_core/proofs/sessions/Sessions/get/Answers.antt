@@ -3,7 +3,7 @@ use Rattle.std.specs.BTreeMap as tree
 use Rattle.std.specs.Option.{option_copied}
 use Rattle.std.specs.Ordering.{nat_cmp}
 use Rattle.odb_atoms.specs.FinMap.{get}
-use Rattle.odb_core.proofs.SessionsIn.{get-sessions_in}
+use Rattle.odb_core.proofs.SessionTables.{get-sessions_in}
 use Rattle.odb_core.proofs.sessions.Sessions.get.Goals as goal
 
 pub returns : goal.returns

@@ -1,7 +1,7 @@
 use Rattle.std.proofs.Common.{rules, ◌≡◌, sym, ap, ◌∙◌}
 use Rattle.std.specs.BTreeMap.{btree_map_len}
 use Rattle.odb_atoms.specs.FinMap.{len}
-use Rattle.odb_core.proofs.SessionsIn.{len-sessions_in}
+use Rattle.odb_core.proofs.SessionTables.{len-sessions_in}
 use Rattle.odb_core.proofs.sessions.Sessions.len.Goals as goal
 
 pub returns : goal.returns

@@ -1,7 +1,7 @@
 use Rattle.std.proofs.Common.{rules, Some, ap, ◌∙◌}
 use Rattle.odb_atoms.specs.FinMap.{insert}
 use Rattle.odb_core.specs.Represented.Sessions.{fresh_session}
-use Rattle.odb_core.proofs.SessionsIn.{Updates, inserted}
+use Rattle.odb_core.proofs.SessionTables.{Updates, inserted}
 use Rattle.odb_core.proofs.sessions.Sessions.open.Goals as goal
 
 pub returns-clause-ok : goal.returns-clause-ok

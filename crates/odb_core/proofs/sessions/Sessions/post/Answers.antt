@@ -5,9 +5,9 @@ use Rattle.odb_service.specs.Service.{Service}
 use Rattle.odb_service.specs.World.{push}
 use Rattle.odb_core.specs.Represented.Core.{sessions_in}
 use Rattle.odb_queue.specs.Represented.Item.{item_of}
-use Rattle.odb_core.specs.Represented.Sessions.{at_session, ended_in, taken_back}
-use Rattle.odb_core.proofs.Posts.{changed_at, kept_at, taken_back-append, taken_off, unchanged_at, whatever}
-use Rattle.odb_core.proofs.SessionsIn.{Updates}
+use Rattle.odb_core.specs.Represented.Sessions.{at_session, ended_in, unposted}
+use Rattle.odb_core.proofs.SessionPosts.{changed_at, kept_at, unposted-append, taken_off, unchanged_at, whatever}
+use Rattle.odb_core.proofs.SessionTables.{Updates}
 use Rattle.odb_core.proofs.sessions.Sessions.post.Goals as goal
 
 pub returns-in_default-clause-ok : goal.returns-in_default-clause-ok
@@ -24,8 +24,8 @@ returns-in_default-clause-monitors c h =
 
 pub returns-in_default-clause-back : goal.returns-in_default-clause-back
 returns-in_default-clause-back c =
-    let same : c.reserve.new.self.items ≡ c.args.told.now.items = search rules in
-    λ i. taken_back (same i) ((ap sessions_in c.get_mut.follows.holds-at-none ∙ c.self.view_is) i)
+    let same : c.reserve.new.self.items ≡ c.args.posted_to.now.items = search rules in
+    λ i. unposted (same i) ((ap sessions_in c.get_mut.follows.holds-at-none ∙ c.self.view_is) i)
 
 pub returns-in_err-push-clause-err : goal.returns-in_err-push-clause-err
 returns-in_err-push-clause-err c =
@@ -53,11 +53,11 @@ returns-clause-monitors c h =
 pub returns-clause-back : goal.returns-clause-back
 returns-clause-back c =
     let s = c.args.session in
-    let ts = c.args.told.now.items in
+    let ts = c.args.posted_to.now.items in
     let there : tree.get nat_cmp c.self.inside.sessions s ≡ Some c.in-Some.to.now = search rules in
     let changed : Updates c.self.inside.sessions (c.get_mut.follows.lender c.push.new.self) s (Some c.push.new.self) = (c.get_mut.follows.holds c.push.new.self).3 (subst IsSome (sym there) refl) in
     let same : c.push.new.self ≡ push (item_of c.args.item ∷ []) c.in-Some.to.now = search rules in
     let longer : c.push_reserved.new.self.items ≡ ts ++ s ∷ [] = search rules in
     let new = sessions_in (c.get_mut.follows.lender c.push.new.self) in
-    ap (λ us. taken_back us new) longer ∙ taken_back-append ts s new
-    ∙ ap (taken_back ts) (taken_off c.self.inside.sessions s (c.get_mut.follows.lender c.push.new.self) c.in-Some.to.now c.push.new.self (item_of c.args.item) there changed same ∙ c.self.view_is)
+    ap (λ us. unposted us new) longer ∙ unposted-append ts s new
+    ∙ ap (unposted ts) (taken_off c.self.inside.sessions s (c.get_mut.follows.lender c.push.new.self) c.in-Some.to.now c.push.new.self (item_of c.args.item) there changed same ∙ c.self.view_is)

@@ -5,8 +5,8 @@ use Rattle.odb_atoms.specs.FinMap.{get}
 use Rattle.odb_service.specs.Session.{take}
 use Rattle.odb_core.specs.Represented.Core.{sessions_in}
 use Rattle.odb_core.specs.Represented.Sessions.{at_session, text_taken}
-use Rattle.odb_core.proofs.Posts.{changed_at, unchanged_at}
-use Rattle.odb_core.proofs.SessionsIn.{Updates, get-sessions_in}
+use Rattle.odb_core.proofs.SessionPosts.{changed_at, unchanged_at}
+use Rattle.odb_core.proofs.SessionTables.{Updates, get-sessions_in}
 use Rattle.odb_core.proofs.sessions.Sessions.take.Goals as goal
 
 pub returns-in_err-get_mut-clause-text : goal.returns-in_err-get_mut-clause-text

@@ -4,8 +4,8 @@ use Rattle.std.specs.Ordering.{nat_cmp}
 use Rattle.odb_core.specs.Represented.Core.{sessions_in}
 use Rattle.odb_core.specs.Represented.Sessions.{at_session}
 use Rattle.odb_queue.specs.Represented.Newest.{without_last}
-use Rattle.odb_core.proofs.Posts.{changed_at, unchanged_at}
-use Rattle.odb_core.proofs.SessionsIn.{Updates}
+use Rattle.odb_core.proofs.SessionPosts.{changed_at, unchanged_at}
+use Rattle.odb_core.proofs.SessionTables.{Updates}
 use Rattle.odb_core.proofs.sessions.Sessions.take_newest_back.Goals as goal
 
 pub returns-in_default : goal.returns-in_default
@@ -16,6 +16,6 @@ returns-in_default c =
 pub returns : goal.returns
 returns c =
     let there : tree.get nat_cmp c.self.inside.sessions c.args.session ≡ Some c.in-Some.of.now = search rules in
-    let changed : Updates c.self.inside.sessions (c.get_mut.follows.lender c.take_back.new.self) c.args.session (Some c.take_back.new.self) = (c.get_mut.follows.holds c.take_back.new.self).3 (subst IsSome (sym there) refl) in
-    let same : c.take_back.new.self ≡ without_last c.in-Some.of.now = search rules in
-    changed_at c.self.inside.sessions c.args.session without_last (c.get_mut.follows.lender c.take_back.new.self) c.in-Some.of.now c.take_back.new.self there changed same ∙ ap (λ m. at_session without_last m c.args.session) c.self.view_is
+    let changed : Updates c.self.inside.sessions (c.get_mut.follows.lender c.unpost.new.self) c.args.session (Some c.unpost.new.self) = (c.get_mut.follows.holds c.unpost.new.self).3 (subst IsSome (sym there) refl) in
+    let same : c.unpost.new.self ≡ without_last c.in-Some.of.now = search rules in
+    changed_at c.self.inside.sessions c.args.session without_last (c.get_mut.follows.lender c.unpost.new.self) c.in-Some.of.now c.unpost.new.self there changed same ∙ ap (λ m. at_session without_last m c.args.session) c.self.view_is

@@ -1,5 +1,5 @@
 use Rattle.std.proofs.Common.{◌∙◌}
-use Rattle.odb_core.proofs.Posts.{sessions_in-clone}
+use Rattle.odb_core.proofs.SessionPosts.{sessions_in-clone}
 use Rattle.odb_core.proofs.sessions.Sessions.try_copy.Goals as goal
 
 pub returns : goal.returns

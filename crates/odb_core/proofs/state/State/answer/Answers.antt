@@ -2,7 +2,7 @@ use Rattle.std.proofs.Common.{rules, ◌≡◌, None}
 use Rattle.std.specs.Prelude.{option_map}
 use Rattle.odb_wire.specs.Shown.{request_data}
 use Rattle.odb_queue.specs.Represented.Answer.{said}
-use Rattle.odb_core.proofs.Posting.{none_posted}
+use Rattle.odb_core.proofs.WorldPosts.{none_posted}
 use Rattle.odb_core.proofs.state.State.answer.Goals as goal
 
 pub returns-in-None-clause-ok : goal.returns-in-None-clause-ok

@@ -6,17 +6,17 @@ use Rattle.odb_locks.specs.Represented.Notice.{notices_of}
 use Rattle.odb_wire.specs.Shown.{request_data}
 use Rattle.odb_queue.specs.Represented.Post.{post_of}
 use Rattle.odb_service.specs.World.{World, post_notices, succeed}
-use Rattle.odb_core.proofs.Tellings.{answers_as, answers_to}
+use Rattle.odb_core.proofs.LockPosts.{answers_as, answers_to}
 use Rattle.odb_core.proofs.state.State.answer_lock.Goals as goal
 
 pub returns-clause-ok : goal.returns-clause-ok
 returns-clause-ok c =
     let s = c.args.session in
     let d = request_data c.args.request.now in
-    let ns = notices_of c.args.told.now in
+    let ns = notices_of c.args.lock_notices.now in
     let r = view c.args.value.now in
     let i = c.self.inside in
-    let w : World = record { db = i.db; commits = i.commits; now = i.now; parked = i.parked.items; locks = i.locks; sessions = i.sessions } in
+    let w : World = record { db = i.db; commits = i.commits; now = i.now; waiting = i.waiting.items; locks = i.locks; sessions = i.sessions } in
     let all : map post_of c.push.new.self.items ≡ answers_to ns s d r = search (rules, map-append) in
     IfOk-weaker c.post_all.result _ _ (λ queued h.
     ap (λ w. succeed s d r (post_notices ns w)) (sym c.self.view_is)

@@ -1,5 +1,6 @@
 use Rattle.std.proofs.Common.{◌≡◌, true, sym, ap, ◌∙◌}
 use Rattle.std.proofs.lemmas.Result.{on_ok_weaker}
+use Rattle.odb_core.proofs.DoneCalls.{done_says, done_whole}
 use Rattle.odb_rpc.specs.Message as message
 use Rattle.odb_rpc.specs.Message.{reply_id}
 use Rattle.odb_rpc.specs.Represented.Call.{called}
@@ -11,51 +12,83 @@ use Rattle.odb_service.specs.Server.{served_by}
 use Rattle.odb_service.specs.World.{World, handle}
 use Rattle.odb_queue.specs.Represented.Answer.{call_at}
 use Rattle.odb_core.specs.Represented.Requests.{asks_transaction}
-use Rattle.odb_core.proofs.Plain.{is_left, is_plain, plain_as}
+use Rattle.odb_core.proofs.PlainCalls.{is_left, is_plain, plain_as}
 use Rattle.odb_core.proofs.state.State.carry_out.Goals as goal
 
-pub returns-in-Lock-clause-ok : goal.returns-in-Lock-clause-ok
-returns-in-Lock-clause-ok c =
+pub returns-in-Lock-clause-done : goal.returns-in-Lock-clause-done
+returns-in-Lock-clause-done c =
     let s = c.args.served.now in
     let n = c.args.session in
     let d = request_data c.args.request.now in
     let w : World = c.args.self.now in
-    let is : call_at s d ≡ message.lock (reply_id (id_of d)) c.in-Lock.name.now = sym c.requires.reads ∙ ap (called s.name (write_schema s) (reply_id (id_of d))) c.in-Lock.is in
-    on_ok_weaker c.lock.result (λ p fresh. ap (λ k. handle (served_by s) n d fresh k w) is ∙ p (served_by s)) c.lock.ensures.ok
+    let is : call_at s d ≡ message.lock (reply_id (id_of d)) c.in-Lock.name.now = sym c.requires ∙ ap (called s.name (write_schema s) (reply_id (id_of d))) c.in-Lock.is in
+    done_says _ c.done.result c.claim.result c.done.ensures.ok (on_ok_weaker c.claim.result (λ p fresh. ap (λ k. handle (served_by s) n d fresh k w) is ∙ p (served_by s)) c.claim.ensures.ok)
 
-pub returns-in-Steal-clause-ok : goal.returns-in-Steal-clause-ok
-returns-in-Steal-clause-ok c =
-    let s = c.args.served.now in
-    let n = c.args.session in
-    let d = request_data c.args.request.now in
-    let w : World = c.args.self.now in
-    let is : call_at s d ≡ message.steal (reply_id (id_of d)) c.in-Steal.name.now = sym c.requires.reads ∙ ap (called s.name (write_schema s) (reply_id (id_of d))) c.in-Steal.is in
-    on_ok_weaker c.steal.result (λ p fresh. ap (λ k. handle (served_by s) n d fresh k w) is ∙ p (served_by s)) c.steal.ensures.ok
+pub returns-in-Lock-clause-transaction : goal.returns-in-Lock-clause-transaction
+returns-in-Lock-clause-transaction c = done_whole _ c.done.result c.done.ensures.done
 
-pub returns-in-Unlock-clause-ok : goal.returns-in-Unlock-clause-ok
-returns-in-Unlock-clause-ok c =
-    let s = c.args.served.now in
-    let n = c.args.session in
-    let d = request_data c.args.request.now in
-    let w : World = c.args.self.now in
-    let is : call_at s d ≡ message.unlock (reply_id (id_of d)) c.in-Unlock.name.now = sym c.requires.reads ∙ ap (called s.name (write_schema s) (reply_id (id_of d))) c.in-Unlock.is in
-    on_ok_weaker c.unlock.result (λ p fresh. ap (λ k. handle (served_by s) n d fresh k w) is ∙ p (served_by s)) c.unlock.ensures.ok
+pub returns-in-Lock-clause-untouched : goal.returns-in-Lock-clause-untouched
+returns-in-Lock-clause-untouched c = done_whole _ c.done.result c.done.ensures.done
 
-pub returns-in-Cancel-clause-ok : goal.returns-in-Cancel-clause-ok
-returns-in-Cancel-clause-ok c =
+pub returns-in-Steal-clause-done : goal.returns-in-Steal-clause-done
+returns-in-Steal-clause-done c =
     let s = c.args.served.now in
     let n = c.args.session in
     let d = request_data c.args.request.now in
     let w : World = c.args.self.now in
-    let is : call_at s d ≡ message.cancel (printable_data c.in-Cancel.id) = sym c.requires.reads ∙ ap (called s.name (write_schema s) (reply_id (id_of d))) c.in-Cancel.is in
-    on_ok_weaker c.cancel.result (λ p fresh. ap (λ k. handle (served_by s) n d fresh k w) is ∙ p s) c.cancel.ensures.ok
+    let is : call_at s d ≡ message.steal (reply_id (id_of d)) c.in-Steal.name.now = sym c.requires ∙ ap (called s.name (write_schema s) (reply_id (id_of d))) c.in-Steal.is in
+    done_says _ c.done-in-Steal.result c.claim-in-Steal.result c.done-in-Steal.ensures.ok (on_ok_weaker c.claim-in-Steal.result (λ p fresh. ap (λ k. handle (served_by s) n d fresh k w) is ∙ p (served_by s)) c.claim-in-Steal.ensures.ok)
 
-pub returns-in_default-clause-ok : goal.returns-in_default-clause-ok
-returns-in_default-clause-ok c =
+pub returns-in-Steal-clause-transaction : goal.returns-in-Steal-clause-transaction
+returns-in-Steal-clause-transaction c = done_whole _ c.done-in-Steal.result c.done-in-Steal.ensures.done
+
+pub returns-in-Steal-clause-untouched : goal.returns-in-Steal-clause-untouched
+returns-in-Steal-clause-untouched c = done_whole _ c.done-in-Steal.result c.done-in-Steal.ensures.done
+
+pub returns-in-Unlock-clause-done : goal.returns-in-Unlock-clause-done
+returns-in-Unlock-clause-done c =
     let s = c.args.served.now in
     let n = c.args.session in
     let d = request_data c.args.request.now in
     let w : World = c.args.self.now in
-    let asks : asks_transaction (called s.name (write_schema s) (reply_id (id_of d)) c.args.call) ≡ _ = ap asks_transaction c.requires.reads ∙ c.requires.asks in
-    let plain : is_plain (call_at s d) ≡ true = ap is_plain (sym c.requires.reads) ∙ is_left s.name (write_schema s) (reply_id (id_of d)) c.args.call c.in_default.not-Lock c.in_default.not-Steal c.in_default.not-Unlock c.in_default.not-Cancel asks in
-    on_ok_weaker c.answer.result (λ p fresh. plain_as s n d fresh w _ (call_at s d) plain p) c.answer.ensures.ok
+    let is : call_at s d ≡ message.unlock (reply_id (id_of d)) c.in-Unlock.name.now = sym c.requires ∙ ap (called s.name (write_schema s) (reply_id (id_of d))) c.in-Unlock.is in
+    done_says _ c.done-in-Unlock.result c.unlock.result c.done-in-Unlock.ensures.ok (on_ok_weaker c.unlock.result (λ p fresh. ap (λ k. handle (served_by s) n d fresh k w) is ∙ p (served_by s)) c.unlock.ensures.ok)
+
+pub returns-in-Unlock-clause-transaction : goal.returns-in-Unlock-clause-transaction
+returns-in-Unlock-clause-transaction c = done_whole _ c.done-in-Unlock.result c.done-in-Unlock.ensures.done
+
+pub returns-in-Unlock-clause-untouched : goal.returns-in-Unlock-clause-untouched
+returns-in-Unlock-clause-untouched c = done_whole _ c.done-in-Unlock.result c.done-in-Unlock.ensures.done
+
+pub returns-in-Cancel-clause-done : goal.returns-in-Cancel-clause-done
+returns-in-Cancel-clause-done c =
+    let s = c.args.served.now in
+    let n = c.args.session in
+    let d = request_data c.args.request.now in
+    let w : World = c.args.self.now in
+    let is : call_at s d ≡ message.cancel (printable_data c.in-Cancel.id) = sym c.requires ∙ ap (called s.name (write_schema s) (reply_id (id_of d))) c.in-Cancel.is in
+    done_says _ c.done-in-Cancel.result c.cancel.result c.done-in-Cancel.ensures.ok (on_ok_weaker c.cancel.result (λ p fresh. ap (λ k. handle (served_by s) n d fresh k w) is ∙ p s) c.cancel.ensures.ok)
+
+pub returns-in-Cancel-clause-transaction : goal.returns-in-Cancel-clause-transaction
+returns-in-Cancel-clause-transaction c = done_whole _ c.done-in-Cancel.result c.done-in-Cancel.ensures.done
+
+pub returns-in-Cancel-clause-untouched : goal.returns-in-Cancel-clause-untouched
+returns-in-Cancel-clause-untouched c = done_whole _ c.done-in-Cancel.result c.done-in-Cancel.ensures.done
+
+pub returns-in_default-clause-done : goal.returns-in_default-clause-done
+returns-in_default-clause-done c =
+    let s = c.args.served.now in
+    let n = c.args.session in
+    let d = request_data c.args.request.now in
+    let w : World = c.args.self.now in
+    let plain : is_plain (call_at s d) ≡ true = ap is_plain (sym c.requires) ∙ is_left s.name (write_schema s) (reply_id (id_of d)) c.args.call c.in_default.not-Transact c.in_default.not-Lock c.in_default.not-Steal c.in_default.not-Unlock c.in_default.not-Cancel in
+    done_says _ c.done-in_default.result c.answer.result c.done-in_default.ensures.ok (on_ok_weaker c.answer.result (λ p fresh. plain_as s n d fresh w _ (call_at s d) plain p) c.answer.ensures.ok)
+
+pub returns-in_default-clause-transaction : goal.returns-in_default-clause-transaction
+returns-in_default-clause-transaction c = done_whole _ c.done-in_default.result c.done-in_default.ensures.done
+
+pub returns-in_default-clause-untouched : goal.returns-in_default-clause-untouched
+returns-in_default-clause-untouched c = done_whole _ c.done-in_default.result c.done-in_default.ensures.done
+
+pub returns-in-Transact-clause-transaction : goal.returns-in-Transact-clause-transaction
+returns-in-Transact-clause-transaction c = λ e. ap asks_transaction (sym c.requires ∙ ap (called c.args.served.now.name (write_schema c.args.served.now) (reply_id (id_of (request_data c.args.request.now)))) c.in-Transact.is)

@@ -20,4 +20,4 @@ returns-in-Ok-clause-ok c = λ h.
     let count : c.in_ok-number.number ≡ w.commits + 1 = search rules in
     let told : c.post_end.new.self ≡ at_session (ended_in h (say (to d) (reply (id_of d) r))) w.sessions n = search rules in
     commit_as h n d r (all_changed_by w.db c.args.change) w
-    ∙ (λ i. record { db = sym made i; commits = sym count i; now = (sym c.self.view_is i).now; parked = (sym c.self.view_is i).parked; locks = (sym c.self.view_is i).locks; sessions = sym told i })
+    ∙ (λ i. record { db = sym made i; commits = sym count i; now = (sym c.self.view_is i).now; waiting = (sym c.self.view_is i).waiting; locks = (sym c.self.view_is i).locks; sessions = sym told i })

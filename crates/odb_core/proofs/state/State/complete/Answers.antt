@@ -5,10 +5,10 @@ use Rattle.odb_schema.specs.Json.{array_of}
 use Rattle.odb_tables.specs.Change.{all_changed_by}
 use Rattle.odb_wire.specs.Shown.{request_data}
 use Rattle.odb_service.specs.Server.{served_by}
-use Rattle.odb_service.specs.World.{Parked, World, attempt, end_transaction, is_untried, split_first, untried}
-use Rattle.odb_core.specs.Represented.Parked.{parked_as}
+use Rattle.odb_service.specs.World.{Waiting, World, attempt, end_transaction, is_untried, split_first, untried}
+use Rattle.odb_core.specs.Represented.Waiting.{waiting_as}
 use Rattle.odb_core.proofs.Attempts.{done_as, done_whole_results, has_rows}
-use Rattle.odb_core.proofs.Handling.{runs_alone, runs_ended}
+use Rattle.odb_core.proofs.HandledRequests.{runs_alone, runs_ended}
 use Rattle.odb_core.proofs.state.State.complete.Goals as goal
 
 pub reply-requires : goal.reply-requires
@@ -31,11 +31,11 @@ returns-then-not-changes_rows-clause-ok c =
     let h = served_by s in
     let v : World = c.reply.new.self in
     let none : has_rows s w a None w.commits c.args.change ≡ false = search rules in
-    let ended : attempt h (parked_as a None w.commits) w ≡ (v, None) =
+    let ended : attempt h (waiting_as a None w.commits) w ≡ (v, None) =
     done_as s w a None w.commits c.args.results c.args.change false none c.requires.outcome
-    ∙ (λ i. let t : World × Option Parked = (c.in_ok-reply.ensures.ok h i, None) in t)
+    ∙ (λ i. let t : World × Option Waiting = (c.in_ok-reply.ensures.ok h i, None) in t)
     in
-    runs_alone h (parked_as a None w.commits) w v ended (ap (untried h) c.reply.ensures.rest ∙ c.requires.tried h)
+    runs_alone h (waiting_as a None w.commits) w v ended (ap (untried h) c.reply.ensures.rest ∙ c.requires.tried h)
 
 pub returns-then-is_empty-clause-ok : goal.returns-then-is_empty-clause-ok
 returns-then-is_empty-clause-ok c =
@@ -45,13 +45,13 @@ returns-then-is_empty-clause-ok c =
     let h = served_by s in
     let v : World = c.commit.new.self in
     let some : has_rows s w a None w.commits c.args.change ≡ true = search rules in
-    let long : length c.self.inside.parked.items ≡ 0 = search rules in
-    let empty : w.parked ≡ [] = ap (λ (u : World). u.parked) (sym c.self.view_is) ∙ nil_from_length c.self.inside.parked.items long in
-    let ended : attempt h (parked_as a None w.commits) w ≡ (v, None) =
+    let long : length c.self.inside.waiting.items ≡ 0 = search rules in
+    let empty : w.waiting ≡ [] = ap (λ (u : World). u.waiting) (sym c.self.view_is) ∙ nil_from_length c.self.inside.waiting.items long in
+    let ended : attempt h (waiting_as a None w.commits) w ≡ (v, None) =
     done_as s w a None w.commits c.args.results c.args.change true some c.requires.outcome
-    ∙ (λ i. let t : World × Option Parked = (c.in_ok-commit.ensures.ok h i, None) in t)
+    ∙ (λ i. let t : World × Option Waiting = (c.in_ok-commit.ensures.ok h i, None) in t)
     in
-    runs_alone h (parked_as a None w.commits) w v ended (ap (split_first (is_untried v.commits)) (c.commit.ensures.waiting ∙ empty))
+    runs_alone h (waiting_as a None w.commits) w v ended (ap (split_first (is_untried v.commits)) (c.commit.ensures.waiting ∙ empty))
 
 pub returns-in_err-reply-clause-tried : goal.returns-in_err-reply-clause-tried
 returns-in_err-reply-clause-tried c = λ h. ap (untried h) c.in_err-reply.ensures.err ∙ c.requires.tried h
@@ -71,6 +71,6 @@ returns-clause-ok c =
     let ended : end_transaction h a.session (request_data a.request) (array_of (results_of c.args.results)) (Some (all_changed_by w.db c.args.change)) w ≡ v =
     ap (λ (u : World). end_transaction h a.session (request_data a.request) (array_of (results_of c.args.results)) (Some (all_changed_by u.db c.args.change)) u) (sym same) ∙ c.in_ok-commit-2.ensures.ok h
     in
-    runs_ended h (parked_as a None w.commits) w v
-    (done_as s w a None w.commits c.args.results c.args.change true some c.requires.outcome ∙ (λ i. let t : World × Option Parked = (ended i, None) in t))
+    runs_ended h (waiting_as a None w.commits) w v
+    (done_as s w a None w.commits c.args.results c.args.change true some c.requires.outcome ∙ (λ i. let t : World × Option Waiting = (ended i, None) in t))
     ∙ c.in_ok-retry_all.ensures.ok ∙ sym c.copy-2.view_is

@@ -1,7 +1,10 @@
 use Rattle.odb_core.proofs.state.State.handle.Goals as goal
 
-pub returns-in-Ok-clause-tried : goal.returns-in-Ok-clause-tried
-returns-in-Ok-clause-tried c = λ h. c.handle_call.ensures.tried h (c.requires.tried h)
+pub returns-in-Ok-true-clause-tried : goal.returns-in-Ok-true-clause-tried
+returns-in-Ok-true-clause-tried c = λ h. c.handle_call.ensures.tried h (c.requires.tried h)
+
+pub submit_transaction-requires-clause-tried : goal.submit_transaction-requires-clause-tried
+submit_transaction-requires-clause-tried c = λ h. c.handle_call.ensures.tried h (c.requires.tried h)
 
 pub returns-in-Err-clause-tried : goal.returns-in-Err-clause-tried
 returns-in-Err-clause-tried c = λ h. c.handle_call.ensures.tried h (c.requires.tried h)

@@ -4,5 +4,5 @@ use Rattle.odb_service.specs.Server.{served_by}
 use Rattle.odb_service.specs.World.{try_due}
 use Rattle.odb_core.proofs.state.State.try_due.Given as goal
 
-abbrev pub invariant-loop-parked : goal.invariant-loop-parked
-invariant-loop-parked l = (try_due (served_by l.schema) l.initial.parked-iterator.rest.items l.initial.self ≡ try_due (served_by l.schema) l.parked-iterator.rest.items l.self) × IsSound l.schema l.self.db
+abbrev pub invariant-loop-waiting : goal.invariant-loop-waiting
+invariant-loop-waiting l = (try_due (served_by l.schema) l.initial.waiting-iterator.rest.items l.initial.self ≡ try_due (served_by l.schema) l.waiting-iterator.rest.items l.self) × IsSound l.schema l.self.db

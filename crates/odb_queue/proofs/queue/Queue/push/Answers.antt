@@ -1,4 +1,4 @@
-use Rattle.odb_queue.proofs.Said.{asks_nothing_of}
+use Rattle.odb_queue.proofs.QueueLemmas.{asks_nothing_of}
 use Rattle.odb_queue.proofs.queue.Queue.push.Goals as goal
 
 pub returns-in_err-push_back-clause-monitors : goal.returns-in_err-push_back-clause-monitors

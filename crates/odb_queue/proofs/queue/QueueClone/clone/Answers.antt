@@ -1,6 +1,6 @@
 use Rattle.std.proofs.Common.{sym, ap, ◌∙◌}
 use Rattle.odb_service.specs.Session.{replies_in}
-use Rattle.odb_queue.proofs.Said.{items-clone}
+use Rattle.odb_queue.proofs.QueueLemmas.{items-clone}
 use Rattle.odb_queue.proofs.queue.QueueClone.clone.Goals as goal
 
 pub invariant_of-result : goal.invariant_of-result

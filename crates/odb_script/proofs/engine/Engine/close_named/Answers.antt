@@ -1,7 +1,7 @@
 use Rattle.std.proofs.Common.{rules, ◌≡◌, ◌++◌, OnOk, [], Some, None, codes, slice_index_or}
 use Rattle.odb_service.specs.Server.{served_by}
-use Rattle.odb_script.specs.Script.{Named, line_of, shut}
-use Rattle.odb_script.proofs.Opening.{IsPlaceOf, closes, gone_away}
+use Rattle.odb_script.specs.Script.{ScriptSession, line_of, shut}
+use Rattle.odb_script.proofs.OpenedSessions.{IsPlaceOf, closes, gone_away}
 use Rattle.std.proofs.lemmas.Result.{on_ok_weaker}
 use Rattle.odb_script.proofs.engine.Engine.close_named.Goals as goal
 
@@ -9,7 +9,7 @@ pub returns-in_default-clause-done : goal.returns-in_default-clause-done
 returns-in_default-clause-done c =
     let none : IsPlaceOf c.args.name.now c.args.self.now.script.sessions None = search rules in
     let text : OnOk c.print_line.result (c.print_line.new.text.items ≡ c.args.text.now.items ++ line_of c.args.name.now (codes "!gone")) = search rules in
-    on_ok_weaker c.print_line.result (λ e. gone_away (served_by c.args.self.now.schema) c.args.name.now (λ (x : Named) q. (shut (served_by c.args.self.now.schema) x.name x.session q, [])) c.args.self.now.script _ _ none e) text
+    on_ok_weaker c.print_line.result (λ e. gone_away (served_by c.args.self.now.schema) c.args.name.now (λ (x : ScriptSession) q. (shut (served_by c.args.self.now.schema) x.name x.session q, [])) c.args.self.now.script _ _ none e) text
 
 pub returns-clause-done : goal.returns-clause-done
 returns-clause-done c =

@@ -2,11 +2,11 @@ use Rattle.std.proofs.Common.{rules, ◌≡◌, ◌++◌, OnOk, List, ℕ, Some,
 use Rattle.std.proofs.lemmas.Result.{on_ok_weaker}
 use Rattle.odb_service.specs.Server.{served_by}
 use Rattle.odb_script.specs.Running.{Running}
-use Rattle.odb_script.specs.Script.{Named, Script, hold_named, line_of, with_held}
+use Rattle.odb_script.specs.Script.{ScriptSession, Script, hold_named, line_of, with_held}
 use Rattle.odb_script.specs.Represented.Steps.{Does}
-use Rattle.odb_script.proofs.Holding.{holds, holds_none}
-use Rattle.odb_script.proofs.Opening.{IsPlaceOf, script_of, standing}
-use Rattle.odb_script.proofs.Places.{apart_set}
+use Rattle.odb_script.proofs.HeldSessions.{holds, holds_none}
+use Rattle.odb_script.proofs.OpenedSessions.{IsPlaceOf, script_of, standing}
+use Rattle.odb_script.proofs.NamePlaces.{apart_set}
 use Rattle.odb_script.proofs.engine.Engine.hold_named.Goals as goal
 
 pub returns-in_default-clause-done : goal.returns-in_default-clause-done
@@ -22,17 +22,17 @@ returns-in_default-clause-done c =
 
 pub invariant_of-self : goal.invariant_of-self
 invariant_of-self c =
-    let xs : List Named = c.self.inside.sessions.items in
+    let xs : List ScriptSession = c.self.inside.sessions.items in
     let place : IsPlaceOf c.args.name.now xs (Some c.in-Some.place) = search rules in
     let at : c.index_mut.result.now ≡ slice_index_or xs c.in-Some.place c.index_mut.result.now = search rules in
     let held : c.set_held.new.self ≡ with_held true c.index_mut.result.now = search rules in
-    apart_set xs c.in-Some.place c.index_mut.result.now c.set_held.new.self (standing c.args.name.now xs c.in-Some.place c.index_mut.result.now place at).0 (ap (λ (y : Named). y.name) held) c.self.invariant
+    apart_set xs c.in-Some.place c.index_mut.result.now c.set_held.new.self (standing c.args.name.now xs c.in-Some.place c.index_mut.result.now place at).0 (ap (λ (y : ScriptSession). y.name) held) c.self.invariant
 
 pub returns-clause-done : goal.returns-clause-done
 returns-clause-done c =
     let old = c.self.inside in
-    let xs : List Named = old.sessions.items in
-    let x : Named = c.index_mut.result.now in
+    let xs : List ScriptSession = old.sessions.items in
+    let x : ScriptSession = c.index_mut.result.now in
     let n = c.args.name.now in
     let k = c.in-Some.place in
     let t = c.args.text.now.items in

@@ -3,11 +3,11 @@ use Rattle.odb_atoms.specs.FinMap.{len}
 use Rattle.odb_service.specs.Run.{max_sessions, opened}
 use Rattle.odb_service.specs.Server.{serve, served_by}
 use Rattle.odb_script.specs.Running.{Running}
-use Rattle.odb_script.specs.Script.{Named, Script, line_of, open_named}
+use Rattle.odb_script.specs.Script.{ScriptSession, Script, line_of, open_named}
 use Rattle.odb_script.specs.Represented.Names.{AreApart}
 use Rattle.odb_script.specs.Represented.Steps.{Does}
-use Rattle.odb_script.proofs.Opening.{IsPlaceOf, absent, opens_full, opens_new, opens_there, script_of}
-use Rattle.odb_script.proofs.Places.{apart_end}
+use Rattle.odb_script.proofs.OpenedSessions.{IsPlaceOf, absent, opens_full, opens_new, opens_there, script_of}
+use Rattle.odb_script.proofs.NamePlaces.{apart_end}
 use Rattle.std.proofs.lemmas.Result.{on_ok_weaker}
 use Rattle.odb_script.proofs.engine.Engine.open_named.Goals as goal
 
@@ -24,7 +24,7 @@ returns-then-is_some-clause-done c =
 pub invariant_of-self-in-Ok : goal.invariant_of-self-in-Ok
 invariant_of-self-in-Ok c =
     let old = c.self.inside in
-    let x : Named = record { name = c.args.name.now; session = c.in-Ok.session; bytes = []; handed = 0; held = false } in
+    let x : ScriptSession = record { name = c.args.name.now; session = c.in-Ok.session; bytes = []; delivered = 0; held = false } in
     let there : IsPlaceOf c.args.name.now old.sessions.items c.place_of.result = search rules in
     let none : is_some c.place_of.result ≡ false = search rules in
     let grown : c.push.new.self.items ≡ old.sessions.items ++ x ∷ [] = search rules in
@@ -33,7 +33,7 @@ invariant_of-self-in-Ok c =
 pub returns-in_ok-push-in-Ok-clause-done : goal.returns-in_ok-push-in-Ok-clause-done
 returns-in_ok-push-in-Ok-clause-done c =
     let old = c.self.inside in
-    let x : Named = record { name = c.args.name.now; session = c.in-Ok.session; bytes = []; handed = 0; held = false } in
+    let x : ScriptSession = record { name = c.args.name.now; session = c.in-Ok.session; bytes = []; delivered = 0; held = false } in
     let there : IsPlaceOf c.args.name.now old.sessions.items c.place_of.result = search rules in
     let none : is_some c.place_of.result ≡ false = search rules in
     let grown : c.push.new.self.items ≡ old.sessions.items ++ x ∷ [] = search rules in

@@ -4,7 +4,7 @@ use Rattle.odb_service.specs.Server.{served_by}
 use Rattle.odb_service.specs.World.{World}
 use Rattle.odb_script.specs.Running.{Running}
 use Rattle.odb_script.specs.Script.{Script, at_moment, in_world, world_after}
-use Rattle.odb_script.proofs.Opening.{script_of}
+use Rattle.odb_script.proofs.OpenedSessions.{script_of}
 use Rattle.odb_script.proofs.engine.Engine.set_moment.Goals as goal
 
 pub returns-clause-done : goal.returns-clause-done

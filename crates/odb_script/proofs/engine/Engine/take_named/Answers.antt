@@ -3,12 +3,12 @@ use Rattle.std.proofs.lemmas.Option.{same_Some}
 use Rattle.std.proofs.lemmas.Result.{on_ok_weaker}
 use Rattle.odb_service.specs.Server.{Server, served_by}
 use Rattle.odb_script.specs.Running.{Running}
-use Rattle.odb_script.specs.Script.{Named, Script, line_of, take_named, with_held}
-use Rattle.odb_script.specs.Represented.Dry.{taken_dry}
+use Rattle.odb_script.specs.Script.{ScriptSession, Script, line_of, take_named, with_held}
+use Rattle.odb_script.specs.Represented.Draining.{drained_session}
 use Rattle.odb_script.specs.Represented.Steps.{Does}
-use Rattle.odb_script.proofs.Holding.{takes, takes_none}
-use Rattle.odb_script.proofs.Opening.{IsPlaceOf, script_of, standing}
-use Rattle.odb_script.proofs.Places.{apart_set}
+use Rattle.odb_script.proofs.HeldSessions.{takes, takes_none}
+use Rattle.odb_script.proofs.OpenedSessions.{IsPlaceOf, script_of, standing}
+use Rattle.odb_script.proofs.NamePlaces.{apart_set}
 use Rattle.odb_script.proofs.engine.Engine.take_named.Goals as goal
 
 pub returns-in_default-clause-done : goal.returns-in_default-clause-done
@@ -24,52 +24,52 @@ returns-in_default-clause-done c =
 
 pub invariant_of-self-2 : goal.invariant_of-self-2
 invariant_of-self-2 c =
-    let xs : List Named = c.self.inside.sessions.items in
+    let xs : List ScriptSession = c.self.inside.sessions.items in
     let place : IsPlaceOf c.args.name.now xs (Some c.in-Some.place) = search rules in
     let at : c.index_mut.result.now ≡ slice_index_or xs c.in-Some.place c.index_mut.result.now = search rules in
     let held : c.set_held.new.self ≡ with_held false c.index_mut.result.now = search rules in
-    apart_set xs c.in-Some.place c.index_mut.result.now c.set_held.new.self (standing c.args.name.now xs c.in-Some.place c.index_mut.result.now place at).0 (ap (λ (y : Named). y.name) held) c.self.invariant
+    apart_set xs c.in-Some.place c.index_mut.result.now c.set_held.new.self (standing c.args.name.now xs c.in-Some.place c.index_mut.result.now place at).0 (ap (λ (y : ScriptSession). y.name) held) c.self.invariant
 
 pub returns-clause-done : goal.returns-clause-done
 returns-clause-done c =
     let old = c.self.inside in
-    let xs : List Named = old.sessions.items in
-    let x : Named = c.index_mut.result.now in
+    let xs : List ScriptSession = old.sessions.items in
+    let x : ScriptSession = c.index_mut.result.now in
     let n = c.args.name.now in
     let k = c.in-Some.place in
     let s = c.behind-self.inside.session in
     let t : List ℕ = c.args.text.now.items in
-    let q : Server = c.take_dry.new.core in
-    let u : List ℕ = c.take_dry.new.text.items in
-    let ys : List Named = slice_set xs k c.set_held.new.self in
+    let q : Server = c.drain.new.core in
+    let u : List ℕ = c.drain.new.text.items in
+    let ys : List ScriptSession = slice_set xs k c.set_held.new.self in
     let place : IsPlaceOf n xs (Some k) = search rules in
     let at : x ≡ slice_index_or xs k x = search rules in
     let at-first : c.index.result.now ≡ slice_index_or xs k c.index.result.now = search rules in
     let one : c.index.result.now ≡ x = same_Some _ _ (sym (standing n xs k c.index.result.now place at-first).0 ∙ (standing n xs k x place at).0) in
-    let number : s ≡ x.session = ap (λ (y : Named). y.session) (c.behind-self.view_is ∙ one) in
+    let number : s ≡ x.session = ap (λ (y : ScriptSession). y.session) (c.behind-self.view_is ∙ one) in
     let held : c.set_held.new.self ≡ with_held false x = search rules in
-    let given : taken_dry n s (old.core, t) ≡ (q, u) = search rules in
+    let given : drained_session n s (old.core, t) ≡ (q, u) = search rules in
     subst (λ (v : Running). Does (take_named (served_by v.schema) n) v.script t (script_of q ys old.inserts old.moment) u) c.self.view_is
     (takes n (script_of old.core xs old.inserts old.moment) k x place at c.self.invariant old.core.schema s q ys t u number (ap (slice_set xs k) held) given).0
 
 pub returns-clause-schema : goal.returns-clause-schema
 returns-clause-schema c =
     let old = c.self.inside in
-    let xs : List Named = old.sessions.items in
-    let x : Named = c.index_mut.result.now in
+    let xs : List ScriptSession = old.sessions.items in
+    let x : ScriptSession = c.index_mut.result.now in
     let n = c.args.name.now in
     let k = c.in-Some.place in
     let s = c.behind-self.inside.session in
     let t : List ℕ = c.args.text.now.items in
-    let q : Server = c.take_dry.new.core in
-    let u : List ℕ = c.take_dry.new.text.items in
-    let ys : List Named = slice_set xs k c.set_held.new.self in
+    let q : Server = c.drain.new.core in
+    let u : List ℕ = c.drain.new.text.items in
+    let ys : List ScriptSession = slice_set xs k c.set_held.new.self in
     let place : IsPlaceOf n xs (Some k) = search rules in
     let at : x ≡ slice_index_or xs k x = search rules in
     let at-first : c.index.result.now ≡ slice_index_or xs k c.index.result.now = search rules in
     let one : c.index.result.now ≡ x = same_Some _ _ (sym (standing n xs k c.index.result.now place at-first).0 ∙ (standing n xs k x place at).0) in
-    let number : s ≡ x.session = ap (λ (y : Named). y.session) (c.behind-self.view_is ∙ one) in
+    let number : s ≡ x.session = ap (λ (y : ScriptSession). y.session) (c.behind-self.view_is ∙ one) in
     let held : c.set_held.new.self ≡ with_held false x = search rules in
-    let given : taken_dry n s (old.core, t) ≡ (q, u) = search rules in
+    let given : drained_session n s (old.core, t) ≡ (q, u) = search rules in
     subst (λ (v : Running). q.schema ≡ v.schema) c.self.view_is
     (takes n (script_of old.core xs old.inserts old.moment) k x place at c.self.invariant old.core.schema s q ys t u number (ap (slice_set xs k) held) given).1

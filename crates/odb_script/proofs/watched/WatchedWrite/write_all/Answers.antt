@@ -1,5 +1,5 @@
 use Rattle.std.proofs.Common.{rules}
-use Rattle.odb_script.proofs.Fronts.{wrote_more, appends_kept}
+use Rattle.odb_script.proofs.AppendedParts.{wrote_more, appends_kept}
 use Rattle.odb_script.proofs.watched.WatchedWrite.write_all.Goals.{in-Ok, in-Err+else-ne}
 use Rattle.odb_script.proofs.watched.WatchedWrite.write_all.Goals as goal
 

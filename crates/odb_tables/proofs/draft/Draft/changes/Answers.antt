@@ -1,11 +1,14 @@
-use Rattle.std.proofs.Common.{rules, ◌≡◌, ◌<◌, ◌≤◌, ◌+◌, ◌++◌, ◌∷◌, [], List, length, take, take_all, get_or, sym, ap, ◌∙◌, arith}
+use Rattle.std.proofs.Common.{rules, ◌≡◌, ◌<◌, ◌≤◌, ◌+◌, ◌++◌, ◌∷◌, [], List, length, take, take_all, get_or, sym, ap, subst, ◌∙◌, arith}
 use Rattle.std.proofs.lemmas.List.{take_more}
-use Rattle.odb_tables.specs.Change.{Changes, change, change_between}
+use Rattle.odb_tables.specs.Change.{Changes, all_changed_by, change, change_between}
+use Rattle.odb_tables.specs.Installing.{IsChangeOf}
+use Rattle.odb_tables.proofs.Changes.{change-of, leads-to}
 use Rattle.odb_tables.specs.Database.{Db, Table}
 use Rattle.odb_tables.specs.Draft.{Draft}
 use Rattle.odb_tables.specs.Represented.Draft.{all_overlaid, overlaid}
 use Rattle.odb_tables.specs.Represented.Overlay.{Touched}
 use Rattle.odb_tables.proofs.Drafts.{changes_at, length-changes}
+use Rattle.odb_tables.proofs.Overlays.{length-all_overlaid}
 use Rattle.odb_tables.proofs.draft.Draft.changes.Goals as goal
 
 pub loop-place-preserved : goal.loop-place-preserved
@@ -27,8 +30,8 @@ loop-place-preserved c =
     let more : take (i + 1) whole ≡ take i whole ++ c.in_ok-changes.field-0 ∷ [] = take_more whole i c.in_ok-changes.field-0 (let len = length-changes db os long in omega (arith, inside, long, len)) ∙ ap (λ x. take i whole ++ x ∷ []) (sym at) in
     grown ∙ ap (λ xs. xs ++ c.in_ok-changes.field-0 ∷ []) (c.loop-place.invariant ∙ ap (take i) (sym here)) ∙ sym more ∙ ap (take (i + 1)) here
 
-pub returns : goal.returns
-returns c =
+pub returns-clause-changes : goal.returns-clause-changes
+returns-clause-changes c =
     let db : Db = c.self.inside.base.now in
     let os : List Touched = c.self.inside.overlays.items in
     let whole : List Changes = change_between db (all_overlaid db os) in
@@ -36,3 +39,17 @@ returns c =
     let long : length os ≡ length db = c.self.invariant in
     let past : length os ≤ c.loop-place.place = search rules in
     c.new.ensures ∙ c.loop-place.invariant ∙ ap (take c.loop-place.place) (sym here) ∙ take_all c.loop-place.place whole (let len = length-changes db os long in omega (arith, past, long, len)) ∙ here
+
+pub returns-clause-change_of : goal.returns-clause-change_of
+returns-clause-change_of c =
+    let db : Db = c.self.inside.base.now in
+    let os : List Touched = c.self.inside.overlays.items in
+    let long : length c.args.self.now ≡ length c.args.self.old = ap (λ (d : Draft). length d.now) (sym c.self.view_is) ∙ length-all_overlaid db os c.self.invariant ∙ ap (λ (d : Draft). length d.old) c.self.view_is in
+    subst (IsChangeOf c.args.self.old) (sym (returns-clause-changes c)) (change-of c.args.self.old c.args.self.now long)
+
+pub returns-clause-leads_to : goal.returns-clause-leads_to
+returns-clause-leads_to c =
+    let db : Db = c.self.inside.base.now in
+    let os : List Touched = c.self.inside.overlays.items in
+    let long : length c.args.self.now ≡ length c.args.self.old = ap (λ (d : Draft). length d.now) (sym c.self.view_is) ∙ length-all_overlaid db os c.self.invariant ∙ ap (λ (d : Draft). length d.old) c.self.view_is in
+    ap (all_changed_by c.args.self.old) (returns-clause-changes c) ∙ leads-to c.args.self.old c.args.self.now long

@@ -1,0 +1,29 @@
+use Rattle.std.proofs.Common.{rules, ◌≡◌, false, Ok, sym, ap, ◌∙◌}
+use Rattle.std.specs.Result.{is_err}
+use Rattle.serde_json.specs.View.{view}
+use Rattle.odb_locks.specs.Represented.Locks.{answer_of, claim_by}
+use Rattle.odb_locks.specs.Represented.Notice.{notices_of}
+use Rattle.odb_locks.specs.declared.locks.LockOutcome.{LockOutcome}
+use Rattle.odb_wire.specs.Shown.{request_data}
+use Rattle.odb_service.specs.World.{World, locked, post_notices, succeed}
+use Rattle.odb_core.proofs.LockPosts.{given, locks_as}
+use Rattle.odb_core.proofs.state.State.claim.Goals as goal
+
+pub returns-clause-ok : goal.returns-clause-ok
+returns-clause-ok c = λ h.
+    let s = c.args.session in
+    let d = request_data c.args.request.now in
+    let name = c.args.name.now in
+    let w : World = c.args.self.now in
+    let preview : LockOutcome = c.in-Ok.preview in
+    let ns = notices_of preview.notices.items in
+    let i = c.self-2.inside in
+    let v : World = record { db = i.db; commits = i.commits; now = i.now; waiting = i.waiting.items; locks = i.locks; sessions = i.sessions } in
+    let r = view c.in_ok-result.result in
+    let says : answer_of (claim_by c.args.stolen w.locks s name) ≡ Ok (ns, preview.owns) = search rules in
+    let went : is_err c.claim.result ≡ false = search rules in
+    let done = given c.claim.result _ went c.claim.ensures.ok in
+    let same : v.locks ≡ w.locks = search rules in
+    let is : claim_by c.args.stolen w.locks s name ≡ Ok (c.claim.new.self, notices_of done.0.notices.items, done.0.owns) = ap (λ l. claim_by c.args.stolen l s name) (sym same) ∙ done.1 in
+    let told : succeed s d r (post_notices ns w) ≡ v = search rules in
+    locks_as h s d (locked h) (claim_by c.args.stolen w.locks s name) w v r ns preview.owns c.claim.new.self (notices_of done.0.notices.items, done.0.owns) says is (c.in_ok-result.ensures.value h) told

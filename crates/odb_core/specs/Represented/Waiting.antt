@@ -1,0 +1,48 @@
+-- What the transactions of the code stand for.
+use Rattle.std.specs.Prelude.{ℕ, ◌+◌, ◌==◌, ◌&&◌, Bool, List, bytes_eq, map, Option, Some, None, Vec}
+use Rattle.std.specs.declared.alloc.Global.{Global}
+use Rattle.serde_json.specs.declared.value.Value.{Value}
+use Rattle.odb_commit.specs.Represented.Outcome.{Answers}
+use Rattle.odb_commit.specs.declared.transaction.Outcome.TheVariants as outcome
+use Rattle.odb_tables.specs.Change.{Changes}
+use Rattle.serde_json.specs.Written.{compact_text}
+use Rattle.odb_atoms.specs.Represented.Atom.{uuid_of}
+use Rattle.odb_commit.specs.Transaction as transaction
+use Rattle.odb_commit.specs.Transaction.{transact}
+use Rattle.odb_locks.specs.Locks.{owns}
+use Rattle.odb_ops.specs.Execution.{Context}
+use Rattle.odb_rpc.specs.Message.{operations_of}
+use Rattle.odb_schema.specs.Schema.{Schema}
+use Rattle.odb_wire.specs.Message.{id_of}
+use Rattle.odb_wire.specs.Shown.{request_data}
+use Rattle.odb_service.specs.Service.{max_rows}
+use Rattle.odb_service.specs.World as model
+use Rattle.odb_service.specs.World.{World}
+use Rattle.odb_core.specs.declared.submitted.Submitted.{Submitted}
+use Rattle.odb_core.specs.declared.waiting.Tried.{Tried}
+use Rattle.odb_core.specs.declared.waiting.Tried.TheVariants as tried
+
+-- a transaction that waits until this deadline, tried at this number of commits
+abbrev pub waiting_as : Submitted → Option ℕ → ℕ → model.Waiting
+waiting_as a deadline tried = record { session = a.session; request = request_data a.request; operations = operations_of (request_data a.request); fresh = map uuid_of a.fresh.items; arrival = a.arrival; deadline = deadline; tried = tried }
+
+-- it is the session's, and its request has the id of this text
+abbrev pub is_named : ℕ → List ℕ → model.Waiting → Bool
+is_named s text p = (p.session == s) && bytes_eq text (compact_text (id_of p.request))
+
+-- what the world gives a transaction
+abbrev pub context_in : World → Submitted → Context
+context_in w a = record { fresh = map uuid_of a.fresh.items; arrival = a.arrival; now = w.now; owns = owns w.locks a.session }
+
+-- what the transaction comes to in the world, for the schema
+abbrev pub outcome_in : Schema → World → Submitted → transaction.Outcome
+outcome_in s w a = transact s max_rows (w.commits + 1) (context_in w a) w.db (operations_of (request_data a.request))
+
+-- the transaction that waits after a try
+abbrev pub left_waiting : Tried → Submitted → ℕ → Option model.Waiting
+left_waiting tried.Ended a commits = None
+left_waiting (tried.Waiting deadline) a commits = Some (waiting_as a deadline commits)
+
+-- the transaction goes through with these results and this change
+abbrev pub IsDone : Schema → World → Submitted → Vec Value Global → List Changes → Type 0
+IsDone s w a results change = Answers s w.db (outcome.Done results change) (outcome_in s w a)

@@ -1,0 +1,130 @@
+//! Transactions that are tried, and those that wait (RFC 7047, sections 4.1.3 and 5.2.6). [P 12.1, 12.4]
+
+ghost use Rattle.std.specs.Prelude.{◌≡◌, ◌==◌, IfErr, IfOk};
+ghost use Rattle.odb_core.specs.Represented.Waiting.{is_named, waiting_as};
+
+use crate::submitted::Submitted;
+use odb_locks::SessionId;
+use std::alloc::{AllocError, Global};
+use std::marker::Model;
+use std::sync::Arc;
+
+/// What a try of a transaction came to.
+#[derive(Clone, Copy, Debug)]
+pub(crate) enum Tried {
+    /// It went through or failed, and its reply is queued.
+    Ended,
+    /// It waits until this moment, in milliseconds, or for ever.
+    Waiting { deadline: Option<u64> },
+}
+
+/// A transaction that waits. Copies share what was submitted.
+#[derive(Drop)]
+pub(crate) struct Waiting {
+    submitted: Arc<Submitted>,
+    deadline: Option<u64>,
+    tried: u64,
+}
+
+impl Model for Waiting {
+    ghost use Rattle.std.specs.Arc.{arc_value};
+    ghost use Rattle.odb_service.specs.World as model;
+    ghost use Rattle.odb_service.specs.WorldCode.{waiting_code};
+    ghost use Rattle.odb_core.specs.Represented.Waiting.{waiting_as};
+
+    ghost Value = { model.Waiting };
+
+    ghost coded = { waiting_code };
+
+    ghost view = { λ p. waiting_as (arc_value p.submitted) p.deadline p.tried };
+}
+
+impl Waiting {
+    ghost use Rattle.std.specs.Arc.{arc_value};
+    ghost use Rattle.odb_service.specs.World.{is_due, is_untried};
+
+    /// A transaction that waits until the deadline, in milliseconds, and was tried at this number of
+    /// commits. Where memory is refused it comes back.
+    pub(crate) fn new(
+        alloc: Global,
+        submitted: Submitted,
+        deadline: Option<u64>,
+        tried: u64,
+    ) -> Result<Waiting, (Submitted, AllocError)>
+        ensures ok { IfOk result (λ waiting. waiting ≡ waiting_as submitted deadline tried) }
+        ensures err { IfErr result (λ back. back.0 ≡ submitted) }
+    {
+        match Arc::new(alloc, submitted) {
+            Ok(submitted) => Ok(Waiting {
+                submitted,
+                deadline,
+                tried,
+            }),
+            Err(refused) => Err((refused.value, AllocError)),
+        }
+    }
+
+    /// The transaction as it was submitted. O(1).
+    pub(crate) fn submitted(&self) -> &Submitted
+        ensures { waiting_as result.now self.now.deadline self.now.tried ≡ self.now }
+    {
+        &self.submitted
+    }
+
+    /// The same one, which waits until another deadline and was tried again. O(1).
+    pub(crate) fn tried_again(self, deadline: Option<u64>, tried: u64) -> Waiting
+        ensures { result ≡ record (self) { deadline = deadline; tried = tried } }
+    {
+        Waiting {
+            submitted: self.submitted,
+            deadline,
+            tried,
+        }
+    }
+
+    /// Whether its deadline has come by this moment. O(1).
+    pub(crate) fn is_due(&self, now: u64) -> bool
+        ensures { result ≡ is_due now self.now.deadline }
+    {
+        match self.deadline {
+            Some(deadline) => deadline <= now,
+            None => false,
+        }
+    }
+
+    /// Whether there was a commit since it was tried. O(1).
+    pub(crate) fn is_untried(&self, commits: u64) -> bool
+        ensures { result ≡ is_untried commits self.now }
+    {
+        self.tried != commits
+    }
+
+    /// Whether it is the session's. O(1).
+    pub(crate) fn belongs_to(&self, session: SessionId) -> bool
+        ensures { result ≡ (self.now.session == session) }
+    {
+        self.submitted.session == session
+    }
+
+    /// Whether it is the session's, and its request has the id of this text. O(bytes of the id).
+    pub(crate) fn has_id_and_session(&self, session: SessionId, id: &[u8]) -> bool
+        ensures { result ≡ is_named session id.now self.now }
+    {
+        self.submitted.session == session && self.submitted.id.as_slice() == id
+    }
+}
+
+impl Clone for Waiting {
+    ghost use Rattle.std.specs.Prelude.{◌≡◌};
+
+    ghost is_clone = { λ x y. y ≡ x };
+
+    /// The same transaction, shared. O(1).
+    fn clone(&self) -> Result<Waiting, AllocError> {
+        Ok(Waiting {
+            submitted: self.submitted.clone()?,
+            deadline: self.deadline,
+            tried: self.tried,
+        })
+    }
+}
