@@ -1,0 +1,160 @@
+-- What is kept of a row says the same as before: that is so of itself, and goes on.
+use Rattle.std.proofs.Common.{◌≡◌, ℕ, ◌+◌, ◌<◌, Bool, true, false, cond, ◌||◌, filter, List, [], ◌∷◌, ◌++◌, get_or, length, map, take, Option, Some, None, is_some, option_and_then, option_map, Result, Ok, Err, is_err, OnErr, OnOk, refl, sym, ap, subst, ◌∙◌, true≢false}
+use Rattle.std.proofs.lemmas.List.{map-append, take_more}
+use Rattle.std.proofs.lemmas.Map.Keys.{IsDistinct-head, IsDistinct-tail}
+use Rattle.std.specs.FinMap.Entries.{find, is_some-find}
+use Rattle.std.specs.List.{IsDistinct, list_any}
+use Rattle.std.specs.Map.{keys_of}
+use Rattle.indexmap.specs.IndexMap.{IndexMap, get_by}
+use Rattle.std.specs.Ordering.{eq_by_cmp}
+use Rattle.odb_atoms.specs.FinMap as finite
+use Rattle.odb_atoms.specs.Row.{Row}
+use Rattle.odb_atoms.specs.Uuid.{Uuid, uuid_cmp}
+use Rattle.odb_atoms.proofs.Atoms.{uuid_cmp_total, uuid_cmp-IsAntisymmetric}
+use Rattle.odb_atoms.proofs.FinMaps.{get-insert, get-map_entries, same_key, same_map}
+use Rattle.odb_tables.specs.Database.{Table}
+use Rattle.odb_tables.specs.Represented.Key.{keys_equivalent}
+use Rattle.odb_tables.specs.Represented.Keyed.{keyed, shown}
+use Rattle.odb_tables.proofs.KeyedMaps.{get-from_entries, get-keyed, keys-shown, none_behind}
+use Rattle.odb_chain.specs.Represented.Chain.{since_place}
+use Rattle.odb_chain.specs.Kept.{History, Rows, at, is_reached, reaches}
+use Rattle.odb_chain.specs.Represented.Places.{AsBefore}
+use Rattle.odb_chain.proofs.Histories.{neutral, past_pushed}
+
+module _ (n : ℕ) (ls : List (ℕ × ℕ)) where
+  pub as_it_is : (r : Option Row) (o : Option History) → AsBefore n ls r o o
+  as_it_is r o = (λ p kept. refl, λ v le h. h)
+
+  pub goes_on : (r : Option Row) (a b c : Option History) → AsBefore n ls r a b → AsBefore n ls r b c → AsBefore n ls r a c
+  goes_on r a b c f g = (λ p kept. g.0 p kept ∙ f.0 p kept, λ v le h. g.1 v le (f.1 v le h))
+
+  -- where nothing was kept
+  pub begun : (r : Option Row) → AsBefore n ls r None (Some ((n, r) ∷ []))
+  begun r = (λ p kept. neutral p n r [], λ v le h. past_pushed v n r [] le tt)
+
+  -- a row that the change doesn't concern, and the one that it does
+  pub only_at : (t : Table) (old new : Rows) (k : Uuid) → AsBefore n ls (finite.get t k) (finite.get old k) (finite.get new k)
+      → ((u : Uuid) → eq_by_cmp uuid_cmp u k ≡ false → finite.get new u ≡ finite.get old u) → (u : Uuid) → AsBefore n ls (finite.get t u) (finite.get old u) (finite.get new u)
+  only_at t old new k here others u = by (eq_by_cmp uuid_cmp u k) refl
+    where
+      by : (b : Bool) → eq_by_cmp uuid_cmp u k ≡ b → AsBefore n ls (finite.get t u) (finite.get old u) (finite.get new u)
+      by true is = subst (λ q. AsBefore n ls (finite.get t q) (finite.get old q) (finite.get new q)) (sym (same_key uuid_cmp-IsAntisymmetric u k is)) here
+      by false is = subst (AsBefore n ls (finite.get t u) (finite.get old u)) (sym (others u is)) (as_it_is (finite.get t u) (finite.get old u))
+
+pub reached_still : (n : ℕ) (old new : Rows) (k : Uuid) → is_reached n (finite.get new k) ≡ true
+    → ((u : Uuid) → eq_by_cmp uuid_cmp u k ≡ false → finite.get new u ≡ finite.get old u) → (u : Uuid) → is_reached n (finite.get old u) ≡ true → is_reached n (finite.get new u) ≡ true
+reached_still n old new k here others u was = by (eq_by_cmp uuid_cmp u k) refl
+  where
+    by : (b : Bool) → eq_by_cmp uuid_cmp u k ≡ b → is_reached n (finite.get new u) ≡ true
+    by true is = ap (λ q. is_reached n (finite.get new q)) (same_key uuid_cmp-IsAntisymmetric u k is) ∙ here
+    by false is = ap (is_reached n) (others u is) ∙ was
+
+pub inserted_else : (m : Rows) (k : Uuid) (h : History) (u : Uuid) → eq_by_cmp uuid_cmp u k ≡ false → finite.get (finite.insert m k h) u ≡ finite.get m u
+inserted_else m k h u apart = get-insert uuid_cmp_total m k h u ∙ ap (λ b. cond b (Some h) (finite.get m u)) apart
+
+pub itself : (k : Uuid) → eq_by_cmp uuid_cmp k k ≡ true
+itself k = keys_equivalent.refl k
+
+pub inserted_here : (m : Rows) (k : Uuid) (h : History) → finite.get (finite.insert m k h) k ≡ Some h
+inserted_here m k h = get-insert uuid_cmp_total m k h k ∙ ap (λ b. cond b (Some h) (finite.get m k)) (itself k)
+
+-- ---- what a map of the code says of a row
+
+pub either : {A E P Q G : Type 0} (r : Result A E) → OnOk r P → OnErr r Q → (P → G) → (Q → G) → G
+either (Ok a) p q f g = f p
+either (Err e) p q f g = g q
+
+pub got : {S : Type 0} (m : IndexMap Uuid History S) (rows : Rows) (k : Uuid) → keyed (λ h. h) m ≡ rows → finite.get rows k ≡ option_map (λ h. h) (get_by (eq_by_cmp uuid_cmp k) m)
+got m rows k is = ap (λ r. finite.get r k) (sym is) ∙ get-keyed (λ h. h) m k
+
+-- ---- rows one after the other
+
+any-++ : (u : Uuid) (xs ys : List Uuid) → list_any (eq_by_cmp uuid_cmp u) (xs ++ ys) ≡ (list_any (eq_by_cmp uuid_cmp u) xs || list_any (eq_by_cmp uuid_cmp u) ys)
+any-++ u [] ys = refl
+any-++ u (x ∷ xs) ys = by (eq_by_cmp uuid_cmp u x) (any-++ u xs ys)
+  where
+    any : List Uuid → Bool
+    any = list_any (eq_by_cmp uuid_cmp u)
+
+    by : (b : Bool) → any (xs ++ ys) ≡ (any xs || any ys) → (b || any (xs ++ ys)) ≡ ((b || any xs) || any ys)
+    by true is = refl
+    by false is = is
+
+or_false : (b : Bool) → (b || false) ≡ b
+or_false true = refl
+or_false false = refl
+
+module _ {X : Type 0} (es : List (Uuid × X)) where
+  pub any_more : (u : Uuid) (i : ℕ) (e : Uuid × X) → i < length es → e ≡ get_or es i e → list_any (eq_by_cmp uuid_cmp u) (keys_of (take (i + 1) es)) ≡ (list_any (eq_by_cmp uuid_cmp u) (keys_of (take i es)) || eq_by_cmp uuid_cmp u e.0)
+  any_more u i e low at =
+      ap (λ xs. list_any (eq_by_cmp uuid_cmp u) (keys_of xs)) (take_more es i e low ∙ ap (λ x. take i es ++ x ∷ []) (sym at))
+      ∙ ap (list_any (eq_by_cmp uuid_cmp u)) (map-append (λ x. x.0) (take i es) (e ∷ []))
+      ∙ any-++ u (keys_of (take i es)) (e.0 ∷ [])
+      ∙ ap (λ b. list_any (eq_by_cmp uuid_cmp u) (keys_of (take i es)) || b) (or_false (eq_by_cmp uuid_cmp u e.0))
+
+  -- the rows of a change are those that it lists
+  pub any_of : (m : finite.FinMap uuid_cmp X) (u : Uuid) → finite.from_entries es ≡ m → is_some (finite.get m u) ≡ true → list_any (eq_by_cmp uuid_cmp u) (keys_of es) ≡ true
+  any_of m u is there = sym (is_some-find uuid_cmp u es) ∙ ap is_some (sym (get-from_entries es u) ∙ ap (λ n. finite.get n u) is) ∙ there
+
+pub one_reached : (n : ℕ) (old new : Rows) (k : Uuid) (before : Uuid → Bool) → ((u : Uuid) → before u ≡ true → is_reached n (finite.get old u) ≡ true)
+    → is_reached n (finite.get new k) ≡ true → ((u : Uuid) → is_reached n (finite.get old u) ≡ true → is_reached n (finite.get new u) ≡ true)
+    → (u : Uuid) → (before u || eq_by_cmp uuid_cmp u k) ≡ true → is_reached n (finite.get new u) ≡ true
+one_reached n old new k before was here still u e = by (before u) refl (eq_by_cmp uuid_cmp u k) refl e
+  where
+    by : (b : Bool) → before u ≡ b → (c : Bool) → eq_by_cmp uuid_cmp u k ≡ c → (b || c) ≡ true → is_reached n (finite.get new u) ≡ true
+    by true is c at e = still u (was u is)
+    by false is true at e = ap (λ q. is_reached n (finite.get new q)) (same_key uuid_cmp-IsAntisymmetric u k at) ∙ here
+    by false is false at e = absurd (true≢false (sym e))
+
+-- ---- rows that go
+
+abbrev pub where_reached : ℕ → History → Option History
+where_reached p h = cond (reaches p h) (Some h) None
+
+module _ (p : ℕ) where
+  abbrev pub stays : Uuid × History → Bool
+  stays e = reaches p e.1
+
+  abbrev pub as_shown : List (Uuid × History) → List (Uuid × History)
+  as_shown es = map (shown (λ h. h)) es
+
+  find-filtered : (q : Uuid) (es : List (Uuid × History)) → IsDistinct (eq_by_cmp uuid_cmp) (keys_of es) → find uuid_cmp q (as_shown (filter stays es)) ≡ option_and_then (where_reached p) (find uuid_cmp q (as_shown es))
+  find-filtered q [] h = refl
+  find-filtered q (e ∷ es) h = by (reaches p e.1) refl (eq_by_cmp uuid_cmp q e.0) refl (find-filtered q es (IsDistinct-tail (eq_by_cmp uuid_cmp) e.0 (keys_of es) h))
+    where
+      rest_has : eq_by_cmp uuid_cmp q e.0 ≡ true → find uuid_cmp q (as_shown es) ≡ None
+      rest_has at =
+          let distinct : IsDistinct (eq_by_cmp uuid_cmp) (keys_of (as_shown (e ∷ es))) = subst (IsDistinct (eq_by_cmp uuid_cmp)) (keys-shown (λ h. h) (e ∷ es)) h in
+          ap (λ u. find uuid_cmp u (as_shown es)) (same_key uuid_cmp-IsAntisymmetric q e.0 at) ∙ none_behind e.0 (as_shown es) (IsDistinct-head (eq_by_cmp uuid_cmp) e.0 (keys_of (as_shown es)) distinct)
+
+      by : (b : Bool) → reaches p e.1 ≡ b → (c : Bool) → eq_by_cmp uuid_cmp q e.0 ≡ c → find uuid_cmp q (as_shown (filter stays es)) ≡ option_and_then (where_reached p) (find uuid_cmp q (as_shown es))
+          → find uuid_cmp q (as_shown (cond b (e ∷ filter stays es) (filter stays es))) ≡ option_and_then (where_reached p) (cond c (Some e.1) (find uuid_cmp q (as_shown es)))
+      by true is true at rest = ap (λ c. cond c (Some e.1) (find uuid_cmp q (as_shown (filter stays es)))) at ∙ sym (ap (λ b. cond b (Some e.1) None) is)
+      by true is false at rest = ap (λ c. cond c (Some e.1) (find uuid_cmp q (as_shown (filter stays es)))) at ∙ rest
+      by false is true at rest = rest ∙ ap (option_and_then (where_reached p)) (rest_has at) ∙ sym (ap (λ b. cond b (Some e.1) None) is)
+      by false is false at rest = rest
+
+  pub forgotten : (es : List (Uuid × History)) → IsDistinct (eq_by_cmp uuid_cmp) (keys_of es) → finite.from_entries {R = uuid_cmp} (as_shown (filter stays es)) ≡ since_place p (finite.from_entries (as_shown es))
+  forgotten es h =
+      let rows : Rows = finite.from_entries {R = uuid_cmp} (as_shown es) in
+      same_map uuid_cmp_total uuid_cmp-IsAntisymmetric _ _
+      (λ q. get-from_entries (as_shown (filter stays es)) q ∙ find-filtered q es h ∙ ap (option_and_then (where_reached p)) (sym (get-from_entries (as_shown es) q))
+      ∙ sym (get-map_entries uuid_cmp_total uuid_cmp-IsAntisymmetric (λ u h. where_reached p h) rows q))
+
+pub reached_else : (n : ℕ) (old new : Rows) (k : Uuid) → is_reached n (finite.get old k) ≡ false → ((u : Uuid) → eq_by_cmp uuid_cmp u k ≡ false → finite.get new u ≡ finite.get old u)
+    → (u : Uuid) → is_reached n (finite.get old u) ≡ true → is_reached n (finite.get new u) ≡ true
+reached_else n old new k unreached others u was = by (eq_by_cmp uuid_cmp u k) refl
+  where
+    by : (b : Bool) → eq_by_cmp uuid_cmp u k ≡ b → is_reached n (finite.get new u) ≡ true
+    by true is = absurd (true≢false (sym was ∙ ap (λ q. is_reached n (finite.get old q)) (same_key uuid_cmp-IsAntisymmetric u k is) ∙ unreached))
+    by false is = ap (is_reached n) (others u is) ∙ was
+
+-- ---- results
+
+pub given_ok : {A E P : Type 0} (r : Result A E) → is_err r ≡ false → OnOk r P → P
+given_ok (Ok a) e p = p
+given_ok (Err f) e p = absurd (true≢false e)
+
+pub on_any_err : {A E P : Type 0} (r : Result A E) → P → OnErr r P
+on_any_err (Ok a) p = tt
+on_any_err (Err f) p = p

@@ -1,0 +1,10 @@
+mod Absorbed
+mod Contents
+mod Histories
+mod Keeps
+mod Numbers
+mod Places
+mod Since
+mod Shown
+pub mod Undoing
+mod Views

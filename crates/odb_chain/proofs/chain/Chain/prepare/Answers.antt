@@ -1,0 +1,58 @@
+use Rattle.std.proofs.Common.{rules, ◌≡◌, ℕ, ◌-◌, ◌^◌, ◌<◌, List, [], ◌++◌, nat_le, true, subst, sym, ap, ◌∙◌}
+use Rattle.odb_atoms.specs.FinMap as finite
+use Rattle.odb_tables.specs.Database.{Table}
+use Rattle.odb_chain.specs.Kept.{Rows, content_at}
+use Rattle.odb_chain.specs.Represented.Chain.{Chain, here, is_roomy, places}
+use Rattle.odb_chain.specs.Represented.Places.{IsPast, is_kept, is_place}
+use Rattle.odb_chain.proofs.chain.Chain.prepare.Goals as goal
+use Rattle.std.proofs.lemmas.List.{nil_from_length}
+use Rattle.std.proofs.lemmas.Result.{on_ok_weaker}
+use Rattle.odb_atoms.specs.Uuid.{uuid_cmp}
+use Rattle.odb_chain.proofs.Contents.{nothing_named, reached_at, same_content}
+use Rattle.odb_chain.proofs.Since.{Entry}
+
+pub returns-then-is_empty-clause-ok : goal.returns-then-is_empty-clause-ok
+returns-then-is_empty-clause-ok c =
+    let es : List Entry = c.rows.result.now in
+    let none : es ≡ [] = nil_from_length es (search rules) in
+    let empty : c.args.change.now ≡ finite.empty = sym c.rows.ensures.changes ∙ ap (λ (xs : List Entry). finite.from_entries {R = uuid_cmp} xs) none in
+    nothing_named c.args.change.now c.args.self.now empty
+
+pub returns-clause-ok : goal.returns-clause-ok
+returns-clause-ok c =
+    let x : Chain = c.make_room.new.self in
+    let n = c.in-Some.newest in
+    let roomy : (is_roomy x.fresh x.room ≡ true) × (x.version < 2 ^ 64 - 1) = c.in_ok-make_room.ensures.ok in
+    let newest : (p : ℕ) → is_place p (places x) ≡ true → (nat_le p n ≡ true) × (is_kept n x.live p ≡ true) = c.in-Some.ensures.some in
+    on_ok_weaker c.record_all.result
+    (λ reached. (
+      λ some. subst (λ (y : Chain). (is_roomy y.fresh y.room ≡ true) × (y.version < 2 ^ 64 - 1)) (sym c.self.view_is) roomy,
+      λ p there u some. reached_at n p c.record_all.new.self u (newest p (ap (λ (y : Chain). is_place p (places y)) (sym c.self.view_is) ∙ there)).0 (reached u some),
+    )) c.record_all.ensures.ok
+
+pub returns-clause-stands : goal.returns-clause-stands
+returns-clause-stands c =
+    let old : Chain = c.args.self.now in
+    let x : Chain = c.make_room.new.self in
+    let t : Table = c.args.table.now in
+    let n = c.in-Some.newest in
+    let new : Rows = c.record_all.new.self in
+    let version : x.version ≡ old.version = c.make_room.ensures.version in
+    let live : x.live ≡ old.live = c.make_room.ensures.live in
+    let fresh : x.fresh ≡ old.fresh = c.make_room.ensures.fresh in
+    let rows : c.self.inside.kept ≡ old.rows = ap (λ (y : Chain). y.rows) c.self.view_is ∙ c.make_room.ensures.rows in
+    let same_live : c.as_slice.result.now ≡ x.live = c.as_slice.ensures.value ∙ ap (λ (y : Chain). y.live) c.self.view_is in
+    let newest : (p : ℕ) → is_place p (places x) ≡ true → (nat_le p n ≡ true) × (is_kept n x.live p ≡ true) = c.in-Some.ensures.some in
+    let past : nat_le n x.version ≡ true = c.in-Some.ensures.past in (
+      ap (λ (y : Chain). y.version) c.self.view_is ∙ version,
+      ap (λ (y : Chain). y.live) c.self.view_is ∙ live,
+      ap (λ (y : Chain). y.fresh) c.self.view_is ∙ fresh,
+      λ p there.
+          let at_x : is_place p (places x) ≡ true = (λ i. is_place p (live i ++ here (version i) (fresh i))) ∙ there in
+          let kept : is_kept n c.as_slice.result.now p ≡ true = ap (λ ls. is_kept n ls p) same_live ∙ (newest p at_x).1 in
+          same_content p t t new c.self.inside.kept (λ u. (c.record_all.ensures.rows u).0 p kept) ∙ ap (content_at p t) rows,
+      λ h u.
+          let before : IsPast c.self.inside.version (finite.get t u) (finite.get c.self.inside.kept u) =
+          subst (λ (r : Rows). IsPast c.self.inside.version (finite.get t u) (finite.get r u)) (sym rows) (subst (λ v. IsPast v (finite.get t u) (finite.get old.rows u)) (sym (ap (λ (y : Chain). y.version) c.self.view_is ∙ version)) (h u)) in
+          (c.record_all.ensures.rows u).1 c.self.inside.version (ap (λ (y : Chain). nat_le n y.version) c.self.view_is ∙ past) before,
+    )

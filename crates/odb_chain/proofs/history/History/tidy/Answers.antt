@@ -1,0 +1,11 @@
+use Rattle.std.proofs.Common.{subst, sym, ap, ◌∙◌}
+use Rattle.odb_chain.specs.Kept.{at}
+use Rattle.odb_chain.specs.Represented.Places.{Past}
+use Rattle.odb_chain.proofs.Histories.{clean_same, past_cleaned}
+use Rattle.odb_chain.proofs.history.History.tidy.Goals as goal
+
+pub returns-clause-same : goal.returns-clause-same
+returns-clause-same c = λ n p r new kept. ap (at p r) c.clean.ensures ∙ clean_same n c.args.live.now r c.args.self.now new p kept
+
+pub returns-clause-past : goal.returns-clause-past
+returns-clause-past c = λ v r h. subst (Past v r) (sym c.clean.ensures) (past_cleaned c.args.live.now v r c.args.self.now h)

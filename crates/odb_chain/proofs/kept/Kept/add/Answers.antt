@@ -1,0 +1,90 @@
+use Rattle.std.proofs.Common.{rules, ◌≡◌, ◌∷◌, [], Some, None, IsSome, option_map, OnOk, OnErr, refl, subst, sym, ap, ◌∙◌}
+use Rattle.std.proofs.lemmas.Result.{on_ok_weaker}
+use Rattle.odb_atoms.specs.FinMap as finite
+use Rattle.odb_atoms.specs.Uuid.{Uuid, uuid_cmp}
+use Rattle.std.specs.Ordering.{eq_by_cmp}
+use Rattle.indexmap.specs.IndexMap.{Updates, get_by}
+use Rattle.odb_tables.specs.Represented.Keyed.{keyed}
+use Rattle.odb_chain.specs.Kept.{History, Rows, at_place, is_reached}
+use Rattle.odb_chain.specs.Represented.Places.{AsBefore, IsPast}
+use Rattle.odb_tables.proofs.KeyedMaps.{inserted}
+use Rattle.odb_chain.proofs.Histories.{reached_pushed}
+use Rattle.odb_chain.proofs.Keeps.{as_it_is, begun, either, got, inserted_else, inserted_here}
+use Rattle.odb_chain.proofs.kept.Kept.add.Goals as goal
+
+abbrev started : Rows → Uuid → History → Rows → Type 0
+started m k h new = new ≡ finite.insert m k h
+
+pub returns-in_default-clause-ok : goal.returns-in_default-clause-ok
+returns-in_default-clause-ok c =
+    let m : Rows = c.args.self.now in
+    let k = c.args.key in
+    let n = c.args.old.0 in
+    let made : OnOk c.start.result (c.start.new.self ≡ finite.insert m k (c.args.old ∷ [])) = search rules in
+    on_ok_weaker c.start.result (λ e. ap (λ (r : Rows). is_reached n (finite.get r k)) e ∙ ap (is_reached n) (inserted_here m k (c.args.old ∷ [])) ∙ reached_pushed n c.args.old.1 []) made
+
+pub returns-in_default-clause-row : goal.returns-in_default-clause-row
+returns-in_default-clause-row c =
+    let m : Rows = c.args.self.now in
+    let k = c.args.key in
+    let n = c.args.old.0 in
+    let r = c.args.old.1 in
+    let ls = c.args.live.now in
+    let none : get_by (eq_by_cmp uuid_cmp k) c.self.inside.rows ≡ None = search rules in
+    let had : finite.get m k ≡ None = got c.self.inside.rows m k c.self.view_is ∙ ap (option_map (λ (h : History). h)) none in
+    let made : OnOk c.start.result (c.start.new.self ≡ finite.insert m k (c.args.old ∷ [])) = search rules in
+    let kept : OnErr c.start.result (c.start.new.self ≡ m) = search rules in
+    either c.start.result made kept
+    (λ e. subst (AsBefore n ls r (finite.get m k)) (sym (ap (λ (x : Rows). finite.get x k) e ∙ inserted_here m k (c.args.old ∷ []))) (subst (λ o. AsBefore n ls r o (Some (c.args.old ∷ []))) (sym had) (begun n ls r)))
+    (λ e. subst (AsBefore n ls r (finite.get m k)) (sym (ap (λ (x : Rows). finite.get x k) e)) (as_it_is n ls r (finite.get m k)))
+
+pub returns-in_default-clause-others : goal.returns-in_default-clause-others
+returns-in_default-clause-others c = λ u apart.
+    let m : Rows = c.args.self.now in
+    let k = c.args.key in
+    let made : OnOk c.start.result (c.start.new.self ≡ finite.insert m k (c.args.old ∷ [])) = search rules in
+    let kept : OnErr c.start.result (c.start.new.self ≡ m) = search rules in
+    either c.start.result made kept
+    (λ e. ap (λ (x : Rows). finite.get x u) e ∙ inserted_else m k (c.args.old ∷ []) u apart)
+    (λ e. ap (λ (x : Rows). finite.get x u) e)
+
+pub push-requires : goal.push-requires
+push-requires c =
+    let k = c.args.key in
+    let there : get_by (eq_by_cmp uuid_cmp k) c.self.inside.rows ≡ Some c.in-Some.history.now = search rules in
+    let had : finite.get c.args.self.now k ≡ Some c.in-Some.history.now = got c.self.inside.rows c.args.self.now k c.self.view_is ∙ ap (option_map (λ (h : History). h)) there in
+    sym (ap (is_reached c.args.old.0) had) ∙ c.requires
+
+pub returns-clause-ok : goal.returns-clause-ok
+returns-clause-ok c =
+    let k = c.args.key in
+    let m : Rows = c.args.self.now in
+    let rows = c.self.inside.rows in
+    let w : History = c.push.new.self in
+    let there : get_by (eq_by_cmp uuid_cmp k) rows ≡ Some c.in-Some.history.now = search rules in
+    let changed : Updates (eq_by_cmp uuid_cmp) rows (c.get_mut.follows.lender w) k (Some w) = (c.get_mut.follows.holds w).3 (subst IsSome (sym there) refl) in
+    let new : finite.get (keyed (λ (h : History). h) (c.get_mut.follows.lender w)) k ≡ Some w = ap (λ (x : Rows). finite.get x k) (inserted (λ (h : History). h) rows (c.get_mut.follows.lender w) k w changed) ∙ inserted_here (keyed (λ (h : History). h) rows) k w in
+    on_ok_weaker c.push.result (λ e. ap (is_reached c.args.old.0) new ∙ e) c.push.ensures.ok
+
+pub returns-clause-row : goal.returns-clause-row
+returns-clause-row c =
+    let k = c.args.key in
+    let r = c.args.old.1 in
+    let m : Rows = c.args.self.now in
+    let rows = c.self.inside.rows in
+    let w : History = c.push.new.self in
+    let there : get_by (eq_by_cmp uuid_cmp k) rows ≡ Some c.in-Some.history.now = search rules in
+    let had : finite.get m k ≡ Some c.in-Some.history.now = got rows m k c.self.view_is ∙ ap (option_map (λ (h : History). h)) there in
+    let changed : Updates (eq_by_cmp uuid_cmp) rows (c.get_mut.follows.lender w) k (Some w) = (c.get_mut.follows.holds w).3 (subst IsSome (sym there) refl) in
+    let new : finite.get (keyed (λ (h : History). h) (c.get_mut.follows.lender w)) k ≡ Some w = ap (λ (x : Rows). finite.get x k) (inserted (λ (h : History). h) rows (c.get_mut.follows.lender w) k w changed) ∙ inserted_here (keyed (λ (h : History). h) rows) k w in
+    (λ p kept. ap (at_place p r) new ∙ c.push.ensures.same p kept ∙ sym (ap (at_place p r) had), λ v le h. subst (IsPast v r) (sym new) (c.push.ensures.past v le (subst (IsPast v r) had h)))
+
+pub returns-clause-others : goal.returns-clause-others
+returns-clause-others c = λ u apart.
+    let k = c.args.key in
+    let m : Rows = c.args.self.now in
+    let rows = c.self.inside.rows in
+    let w : History = c.push.new.self in
+    let there : get_by (eq_by_cmp uuid_cmp k) rows ≡ Some c.in-Some.history.now = search rules in
+    let changed : Updates (eq_by_cmp uuid_cmp) rows (c.get_mut.follows.lender w) k (Some w) = (c.get_mut.follows.holds w).3 (subst IsSome (sym there) refl) in
+    ap (λ (x : Rows). finite.get x u) (inserted (λ (h : History). h) rows (c.get_mut.follows.lender w) k w changed) ∙ inserted_else (keyed (λ (h : History). h) rows) k w u apart ∙ ap (λ (x : Rows). finite.get x u) c.self.view_is

@@ -1,0 +1,42 @@
+use Rattle.std.proofs.Common.{rules, ◌≡◌, ◌<◌, ◌≤◌, List, length, get_or, take, true, subst, sym, ap, ◌∙◌}
+use Rattle.std.proofs.lemmas.List.{take_all}
+use Rattle.std.specs.List.{list_any}
+use Rattle.std.specs.Map.{keys_of}
+use Rattle.odb_atoms.specs.FinMap as finite
+use Rattle.odb_atoms.specs.Uuid.{uuid_cmp}
+use Rattle.std.specs.Ordering.{eq_by_cmp}
+use Rattle.odb_tables.specs.Database.{Table}
+use Rattle.odb_chain.specs.Kept.{Rows, is_reached}
+use Rattle.odb_chain.proofs.Keeps.{any_more, any_of, goes_on, one_reached}
+use Rattle.odb_chain.proofs.Since.{Entry}
+use Rattle.odb_chain.proofs.kept.Kept.record_all.Goals as goal
+
+pub returns-in_err-record-clause-rows : goal.returns-in_err-record-clause-rows
+returns-in_err-record-clause-rows c = λ u.
+    let t : Table = c.args.table.now in
+    goes_on c.args.newest c.args.live.now (finite.get t u) (finite.get c.args.self.now u) (finite.get c.loop-row.self u) (finite.get c.record.new.self u) (c.loop-row.invariant.rows u) (c.record.ensures.rows u)
+
+pub loop-row-preserved : goal.loop-row-preserved
+loop-row-preserved c =
+    let t : Table = c.args.table.now in
+    let n = c.args.newest in
+    let es : List Entry = c.rows-row-items.result.now in
+    let i = c.loop-row.row-index in
+    let e : Entry = c.row-item.result in
+    let old : Rows = c.loop-row.self in
+    let new : Rows = c.record.new.self in
+    let low : i < length es = search rules in
+    let at : e ≡ get_or es i e = search rules in
+    let key : c.of.result ≡ e.0 = search rules in
+    let here : is_reached n (finite.get new c.of.result) ≡ true = search rules in
+    record {
+      rows = λ u. goes_on n c.args.live.now (finite.get t u) (finite.get c.args.self.now u) (finite.get old u) (finite.get new u) (c.loop-row.invariant.rows u) (c.record.ensures.rows u);
+      reached = λ u before. one_reached n old new e.0 (λ q. list_any (eq_by_cmp uuid_cmp q) (keys_of (take i es))) c.loop-row.invariant.reached (subst (λ k. is_reached n (finite.get new k) ≡ true) key here) c.record.ensures.reached u (sym (any_more es u i e low at) ∙ before);
+    }
+
+pub returns-clause-ok : goal.returns-clause-ok
+returns-clause-ok c = λ u there.
+    let es : List Entry = c.rows-row-items.result.now in
+    let i = c.loop-row.row-index in
+    let past : length es ≤ i = search rules in
+    c.loop-row.invariant.reached u (ap (λ (xs : List Entry). list_any (eq_by_cmp uuid_cmp u) (keys_of xs)) (take_all i es past) ∙ any_of es c.args.change.now u c.rows-row-items.ensures.changes there)

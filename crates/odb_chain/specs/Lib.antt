@@ -1,0 +1,4 @@
+pub mod Chains
+pub mod Kept
+pub mod Represented
+pub mod Segments

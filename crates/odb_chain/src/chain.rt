@@ -1,0 +1,260 @@
+//! What is kept of one table.
+ghost use Rattle.std.specs.Prelude.{◌≡◌, ℕ, ◌+◌, ◌-◌, ◌^◌, ◌<◌, [], ◌∷◌, true, length, nat_eq, nat_le, slice_get, option_map, Some, IfNone, IfOk, IfSome, OnOk};
+ghost use Rattle.std.specs.List.{position};
+ghost use Rattle.odb_chain.specs.Kept.{content_at};
+ghost use Rattle.odb_chain.specs.Represented.Chain.{AreRising, IsChainOf, IsReadyFor, StandsAsBefore, fewer, here, is_roomy, nothing_kept, places};
+ghost use Rattle.odb_chain.specs.Represented.Places.{is_kept, is_place};
+ghost use Rattle.odb_tables.specs.Change.{change};
+ghost use Rattle.odb_tables.specs.Database as model_tables;
+
+use crate::kept::Kept;
+use crate::live::Live;
+use odb_tables::{Table, TableChange};
+use std::alloc::{AllocError, Global};
+use std::hash::RandomState;
+use std::marker::Model;
+
+/// How many changes the table had, which places before that have marks, how many marks stand for what the
+/// table is now, and what rows were.
+#[derive(Drop)]
+pub(crate) struct Chain {
+    version: u64,
+    live: Vec<Live>,
+    fresh: usize,
+    kept: Kept,
+}
+
+impl Model for Chain {
+    ghost use Rattle.std.specs.Prelude.{nat_lt, vec_capacity, vec_len};
+    ghost use Rattle.odb_chain.specs.Represented.Chain as model;
+    ghost use Rattle.odb_chain.specs.Represented.Chain.{AreRising};
+    ghost use Rattle.odb_chain.specs.Represented.Codes.{chain_code};
+
+    ghost Value = { model.Chain };
+
+    ghost coded = { chain_code };
+
+    ghost view = { λ c. record {
+      version = c.version;
+      live = c.live.items;
+      fresh = c.fresh;
+      rows = c.kept;
+      room = nat_lt (vec_len c.live) (vec_capacity c.live);
+    } };
+
+    ghost invariant = { λ c. AreRising c.version c.live.items };
+}
+
+impl Chain {
+    /// No change was made, and nothing is kept. It takes no memory.
+    pub(crate) fn new(alloc: Global, hashing: RandomState) -> Chain
+        ensures { result ≡ nothing_kept }
+    {
+        Chain {
+            version: 0,
+            live: Vec::new(alloc),
+            fresh: 0,
+            kept: Kept::new(alloc, hashing),
+        }
+    }
+
+    /// How many changes the table had.
+    pub(crate) fn version(&self) -> u64
+        ensures { result ≡ self.now.version }
+    {
+        self.version
+    }
+
+    /// How many places have marks.
+    pub(crate) fn len(&self) -> usize
+        ensures { result ≡ length (places self.now) }
+    {
+        if self.fresh > 0 {
+            self.live.len() + 1
+        } else {
+            self.live.len()
+        }
+    }
+
+    /// One mark more for what the table is now. It takes no memory.
+    pub(crate) fn mark(&mut self)
+        requires { self.old.fresh + 1 < 2 ^ 64 }
+        ensures { self.new ≡ record (self.old) { fresh = self.old.fresh + 1 } }
+    {
+        self.fresh += 1;
+    }
+
+    /// One mark less at the place. What no mark needs any more goes, without memory.
+    pub(crate) fn release(&mut self, place: u64)
+        requires { is_place place (places self.old) ≡ true }
+        ensures version { self.new.version ≡ self.old.version }
+        ensures places { places self.new ≡ fewer place (places self.old) }
+        ensures contents { (t : model_tables.Table) (p : ℕ) → is_place p (places self.new) ≡ true → content_at p t self.new.rows ≡ content_at p t self.old.rows }
+        ensures past { (t : model_tables.Table) → IsChainOf t self.old → IsChainOf t self.new }
+        ensures rising { AreRising self.new.version self.new.live }
+    {
+        let oldest = self.oldest();
+        self.take(place);
+        if self.oldest() != oldest {
+            self.forget();
+        }
+    }
+
+    fn take(&mut self, place: u64)
+        requires { is_place place (places self.old) ≡ true }
+        ensures version { self.new.version ≡ self.old.version }
+        ensures places { places self.new ≡ fewer place (places self.old) }
+        ensures rows { self.new.rows ≡ self.old.rows }
+        ensures rising { AreRising self.new.version self.new.live }
+    {
+        if place == self.version {
+            self.fresh -= 1;
+        } else {
+            take_in(&mut self.live, place);
+        }
+    }
+
+    /// Leaves out what rows were that no place needs.
+    fn forget(&mut self)
+        ensures version { self.new.version ≡ self.old.version }
+        ensures places { places self.new ≡ places self.old }
+        ensures contents { (t : model_tables.Table) (p : ℕ) → is_place p (places self.old) ≡ true → content_at p t self.new.rows ≡ content_at p t self.old.rows }
+        ensures past { (t : model_tables.Table) → IsChainOf t self.old → IsChainOf t self.new }
+        ensures rising { AreRising self.new.version self.new.live }
+    {
+        match self.oldest() {
+            Some(place) => self.kept.forget_before(place),
+            None => self.kept.clear(),
+        }
+    }
+
+    /// The earliest place.
+    fn oldest(&self) -> Option<u64>
+        ensures none { IfNone result (places self.now ≡ []) }
+        ensures some { IfSome result (λ oldest. (p : ℕ) → is_place p (places self.now) ≡ true → nat_le oldest p ≡ true) }
+    {
+        match self.live.first() {
+            Some(live) => Some(live.place),
+            None => self.here(),
+        }
+    }
+
+    /// The latest place.
+    fn newest(&self) -> Option<u64>
+        ensures none { IfNone result (places self.now ≡ []) }
+        ensures some { IfSome result (λ newest. (p : ℕ) → is_place p (places self.now) ≡ true → (nat_le p newest ≡ true) × (is_kept newest self.now.live p ≡ true)) }
+        ensures past { IfSome result (λ newest. nat_le newest self.now.version ≡ true) }
+    {
+        match self.here() {
+            Some(place) => Some(place),
+            None => last_place(self.live.as_slice()),
+        }
+    }
+
+    /// The version, where marks stand for what the table is now.
+    fn here(&self) -> Option<u64>
+        ensures none { IfNone result (self.now.fresh ≡ 0) }
+        ensures some { IfSome result (λ place. (place ≡ self.now.version) × (0 < self.now.fresh)) }
+    {
+        if self.fresh > 0 {
+            Some(self.version)
+        } else {
+            None
+        }
+    }
+
+    /// Makes ready for a change of the table: keeps what the rows that it names are now, and finds room for
+    /// one place more. Where memory is refused, all marks stand for what they did. O(rows changed).
+    pub(crate) fn prepare(&mut self, table: &Table, change: &TableChange) -> Result<(), AllocError>
+        ensures ok { OnOk result (IsReadyFor change.now self.new) }
+        ensures stands { StandsAsBefore table.now self.old self.new }
+    {
+        if change.rows().is_empty() {
+            return Ok(());
+        }
+        self.make_room()?;
+        let Some(newest) = self.newest() else {
+            return Ok(());
+        };
+        self.kept
+            .record_all(newest, self.live.as_slice(), table, change)
+    }
+
+    /// Finds room for one place more, and sees that the version has a next one.
+    fn make_room(&mut self) -> Result<(), AllocError>
+        ensures ok { OnOk result ((is_roomy self.new.fresh self.new.room ≡ true) × (self.new.version < 2 ^ 64 - 1)) }
+        ensures version { self.new.version ≡ self.old.version }
+        ensures live { self.new.live ≡ self.old.live }
+        ensures fresh { self.new.fresh ≡ self.old.fresh }
+        ensures rows { self.new.rows ≡ self.old.rows }
+    {
+        if self.version == u64::MAX {
+            return Err(AllocError);
+        }
+        if self.fresh > 0 {
+            self.live.reserve(1)?;
+        }
+        Ok(())
+    }
+
+    /// Counts a change that was made. It takes no memory.
+    pub(crate) fn step(&mut self)
+        requires roomy { is_roomy self.old.fresh self.old.room ≡ true }
+        requires low { self.old.version < 2 ^ 64 - 1 }
+        ensures version { self.new.version ≡ self.old.version + 1 }
+        ensures places { places self.new ≡ places self.old }
+        ensures rows { self.new.rows ≡ self.old.rows }
+        ensures rising { AreRising self.new.version self.new.live }
+    {
+        if self.fresh == 0 {
+            self.version += 1;
+            return;
+        }
+        self.live.push_reserved(Live {
+            place: self.version,
+            marks: self.fresh,
+        });
+        self.fresh = 0;
+        self.version += 1;
+    }
+
+    /// What leads from the table at the place to the table now. O(rows kept); an error says that memory was
+    /// refused.
+    pub(crate) fn since(&self, table: &Table, place: u64) -> Result<TableChange, AllocError>
+        ensures { IfOk result (λ made. made ≡ change (content_at place table.now self.now.rows) table.now) }
+    {
+        self.kept.since(table, place)
+    }
+}
+
+/// One mark less at the place.
+fn take_in(live: &mut Vec<Live>, place: u64)
+    ensures { live.new.items ≡ fewer place live.old.items }
+{
+    let Some(index) = position(live.as_slice(), place) else {
+        return;
+    };
+    let Live { place, marks } = live[index];
+    if marks > 1 {
+        live[index] = Live {
+            place,
+            marks: marks - 1,
+        };
+    } else {
+        drop(live.remove(index));
+    }
+}
+
+fn position(live: &[Live], place: u64) -> Option<usize>
+    ensures { result ≡ position (λ l. nat_eq place l.0) live.now }
+{
+    live.iter().position(|live| place == live.place)
+}
+
+fn last_place(live: &[Live]) -> Option<u64>
+    ensures none { IfNone result (live.now ≡ []) }
+    ensures some { IfSome result (λ place. option_map (λ l. l.0) (slice_get live.now (length live.now - 1)) ≡ Some place) }
+{
+    let last = live.last()?;
+    Some(last.place)
+}

@@ -1,0 +1,176 @@
+//! What the rows of one table were.
+ghost use Rattle.std.specs.Prelude.{◌≡◌, ◌++◌, [], ◌∷◌, true, false, is_some, option_to_list, IfOk, OnErr, OnOk};
+ghost use Rattle.std.specs.Option.{option_copied};
+ghost use Rattle.std.specs.Ordering.{eq_by_cmp};
+ghost use Rattle.odb_atoms.specs.FinMap as finite;
+ghost use Rattle.odb_atoms.specs.Uuid as model_uuid;
+ghost use Rattle.odb_atoms.specs.Uuid.{uuid_cmp};
+ghost use Rattle.odb_chain.specs.Kept.{content_at, is_reached};
+ghost use Rattle.odb_chain.specs.Represented.Chain.{since_place};
+ghost use Rattle.odb_chain.specs.Represented.Places.{AsBefore};
+ghost use Rattle.odb_tables.specs.Change.{change};
+ghost use Rattle.odb_tables.specs.Represented.Overlay.{row_of};
+
+use crate::history::{History, Old};
+use crate::live::Live;
+use indexmap::IndexMap;
+use odb_atoms::Row;
+use odb_tables::{Key, RowChange, Table, TableChange};
+use std::alloc::{AllocError, Global};
+use std::hash::RandomState;
+use std::marker::Model;
+use std::sync::Arc;
+
+/// What the rows of a table were that changed since its earliest mark.
+#[derive(Drop)]
+pub(crate) struct Kept {
+    alloc: Global,
+    rows: IndexMap<Key, History, RandomState>,
+}
+
+impl Model for Kept {
+    ghost use Rattle.odb_chain.specs.Kept as model;
+    ghost use Rattle.odb_chain.specs.Represented.Codes.{rows_code};
+    ghost use Rattle.odb_tables.specs.Represented.Keyed.{keyed};
+
+    ghost Value = { model.Rows };
+
+    ghost coded = { rows_code };
+
+    ghost view = { λ k. keyed (λ h. h) k.rows };
+}
+
+impl Kept {
+    /// Nothing is kept. It takes no memory.
+    pub(crate) fn new(alloc: Global, hashing: RandomState) -> Kept
+        ensures { result ≡ finite.empty }
+    {
+        Kept {
+            alloc,
+            rows: IndexMap::with_hasher(alloc, hashing),
+        }
+    }
+
+    /// Whether it is kept what the row was at the place. O(1).
+    fn reaches(&self, key: Key, place: u64) -> bool
+        ensures { result ≡ is_reached place (finite.get self.now key) }
+    {
+        match self.rows.get(&key) {
+            Some(history) => history.reaches(place),
+            None => false,
+        }
+    }
+
+    /// Keeps what the row is now, up to the newest place, unless that is kept. Where memory is refused, what
+    /// is kept says the same as before.
+    fn record(
+        &mut self,
+        newest: u64,
+        live: &[Live],
+        key: Key,
+        table: &Table,
+    ) -> Result<(), AllocError>
+        ensures ok { OnOk result (is_reached newest (finite.get self.new key) ≡ true) }
+        ensures rows { (u : model_uuid.Uuid) → AsBefore newest live.now (finite.get table.now u) (finite.get self.old u) (finite.get self.new u) }
+        ensures reached { (u : model_uuid.Uuid) → is_reached newest (finite.get self.old u) ≡ true → is_reached newest (finite.get self.new u) ≡ true }
+    {
+        if self.reaches(key, newest) {
+            return Ok(());
+        }
+        let row = share(table.share(key))?;
+        self.add(key, Old { place: newest, row }, live)
+    }
+
+    /// Adds what the row is now.
+    fn add(&mut self, key: Key, old: Old, live: &[Live]) -> Result<(), AllocError>
+        requires { is_reached old.0 (finite.get self.old key) ≡ false }
+        ensures ok { OnOk result (is_reached old.0 (finite.get self.new key) ≡ true) }
+        ensures row { AsBefore old.0 live.now old.1 (finite.get self.old key) (finite.get self.new key) }
+        ensures others { (u : model_uuid.Uuid) → eq_by_cmp uuid_cmp u key ≡ false → finite.get self.new u ≡ finite.get self.old u }
+    {
+        let Some(history) = self.rows.get_mut(&key) else {
+            return self.start(key, old);
+        };
+        history.push(old, live)
+    }
+
+    /// Adds what a row of which nothing is kept is now.
+    fn start(&mut self, key: Key, old: Old) -> Result<(), AllocError>
+        ensures ok { OnOk result (self.new ≡ finite.insert self.old key (old ∷ [])) }
+        ensures err { OnErr result (self.new ≡ self.old) }
+    {
+        let history = History::of(self.alloc, old)?;
+        match self.rows.insert(key, history) {
+            Ok(_) => Ok(()),
+            Err(_) => Err(AllocError),
+        }
+    }
+
+    /// Keeps what the rows that the change names are now, up to the newest place. Where memory is refused,
+    /// what is kept says the same as before. O(rows changed).
+    pub(crate) fn record_all(
+        &mut self,
+        newest: u64,
+        live: &[Live],
+        table: &Table,
+        change: &TableChange,
+    ) -> Result<(), AllocError>
+        ensures ok { OnOk result ((u : model_uuid.Uuid) → is_some (finite.get change.now u) ≡ true → is_reached newest (finite.get self.new u) ≡ true) }
+        ensures rows { (u : model_uuid.Uuid) → AsBefore newest live.now (finite.get table.now u) (finite.get self.old u) (finite.get self.new u) }
+    {
+        for row in change.rows() {
+            self.record(newest, live, Key::of(row.uuid()), table)?;
+        }
+        Ok(())
+    }
+
+    /// What leads from the table at the place to the table now. O(rows kept); an error says that memory was
+    /// refused.
+    pub(crate) fn since(&self, table: &Table, place: u64) -> Result<TableChange, AllocError>
+        ensures { IfOk result (λ made. made ≡ change (content_at place table.now self.now) table.now) }
+    {
+        let mut rows = Vec::with_capacity(self.alloc, self.rows.len())?;
+        for (key, history) in &self.rows {
+            let now = table.share(*key);
+            let change = RowChange::between(*key, history.row_at(place, now), now)?;
+            add(&mut rows, change)?;
+        }
+        Ok(TableChange::new(rows))
+    }
+
+    /// Leaves out the rows that didn't change since the place. O(rows kept), without memory.
+    pub(crate) fn forget_before(&mut self, place: u64)
+        ensures { self.new ≡ since_place place self.old }
+    {
+        if self.rows.len() == 0 {
+            return;
+        }
+        self.rows.retain(|_, history| history.reaches(place));
+    }
+
+    /// Leaves out all rows, without memory.
+    pub(crate) fn clear(&mut self)
+        ensures { self.new ≡ finite.empty }
+    {
+        self.rows.clear();
+    }
+}
+
+fn add(rows: &mut Vec<RowChange>, change: Option<RowChange>) -> Result<(), AllocError>
+    ensures { OnOk result (rows.new.items ≡ rows.old.items ++ option_to_list change) }
+{
+    match change {
+        Some(change) => Ok(rows.push(change)?),
+        None => Ok(()),
+    }
+}
+
+/// The same row once more.
+fn share(row: Option<&Arc<Row>>) -> Result<Option<Arc<Row>>, AllocError>
+    ensures { IfOk result (λ shared. row_of shared ≡ row_of (option_copied row.entry)) }
+{
+    match row {
+        Some(row) => Ok(Some(row.clone()?)),
+        None => Ok(None),
+    }
+}

@@ -1,0 +1,24 @@
+//! A database with its past: for each mark, the content of a table for which it stands.
+#![tactic(auto)]
+
+ghost use Rattle.odb_chain.specs.Segments.{SegmentsJoin, UndoneToMarks};
+
+mod chain;
+mod chains;
+mod content;
+mod history;
+mod kept;
+mod live;
+mod mark;
+
+pub use chains::Chains;
+pub use mark::Mark;
+
+/// What segments are, of all chains: the changes between neighbouring contents that are kept. The call does
+/// nothing.
+pub fn law()
+    // Undoing from now the segments after a mark gives the content for which it stands.
+    ensures undone { UndoneToMarks }
+    // Where a mark between them goes, two segments become one, whose old rows are those of the first.
+    ensures joined { SegmentsJoin }
+{}
