@@ -1,3 +1,5 @@
+pub mod Represented
+pub mod Job
 pub mod View
 pub mod Update
 pub mod Names

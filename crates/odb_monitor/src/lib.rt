@@ -1,7 +1,27 @@
-//! What monitors see, what they are told, and what a client makes of it (RFC 7047, 4.1.5 and 4.1.6; ovsdb-server(7)).
+//! What monitors see, what their clients are sent, and what a client makes of it (RFC 7047, 4.1.5 and 4.1.6;
+//! ovsdb-server(7)).
+//!
+//! An `AllocError` says that memory was refused; nothing that was lent is changed by it.
 #![tactic(auto)]
 
 ghost use Rattle.odb_monitor.specs.Law.{DifferenceLeads, FirstReplyGives, NoOtherLeads};
+
+mod columns;
+mod comparison;
+mod form;
+mod job;
+mod layout;
+mod line;
+mod part;
+mod printer;
+mod row_cells;
+mod sides;
+mod told;
+mod value;
+
+pub use job::{Job, compose};
+pub use part::Part;
+pub use told::Told;
 
 /// What a strict client makes of the messages of a monitor. The call does nothing.
 pub fn law()

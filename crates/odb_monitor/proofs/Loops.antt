@@ -1,0 +1,49 @@
+-- Lists that a loop makes, one round longer.
+use Rattle.std.proofs.Common.{◌≡◌, ℕ, ◌+◌, ◌++◌, ◌<◌, Bool, true, false, ◌||◌, List, [], ◌∷◌, Option, Some, None, filter_map, flat_map, option_to_list, get_or, length, map, take, refl, sym, ap, ◌∙◌, append_assoc}
+use Rattle.std.proofs.lemmas.Grind.{flat_map-append}
+use Rattle.std.proofs.lemmas.List.{append-nil, map-append, take_more}
+use Rattle.std.specs.List.{cons_option, list_any}
+
+pub one_more : {X : Type 0} (xs : List X) (i : ℕ) (x : X) → i < length xs → x ≡ get_or xs i x → take (i + 1) xs ≡ take i xs ++ x ∷ []
+one_more xs i x inside at = take_more xs i x inside ∙ ap (λ y. take i xs ++ y ∷ []) (sym at)
+
+pub flat_more : {X Y Z : Type 0} (f : Y → List Z) (g : X → Y) (xs : List X) (i : ℕ) (x : X) → i < length xs → x ≡ get_or xs i x → flat_map f (map g (take (i + 1) xs)) ≡ flat_map f (map g (take i xs)) ++ f (g x)
+flat_more f g xs i x inside at =
+    ap (λ ys. flat_map f (map g ys)) (one_more xs i x inside at) ∙ ap (flat_map f) (map-append g (take i xs) (x ∷ [])) ∙ flat_map-append f (map g (take i xs)) (g x ∷ []) ∙ ap (λ zs. flat_map f (map g (take i xs)) ++ zs) (append-nil (f (g x)))
+
+-- what was printed, and one more
+pub printed_more : {X Y Z : Type 0} (f : Y → List Z) (g : X → Y) (xs : List X) (i : ℕ) (x : X) (first old new : List Z) → i < length xs → x ≡ get_or xs i x
+    → old ≡ first ++ flat_map f (map g (take i xs)) → new ≡ old ++ f (g x) → new ≡ first ++ flat_map f (map g (take (i + 1) xs))
+printed_more f g xs i x first old new inside at is more =
+    more ∙ ap (λ zs. zs ++ f (g x)) is ∙ append_assoc first (flat_map f (map g (take i xs))) (f (g x)) ∙ ap (λ zs. first ++ zs) (sym (flat_more f g xs i x inside at))
+
+pub any_more : {X : Type 0} (p : X → Bool) (xs ys : List X) → list_any p (xs ++ ys) ≡ (list_any p xs || list_any p ys)
+any_more p [] ys = refl
+any_more p (x ∷ xs) ys = by (p x) (any_more p xs ys)
+  where
+    by : (b : Bool) → list_any p (xs ++ ys) ≡ (list_any p xs || list_any p ys) → (b || list_any p (xs ++ ys)) ≡ ((b || list_any p xs) || list_any p ys)
+    by true rest = refl
+    by false rest = rest
+
+one_kept : {X Y : Type 0} (g : X → Option Y) (xs : List X) (y : X) → filter_map g (xs ++ y ∷ []) ≡ filter_map g xs ++ option_to_list (g y)
+one_kept {Y = Y} g [] y = by (g y)
+  where
+    by : (o : Option Y) → cons_option o [] ≡ option_to_list o
+    by None = refl
+    by (Some c) = refl
+one_kept {Y = Y} g (x ∷ xs) y = by (g x) (filter_map g xs) (one_kept g xs y)
+  where
+    by : (o : Option Y) (cs : List Y) {ds : List Y} → ds ≡ cs ++ option_to_list (g y) → cons_option o ds ≡ cons_option o cs ++ option_to_list (g y)
+    by None cs h = h
+    by (Some c) cs h = ap (λ zs. c ∷ zs) h
+
+-- what was kept, and one more
+pub kept_more : {X Y Z : Type 0} (g : Y → Option Z) (h : X → Y) (xs : List X) (i : ℕ) (x : X) (old new : List Z) → i < length xs → x ≡ get_or xs i x
+    → old ≡ filter_map g (map h (take i xs)) → new ≡ old ++ option_to_list (g (h x)) → new ≡ filter_map g (map h (take (i + 1) xs))
+kept_more g h xs i x old new inside at is more =
+    more ∙ ap (λ zs. zs ++ option_to_list (g (h x))) is ∙ sym (one_kept g (map h (take i xs)) (h x))
+    ∙ ap (filter_map g) (sym (ap (map h) (one_more xs i x inside at) ∙ map-append h (take i xs) (x ∷ [])))
+
+pub any_mapped : {X Y : Type 0} (p : Y → Bool) (f : X → Y) (xs : List X) → list_any (λ x. p (f x)) xs ≡ list_any p (map f xs)
+any_mapped p f [] = refl
+any_mapped p f (x ∷ xs) = ap (λ b. p (f x) || b) (any_mapped p f xs)

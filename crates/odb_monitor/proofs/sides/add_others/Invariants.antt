@@ -1,0 +1,8 @@
+use Rattle.std.proofs.Common.{◌≡◌, ◌++◌, map, take}
+use Rattle.odb_monitor.specs.Represented.Candidates.{others, stayed_in}
+use Rattle.odb_monitor.specs.Represented.Sides.{sides_in}
+use Rattle.odb_tables.specs.Represented.Table.{listed}
+use Rattle.odb_monitor.proofs.sides.add_others.Given as goal
+
+abbrev pub invariant-loop-row : goal.invariant-loop-row
+invariant-loop-row l = map sides_in l.all.items ≡ map sides_in l.initial.all.items ++ map stayed_in (others l.keys (map listed (take l.row-index l.rows)))

@@ -1,0 +1,8 @@
+-- What the types of the code stand for.
+pub mod Candidates
+pub mod Form
+pub mod Layout
+pub mod Line
+pub mod Part
+pub mod Sides
+pub mod Tokens

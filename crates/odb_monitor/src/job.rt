@@ -1,0 +1,113 @@
+//! What is owed to the client of a monitor, composed (RFC 7047, 4.1.5 and 4.1.6; ovsdb-server(7), 4.1.12 to
+//! 4.1.14).
+ghost use Rattle.std.specs.Prelude.{◌≡◌, ◌++◌, IfOk, OnOk, flat_map, is_some, not, option_map};
+ghost use Rattle.std.specs.List.{list_any};
+ghost use Rattle.serde_json.specs.Written.{compact_text};
+ghost use Rattle.odb_monitor.specs.Job.{updates_of};
+ghost use Rattle.odb_monitor.specs.Represented.Part.{is_silent, part_tokens};
+ghost use Rattle.odb_request.specs.Represented.Kind.{notation_of};
+
+use crate::part::Part;
+use crate::printer::Printer;
+use odb_request::Kind;
+use std::alloc::{AllocError, Global};
+use std::marker::Model;
+
+/// What is owed to the client of a monitor: the difference between what it was told and what is asked, table
+/// by table, in the order of the tables' names.
+#[derive(Drop)]
+pub struct Job<'a> {
+    kind: Kind,
+    first: bool,
+    parts: Vec<Part<'a>>,
+}
+
+impl<'a> Model for Job<'a> {
+    ghost use Rattle.odb_monitor.specs.Job as model;
+    ghost use Rattle.odb_monitor.specs.Represented.Part.{job_code};
+    ghost use Rattle.odb_request.specs.Represented.Kind.{notation_of};
+
+    ghost Value = { model.Job };
+
+    ghost coded = { job_code };
+
+    ghost view = { λ j. record {
+      notation = notation_of j.kind;
+      first = j.first;
+      parts = j.parts.items;
+    } };
+}
+
+impl<'a> Job<'a> {
+    /// What is owed by these parts, in a first reply or later. O(1), without memory.
+    pub fn new(kind: Kind, first: bool, parts: Vec<Part<'a>>) -> Job<'a>
+        ensures { result ≡ record { notation = notation_of kind; first = first; parts = parts.entry.items } }
+    {
+        Job { kind, first, parts }
+    }
+
+    /// Whether something is sent: some row is shown, or this is a first reply. It stops at the first row that
+    /// is shown.
+    ///
+    /// O(the rows changed) where the filter stayed, and O(the table) where nothing was told yet or another filter
+    /// was asked.
+    pub fn has_updates(&self, alloc: Global) -> Result<bool, AllocError>
+        ensures { IfOk result (λ has. has ≡ is_some (updates_of self.now)) }
+    {
+        if self.first {
+            return Ok(true);
+        }
+        has_lines(alloc, self.first, &self.parts)
+    }
+}
+
+/// Whether a row of some part is shown.
+fn has_lines(alloc: Global, first: bool, parts: &[Part<'_>]) -> Result<bool, AllocError>
+    ensures { IfOk result (λ shown. shown ≡ list_any (λ p. not (is_silent first p)) parts.now) }
+{
+    for part in parts {
+        if part.has_lines(alloc, first)? {
+            return Ok(true);
+        }
+    }
+    Ok(false)
+}
+
+/// Prints the parts, and says whether a row of some part is shown.
+fn put_parts(
+    alloc: Global,
+    kind: Kind,
+    first: bool,
+    parts: &[Part<'_>],
+    out: &mut Printer,
+) -> Result<bool, AllocError>
+    ensures tokens { OnOk result (out.new ≡ out.old ++ flat_map (part_tokens (notation_of kind) first) parts.now) }
+    ensures shown { IfOk result (λ shown. shown ≡ list_any (λ p. not (is_silent first p)) parts.now) }
+{
+    let mut shown = false;
+    for part in parts {
+        let has_lines = part.put(alloc, kind, first, out)?;
+        shown = shown || has_lines;
+    }
+    Ok(shown)
+}
+
+/// What is sent of the job, as compact JSON text (RFC 8259): the table updates (RFC 7047, 4.1.6) of `monitor`,
+/// or those of `monitor_cond` (ovsdb-server(7), 4.1.14), without the kinds of change that are switched off; `None`
+/// where nothing of them is left, but that a first reply is always sent.
+///
+/// O(the bytes printed) and, of n rows to be compared, O(n log n): the rows changed where the filter stayed, and
+/// the rows of the table where nothing was told yet or another filter was asked.
+pub fn compose(alloc: Global, job: &Job<'_>) -> Result<Option<Vec<u8>>, AllocError>
+    ensures { IfOk result (λ text. option_map (λ t. t.items) text ≡ option_map compact_text (updates_of job.now)) }
+{
+    let mut out = Printer::new(alloc);
+    out.begin_object()?;
+    let shown = put_parts(alloc, job.kind, job.first, &job.parts, &mut out)?;
+    out.end_object()?;
+    let is_sent = job.first || shown;
+    if !is_sent {
+        return Ok(None);
+    }
+    Ok(Some(out.finish()))
+}

@@ -1,0 +1,260 @@
+//! Table updates, printed (RFC 7047, 4.1.6; ovsdb-server(7), 4.1.14).
+ghost use Rattle.std.specs.Prelude.{◌≡◌, ◌++◌, ◌∷◌, [], OnOk, codes, flat_map, if◌then◌else◌, map};
+ghost use Rattle.odb_atoms.specs.Represented.Atom.{uuid_of};
+ghost use Rattle.odb_monitor.specs.Represented.Form.{all_in, named_by, old_in};
+ghost use Rattle.odb_monitor.specs.Represented.Layout.{new_and_old, row_tokens};
+ghost use Rattle.odb_monitor.specs.Represented.Line.{change_in, line_in};
+ghost use Rattle.odb_monitor.specs.Represented.Tokens.{member_tokens, tokens_of};
+ghost use Rattle.odb_monitor.specs.Update.{all_cells, one, row_object, row_update, set_cells, table_update};
+ghost use Rattle.odb_monitor.specs.View as view;
+ghost use Rattle.odb_request.specs.Represented.Kind.{notation_of};
+ghost use Rattle.odb_request.specs.Request.{update, update2};
+ghost use Rattle.serde_json.specs.Data.{null};
+
+use crate::columns::Columns;
+use crate::form::{Form, put_object};
+use crate::line::{Change, Line};
+use crate::printer::Printer;
+use crate::row_cells::RowCells;
+use crate::value::put_key;
+use odb_atoms::Row;
+use odb_cond::Selector;
+use odb_request::{Kind, Shape};
+use std::alloc::{AllocError, Global};
+use std::marker::Model;
+use uuid::Uuid;
+
+/// How the rows of a table are printed: by which kind of monitor, whether in a first reply, and with which
+/// columns.
+#[derive(Drop)]
+pub struct Layout<'a> {
+    alloc: Global,
+    kind: Kind,
+    first: bool,
+    columns: Columns<'a>,
+    named: &'a [Selector],
+}
+
+impl<'a> Model for Layout<'a> {
+    ghost use Rattle.std.specs.Prelude.{map};
+    ghost use Rattle.odb_monitor.specs.Represented.Layout as model;
+    ghost use Rattle.odb_monitor.specs.Represented.Layout.{layout_code};
+    ghost use Rattle.odb_request.specs.Represented.Kind.{notation_of};
+    ghost use Rattle.odb_request.specs.Represented.Parts.{monitored_as};
+
+    ghost Value = { model.Layout };
+
+    ghost coded = { layout_code };
+
+    ghost view = { λ l. record {
+      notation = notation_of l.kind;
+      first = l.first;
+      columns = map (monitored_as l.columns) l.named.now;
+    } };
+}
+
+impl<'a> Layout<'a> {
+    /// How the rows of what is monitored are printed. O(1), without memory.
+    pub fn of(alloc: Global, shape: &'a Shape, kind: Kind, first: bool) -> Layout<'a>
+        ensures { result ≡ record {
+          notation = notation_of kind;
+          first = first;
+          columns = shape.now.shape.columns;
+        } }
+    {
+        Layout {
+            alloc,
+            kind,
+            first,
+            columns: Columns::of(alloc, shape.table_schema()),
+            named: shape.columns(),
+        }
+    }
+
+    /// The columns that the form names.
+    fn put_object(&self, out: &mut Printer, form: &Form<'_>) -> Result<(), AllocError>
+        ensures { OnOk result (out.new ≡ out.old
+            ++ tokens_of (row_object self.now.columns (map (named_by form.now) self.now.columns))) }
+    {
+        put_object(out, &self.columns, self.named, form)
+    }
+
+    /// `{name: columns}`.
+    fn put_one(&self, out: &mut Printer, name: &str, form: &Form<'_>) -> Result<(), AllocError>
+        ensures { OnOk result (out.new ≡ out.old ++ tokens_of
+            (one name.now (row_object self.now.columns (map (named_by form.now) self.now.columns)))) }
+    {
+        out.begin_object()?;
+        out.key(name)?;
+        self.put_object(out, form)?;
+        out.end_object()
+    }
+
+    /// Every column of a row that comes in or goes out, under this name (RFC 7047, 4.1.6).
+    fn put_whole(
+        &self,
+        out: &mut Printer,
+        name: &str,
+        uuid: Uuid,
+        row: &Row,
+    ) -> Result<(), AllocError>
+        ensures { OnOk result (out.new ≡ out.old ++ tokens_of (one name.now
+            (row_object self.now.columns (all_cells (view.cut self.now.columns (uuid_of uuid) row.now))))) }
+    {
+        let cells = RowCells::new(self.alloc, uuid, row);
+        self.put_one(out, name, &Form::All(&cells))
+    }
+
+    /// The columns that aren't equal to their default of a row that comes in, under this name
+    /// (ovsdb-server(7), 4.1.14).
+    fn put_set(
+        &self,
+        out: &mut Printer,
+        name: &str,
+        uuid: Uuid,
+        row: &Row,
+    ) -> Result<(), AllocError>
+        ensures { OnOk result (out.new ≡ out.old ++ tokens_of (one name.now
+            (row_object self.now.columns
+            (set_cells self.now.columns (view.cut self.now.columns (uuid_of uuid) row.now))))) }
+    {
+        let cells = RowCells::new(self.alloc, uuid, row);
+        self.put_one(out, name, &Form::Set(&cells))
+    }
+
+    /// `{"modify": columns}`, with the differences of a row's columns (ovsdb-server(7), 4.1.14).
+    fn put_modify(
+        &self,
+        out: &mut Printer,
+        uuid: Uuid,
+        old: &Row,
+        new: &Row,
+    ) -> Result<(), AllocError>
+        ensures { OnOk result (out.new ≡ out.old ++ tokens_of (row_update update2 self.now.first self.now.columns
+            (view.differs (view.cut self.now.columns (uuid_of uuid) old.now) (view.cut self.now.columns (uuid_of uuid) new.now)))) }
+    {
+        let old_cells = RowCells::new(self.alloc, uuid, old);
+        let new_cells = RowCells::new(self.alloc, uuid, new);
+        self.put_one(out, "modify", &Form::Differences(&old_cells, &new_cells))
+    }
+
+    /// `{"new": columns, "old": columns}`: every column, and the old values of those that differ (RFC 7047,
+    /// 4.1.6).
+    fn put_new_and_old(
+        &self,
+        out: &mut Printer,
+        uuid: Uuid,
+        old: &Row,
+        new: &Row,
+    ) -> Result<(), AllocError>
+        ensures { OnOk result (out.new ≡ out.old ++ tokens_of (row_update update self.now.first self.now.columns
+            (view.differs (view.cut self.now.columns (uuid_of uuid) old.now) (view.cut self.now.columns (uuid_of uuid) new.now)))) }
+    {
+        let old_cells = RowCells::new(self.alloc, uuid, old);
+        let new_cells = RowCells::new(self.alloc, uuid, new);
+        self.put_both(out, &old_cells, &new_cells)
+    }
+
+    /// `{"new": columns, "old": columns}`, of a row's cells.
+    fn put_both<'c>(
+        &self,
+        out: &mut Printer,
+        old: &'c RowCells<'c>,
+        new: &'c RowCells<'c>,
+    ) -> Result<(), AllocError>
+        ensures { OnOk result (out.new ≡ out.old ++ tokens_of (new_and_old
+            (row_object self.now.columns (map (all_in new.now) self.now.columns))
+            (row_object self.now.columns (map (old_in old.now new.now) self.now.columns)))) }
+    {
+        out.begin_object()?;
+        out.key("new")?;
+        self.put_object(out, &Form::All(new))?;
+        out.key("old")?;
+        self.put_object(out, &Form::Old(old, new))?;
+        out.end_object()
+    }
+
+    /// What becomes of a row, as `update` has it (RFC 7047, 4.1.6).
+    fn put_update(&self, out: &mut Printer, line: &Line<'_>) -> Result<(), AllocError>
+        ensures { OnOk result (out.new ≡ out.old ++ tokens_of (row_update update self.now.first self.now.columns
+            (change_in self.now.columns (uuid_of line.now.uuid) line.now.change))) }
+    {
+        match line.change {
+            Change::ComesIn(new) => self.put_whole(out, "new", line.uuid, new),
+            Change::GoesOut(old) => self.put_whole(out, "old", line.uuid, old),
+            Change::Differs(old, new) => self.put_new_and_old(out, line.uuid, old, new),
+        }
+    }
+
+    /// What becomes of a row, as `update2` has it (ovsdb-server(7), 4.1.14).
+    fn put_update2(&self, out: &mut Printer, line: &Line<'_>) -> Result<(), AllocError>
+        ensures { OnOk result (out.new ≡ out.old ++ tokens_of (row_update update2 self.now.first self.now.columns
+            (change_in self.now.columns (uuid_of line.now.uuid) line.now.change))) }
+    {
+        match line.change {
+            Change::ComesIn(new) => self.put_set(out, self.coming(), line.uuid, new),
+            Change::GoesOut(_) => put_delete(out),
+            Change::Differs(old, new) => self.put_modify(out, line.uuid, old, new),
+        }
+    }
+
+    /// What a row that comes in stands under in `update2`.
+    fn coming(&self) -> &'static str
+        ensures { result.now ≡ (if self.now.first then codes "initial" else codes "insert") }
+    {
+        if self.first { "initial" } else { "insert" }
+    }
+
+    /// A row's identifier, and what becomes of the row.
+    fn put_row(&self, out: &mut Printer, line: &Line<'_>) -> Result<(), AllocError>
+        ensures { OnOk result (out.new ≡ out.old ++ row_tokens self.now (line_in self.now.columns line.now)) }
+    {
+        put_key(out, line.uuid)?;
+        match self.kind {
+            Kind::Monitor => self.put_update(out, line),
+            Kind::MonitorCond => self.put_update2(out, line),
+        }
+    }
+
+    /// The rows, one after the other.
+    fn put_rows(&self, out: &mut Printer, lines: &[Line<'_>]) -> Result<(), AllocError>
+        ensures { OnOk result (out.new ≡ out.old
+            ++ flat_map (row_tokens self.now) (map (line_in self.now.columns) lines.now)) }
+    {
+        for line in lines {
+            self.put_row(out, line)?;
+        }
+        Ok(())
+    }
+
+    /// A table's name and its rows; nothing where it has no rows.
+    ///
+    /// O(the bytes printed, and the values compared).
+    pub fn put_table(
+        &self,
+        out: &mut Printer,
+        name: &str,
+        lines: &[Line<'_>],
+    ) -> Result<(), AllocError>
+        ensures { OnOk result (out.new ≡ out.old ++ member_tokens name.now
+            (table_update self.now.notation self.now.first self.now.columns (map (line_in self.now.columns) lines.now))) }
+    {
+        if lines.is_empty() {
+            return Ok(());
+        }
+        out.key(name)?;
+        out.begin_object()?;
+        self.put_rows(out, lines)?;
+        out.end_object()
+    }
+}
+
+/// `{"delete": null}`.
+fn put_delete(out: &mut Printer) -> Result<(), AllocError>
+    ensures { OnOk result (out.new ≡ out.old ++ tokens_of (one (codes "delete") null)) }
+{
+    out.begin_object()?;
+    out.key("delete")?;
+    out.null()?;
+    out.end_object()
+}

@@ -1,0 +1,230 @@
+//! One table of a job: what the client was told of it, what is asked, and how they differ.
+ghost use Rattle.std.specs.Prelude.{◌≡◌, ◌++◌, Bool, IfOk, IsPermutation, List, OnOk, filter_map, is_some, map, not, option_map, option_to_list};
+ghost use Rattle.std.specs.Arc.{arc_value};
+ghost use Rattle.std.specs.List.{list_any};
+ghost use Rattle.std.specs.List.Sorted.{IsSortedByKey};
+ghost use Rattle.odb_atoms.specs.Represented.Atom.{uuid_of};
+ghost use Rattle.odb_atoms.specs.Row as model_row;
+ghost use Rattle.odb_atoms.specs.Uuid as model_uuid;
+ghost use Rattle.odb_atoms.specs.Uuid.{uuid_cmp};
+ghost use Rattle.odb_monitor.specs.Represented.Candidates.{Covers, IsListOf, WasSo, changed_in, fresh_in, stayed_in, unchanged};
+ghost use Rattle.odb_monitor.specs.Represented.Line.{line_in};
+ghost use Rattle.odb_monitor.specs.Represented.Part.{changes_shown, is_silent, part_of, part_tokens};
+ghost use Rattle.odb_monitor.specs.Represented.Sides.{line_at, sides_in, table_then};
+ghost use Rattle.odb_request.specs.Represented.Kind.{notation_of};
+ghost use Rattle.odb_request.specs.Request as model_request;
+ghost use Rattle.odb_tables.specs.Database as model_table;
+ghost use Rattle.odb_tables.specs.Represented.TableChange.{AreDistinct};
+
+use crate::comparison::Comparison;
+use crate::layout::Layout;
+use crate::line::Line;
+use crate::printer::Printer;
+use crate::sides::{Sides, add_others, changed, fresh, keys_of};
+use crate::told::Told;
+use odb_request::{Kind, Request};
+use odb_tables::{Key, RowChange, Table, TableChange};
+use std::alloc::{AllocError, Global};
+use std::marker::Model;
+use std::sync::Arc;
+
+/// One table of a job: what the client was told of its rows, and what is asked.
+#[derive(Drop)]
+pub struct Part<'a> {
+    request: &'a Request,
+    told: Told<'a>,
+    table: &'a Table,
+    changes: Option<Arc<TableChange>>,
+}
+
+impl<'a> Model for Part<'a> {
+    ghost use Rattle.std.specs.Prelude.{option_map};
+    ghost use Rattle.std.specs.Arc.{arc_value};
+    ghost use Rattle.odb_monitor.specs.Job as model;
+    ghost use Rattle.odb_monitor.specs.Represented.Part.{part_code, part_of};
+
+    ghost Value = { model.Part };
+
+    ghost coded = { part_code };
+
+    ghost view = { λ p. part_of p.request.now p.told p.table.now (option_map arc_value p.changes) };
+}
+
+impl<'a> Part<'a> {
+    /// What is asked of a table, what the client was told of it, the table as it is now, and how its rows have
+    /// changed since the client was told: `None` where they haven't. O(1), without memory.
+    ///
+    /// Of a change the old row is read, and not the new one, which is the table's. Where the client was told
+    /// nothing, the changes aren't read at all.
+    pub fn new(
+        request: &'a Request,
+        told: Told<'a>,
+        table: &'a Table,
+        changes: Option<Arc<TableChange>>,
+    ) -> Part<'a>
+        ensures { result ≡ part_of request.now told.entry table.now (option_map arc_value changes) }
+    {
+        Part {
+            request,
+            told,
+            table,
+            changes,
+        }
+    }
+
+    /// Prints the table's name and the rows that are shown, and says whether there are some.
+    pub(crate) fn put(
+        &self,
+        alloc: Global,
+        kind: Kind,
+        first: bool,
+        out: &mut Printer,
+    ) -> Result<bool, AllocError>
+        ensures tokens { OnOk result (out.new ≡ out.old ++ part_tokens (notation_of kind) first self.now) }
+        ensures shown { IfOk result (λ shown. shown ≡ not (is_silent first self.now)) }
+    {
+        let lines = self.lines(alloc, first)?;
+        let shape = self.request.shape();
+        let layout = Layout::of(alloc, shape, kind, first);
+        layout.put_table(out, shape.table_schema().name(), &lines)?;
+        Ok(!lines.is_empty())
+    }
+
+    /// Whether some row is shown.
+    pub(crate) fn has_lines(&self, alloc: Global, first: bool) -> Result<bool, AllocError>
+        ensures { IfOk result (λ shown. shown ≡ not (is_silent first self.now)) }
+    {
+        let sides = sides_of(alloc, self.told, rows_of(&self.changes), self.table)?;
+        let comparison = Comparison {
+            alloc,
+            first,
+            told: self.told,
+            request: self.request,
+        };
+        Ok(has_line(&comparison, &sides))
+    }
+
+    /// What is shown of the table, by ascending identifier.
+    fn lines(&self, alloc: Global, first: bool) -> Result<Vec<Line<'_>>, AllocError>
+        ensures { IfOk result (λ lines. map (line_in self.now.request.shape.columns) lines.items
+            ≡ (changes_shown first self.now).entries) }
+    {
+        let sides = sides_of(alloc, self.told, rows_of(&self.changes), self.table)?;
+        let comparison = Comparison {
+            alloc,
+            first,
+            told: self.told,
+            request: self.request,
+        };
+        let mut lines = lines_of(alloc, &comparison, &sides)?;
+        sort(&mut lines);
+        Ok(lines)
+    }
+}
+
+/// The rows that were changed.
+fn rows_of(changes: &Option<Arc<TableChange>>) -> &[RowChange]
+    ensures distinct { AreDistinct result.now }
+    ensures was { (now : model_table.Table) → WasSo result.now (table_then (option_map arc_value changes.now) now) now }
+{
+    match changes {
+        Some(changes) => changes.rows(),
+        None => &[],
+    }
+}
+
+/// The rows of which something may be shown.
+fn sides_of<'a>(
+    alloc: Global,
+    told: Told<'a>,
+    changes: &'a [RowChange],
+    table: &'a Table,
+) -> Result<Vec<Sides<'a>>, AllocError>
+    requires { AreDistinct changes.now }
+    ensures { IfOk result (λ sides. (first : Bool) (q : model_request.Request) (then : model_table.Table)
+        → WasSo changes.now then table.now
+        → Covers (map sides_in sides.items) first told.entry q then table.now) }
+{
+    match told {
+        Told::Nothing => all_fresh(alloc, table),
+        Told::Asked => changed(alloc, changes, table),
+        Told::Under(_) => all_rows(alloc, changes, table),
+    }
+}
+
+/// Each row of the table, as one that comes in.
+fn all_fresh<'a>(alloc: Global, table: &'a Table) -> Result<Vec<Sides<'a>>, AllocError>
+    ensures { IfOk result (λ sides. (rows : List (model_uuid.Uuid × model_row.Row)) × IsListOf rows table.now
+        × (map sides_in sides.items ≡ map fresh_in rows)) }
+{
+    let rows = table.list(alloc)?;
+    fresh(alloc, &rows)
+}
+
+/// Each row of the table, and each that was changed.
+fn all_rows<'a>(
+    alloc: Global,
+    changes: &'a [RowChange],
+    table: &'a Table,
+) -> Result<Vec<Sides<'a>>, AllocError>
+    ensures { IfOk result (λ sides. (rows : List (model_uuid.Uuid × model_row.Row)) × IsListOf rows table.now
+        × (map sides_in sides.items
+        ≡ map (changed_in table.now) changes.now ++ map stayed_in (unchanged changes.now rows))) }
+{
+    let keys = keys_of(alloc, changes)?;
+    let rows = table.list(alloc)?;
+    let mut all = changed(alloc, changes, table)?;
+    add_others(&rows, &keys, &mut all)?;
+    Ok(all)
+}
+
+/// What is shown of these rows.
+fn lines_of<'r>(
+    alloc: Global,
+    comparison: &Comparison<'_>,
+    sides: &[Sides<'r>],
+) -> Result<Vec<Line<'r>>, AllocError>
+    ensures { IfOk result (λ lines. map (line_in comparison.now.request.now.shape.columns) lines.items
+        ≡ filter_map (line_at comparison.now.first comparison.now.told comparison.now.request.now) (map sides_in sides.now)) }
+{
+    let mut lines = Vec::new(alloc);
+    for row in sides {
+        add_line(comparison, row, &mut lines)?;
+    }
+    Ok(lines)
+}
+
+/// Appends what is shown of a row.
+fn add_line<'r>(
+    comparison: &Comparison<'_>,
+    row: &Sides<'r>,
+    lines: &mut Vec<Line<'r>>,
+) -> Result<(), AllocError>
+    ensures { OnOk result (map (line_in comparison.now.request.now.shape.columns) lines.new.items
+        ≡ map (line_in comparison.now.request.now.shape.columns) lines.old.items
+        ++ option_to_list (line_at comparison.now.first comparison.now.told comparison.now.request.now (sides_in row.now))) }
+{
+    let Some(line) = comparison.line(row) else {
+        return Ok(());
+    };
+    if lines.push(line).is_err() {
+        return Err(AllocError);
+    }
+    Ok(())
+}
+
+/// Whether something is shown of one of these rows.
+fn has_line(comparison: &Comparison<'_>, sides: &[Sides<'_>]) -> bool
+    ensures { result ≡ list_any (λ row.
+        is_some (line_at comparison.now.first comparison.now.told comparison.now.request.now (sides_in row))) sides.now }
+{
+    sides.iter().any(|row| comparison.line(row).is_some())
+}
+
+/// Puts the lines in the order of their identifiers. O(n log n), without memory.
+fn sort(lines: &mut Vec<Line<'_>>)
+    ensures permutation { IsPermutation lines.old.items lines.new.items }
+    ensures sorted { IsSortedByKey (λ line. uuid_of line.uuid) uuid_cmp lines.new.items }
+{
+    lines.sort_unstable_by_key(|line| Key::of(line.uuid));
+}

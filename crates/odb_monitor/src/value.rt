@@ -1,0 +1,137 @@
+//! Atoms and values, printed (RFC 7047, 5.1, `<atom>` and `<value>`).
+ghost use Rattle.std.specs.Prelude.{◌≡◌, ◌++◌, ◌∷◌, [], OnOk, codes, flat_map, map};
+ghost use Rattle.json.specs.Token as token;
+ghost use Rattle.odb_atoms.specs.Represented.Atom.{atom_of, uuid_of};
+ghost use Rattle.odb_atoms.specs.Represented.Value.{pair_of};
+ghost use Rattle.odb_atoms.specs.Uuid.{uuid_text};
+ghost use Rattle.odb_monitor.specs.Represented.Tokens.{tokens_of};
+ghost use Rattle.odb_schema.specs.Json.{array_of, string};
+ghost use Rattle.odb_schema.specs.Notation as notation;
+
+use crate::printer::Printer;
+use odb_atoms::{Atom, Entries, Value};
+use std::alloc::AllocError;
+use uuid::Uuid;
+
+/// An identifier's text as a key.
+pub fn put_key(out: &mut Printer, uuid: Uuid) -> Result<(), AllocError>
+    ensures { OnOk result (out.new ≡ out.old ++ token.key (uuid_text (uuid_of uuid)) ∷ []) }
+{
+    let mut buffer = [0; 36];
+    // By its number, since that is what contracts say of an identifier.
+    let by_number = Uuid::from_u128(uuid.as_u128());
+    let text = by_number.hyphenated().encode_lower(&mut buffer);
+    out.key(text)
+}
+
+/// An identifier's text as a string.
+fn put_text(out: &mut Printer, uuid: Uuid) -> Result<(), AllocError>
+    ensures { OnOk result (out.new ≡ out.old ++ token.string (uuid_text (uuid_of uuid)) ∷ []) }
+{
+    let mut buffer = [0; 36];
+    let by_number = Uuid::from_u128(uuid.as_u128());
+    let text = by_number.hyphenated().encode_lower(&mut buffer);
+    out.string(text)
+}
+
+/// `["uuid", text]`.
+fn put_uuid(out: &mut Printer, uuid: Uuid) -> Result<(), AllocError>
+    ensures { OnOk result (out.new ≡ out.old ++ tokens_of (notation.write_uuid (uuid_of uuid))) }
+{
+    out.begin_array()?;
+    out.string("uuid")?;
+    put_text(out, uuid)?;
+    out.end_array()
+}
+
+/// An atom.
+#[tactic(auto, using(crate::proofs::Tokens::integer_tokens))]
+fn put_atom(out: &mut Printer, atom: &Atom) -> Result<(), AllocError>
+    ensures { OnOk result (out.new ≡ out.old ++ tokens_of (notation.write_atom (atom_of atom.now))) }
+{
+    match atom {
+        Atom::Integer(integer) => out.integer(*integer),
+        Atom::Boolean(boolean) => out.boolean(*boolean),
+        Atom::Text(text) => out.string(text.as_str()),
+        Atom::Uuid(uuid) => put_uuid(out, *uuid),
+    }
+}
+
+/// Atoms, one after the other.
+fn put_atoms(out: &mut Printer, atoms: &[Atom]) -> Result<(), AllocError>
+    ensures { OnOk result (out.new
+        ≡ out.old ++ flat_map (λ a. tokens_of (notation.write_atom a)) (map atom_of atoms.now)) }
+{
+    for atom in atoms {
+        put_atom(out, atom)?;
+    }
+    Ok(())
+}
+
+/// `["set", [atom, ..]]`.
+fn put_set_of(out: &mut Printer, atoms: &[Atom]) -> Result<(), AllocError>
+    ensures { OnOk result (out.new ≡ out.old ++ tokens_of
+        (array_of (string (codes "set") ∷ array_of (map notation.write_atom (map atom_of atoms.now)) ∷ []))) }
+{
+    out.begin_array()?;
+    out.string("set")?;
+    out.begin_array()?;
+    put_atoms(out, atoms)?;
+    out.end_array()?;
+    out.end_array()
+}
+
+/// A set, of which one atom stands alone.
+fn put_set(out: &mut Printer, atoms: &[Atom]) -> Result<(), AllocError>
+    ensures { OnOk result (out.new
+        ≡ out.old ++ tokens_of (notation.write_atoms (map atom_of atoms.now))) }
+{
+    match atoms {
+        [atom] => put_atom(out, atom),
+        _ => put_set_of(out, atoms),
+    }
+}
+
+/// `[key, value]`.
+fn put_pair(out: &mut Printer, pair: &(Atom, Atom)) -> Result<(), AllocError>
+    ensures { OnOk result (out.new ≡ out.old ++ tokens_of (notation.write_pair (pair_of pair.now))) }
+{
+    out.begin_array()?;
+    put_atom(out, &pair.0)?;
+    put_atom(out, &pair.1)?;
+    out.end_array()
+}
+
+/// Pairs, one after the other.
+fn put_pairs(out: &mut Printer, pairs: &[(Atom, Atom)]) -> Result<(), AllocError>
+    ensures { OnOk result (out.new
+        ≡ out.old ++ flat_map (λ e. tokens_of (notation.write_pair e)) (map pair_of pairs.now)) }
+{
+    for pair in pairs {
+        put_pair(out, pair)?;
+    }
+    Ok(())
+}
+
+/// `["map", [pair, ..]]`.
+fn put_map(out: &mut Printer, pairs: &[(Atom, Atom)]) -> Result<(), AllocError>
+    ensures { OnOk result (out.new ≡ out.old ++ tokens_of
+        (array_of (string (codes "map") ∷ array_of (map notation.write_pair (map pair_of pairs.now)) ∷ []))) }
+{
+    out.begin_array()?;
+    out.string("map")?;
+    out.begin_array()?;
+    put_pairs(out, pairs)?;
+    out.end_array()?;
+    out.end_array()
+}
+
+/// A value (RFC 7047, 5.1), its elements and keys ascending. O(its bytes).
+pub fn put_value(out: &mut Printer, value: &Value) -> Result<(), AllocError>
+    ensures { OnOk result (out.new ≡ out.old ++ tokens_of (notation.write_value value.now)) }
+{
+    match value.entries() {
+        Entries::Set(atoms) => put_set(out, atoms),
+        Entries::Map(pairs) => put_map(out, pairs),
+    }
+}
