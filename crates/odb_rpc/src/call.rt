@@ -293,7 +293,8 @@ fn id_in(name: &Value) -> Result<&str, CallFault>
     }
 }
 
-fn check_database(name: &Value, database: &str) -> Result<(), CallFault>
+/// Whether the database is that of this name.
+pub(crate) fn check_database(name: &Value, database: &str) -> Result<(), CallFault>
     ensures { (id : Data) → (c : message.Call)
         → unless id c result ≡ of_db database.now id (view name.now) c }
 {

@@ -6,11 +6,15 @@
 
 mod call;
 mod error;
+mod monitor;
 mod printable;
+mod shared;
 mod text;
 
 pub use call::{Call, CallFault, has_reply, is_served, operations, reply_id};
 pub use error::Failure;
+pub use monitor::{MonitorCall, read_monitor, read_monitor_cancel, read_monitor_change};
 pub use odb_atoms::Error;
 pub use printable::Printable;
+pub use shared::{after_result, after_updates, before_result, before_updates};
 pub use text::{array_of_one, failure, notice, reply, reply_printed};

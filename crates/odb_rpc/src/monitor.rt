@@ -1,0 +1,87 @@
+//! Requests about monitors (RFC 7047, 4.1.5 and 4.1.7; ovsdb-server(7), 4.1.12 and 4.1.13).
+ghost use Rattle.std.specs.Prelude.{◌≡◌, false, map};
+ghost use Rattle.std.specs.List.{list_any};
+ghost use Rattle.serde_json.specs.Data.{Data};
+ghost use Rattle.serde_json.specs.View.{view};
+ghost use Rattle.odb_request.specs.Represented.Kind.{notation_of};
+ghost use Rattle.odb_wire.specs.Message.{has_left_out};
+ghost use Rattle.odb_rpc.specs.Message.{cancel_monitor, is_object, of_change, of_monitor, of_one};
+ghost use Rattle.odb_rpc.specs.Represented.Monitor.{asked};
+
+use crate::call::{CallFault, check_database};
+use crate::printable::Printable;
+use odb_request::Kind;
+use serde_json::Value;
+
+/// What a request about monitors asks. It borrows from the request.
+#[derive(Clone, Copy, Debug)]
+pub enum MonitorCall<'a> {
+    /// `monitor` (RFC 7047, 4.1.5) or `monitor_cond` (ovsdb-server(7), 4.1.12): a monitor under this id, with
+    /// these requests, an object.
+    Begin(Kind, Printable<'a>, &'a Value),
+    /// `monitor_cond_change` (ovsdb-server(7), 4.1.13): of the monitor with the first id, which has the second
+    /// from then on; with these filters, an object.
+    Change(Printable<'a>, Printable<'a>, &'a Value),
+    /// `monitor_cancel` (RFC 7047, 4.1.7): of the monitor with this id.
+    Cancel(Printable<'a>),
+}
+
+/// The `params` of `monitor` or `monitor_cond`: the database's name, the monitor's id and its requests. O(1),
+/// without memory.
+///
+/// The faults in their order: another number of members, or requests that are no object, or a name that is no
+/// string (`Syntax`); another database (`UnknownDatabase`).
+pub fn read_monitor<'a>(
+    params: &'a [Value],
+    database: &str,
+    kind: Kind,
+) -> Result<MonitorCall<'a>, CallFault>
+    requires { list_any has_left_out (map view params.now) ≡ false }
+    ensures { (id : Data) → asked id result ≡ of_monitor database.now id (notation_of kind) (map view params.now) }
+{
+    let [name, monitor, requests] = params else {
+        return Err(CallFault::Syntax);
+    };
+    if !is_object(requests) {
+        return Err(CallFault::Syntax);
+    }
+    match check_database(name, database) {
+        Ok(()) => Ok(MonitorCall::Begin(kind, Printable::known(monitor), requests)),
+        Err(fault) => Err(fault),
+    }
+}
+
+/// The `params` of `monitor_cond_change`: the monitor's id, its new id and the filters. O(1), without memory.
+///
+/// Another number of members, or filters that are no object, are a fault (`Syntax`).
+pub fn read_monitor_change(params: &[Value]) -> Result<MonitorCall<'_>, CallFault>
+    requires { list_any has_left_out (map view params.now) ≡ false }
+    ensures { (id : Data) → asked id result ≡ of_change id (map view params.now) }
+{
+    let [old, new, filters] = params else {
+        return Err(CallFault::Syntax);
+    };
+    if !is_object(filters) {
+        return Err(CallFault::Syntax);
+    }
+    Ok(MonitorCall::Change(Printable::known(old), Printable::known(new), filters))
+}
+
+/// The `params` of `monitor_cancel`: the monitor's id. O(1), without memory. Another number of members is a
+/// fault (`Syntax`).
+pub fn read_monitor_cancel(params: &[Value]) -> Result<MonitorCall<'_>, CallFault>
+    requires { list_any has_left_out (map view params.now) ≡ false }
+    ensures { (id : Data) → asked id result ≡ of_one id (cancel_monitor id) (map view params.now) }
+{
+    match params {
+        [monitor] => Ok(MonitorCall::Cancel(Printable::known(monitor))),
+        _ => Err(CallFault::Syntax),
+    }
+}
+
+#[tactic(auto, using(crate::proofs::Objects::object_by))]
+fn is_object(value: &Value) -> bool
+    ensures { result ≡ is_object (view value.now) }
+{
+    value.as_object().is_some()
+}

@@ -1,0 +1,72 @@
+//! Replies and notifications around a body that several of them share: what comes before it, and what after it
+//! (RFC 7047, 4.1.5 and 4.1.6; ovsdb-server(7), 4.1.14).
+ghost use Rattle.std.specs.Prelude.{◌≡◌, ◌++◌, ◌∷◌, [], IfOk};
+ghost use Rattle.serde_json.specs.Data.{Data};
+ghost use Rattle.serde_json.specs.Written.{compact_text};
+ghost use Rattle.odb_request.specs.Represented.Kind.{notation_of};
+ghost use Rattle.odb_rpc.specs.Message.{notification, reply};
+ghost use Rattle.odb_rpc.specs.Represented.Printable.{printable_data};
+ghost use Rattle.odb_rpc.specs.Represented.Shared.{after_result, after_updates, before_id, update_method};
+
+use crate::printable::Printable;
+use odb_request::Kind;
+use std::alloc::{AllocError, Global};
+
+/// What comes before the result in the reply of a success (RFC 7047, 4): `{"error":null,"id":ID,"result":`. The
+/// result's compact text comes next, and then `after_result`.
+///
+/// O(n) for an id of n bytes; an error says that there was no memory.
+pub fn before_result(alloc: Global, id: Printable<'_>) -> Result<Vec<u8>, AllocError>
+    ensures { IfOk result (λ text. (d : Data)
+        → text.items ++ (compact_text d ++ after_result) ≡ compact_text (reply (printable_data id.entry) d)) }
+{
+    let id_text = id.to_vec(alloc)?;
+    let mut text = Vec::from_slice(alloc, b"{\"error\":null,\"id\":")?;
+    text.extend_from_slice(id_text.as_slice())?;
+    text.extend_from_slice(b",\"result\":")?;
+    Ok(text)
+}
+
+/// What comes after the result in a reply: `}`. O(1).
+pub fn after_result() -> &'static [u8]
+    ensures { result.now ≡ after_result }
+{
+    b"}"
+}
+
+/// What comes before the table updates in a notification (RFC 7047, 4.1.6; ovsdb-server(7), 4.1.14) of the monitor
+/// with this id: `{"id":null,"method":METHOD,"params":[ID,`. The updates' compact text comes next, and then
+/// `after_updates`. The method is `update` or, of `monitor_cond`, `update2`.
+///
+/// O(n) for an id of n bytes; an error says that there was no memory.
+pub fn before_updates(
+    alloc: Global,
+    kind: Kind,
+    monitor: Printable<'_>,
+) -> Result<Vec<u8>, AllocError>
+    ensures { IfOk result (λ text. (d : Data) → text.items ++ (compact_text d ++ after_updates)
+        ≡ compact_text (notification (update_method (notation_of kind)) (printable_data monitor.entry ∷ d ∷ []))) }
+{
+    let id_text = monitor.to_vec(alloc)?;
+    let mut text = Vec::from_slice(alloc, before_id(kind))?;
+    text.extend_from_slice(id_text.as_slice())?;
+    text.push(b',')?;
+    Ok(text)
+}
+
+/// What comes before the monitor's id.
+fn before_id(kind: Kind) -> &'static [u8]
+    ensures { result.now ≡ before_id (notation_of kind) }
+{
+    match kind {
+        Kind::Monitor => b"{\"id\":null,\"method\":\"update\",\"params\":[",
+        Kind::MonitorCond => b"{\"id\":null,\"method\":\"update2\",\"params\":[",
+    }
+}
+
+/// What comes after the table updates in a notification: `]}`. O(1).
+pub fn after_updates() -> &'static [u8]
+    ensures { result.now ≡ after_updates }
+{
+    b"]}"
+}
