@@ -46,7 +46,7 @@ impl Model for Chain {
 }
 
 impl Chain {
-    /// No change was made, and nothing is kept. It takes no memory.
+    /// No change was made, and nothing is kept.
     pub(crate) fn new(alloc: Global, hashing: RandomState) -> Chain
         ensures { result ≡ nothing_kept }
     {
@@ -76,7 +76,7 @@ impl Chain {
         }
     }
 
-    /// One mark more for what the table is now. It takes no memory.
+    /// One mark more for what the table is now.
     pub(crate) fn mark(&mut self)
         requires { self.old.fresh + 1 < 2 ^ 64 }
         ensures { self.new ≡ record (self.old) { fresh = self.old.fresh + 1 } }
@@ -84,7 +84,7 @@ impl Chain {
         self.fresh += 1;
     }
 
-    /// One mark less at the place. What no mark needs any more goes, without memory.
+    /// One mark less at the place. What no mark needs any more goes.
     pub(crate) fn release(&mut self, place: u64)
         requires { is_place place (places self.old) ≡ true }
         ensures version { self.new.version ≡ self.old.version }
@@ -197,7 +197,7 @@ impl Chain {
         Ok(())
     }
 
-    /// Counts a change that was made. It takes no memory.
+    /// Counts a change that was made.
     pub(crate) fn step(&mut self)
         requires roomy { is_roomy self.old.fresh self.old.room ≡ true }
         requires low { self.old.version < 2 ^ 64 - 1 }
@@ -218,8 +218,7 @@ impl Chain {
         self.version += 1;
     }
 
-    /// What leads from the table at the place to the table now. O(rows kept); an error says that memory was
-    /// refused.
+    /// What leads from the table at the place to the table now. O(rows kept).
     pub(crate) fn since(&self, table: &Table, place: u64) -> Result<TableChange, AllocError>
         ensures { IfOk result (λ made. made ≡ change (content_at place table.now self.now.rows) table.now) }
     {

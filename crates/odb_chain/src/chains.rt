@@ -43,7 +43,7 @@ impl Model for Chains {
 }
 
 impl Chains {
-    /// The database, without changes and marks. O(tables); an error says that memory was refused.
+    /// The database, without changes and marks. O(tables).
     pub fn new(alloc: Global, db: Db, hashing: RandomState) -> Result<Chains, AllocError>
         ensures { IfOk result (λ chains. chains ≡ chains_of db) }
     {
@@ -96,7 +96,7 @@ impl Chains {
         Ok(())
     }
 
-    /// A mark for what the table is now. O(1), without memory.
+    /// A mark for what the table is now. O(1).
     pub fn mark_now(&mut self, table: TableId) -> Mark
         requires inside { table < length self.old.db }
         requires few { count self.old table (version self.old table) < 2 ^ 64 - 1 }
@@ -114,8 +114,8 @@ impl Chains {
         }
     }
 
-    /// One mark less. What no other mark needs is dropped: rows that didn't change since the earliest mark
-    /// that is left. It takes no memory.
+    /// One mark less. What no other mark needs is dropped: rows that didn't change since the
+    /// earliest mark that is left.
     pub fn release(&mut self, mark: Mark)
         requires { IsLive self.old mark }
         ensures chains { self.new ≡ released mark.table mark.place self.old }
@@ -125,7 +125,7 @@ impl Chains {
         self.chains[table.place()].release(place);
     }
 
-    /// Lets the mark stand for what its table is now. It takes no memory.
+    /// Lets the mark stand for what its table is now.
     pub fn advance(&mut self, mark: &mut Mark)
         requires live { IsLive self.old mark.old }
         requires few { count self.old mark.old.table (version self.old mark.old.table) < 2 ^ 64 - 1 }
@@ -138,8 +138,8 @@ impl Chains {
         self.release(old);
     }
 
-    /// What leads from the content for which the mark stands to what its table is now: each row that differs,
-    /// once. O(rows changed since the earliest mark); an error says that memory was refused.
+    /// What leads from the content for which the mark stands to what its table is now: each row
+    /// that differs, once. O(rows changed since the earliest mark).
     pub fn since(&self, mark: &Mark) -> Result<TableChange, AllocError>
         requires { IsLive self.now mark.now }
         ensures { IfOk result (λ made. made ≡ change mark.now.content (table_at self.now.db mark.now.table)) }

@@ -41,7 +41,7 @@ impl Model for Kept {
 }
 
 impl Kept {
-    /// Nothing is kept. It takes no memory.
+    /// Nothing is kept.
     pub(crate) fn new(alloc: Global, hashing: RandomState) -> Kept
         ensures { result ≡ finite.empty }
     {
@@ -124,8 +124,7 @@ impl Kept {
         Ok(())
     }
 
-    /// What leads from the table at the place to the table now. O(rows kept); an error says that memory was
-    /// refused.
+    /// What leads from the table at the place to the table now. O(rows kept).
     pub(crate) fn since(&self, table: &Table, place: u64) -> Result<TableChange, AllocError>
         ensures { IfOk result (λ made. made ≡ change (content_at place table.now self.now) table.now) }
     {
@@ -138,7 +137,7 @@ impl Kept {
         Ok(TableChange::new(rows))
     }
 
-    /// Leaves out the rows that didn't change since the place. O(rows kept), without memory.
+    /// Leaves out the rows that didn't change since the place. O(rows kept).
     pub(crate) fn forget_before(&mut self, place: u64)
         ensures { self.new ≡ since_place place self.old }
     {
@@ -148,7 +147,7 @@ impl Kept {
         self.rows.retain(|_, history| history.reaches(place));
     }
 
-    /// Leaves out all rows, without memory.
+    /// Leaves out all rows.
     pub(crate) fn clear(&mut self)
         ensures { self.new ≡ finite.empty }
     {

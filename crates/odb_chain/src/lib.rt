@@ -1,4 +1,7 @@
 //! A database with its past: for each mark, the content of a table for which it stands.
+//!
+//! Where memory is refused a call returns `AllocError`, and what it was given is as it was,
+//! unless its own page says otherwise. A call whose result has no such error takes no memory.
 #![tactic(auto)]
 
 ghost use Rattle.odb_chain.specs.Segments.{SegmentsJoin, UndoneToMarks};

@@ -41,7 +41,7 @@ impl Mark {
         self.place
     }
 
-    /// The same mark for a copy of the chains, which counts it as the chains do. O(1), without memory.
+    /// The same mark for a copy of the chains, which counts it as the chains do. O(1).
     pub fn again(&self) -> Mark
         ensures { result ≡ self.now }
     {

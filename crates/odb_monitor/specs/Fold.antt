@@ -1,4 +1,4 @@
--- The client's own step: table updates folded into a view, strictly. It is None at a message that isn't minimal or doesn't fit the view.
+-- The client's own step: table updates folded into a view, strictly. It is None at a message that isn't minimal or doesn't fit the view. [P 9.7]
 use Rattle.std.specs.Prelude.{ℕ, Bool, true, false, not, ◌&&◌, if◌then◌else◌, List, [], ◌∷◌, Option, Some, None, option_map, option_and_then, codes, bytes_eq, is_some}
 use Rattle.std.specs.List.{list_any}
 use Rattle.std.specs.Ordering.{is_lt}

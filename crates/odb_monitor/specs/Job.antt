@@ -1,4 +1,4 @@
--- What is owed to the client of a monitor: what it was told, what is asked, and the difference as it is sent.
+-- What is owed to the client of a monitor: what it was told, what is asked, and the difference as it is sent. [P 9.3]
 use Rattle.std.specs.Prelude.{Bool, ◌||◌, if◌then◌else◌, not, List, map, Option, Some, None}
 use Rattle.serde_json.specs.Data.{Data}
 use Rattle.odb_request.specs.Request.{Notation, Request, shapes}

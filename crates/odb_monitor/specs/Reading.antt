@@ -1,4 +1,4 @@
--- The client's reading of values and UUIDs, by their notation alone. It is strict: it takes a text only as the server writes it.
+-- The client's reading of values and UUIDs, by their notation alone. It is strict: it takes a text only as the server writes it. [P 9.7]
 use Rattle.std.specs.Prelude.{ℕ, pos, List, [], ◌∷◌, if◌then◌else◌, Option, Some, None, option_map, option_and_then, codes, bytes_eq}
 use Rattle.serde_json.specs.Data.{Num, unsigned, negative, float}
 use Rattle.odb_atoms.specs.FinMap as map

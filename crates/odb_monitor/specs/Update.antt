@@ -1,4 +1,4 @@
--- Table updates as JSON (RFC 7047, 4.1.6; ovsdb-server(7), update2).
+-- Table updates as JSON (RFC 7047, section 4.1.6; ovsdb-server(7), update2). [P 9.3]
 use Rattle.std.specs.Prelude.{ℕ, Bool, if◌then◌else◌, List, [], ◌∷◌, map, Option, Some, None, option_map, codes}
 use Rattle.serde_json.specs.Data.{Data, null, object, Members, no_members, member}
 use Rattle.odb_atoms.specs.ColType.{default_of}

@@ -1,4 +1,4 @@
--- What a monitor sees: the rows and columns that its filters select, and how two views differ.
+-- What a monitor sees: the rows and columns that its filters select, and how two views differ. [P 9.2, 9.4]
 use Rattle.std.specs.Prelude.{Bool, true, false, if◌then◌else◌, List, [], ◌∷◌, map, Option, Some, None}
 use Rattle.std.specs.List.{list_all}
 use Rattle.odb_atoms.specs.FinMap as finmap

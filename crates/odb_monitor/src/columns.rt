@@ -1,4 +1,4 @@
-//! The names and the types of a table's columns (RFC 7047, 3.2).
+//! The names and the types of a table's columns (RFC 7047, section 3.2).
 ghost use Rattle.std.specs.Prelude.{◌≡◌, IfOk};
 ghost use Rattle.odb_atoms.specs.ColType as model;
 ghost use Rattle.odb_atoms.specs.Difference as model_difference;
@@ -39,7 +39,7 @@ impl<'a> Model for Columns<'a> {
 }
 
 impl<'a> Columns<'a> {
-    /// The columns of the table. O(1), without memory.
+    /// The columns of the table. O(1).
     pub fn of(alloc: Global, table: &'a TableSchema) -> Columns<'a>
         ensures { result ≡ table.now.columns }
     {
@@ -84,7 +84,7 @@ impl<'a> Columns<'a> {
         self.column_type(column).is_single()
     }
 
-    /// What the column has by default (RFC 7047, 5.2.1). O(1).
+    /// What the column has by default (RFC 7047, section 5.2.1). O(1).
     pub fn default_of(&self, column: Selector) -> Result<Value, AllocError>
         ensures { IfOk result (λ v. v ≡ model.default_of (selector_type self.now (selector_of column))) }
     {

@@ -1,4 +1,4 @@
-//! What is shown of single rows.
+//! What is shown of single rows. [P 9.4]
 ghost use Rattle.std.specs.Prelude.{◌≡◌, List, Some, option_map};
 ghost use Rattle.std.specs.List.{list_all};
 ghost use Rattle.std.specs.Option.{option_copied};
@@ -37,8 +37,8 @@ pub struct Comparison<'a> {
 }
 
 impl<'a> Comparison<'a> {
-    /// What is shown of a row. O(the members of the filters, and the values of the monitored columns), without
-    /// memory.
+    /// What is shown of a row. O(the members of the filters, and the values of the monitored
+    /// columns).
     pub fn line<'r>(&self, sides: &Sides<'r>) -> Option<Line<'r>>
         ensures { option_map (line_in self.now.request.now.shape.columns) result
             ≡ line_at self.now.first self.now.told self.now.request.now (sides_in sides.now) }
@@ -145,7 +145,7 @@ fn is_same(column: Selector, old: &RowCells<'_>, new: &RowCells<'_>) -> bool
     *old.get(column) == *new.get(column)
 }
 
-/// Whether the kind of change isn't switched off (RFC 7047, 4.1.5, `<monitor-select>`).
+/// Whether the kind of change isn't switched off (RFC 7047, section 4.1.5, `<monitor-select>`).
 fn is_shown(first: bool, select: Select, change: Change<'_>) -> bool
     ensures { (cs : List model.Column) (u : model_uuid.Uuid) → result ≡ view.is_shown first (select_of select) (change_in cs u change.entry) }
 {

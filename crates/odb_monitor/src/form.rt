@@ -1,5 +1,5 @@
-//! Rows as objects: the columns that are named, and what stands for each (RFC 7047, 4.1.6; ovsdb-server(7),
-//! 4.1.14).
+//! Rows as objects: the columns that are named, and what stands for each (RFC 7047, section 4.1.6;
+//! ovsdb-server(7), 4.1.14).
 ghost use Rattle.std.specs.Prelude.{◌≡◌, ◌++◌, ◌∷◌, OnOk, flat_map, map};
 ghost use Rattle.json.specs.Token as token;
 ghost use Rattle.odb_cond.specs.Represented.Clause.{selector_of};

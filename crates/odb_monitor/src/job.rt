@@ -1,5 +1,5 @@
-//! What is owed to the client of a monitor, composed (RFC 7047, 4.1.5 and 4.1.6; ovsdb-server(7), 4.1.12 to
-//! 4.1.14).
+//! What is owed to the client of a monitor, composed (RFC 7047, sections 4.1.5 and 4.1.6;
+//! ovsdb-server(7), 4.1.12 to 4.1.14). [P 9.3]
 ghost use Rattle.std.specs.Prelude.{◌≡◌, ◌++◌, IfOk, OnOk, flat_map, is_some, not, option_map};
 ghost use Rattle.std.specs.List.{list_any};
 ghost use Rattle.serde_json.specs.Written.{compact_text};
@@ -39,7 +39,7 @@ impl<'a> Model for Job<'a> {
 }
 
 impl<'a> Job<'a> {
-    /// What is owed by these parts, in a first reply or later. O(1), without memory.
+    /// What is owed by these parts, in a first reply or later. O(1).
     pub fn new(kind: Kind, first: bool, parts: Vec<Part<'a>>) -> Job<'a>
         ensures { result ≡ record { notation = notation_of kind; first = first; parts = parts.entry.items } }
     {
@@ -92,9 +92,10 @@ fn put_parts(
     Ok(shown)
 }
 
-/// What is sent of the job, as compact JSON text (RFC 8259): the table updates (RFC 7047, 4.1.6) of `monitor`,
-/// or those of `monitor_cond` (ovsdb-server(7), 4.1.14), without the kinds of change that are switched off; `None`
-/// where nothing of them is left, but that a first reply is always sent.
+/// What is sent of the job, as compact JSON text (RFC 8259): the table updates (RFC 7047, section
+/// 4.1.6) of `monitor`, or those of `monitor_cond` (ovsdb-server(7), 4.1.14), without the kinds of
+/// change that are switched off; `None` where nothing of them is left, but that a first reply is
+/// always sent.
 ///
 /// O(the bytes printed) and, of n rows to be compared, O(n log n): the rows changed where the filter stayed, and
 /// the rows of the table where nothing was told yet or another filter was asked.

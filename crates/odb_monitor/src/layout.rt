@@ -1,4 +1,4 @@
-//! Table updates, printed (RFC 7047, 4.1.6; ovsdb-server(7), 4.1.14).
+//! Table updates, printed (RFC 7047, section 4.1.6; ovsdb-server(7), 4.1.14). [P 9.3]
 ghost use Rattle.std.specs.Prelude.{◌≡◌, ◌++◌, ◌∷◌, [], OnOk, codes, flat_map, if◌then◌else◌, map};
 ghost use Rattle.odb_atoms.specs.Represented.Atom.{uuid_of};
 ghost use Rattle.odb_monitor.specs.Represented.Form.{all_in, named_by, old_in};
@@ -54,7 +54,7 @@ impl<'a> Model for Layout<'a> {
 }
 
 impl<'a> Layout<'a> {
-    /// How the rows of what is monitored are printed. O(1), without memory.
+    /// How the rows of what is monitored are printed. O(1).
     pub fn of(alloc: Global, shape: &'a Shape, kind: Kind, first: bool) -> Layout<'a>
         ensures { result ≡ record {
           notation = notation_of kind;
@@ -90,7 +90,7 @@ impl<'a> Layout<'a> {
         out.end_object()
     }
 
-    /// Every column of a row that comes in or goes out, under this name (RFC 7047, 4.1.6).
+    /// Every column of a row that comes in or goes out, under this name (RFC 7047, section 4.1.6).
     fn put_whole(
         &self,
         out: &mut Printer,
@@ -138,8 +138,8 @@ impl<'a> Layout<'a> {
         self.put_one(out, "modify", &Form::Differences(&old_cells, &new_cells))
     }
 
-    /// `{"new": columns, "old": columns}`: every column, and the old values of those that differ (RFC 7047,
-    /// 4.1.6).
+    /// `{"new": columns, "old": columns}`: every column, and the old values of those that differ
+    /// (RFC 7047, section 4.1.6).
     fn put_new_and_old(
         &self,
         out: &mut Printer,
@@ -174,7 +174,7 @@ impl<'a> Layout<'a> {
         out.end_object()
     }
 
-    /// What becomes of a row, as `update` has it (RFC 7047, 4.1.6).
+    /// What becomes of a row, as `update` has it (RFC 7047, section 4.1.6).
     fn put_update(&self, out: &mut Printer, line: &Line<'_>) -> Result<(), AllocError>
         ensures { OnOk result (out.new ≡ out.old ++ tokens_of (row_update update self.now.first self.now.columns
             (change_in self.now.columns (uuid_of line.now.uuid) line.now.change))) }

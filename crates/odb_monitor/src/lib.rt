@@ -1,7 +1,8 @@
-//! What monitors see, what their clients are sent, and what a client makes of it (RFC 7047, 4.1.5 and 4.1.6;
-//! ovsdb-server(7)).
+//! What monitors see, what their clients are sent, and what a client makes of it (RFC 7047,
+//! sections 4.1.5 and 4.1.6; ovsdb-server(7)). [P 9.7]
 //!
-//! An `AllocError` says that memory was refused; nothing that was lent is changed by it.
+//! Where memory is refused a call returns `AllocError`, and what it was given is as it was,
+//! unless its own page says otherwise. A call whose result has no such error takes no memory.
 #![tactic(auto)]
 
 ghost use Rattle.odb_monitor.specs.Law.{DifferenceLeads, FirstReplyGives, NoOtherLeads};

@@ -1,4 +1,4 @@
-//! One table of a job: what the client was told of it, what is asked, and how they differ.
+//! One table of a job: what the client was told of it, what is asked, and how they differ. [P 9.2]
 ghost use Rattle.std.specs.Prelude.{◌≡◌, ◌++◌, Bool, IfOk, IsPermutation, List, OnOk, filter_map, is_some, map, not, option_map, option_to_list};
 ghost use Rattle.std.specs.Arc.{arc_value};
 ghost use Rattle.std.specs.List.{list_any};
@@ -51,8 +51,8 @@ impl<'a> Model for Part<'a> {
 }
 
 impl<'a> Part<'a> {
-    /// What is asked of a table, what the client was told of it, the table as it is now, and how its rows have
-    /// changed since the client was told: `None` where they haven't. O(1), without memory.
+    /// What is asked of a table, what the client was told of it, the table as it is now, and how
+    /// its rows have changed since the client was told: `None` where they haven't. O(1).
     ///
     /// Of a change the old row is read, and not the new one, which is the table's. Where the client was told
     /// nothing, the changes aren't read at all.
@@ -221,7 +221,7 @@ fn has_line(comparison: &Comparison<'_>, sides: &[Sides<'_>]) -> bool
     sides.iter().any(|row| comparison.line(row).is_some())
 }
 
-/// Puts the lines in the order of their identifiers. O(n log n), without memory.
+/// Puts the lines in the order of their identifiers. O(n log n).
 fn sort(lines: &mut Vec<Line<'_>>)
     ensures permutation { IsPermutation lines.old.items lines.new.items }
     ensures sorted { IsSortedByKey (λ line. uuid_of line.uuid) uuid_cmp lines.new.items }

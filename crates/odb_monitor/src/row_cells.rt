@@ -1,4 +1,5 @@
-//! The cells of a row: of its declared columns, and of `_uuid` and `_version` (RFC 7047, 3.2).
+//! The cells of a row: of its declared columns, and of `_uuid` and `_version` (RFC 7047, section
+//! 3.2).
 ghost use Rattle.std.specs.Prelude.{◌≡◌};
 ghost use Rattle.odb_atoms.specs.Represented.Atom.{uuid_of};
 ghost use Rattle.odb_atoms.specs.Row as model_row;
@@ -44,7 +45,7 @@ impl<'a> Model for RowCells<'a> {
 }
 
 impl<'a> RowCells<'a> {
-    /// The cells of the row with the identifier. O(1), without memory.
+    /// The cells of the row with the identifier. O(1).
     pub fn new(alloc: Global, key: Uuid, row: &'a Row) -> RowCells<'a>
         ensures { result ≡ (uuid_of key, row.now) }
     {
@@ -57,7 +58,7 @@ impl<'a> RowCells<'a> {
         }
     }
 
-    /// The cell of the column: the empty set for a declared one past the row's. O(1), without memory.
+    /// The cell of the column: the empty set for a declared one past the row's. O(1).
     pub fn get(&self, column: Selector) -> &Value
         ensures { result.now ≡ model_row.cell self.now.0 self.now.1 (selector_of column) }
     {

@@ -1,4 +1,4 @@
-//! Atoms and values, printed (RFC 7047, 5.1, `<atom>` and `<value>`).
+//! Atoms and values, printed (RFC 7047, section 5.1, `<atom>` and `<value>`).
 ghost use Rattle.std.specs.Prelude.{◌≡◌, ◌++◌, ◌∷◌, [], OnOk, codes, flat_map, map};
 ghost use Rattle.json.specs.Token as token;
 ghost use Rattle.odb_atoms.specs.Represented.Atom.{atom_of, uuid_of};
@@ -126,7 +126,7 @@ fn put_map(out: &mut Printer, pairs: &[(Atom, Atom)]) -> Result<(), AllocError>
     out.end_array()
 }
 
-/// A value (RFC 7047, 5.1), its elements and keys ascending. O(its bytes).
+/// A value (RFC 7047, section 5.1), its elements and keys ascending. O(its bytes).
 pub fn put_value(out: &mut Printer, value: &Value) -> Result<(), AllocError>
     ensures { OnOk result (out.new ≡ out.old ++ tokens_of (notation.write_value value.now)) }
 {

@@ -1,4 +1,5 @@
-//! Requests about monitors (RFC 7047, 4.1.5 and 4.1.7; ovsdb-server(7), 4.1.12 and 4.1.13).
+//! Requests about monitors (RFC 7047, sections 4.1.5 and 4.1.7; ovsdb-server(7), 4.1.12 and
+//! 4.1.13).
 ghost use Rattle.std.specs.Prelude.{◌≡◌, false, map};
 ghost use Rattle.std.specs.List.{list_any};
 ghost use Rattle.serde_json.specs.Data.{Data};
@@ -16,18 +17,18 @@ use serde_json::Value;
 /// What a request about monitors asks. It borrows from the request.
 #[derive(Clone, Copy, Debug)]
 pub enum MonitorCall<'a> {
-    /// `monitor` (RFC 7047, 4.1.5) or `monitor_cond` (ovsdb-server(7), 4.1.12): a monitor under this id, with
-    /// these requests, an object.
+    /// `monitor` (RFC 7047, section 4.1.5) or `monitor_cond` (ovsdb-server(7), 4.1.12): a monitor
+    /// under this id, with these requests, an object.
     Begin(Kind, Printable<'a>, &'a Value),
     /// `monitor_cond_change` (ovsdb-server(7), 4.1.13): of the monitor with the first id, which has the second
     /// from then on; with these filters, an object.
     Change(Printable<'a>, Printable<'a>, &'a Value),
-    /// `monitor_cancel` (RFC 7047, 4.1.7): of the monitor with this id.
+    /// `monitor_cancel` (RFC 7047, section 4.1.7): of the monitor with this id.
     Cancel(Printable<'a>),
 }
 
-/// The `params` of `monitor` or `monitor_cond`: the database's name, the monitor's id and its requests. O(1),
-/// without memory.
+/// The `params` of `monitor` or `monitor_cond`: the database's name, the monitor's id and its
+/// requests. O(1).
 ///
 /// The faults in their order: another number of members, or requests that are no object, or a name that is no
 /// string (`Syntax`); another database (`UnknownDatabase`).
@@ -51,7 +52,7 @@ pub fn read_monitor<'a>(
     }
 }
 
-/// The `params` of `monitor_cond_change`: the monitor's id, its new id and the filters. O(1), without memory.
+/// The `params` of `monitor_cond_change`: the monitor's id, its new id and the filters. O(1).
 ///
 /// Another number of members, or filters that are no object, are a fault (`Syntax`).
 pub fn read_monitor_change(params: &[Value]) -> Result<MonitorCall<'_>, CallFault>
@@ -67,8 +68,8 @@ pub fn read_monitor_change(params: &[Value]) -> Result<MonitorCall<'_>, CallFaul
     Ok(MonitorCall::Change(Printable::known(old), Printable::known(new), filters))
 }
 
-/// The `params` of `monitor_cancel`: the monitor's id. O(1), without memory. Another number of members is a
-/// fault (`Syntax`).
+/// The `params` of `monitor_cancel`: the monitor's id. O(1). Another number of members is a fault
+/// (`Syntax`).
 pub fn read_monitor_cancel(params: &[Value]) -> Result<MonitorCall<'_>, CallFault>
     requires { list_any has_left_out (map view params.now) ≡ false }
     ensures { (id : Data) → asked id result ≡ of_one id (cancel_monitor id) (map view params.now) }

@@ -1,5 +1,5 @@
-//! Replies and notifications around a body that several of them share: what comes before it, and what after it
-//! (RFC 7047, 4.1.5 and 4.1.6; ovsdb-server(7), 4.1.14).
+//! Replies and notifications around a body that several of them share: what comes before it, and
+//! what after it (RFC 7047, sections 4.1.5 and 4.1.6; ovsdb-server(7), 4.1.14).
 ghost use Rattle.std.specs.Prelude.{◌≡◌, ◌++◌, ◌∷◌, [], IfOk};
 ghost use Rattle.serde_json.specs.Data.{Data};
 ghost use Rattle.serde_json.specs.Written.{compact_text};
@@ -12,10 +12,11 @@ use crate::printable::Printable;
 use odb_request::Kind;
 use std::alloc::{AllocError, Global};
 
-/// What comes before the result in the reply of a success (RFC 7047, 4): `{"error":null,"id":ID,"result":`. The
-/// result's compact text comes next, and then `after_result`.
+/// What comes before the result in the reply of a success (RFC 7047, section 4):
+/// `{"error":null,"id":ID,"result":`. The result's compact text comes next, and then
+/// `after_result`.
 ///
-/// O(n) for an id of n bytes; an error says that there was no memory.
+/// O(n) for an id of n bytes.
 pub fn before_result(alloc: Global, id: Printable<'_>) -> Result<Vec<u8>, AllocError>
     ensures { IfOk result (λ text. (d : Data)
         → text.items ++ (compact_text d ++ after_result) ≡ compact_text (reply (printable_data id.entry) d)) }
@@ -34,11 +35,12 @@ pub fn after_result() -> &'static [u8]
     b"}"
 }
 
-/// What comes before the table updates in a notification (RFC 7047, 4.1.6; ovsdb-server(7), 4.1.14) of the monitor
-/// with this id: `{"id":null,"method":METHOD,"params":[ID,`. The updates' compact text comes next, and then
-/// `after_updates`. The method is `update` or, of `monitor_cond`, `update2`.
+/// What comes before the table updates in a notification (RFC 7047, section 4.1.6; ovsdb-server(7),
+/// 4.1.14) of the monitor with this id: `{"id":null,"method":METHOD,"params":[ID,`. The updates'
+/// compact text comes next, and then `after_updates`. The method is `update` or, of `monitor_cond`,
+/// `update2`.
 ///
-/// O(n) for an id of n bytes; an error says that there was no memory.
+/// O(n) for an id of n bytes.
 pub fn before_updates(
     alloc: Global,
     kind: Kind,
