@@ -2,7 +2,7 @@
 ghost use Rattle.std.specs.Prelude.{◌≡◌, ℕ, ◌+◌, ◌-◌, ◌^◌, ◌<◌, [], ◌∷◌, true, length, nat_eq, nat_le, slice_get, option_map, Some, IfNone, IfOk, IfSome, OnOk};
 ghost use Rattle.std.specs.List.{position};
 ghost use Rattle.odb_chain.specs.Kept.{content_at};
-ghost use Rattle.odb_chain.specs.Represented.Chain.{AreRising, IsChainOf, IsReadyFor, StandsAsBefore, fewer, here, is_roomy, nothing_kept, places};
+ghost use Rattle.odb_chain.specs.Represented.Chain.{AreRising, IsChainOf, IsCopyOf, IsReadyFor, StandsAsBefore, fewer, here, is_roomy, nothing_kept, places};
 ghost use Rattle.odb_chain.specs.Represented.Places.{is_kept, is_place};
 ghost use Rattle.odb_tables.specs.Change.{change};
 ghost use Rattle.odb_tables.specs.Database as model_tables;
@@ -56,6 +56,20 @@ impl Chain {
             fresh: 0,
             kept: Kept::new(alloc, hashing),
         }
+    }
+
+    /// The same once more. O(old rows); an error says that memory was refused.
+    pub(crate) fn try_copy(&self, hashing: RandomState) -> Result<Chain, AllocError>
+        ensures { IfOk result (λ copy. IsCopyOf self.now copy) }
+    {
+        let live = self.live.clone()?;
+        let kept = self.kept.try_copy(hashing)?;
+        Ok(Chain {
+            version: self.version,
+            live,
+            fresh: self.fresh,
+            kept,
+        })
     }
 
     /// How many changes the table had.

@@ -3,7 +3,7 @@ ghost use Rattle.std.specs.Prelude.{◌≡◌, ℕ, map, ◌+◌, ◌-◌, ◌^�
 ghost use Rattle.odb_atoms.specs.FinMap as finite;
 ghost use Rattle.odb_chain.specs.Chains as model;
 ghost use Rattle.odb_chain.specs.Chains.{IsLive, IsNow, absorbed, chains_of, count, live_at, mark_of, marked, released, version};
-ghost use Rattle.odb_chain.specs.Represented.Chain.{IsReadyFor, IsStepped, StandsAsBefore, chain_at, change_at, is_moved, is_roomy, moved_at};
+ghost use Rattle.odb_chain.specs.Represented.Chain.{IsCopyOf, IsReadyFor, IsStepped, StandsAsBefore, chain_at, change_at, is_moved, is_roomy, moved_at};
 ghost use Rattle.odb_tables.specs.Change.{change};
 ghost use Rattle.odb_tables.specs.Database.{table_at};
 ghost use Rattle.odb_tables.specs.Installing.{IsChangeOf};
@@ -148,6 +148,21 @@ impl Chains {
         self.chains[place].since(&self.db.tables()[place], mark.place)
     }
 
+    /// Equal chains, whose rows are shared with these. Their marks are made by `Mark::again`. O(rows) and
+    /// O(old rows); an error says that memory was refused.
+    pub fn try_copy(&self) -> Result<Chains, AllocError>
+        ensures { IfOk result (λ copy. copy ≡ self.now) }
+    {
+        let db = self.db.try_copy(self.alloc)?;
+        let chains = copies(self.alloc, self.chains.as_slice(), self.hashing)?;
+        Ok(Chains {
+            alloc: self.alloc,
+            hashing: self.hashing,
+            db,
+            chains,
+        })
+    }
+
     /// The table of a mark, which the database has.
     fn table_of(&self, mark: &Mark) -> TableId
         requires { IsLive self.now mark.now }
@@ -160,6 +175,17 @@ impl Chains {
         prove!(is_inside);
         mark.table
     }
+}
+
+fn copies(alloc: Global, chains: &[Chain], hashing: RandomState) -> Result<Vec<Chain>, AllocError>
+    ensures same_length { IfOk result (λ copies. length copies.items ≡ length chains.now) }
+    ensures same { IfOk result (λ copies. (t : ℕ) → IsCopyOf (chain_at chains.now t) (chain_at copies.items t)) }
+{
+    let mut copies = Vec::with_capacity(alloc, chains.len())?;
+    for chain in chains {
+        copies.push(chain.try_copy(hashing)?)?;
+    }
+    Ok(copies)
 }
 
 /// Makes each chain ready for the change of its table. Where memory is refused, all marks stand for what

@@ -32,6 +32,19 @@ impl Model for Old {
     ghost view = { λ o. (o.place, row_of o.row) };
 }
 
+impl Old {
+    /// The same once more, with the row shared.
+    fn try_copy(&self) -> Result<Old, AllocError>
+        ensures { IfOk result (λ copy. copy ≡ self.now) }
+    {
+        let row = share(self.row.as_ref())?;
+        Ok(Old {
+            place: self.place,
+            row,
+        })
+    }
+}
+
 /// What a row was, the earliest first, each up to its place. Once there are as many as the limit it is looked
 /// whether each is needed; the limit is then twice those that are left, so that this costs O(1) a row that
 /// is pushed.
@@ -60,6 +73,20 @@ impl History {
         let mut olds = Vec::new(alloc);
         olds.push(old)?;
         Ok(History { olds, limit: 4 })
+    }
+
+    /// The same once more, with the rows shared.
+    pub(crate) fn try_copy(&self, alloc: Global) -> Result<History, AllocError>
+        ensures { IfOk result (λ copy. copy ≡ self.now) }
+    {
+        let mut olds = Vec::with_capacity(alloc, self.olds.len())?;
+        for old in &self.olds {
+            olds.push(old.try_copy()?)?;
+        }
+        Ok(History {
+            olds,
+            limit: self.limit,
+        })
     }
 
     /// Whether it is kept what the row was at the place.
@@ -122,5 +149,15 @@ fn twice(number: usize) -> usize {
         number * 2 + 2
     } else {
         usize::MAX
+    }
+}
+
+/// The same row once more.
+pub(crate) fn share(row: Option<&Arc<Row>>) -> Result<Option<Arc<Row>>, AllocError>
+    ensures { IfOk result (λ shared. row_of shared ≡ row_of (option_copied row.entry)) }
+{
+    match row {
+        Some(row) => Ok(Some(row.clone()?)),
+        None => Ok(None),
     }
 }

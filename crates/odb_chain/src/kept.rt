@@ -11,7 +11,7 @@ ghost use Rattle.odb_chain.specs.Represented.Places.{AsBefore};
 ghost use Rattle.odb_tables.specs.Change.{change};
 ghost use Rattle.odb_tables.specs.Represented.Overlay.{row_of};
 
-use crate::history::{History, Old};
+use crate::history::{History, Old, share};
 use crate::live::Live;
 use indexmap::IndexMap;
 use odb_atoms::Row;
@@ -100,10 +100,32 @@ impl Kept {
         ensures err { OnErr result (self.new ≡ self.old) }
     {
         let history = History::of(self.alloc, old)?;
+        self.put(key, history)
+    }
+
+    fn put(&mut self, key: Key, history: History) -> Result<(), AllocError>
+        ensures ok { OnOk result (self.new ≡ finite.insert self.old key history) }
+        ensures err { OnErr result (self.new ≡ self.old) }
+    {
         match self.rows.insert(key, history) {
             Ok(_) => Ok(()),
             Err(_) => Err(AllocError),
         }
+    }
+
+    /// The same once more, with the rows shared. O(old rows); an error says that memory was refused.
+    pub(crate) fn try_copy(&self, hashing: RandomState) -> Result<Kept, AllocError>
+        ensures { IfOk result (λ copy. copy ≡ self.now) }
+    {
+        let rows = IndexMap::with_capacity_and_hasher(self.alloc, self.rows.len(), hashing)?;
+        let mut copy = Kept {
+            alloc: self.alloc,
+            rows,
+        };
+        for (key, history) in self.rows.iter() {
+            copy.put(*key, history.try_copy(self.alloc)?)?;
+        }
+        Ok(copy)
     }
 
     /// Keeps what the rows that the change names are now, up to the newest place. Where memory is refused,
@@ -161,15 +183,5 @@ fn add(rows: &mut Vec<RowChange>, change: Option<RowChange>) -> Result<(), Alloc
     match change {
         Some(change) => Ok(rows.push(change)?),
         None => Ok(()),
-    }
-}
-
-/// The same row once more.
-fn share(row: Option<&Arc<Row>>) -> Result<Option<Arc<Row>>, AllocError>
-    ensures { IfOk result (λ shared. row_of shared ≡ row_of (option_copied row.entry)) }
-{
-    match row {
-        Some(row) => Ok(Some(row.clone()?)),
-        None => Ok(None),
     }
 }

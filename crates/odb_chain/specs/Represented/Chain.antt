@@ -86,6 +86,10 @@ StandsAsBefore t old new = (new.version ≡ old.version) × (new.live ≡ old.li
     × ((p : ℕ) → is_place p (places old) ≡ true → content_at p t new.rows ≡ content_at p t old.rows)
     × (IsChainOf t old → IsChainOf t new)
 
+-- the same, but for the room
+abbrev pub IsCopyOf : Chain → Chain → Type 0
+IsCopyOf old new = (new.version ≡ old.version) × (new.live ≡ old.live) × (new.fresh ≡ old.fresh) × (new.rows ≡ old.rows)
+
 -- what is kept of a row where it reaches a place
 abbrev pub since_place : ℕ → Rows → Rows
 since_place p rows = map.map_entries (λ u h. cond (reaches p h) (Some h) None) rows

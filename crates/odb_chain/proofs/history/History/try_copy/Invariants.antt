@@ -1,0 +1,5 @@
+use Rattle.std.proofs.Common.{◌≡◌, take}
+use Rattle.odb_chain.proofs.history.History.try_copy.Given as goal
+
+abbrev pub invariant-loop-old : goal.invariant-loop-old
+invariant-loop-old l = l.olds.items ≡ take l.old-index l.old-items

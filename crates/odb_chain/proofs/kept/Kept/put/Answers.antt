@@ -1,0 +1,13 @@
+use Rattle.std.proofs.Common.{rules, Some, ap, ◌∙◌}
+use Rattle.std.specs.Ordering.{eq_by_cmp}
+use Rattle.indexmap.specs.IndexMap.{Updates}
+use Rattle.odb_atoms.specs.FinMap as finite
+use Rattle.odb_atoms.specs.Uuid.{uuid_cmp}
+use Rattle.odb_tables.proofs.KeyedMaps.{inserted}
+use Rattle.odb_chain.specs.Kept.{History, Rows}
+use Rattle.odb_chain.proofs.kept.Kept.put.Goals as goal
+
+pub returns-in-Ok-clause-ok : goal.returns-in-Ok-clause-ok
+returns-in-Ok-clause-ok c =
+    let changed : Updates (eq_by_cmp uuid_cmp) c.self.inside.rows c.insert.new.self c.args.key (Some c.args.history) = search rules in
+    inserted (λ (h : History). h) c.self.inside.rows c.insert.new.self c.args.key c.args.history changed ∙ ap (λ (m : Rows). finite.insert m c.args.key c.args.history) c.self.view_is
