@@ -9,6 +9,10 @@ use Rattle.odb_atoms.proofs.Atoms.{uuid_cmp_total, uuid_cmp-IsAntisymmetric}
 use Rattle.odb_atoms.proofs.FinMaps.{get-combine, get-empty, get-map_entries, same_map}
 use Rattle.odb_tables.specs.Change.{Changes, after, changed_by}
 use Rattle.odb_tables.specs.Database.{Table}
+use Rattle.std.proofs.Common.{List, ◌||◌, nat_eq}
+use Rattle.std.proofs.Common.{arith}
+use Rattle.odb_chain.specs.Represented.Places.{is_place}
+use Rattle.std.proofs.lemmas.Bool.Decides.{nat_tests}
 use Rattle.odb_chain.specs.Kept.{History, Rows, at, at_place, content_at, is_reached, reaches}
 use Rattle.odb_chain.specs.Represented.Chain.{Chain, IsReadyFor, since_place}
 use Rattle.odb_chain.specs.Represented.Places.{IsPast}
@@ -101,3 +105,8 @@ len-empty = len-from_entries [] none_twice
 -- a change that names no row asks for nothing
 pub nothing_named : (d : Changes) (c : Chain) → d ≡ finite.empty → IsReadyFor d c
 nothing_named d c is = (λ some. absurd (true≢false (sym some ∙ ap (nat_lt 0) (ap finite.len is ∙ len-empty))), λ p there u some. absurd (true≢false (sym some ∙ ap is_some (ap (λ (m : Changes). finite.get m u) is ∙ get-empty uuid_cmp u))))
+
+-- a label that is the newest place is a place
+pub label_of : (q n : ℕ) (b : Bool) (ls : List (ℕ × ℕ)) → is_place n ls ≡ true → (b || nat_eq q n) ≡ true → (b || is_place q ls) ≡ true
+label_of q n true ls there e = refl
+label_of q n false ls there e = let same : q ≡ n = grind (arith, nat_tests) in ap (λ m. is_place m ls) same ∙ there

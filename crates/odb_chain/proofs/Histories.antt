@@ -4,7 +4,7 @@ use Rattle.std.proofs.lemmas.Bool.Decides.{nat_tests}
 use Rattle.std.specs.List.{dedup_from}
 use Rattle.odb_atoms.specs.Row.{Row}
 use Rattle.odb_chain.specs.Kept.{History, at, reaches}
-use Rattle.odb_chain.specs.Represented.Places.{Past, cleaned, is_between, is_kept, is_place}
+use Rattle.odb_chain.specs.Represented.Places.{Past, cleaned, is_between, is_kept, is_label, is_place}
 
 abbrev Old : Type 0
 Old = ℕ × Option Row
@@ -158,3 +158,51 @@ module _ (n : ℕ) (ls : List (ℕ × ℕ)) (r : Option Row) (h : History) (new 
       by : (b : Bool) → nat_le n p ≡ b → (b || is_place p ls) ≡ true → at p r (cleaned ls h) ≡ at p r h
       by true is e = beyond p r (cleaned ls h) (unreached_after n p (cleaned ls h) is (unreached ls n h new)) ∙ sym (beyond p r h (unreached_after n p h is new))
       by false is e = needless ls p r h e
+
+-- ---- up to which places old rows are kept
+
+pub or_left : (a b : Bool) → a ≡ true → (a || b) ≡ true
+or_left true b e = refl
+or_left false b e = absurd (true≢false (sym e))
+
+pub or_right : (a b : Bool) → b ≡ true → (a || b) ≡ true
+or_right true b e = refl
+or_right false b e = e
+
+pub or_weaker : (a b c : Bool) → (a ≡ true → b ≡ true) → (a || c) ≡ true → (b || c) ≡ true
+or_weaker true b c f e = or_left b c (f refl)
+or_weaker false b c f e = or_right b c e
+
+module _ (ls : List (ℕ × ℕ)) (q : ℕ) where
+  label_from : (k : Old) (xs : History) → is_label q (dedup_from (is_needless ls) k xs) ≡ true → is_label q (k ∷ xs) ≡ true
+  label_from k [] e = e
+  label_from k (x ∷ xs) e = by (is_needless ls x k) e (label_from k xs) (label_from x xs)
+    where
+      skip : (a b c : Bool) → (a || c) ≡ true → (a || (b || c)) ≡ true
+      skip true b c e = refl
+      skip false b c e = or_right b c e
+
+      both : (a b c : Bool) → (b ≡ true → c ≡ true) → (a || b) ≡ true → (a || c) ≡ true
+      both true b c f e = refl
+      both false b c f e = f e
+
+      by : (b : Bool) → is_label q (cond b (dedup_from (is_needless ls) k xs) (k ∷ dedup_from (is_needless ls) x xs)) ≡ true → (is_label q (dedup_from (is_needless ls) k xs) ≡ true → is_label q (k ∷ xs) ≡ true)
+          → (is_label q (dedup_from (is_needless ls) x xs) ≡ true → is_label q (x ∷ xs) ≡ true) → is_label q (k ∷ x ∷ xs) ≡ true
+      by true e stays goes = skip (nat_eq q k.0) (nat_eq q x.0) (is_label q xs) (stays e)
+      by false e stays goes = both (nat_eq q k.0) (is_label q (dedup_from (is_needless ls) x xs)) (is_label q (x ∷ xs)) goes e
+
+  pub label_cleaned : (h : History) → is_label q (cleaned ls h) ≡ true → is_label q h ≡ true
+  label_cleaned [] e = e
+  label_cleaned (k ∷ xs) e = label_from k xs e
+
+pub label_pushed : (q n : ℕ) (r : Option Row) (h : History) → is_label q (h ++ (n, r) ∷ []) ≡ true → (is_label q h || nat_eq q n) ≡ true
+label_pushed q n r [] e = by (nat_eq q n) e
+  where
+    by : (b : Bool) → (b || false) ≡ true → b ≡ true
+    by true e = refl
+    by false e = e
+label_pushed q n r (x ∷ xs) e = by (nat_eq q x.0) e (label_pushed q n r xs)
+  where
+    by : (b : Bool) → (b || is_label q (xs ++ (n, r) ∷ [])) ≡ true → (is_label q (xs ++ (n, r) ∷ []) ≡ true → (is_label q xs || nat_eq q n) ≡ true) → ((b || is_label q xs) || nat_eq q n) ≡ true
+    by true e rest = refl
+    by false e rest = rest e

@@ -16,21 +16,28 @@ use Rattle.odb_tables.specs.Database.{Table}
 use Rattle.odb_tables.specs.Represented.Key.{keys_equivalent}
 use Rattle.odb_tables.specs.Represented.Keyed.{keyed, shown}
 use Rattle.odb_tables.proofs.KeyedMaps.{get-from_entries, get-keyed, keys-shown, none_behind}
+use Rattle.odb_chain.proofs.Histories.{label_pushed, or_left, or_right}
+use Rattle.odb_chain.specs.Represented.Places.{has_label}
+use Rattle.std.proofs.Common.{nat_eq}
 use Rattle.odb_chain.specs.Represented.Chain.{since_place}
 use Rattle.odb_chain.specs.Kept.{History, Rows, at, is_reached, reaches}
 use Rattle.odb_chain.specs.Represented.Places.{AsBefore}
 use Rattle.odb_chain.proofs.Histories.{neutral, past_pushed}
 
+either_label : (b a c : Bool) → (b ≡ true → (a || c) ≡ true) → (b || c) ≡ true → (a || c) ≡ true
+either_label true a c f e = f refl
+either_label false a c f e = or_right a c e
+
 module _ (n : ℕ) (ls : List (ℕ × ℕ)) where
   pub as_it_is : (r : Option Row) (o : Option History) → AsBefore n ls r o o
-  as_it_is r o = (λ p kept. refl, λ v le h. h)
+  as_it_is r o = (λ p kept. refl, λ v le h. h, λ q e. or_left (has_label q o) (nat_eq q n) e)
 
   pub goes_on : (r : Option Row) (a b c : Option History) → AsBefore n ls r a b → AsBefore n ls r b c → AsBefore n ls r a c
-  goes_on r a b c f g = (λ p kept. g.0 p kept ∙ f.0 p kept, λ v le h. g.1 v le (f.1 v le h))
+  goes_on r a b c f g = (λ p kept. g.0 p kept ∙ f.0 p kept, λ v le h. g.1 v le (f.1 v le h), λ q e. either_label (has_label q b) (has_label q a) (nat_eq q n) (f.2 q) (g.2 q e))
 
   -- where nothing was kept
   pub begun : (r : Option Row) → AsBefore n ls r None (Some ((n, r) ∷ []))
-  begun r = (λ p kept. neutral p n r [], λ v le h. past_pushed v n r [] le tt)
+  begun r = (λ p kept. neutral p n r [], λ v le h. past_pushed v n r [] le tt, λ q e. label_pushed q n r [] e)
 
   -- a row that the change doesn't concern, and the one that it does
   pub only_at : (t : Table) (old new : Rows) (k : Uuid) → AsBefore n ls (finite.get t k) (finite.get old k) (finite.get new k)

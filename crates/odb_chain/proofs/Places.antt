@@ -245,3 +245,28 @@ fresh_some x h there =
     by : (n : ℕ) → is_place x.version (here x.version n) ≡ true → 1 ≤ n
     by zero e = absurd (true≢false (sym e))
     by (suc n) e = omega arith
+
+got_place : (ls : List Place) (i : ℕ) (l : Place) → slice_get ls i ≡ Some l → is_place l.0 ls ≡ true
+got_place [] i l at = absurd (none-some l at)
+got_place (k ∷ ls) zero l at = let same : k.0 ≡ l.0 = ap (λ (x : Place). x.0) (same_Some k l at) in let own : nat_eq l.0 k.0 ≡ true = grind (arith, nat_tests) in ap (λ b. b || is_place l.0 ls) own
+got_place (k ∷ ls) (suc i) l at = by (nat_eq l.0 k.0) (got_place ls i l at)
+  where
+    by : (b : Bool) → is_place l.0 ls ≡ true → (b || is_place l.0 ls) ≡ true
+    by true e = refl
+    by false e = e
+
+pub last_there : (x : Chain) (n : ℕ) → option_map (λ (l : Place). l.0) (slice_get x.live (length x.live - 1)) ≡ Some n → is_place n (places x) ≡ true
+last_there x n last =
+    last_is (slice_get x.live (length x.live - 1)) n (is_place n (places x) ≡ true) last
+    (λ l at is. place-++ n x.live (here x.version x.fresh) ∙ ap (λ m. is_place m x.live || is_place m (here x.version x.fresh)) (sym is) ∙ ap (λ b. b || is_place l.0 (here x.version x.fresh)) (got_place x.live (length x.live - 1) l at))
+
+pub here_there : (x : Chain) (n : ℕ) → n ≡ x.version → 0 < x.fresh → is_place n (places x) ≡ true
+here_there x n is some = place-++ n x.live (here x.version x.fresh) ∙ by (is_place n x.live) x.fresh some
+  where
+    own : nat_eq n x.version ≡ true
+    own = grind (arith, nat_tests)
+
+    by : (b : Bool) (m : ℕ) → 0 < m → (b || is_place n (here x.version m)) ≡ true
+    by true m low = refl
+    by false zero low = absurd (omega (arith, low))
+    by false (suc m) low = ap (λ b. b || false) own

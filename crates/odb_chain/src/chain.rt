@@ -1,9 +1,11 @@
 //! What is kept of one table.
-ghost use Rattle.std.specs.Prelude.{◌≡◌, ℕ, ◌+◌, ◌-◌, ◌^◌, ◌<◌, [], ◌∷◌, true, length, nat_eq, nat_le, slice_get, option_map, Some, IfNone, IfOk, IfSome, OnOk};
+ghost use Rattle.std.specs.Prelude.{◌≡◌, ◌||◌, ℕ, ◌+◌, ◌-◌, ◌^◌, ◌<◌, [], ◌∷◌, true, length, nat_eq, nat_le, slice_get, option_map, Some, IfNone, IfOk, IfSome, OnOk};
 ghost use Rattle.std.specs.List.{position};
+ghost use Rattle.odb_atoms.specs.FinMap as finite;
+ghost use Rattle.odb_atoms.specs.Uuid as model_uuid;
 ghost use Rattle.odb_chain.specs.Kept.{content_at};
 ghost use Rattle.odb_chain.specs.Represented.Chain.{AreRising, IsChainOf, IsCopyOf, IsReadyFor, StandsAsBefore, fewer, here, is_roomy, nothing_kept, places};
-ghost use Rattle.odb_chain.specs.Represented.Places.{is_kept, is_place};
+ghost use Rattle.odb_chain.specs.Represented.Places.{has_label, is_kept, is_place};
 ghost use Rattle.odb_tables.specs.Change.{change};
 ghost use Rattle.odb_tables.specs.Database as model_tables;
 
@@ -158,6 +160,7 @@ impl Chain {
         ensures none { IfNone result (places self.now ≡ []) }
         ensures some { IfSome result (λ newest. (p : ℕ) → is_place p (places self.now) ≡ true → (nat_le p newest ≡ true) × (is_kept newest self.now.live p ≡ true)) }
         ensures past { IfSome result (λ newest. nat_le newest self.now.version ≡ true) }
+        ensures place { IfSome result (λ newest. is_place newest (places self.now) ≡ true) }
     {
         match self.here() {
             Some(place) => Some(place),
@@ -177,11 +180,12 @@ impl Chain {
         }
     }
 
-    /// Makes ready for a change of the table: keeps what the rows that it names are now, and finds room for
+    /// Makes ready for a change of the table: keeps what the rows that it names are now, up to a place with marks, and finds room for
     /// one place more. Where memory is refused, all marks stand for what they did. O(rows changed).
     pub(crate) fn prepare(&mut self, table: &Table, change: &TableChange) -> Result<(), AllocError>
         ensures ok { OnOk result (IsReadyFor change.now self.new) }
         ensures stands { StandsAsBefore table.now self.old self.new }
+        ensures labels { (q : ℕ) (u : model_uuid.Uuid) → has_label q (finite.get self.new.rows u) ≡ true → (has_label q (finite.get self.old.rows u) || is_place q (places self.old)) ≡ true }
     {
         if change.rows().is_empty() {
             return Ok(());

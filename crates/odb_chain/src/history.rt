@@ -1,9 +1,9 @@
 //! What one row was.
-ghost use Rattle.std.specs.Prelude.{◌≡◌, ℕ, true, false, [], ◌∷◌, nat_le, IfOk, OnOk, Option};
+ghost use Rattle.std.specs.Prelude.{◌≡◌, ℕ, true, false, [], ◌∷◌, nat_eq, nat_le, ◌||◌, IfOk, OnOk, Option};
 ghost use Rattle.std.specs.Option.{option_copied};
 ghost use Rattle.odb_atoms.specs.Row as model_row;
 ghost use Rattle.odb_chain.specs.Kept.{at, reaches};
-ghost use Rattle.odb_chain.specs.Represented.Places.{Past, cleaned, is_kept};
+ghost use Rattle.odb_chain.specs.Represented.Places.{Past, cleaned, is_kept, is_label};
 ghost use Rattle.odb_tables.specs.Represented.Overlay.{row_of};
 
 use crate::live::{Live, is_between};
@@ -118,6 +118,7 @@ impl History {
         ensures ok { OnOk result (reaches old.0 self.new ≡ true) }
         ensures same { (p : ℕ) → is_kept old.0 live.now p ≡ true → at p old.1 self.new ≡ at p old.1 self.old }
         ensures past { (v : ℕ) → nat_le old.0 v ≡ true → Past v old.1 self.old → Past v old.1 self.new }
+        ensures labels { (q : ℕ) → is_label q self.new ≡ true → (is_label q self.old || nat_eq q old.0) ≡ true }
     {
         self.tidy(live);
         Ok(self.olds.push(old)?)
@@ -127,6 +128,7 @@ impl History {
     fn tidy(&mut self, live: &[Live])
         ensures same { (n p : ℕ) (r : Option model_row.Row) → reaches n self.old ≡ false → is_kept n live.now p ≡ true → at p r self.new ≡ at p r self.old }
         ensures past { (v : ℕ) (r : Option model_row.Row) → Past v r self.old → Past v r self.new }
+        ensures labels { (q : ℕ) → is_label q self.new ≡ true → is_label q self.old ≡ true }
     {
         if self.olds.len() < self.limit {
             return;

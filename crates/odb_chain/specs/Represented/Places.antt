@@ -1,5 +1,5 @@
 -- What is asked of the places of a table's marks, and what may change in what is kept of a row.
-use Rattle.std.specs.Prelude.{◌≡◌, ℕ, Bool, true, not, ◌||◌, ◌&&◌, nat_le, nat_lt, nat_eq, List, [], ◌∷◌, Option, Some, None}
+use Rattle.std.specs.Prelude.{◌≡◌, ℕ, Bool, true, false, not, ◌||◌, ◌&&◌, nat_le, nat_lt, nat_eq, List, [], ◌∷◌, Option, Some, None}
 use Rattle.std.specs.List.{dedup, list_any}
 use Rattle.odb_atoms.specs.Row.{Row}
 use Rattle.odb_chain.specs.Kept.{History, at_place}
@@ -28,6 +28,15 @@ abbrev pub IsPast : ℕ → Option Row → Option History → Type 0
 IsPast v r None = Unit {0}
 IsPast v r (Some h) = Past v r h
 
--- where the row is r now: it is what it was at each place, and what is kept is of the past still
+-- whether an old row is kept up to just this place
+abbrev pub is_label : ℕ → History → Bool
+is_label q h = list_any (λ e. nat_eq q e.0) h
+
+abbrev pub has_label : ℕ → Option History → Bool
+has_label q None = false
+has_label q (Some h) = is_label q h
+
+-- where the row is r now: it is what it was at each place, what is kept is of the past still, and the newest place alone is one that old rows may be kept up to besides
 abbrev pub AsBefore : ℕ → List (ℕ × ℕ) → Option Row → Option History → Option History → Type 0
 AsBefore newest ls r old new = ((p : ℕ) → is_kept newest ls p ≡ true → at_place p r new ≡ at_place p r old) × ((v : ℕ) → nat_le newest v ≡ true → IsPast v r old → IsPast v r new)
+    × ((q : ℕ) → has_label q new ≡ true → (has_label q old || nat_eq q newest) ≡ true)

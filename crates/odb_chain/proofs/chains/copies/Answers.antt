@@ -1,5 +1,5 @@
-use Rattle.std.proofs.Common.{rules, ◌≡◌, ℕ, ◌+◌, ◌<◌, ◌≤◌, List, [], ◌∷◌, ◌++◌, get_or, length, take, subst, sym, ap, ◌∙◌}
-use Rattle.std.proofs.lemmas.List.{length_push, take_all, take_more}
+use Rattle.std.proofs.Common.{rules, ◌≡◌, ◌+◌, ◌<◌, List, [], ◌∷◌, ◌++◌, get_or, length, take, subst, sym, ap, ◌∙◌}
+use Rattle.std.proofs.lemmas.List.{length_push, take_more}
 use Rattle.odb_chain.specs.Represented.Chain.{Chain, IsCopyOf, chain_at}
 use Rattle.odb_chain.proofs.Absorbed.{copies_more}
 use Rattle.odb_chain.proofs.chains.copies.Goals as goal

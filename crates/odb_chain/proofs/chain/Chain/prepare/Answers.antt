@@ -1,6 +1,11 @@
 use Rattle.std.proofs.Common.{rules, ◌≡◌, ℕ, ◌-◌, ◌^◌, ◌<◌, List, [], ◌++◌, nat_le, true, subst, sym, ap, ◌∙◌}
 use Rattle.odb_atoms.specs.FinMap as finite
 use Rattle.odb_tables.specs.Database.{Table}
+use Rattle.odb_chain.proofs.Histories.{or_left}
+use Rattle.odb_chain.specs.Represented.Places.{has_label}
+use Rattle.odb_chain.proofs.Contents.{label_of}
+use Rattle.std.proofs.Common.{nat_eq, ◌||◌}
+use Rattle.odb_chain.specs.Represented.Chain.{here}
 use Rattle.odb_chain.specs.Kept.{Rows, content_at}
 use Rattle.odb_chain.specs.Represented.Chain.{Chain, here, is_roomy, places}
 use Rattle.odb_chain.specs.Represented.Places.{IsPast, is_kept, is_place}
@@ -56,3 +61,22 @@ returns-clause-stands c =
           subst (λ (r : Rows). IsPast c.self.inside.version (finite.get t u) (finite.get r u)) (sym rows) (subst (λ v. IsPast v (finite.get t u) (finite.get old.rows u)) (sym (ap (λ (y : Chain). y.version) c.self.view_is ∙ version)) (h u)) in
           (c.record_all.ensures.rows u).1 c.self.inside.version (ap (λ (y : Chain). nat_le n y.version) c.self.view_is ∙ past) before,
     )
+
+pub returns-then-is_empty-clause-labels : goal.returns-then-is_empty-clause-labels
+returns-then-is_empty-clause-labels c = λ q u e. or_left (has_label q (finite.get c.args.self.now.rows u)) (is_place q (places c.args.self.now)) e
+
+pub returns-in_err-make_room-clause-labels : goal.returns-in_err-make_room-clause-labels
+returns-in_err-make_room-clause-labels c = λ q u e. or_left (has_label q (finite.get c.args.self.now.rows u)) (is_place q (places c.args.self.now)) (ap (λ (r : Rows). has_label q (finite.get r u)) (sym c.make_room.ensures.rows) ∙ e)
+
+pub returns-in_default-clause-labels : goal.returns-in_default-clause-labels
+returns-in_default-clause-labels c = λ q u e. or_left (has_label q (finite.get c.args.self.now.rows u)) (is_place q (places c.args.self.now)) (ap (λ (r : Rows). has_label q (finite.get r u)) (sym c.make_room.ensures.rows) ∙ e)
+
+pub returns-clause-labels : goal.returns-clause-labels
+returns-clause-labels c = λ q u e.
+    let old : Chain = c.args.self.now in
+    let x : Chain = c.make_room.new.self in
+    let n = c.in-Some.newest in
+    let rows : c.self.inside.kept ≡ old.rows = ap (λ (y : Chain). y.rows) c.self.view_is ∙ c.make_room.ensures.rows in
+    let at_x : is_place n (places x) ≡ true = c.in-Some.ensures.place in
+    let there : is_place n (places old) ≡ true = (λ i. is_place n (sym c.make_room.ensures.live i ++ here (sym c.make_room.ensures.version i) (sym c.make_room.ensures.fresh i))) ∙ at_x in
+    label_of q n (has_label q (finite.get old.rows u)) (places old) there (ap (λ (r : Rows). has_label q (finite.get r u) || nat_eq q n) (sym rows) ∙ (c.record_all.ensures.rows u).2 q e)

@@ -1,6 +1,6 @@
 use Rattle.std.proofs.Common.{rules, ◌≡◌, ℕ, List, length, subst, sym, ap, ◌∙◌}
 use Rattle.odb_tables.specs.Database.{Db, table_at}
-use Rattle.odb_chain.specs.Represented.Chain.{AreChainsOf, Chain, IsCopyOf, StandsAsBefore, chain_at, shown}
+use Rattle.odb_chain.specs.Represented.Chain.{AreChainsOf, Chain, IsCopyOf, chain_at, shown}
 use Rattle.odb_chain.proofs.Absorbed.{copy_stands, ready_chains, ready_shown}
 use Rattle.odb_chain.proofs.chains.Chains.try_copy.Goals as goal
 

@@ -1,4 +1,6 @@
 use Rattle.std.proofs.Common.{subst, sym, ap, ◌∙◌}
+use Rattle.odb_chain.proofs.Histories.{label_cleaned}
+use Rattle.odb_chain.specs.Represented.Places.{is_label}
 use Rattle.odb_chain.specs.Kept.{at}
 use Rattle.odb_chain.specs.Represented.Places.{Past}
 use Rattle.odb_chain.proofs.Histories.{clean_same, past_cleaned}
@@ -9,3 +11,6 @@ returns-clause-same c = λ n p r new kept. ap (at p r) c.clean.ensures ∙ clean
 
 pub returns-clause-past : goal.returns-clause-past
 returns-clause-past c = λ v r h. subst (Past v r) (sym c.clean.ensures) (past_cleaned c.args.live.now v r c.args.self.now h)
+
+pub returns-clause-labels : goal.returns-clause-labels
+returns-clause-labels c = λ q e. label_cleaned c.args.live.now q c.args.self.now (ap (is_label q) (sym c.clean.ensures) ∙ e)

@@ -5,6 +5,8 @@ use Rattle.odb_atoms.specs.Uuid.{Uuid, uuid_cmp}
 use Rattle.std.specs.Ordering.{eq_by_cmp}
 use Rattle.indexmap.specs.IndexMap.{Updates, get_by}
 use Rattle.odb_tables.specs.Represented.Keyed.{keyed}
+use Rattle.odb_chain.specs.Represented.Places.{has_label}
+use Rattle.std.proofs.Common.{nat_eq, ◌||◌}
 use Rattle.odb_chain.specs.Kept.{History, Rows, at_place, is_reached}
 use Rattle.odb_chain.specs.Represented.Places.{AsBefore, IsPast}
 use Rattle.odb_tables.proofs.KeyedMaps.{inserted}
@@ -77,7 +79,7 @@ returns-clause-row c =
     let had : finite.get m k ≡ Some c.in-Some.history.now = got rows m k c.self.view_is ∙ ap (option_map (λ (h : History). h)) there in
     let changed : Updates (eq_by_cmp uuid_cmp) rows (c.get_mut.follows.lender w) k (Some w) = (c.get_mut.follows.holds w).3 (subst IsSome (sym there) refl) in
     let new : finite.get (keyed (λ (h : History). h) (c.get_mut.follows.lender w)) k ≡ Some w = ap (λ (x : Rows). finite.get x k) (inserted (λ (h : History). h) rows (c.get_mut.follows.lender w) k w changed) ∙ inserted_here (keyed (λ (h : History). h) rows) k w in
-    (λ p kept. ap (at_place p r) new ∙ c.push.ensures.same p kept ∙ sym (ap (at_place p r) had), λ v le h. subst (IsPast v r) (sym new) (c.push.ensures.past v le (subst (IsPast v r) had h)))
+    (λ p kept. ap (at_place p r) new ∙ c.push.ensures.same p kept ∙ sym (ap (at_place p r) had), λ v le h. subst (IsPast v r) (sym new) (c.push.ensures.past v le (subst (IsPast v r) had h)), λ q e. ap (λ o. has_label q o || nat_eq q c.args.old.0) had ∙ c.push.ensures.labels q (sym (ap (has_label q) new) ∙ e))
 
 pub returns-clause-others : goal.returns-clause-others
 returns-clause-others c = λ u apart.

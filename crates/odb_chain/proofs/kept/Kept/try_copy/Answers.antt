@@ -1,4 +1,4 @@
-use Rattle.std.proofs.Common.{rules, ◌≡◌, List, [], map, sym, ap, subst, ◌∙◌}
+use Rattle.std.proofs.Common.{rules, ◌≡◌, List, [], map, sym, ap, ◌∙◌}
 use Rattle.odb_atoms.specs.FinMap as finite
 use Rattle.odb_atoms.specs.Uuid.{Uuid}
 use Rattle.odb_tables.specs.Represented.Keyed.{shown}
