@@ -1,0 +1,235 @@
+-- What is kept stays so at each event.
+use Rattle.std.proofs.Common.{◌≡◌, ℕ, ◌+◌, ◌==◌, ◌≤◌, length, Bool, true, false, cond, List, [], ◌∷◌, ◌++◌, map, Option, Some, None, is_some, refl, sym, ap, subst, ◌∙◌, append-nil, append_assoc, true≢false, arith, inl, inr, Ok}
+use Rattle.std.specs.Prelude.{◌-◌, ◌^◌, min, nat_le, option_to_list}
+use Rattle.std.proofs.lemmas.List.{length-append, length-map}
+use Rattle.std.proofs.lemmas.Bool.Decides.{nat_tests}
+use Rattle.std.specs.Ordering.{eq_by_cmp, nat_cmp}
+use borrow.Author.Tests.{eq-eqb}
+use Rattle.serde_json.specs.Data.{Data}
+use Rattle.odb_atoms.specs.FinMap.{empty, get, insert, remove}
+use Rattle.odb_atoms.specs.Uuid.{Uuid}
+use Rattle.odb_hub.specs.Kept.{AreOpen, AreTold, AreUnused, EndsWith, IsKept, counted, Kept, Takes, TakesRound, is_in, text_of}
+use Rattle.odb_hub.specs.Rings.{HandsOver, HasRoom, IsFlushed, IsFlushedAt, IsServed, Ring, Rings, Text, free_of, fresh_ring, room_of, texts, texts_to}
+use Rattle.odb_hub.proofs.Free.{listed, rising}
+use Rattle.odb_hub.proofs.HandingOver.{is_free_at, served}
+use Rattle.odb_hub.proofs.Stepping.{IsTold, history_begins, history_on, ends_nothing, open_closed, open_opened, open_round, open_submitted, open_ticked, ok_is, served_with, step_of, told_on}
+use Rattle.odb_hub.proofs.Takings.{most_given, texts_printed}
+use Rattle.odb_service.proofs.SessionMaps.{get-empty, get-insert, get-remove, same_key, same_map}
+use Rattle.odb_service.specs.History.{IsHistory}
+use Rattle.odb_service.specs.Run.{Event, Sent, closed, given_after, once, opened, opens, round, sent_to, step, submitted, take_each, ticked}
+use Rattle.odb_service.specs.Server.{Server, opened_after, printed, serve, served_by}
+use Rattle.odb_service.specs.Session.{Out}
+use Rattle.odb_service.specs.World.{World}
+
+abbrev Step : Type 0
+Step = World × List Sent
+
+-- the rings of an event that sends these
+abbrev Tellings : Event → Rings → Rings → List (ℕ × Text) → Type 0
+Tellings e old new outs = (s : ℕ) (r : Ring) → get new s ≡ Some r → IsTold (opens e s) (texts_to s outs) (get old s) r
+
+abbrev Openings : Event → Kept → Rings → Type 0
+Openings e old new = (r : Step) → step (served_by old.server.schema) e old.server.world ≡ Ok r → AreOpen old.rings old.server.world → AreOpen new r.0
+
+kept_on : (e : Event) (old new : Kept) (outs : List (ℕ × Text)) → IsKept old → Takes e old new outs → Tellings e old.rings new.rings outs → Openings e old new.rings → IsKept new
+kept_on e old new outs kept takes told opens_so =
+    let s = step_of e old.server new.server outs takes.0 in
+    let r : Step = s.0 in
+    let went : step (served_by old.server.schema) e old.server.world ≡ Ok r = s.1 in
+    let is : served_with e old.server r ≡ (new.server, outs) = s.2 in
+    let given : ℕ → List Out = given_after e r.1 kept.0.0 in
+    let mid : Kept = record { server = (served_with e old.server r).0; base = old.base; events = old.events ++ e ∷ []; rings = new.rings } in
+    let history : IsHistory (served_by old.server.schema) old.base (old.events ++ e ∷ []) r.0 given = history_on (served_by old.server.schema) old.base old.server.world old.events kept.0.0 e r kept.0.1 went in
+    let tells : AreTold new.rings given = told_on old.rings new.rings kept.0.0 e r.1 kept.0.2 (subst (Tellings e old.rings new.rings) (sym (ap (λ (p : Server × List (ℕ × List ℕ)). p.1) is)) told) in
+    let done : IsKept mid = ((given, history, tells), opens_so r went kept.1) in
+    subst IsKept (λ i. let k : Kept = record { server = (is i).0; base = sym takes.2 i; events = sym takes.1 i; rings = new.rings } in k) done
+
+-- ---- the same rings
+
+same_told : (e : Event) (rings : Rings) → ((s : ℕ) → opens e s ≡ false) → Tellings e rings rings []
+same_told e rings not_open s r there = subst (λ b. IsTold b [] (get rings s) r) (sym (not_open s)) (r, there, sym (append-nil (texts r)))
+
+module _ (old new : Kept) (kept : IsKept old) where
+  pub submitted_kept : (s : ℕ) (d : Data) (fresh : List Uuid) (now : ℕ) → Takes (submitted s d fresh now) old new [] → new.rings ≡ old.rings → IsKept new
+  submitted_kept s d fresh now takes same =
+      let e : Event = submitted s d fresh now in
+      kept_on e old new [] kept takes (subst (λ (m : Rings). Tellings e old.rings m []) (sym same) (same_told e old.rings (λ t. refl)))
+      (subst (λ (m : Rings). Openings e old m) (sym same) (λ r went opens_so. open_submitted (served_by old.server.schema) old.rings old.server.world s d fresh now r went opens_so))
+
+  pub ticked_kept : (now : ℕ) → Takes (ticked now) old new [] → new.rings ≡ old.rings → IsKept new
+  ticked_kept now takes same =
+      let e : Event = ticked now in
+      kept_on e old new [] kept takes (subst (λ (m : Rings). Tellings e old.rings m []) (sym same) (same_told e old.rings (λ t. refl)))
+      (subst (λ (m : Rings). Openings e old m) (sym same) (λ r went opens_so. open_ticked (served_by old.server.schema) old.rings old.server.world now r went opens_so))
+
+  pub closed_kept : (s : ℕ) → Takes (closed s) old new [] → new.rings ≡ remove old.rings s → IsKept new
+  closed_kept s takes same =
+      let e : Event = closed s in
+      kept_on e old new [] kept takes (subst (λ (m : Rings). Tellings e old.rings m []) (sym same) told)
+      (subst (λ (m : Rings). Openings e old m) (sym same) (λ r went opens_so. open_closed (served_by old.server.schema) old.rings old.server.world s r went opens_so))
+    where
+      there : (t : ℕ) (r : Ring) (b : Bool) → cond b None (get old.rings t) ≡ Some r → get old.rings t ≡ Some r
+      there t r true is = absurd (true≢false (sym (ap is_some is)))
+      there t r false is = is
+
+      told : Tellings (closed s) old.rings (remove old.rings s) []
+      told t r is = (r, there t r (eq_by_cmp nat_cmp t s) (sym (get-remove old.rings s t) ∙ is), sym (append-nil (texts r)))
+
+  pub opened_kept : (s : ℕ) → Takes (opened s) old new [] → new.rings ≡ insert old.rings s fresh_ring → IsKept new
+  opened_kept s takes same =
+      let e : Event = opened s in
+      kept_on e old new [] kept takes (subst (λ (m : Rings). Tellings e old.rings m []) (sym same) told)
+      (subst (λ (m : Rings). Openings e old m) (sym same) (λ r went opens_so. open_opened (served_by old.server.schema) old.rings old.server.world s r went opens_so))
+    where
+      by : (t : ℕ) (r : Ring) (b c : Bool) → (s == t) ≡ b → eq_by_cmp nat_cmp t s ≡ c → cond c (Some fresh_ring) (get old.rings t) ≡ Some r → IsTold b [] (get old.rings t) r
+      by t r true c e f is = tt
+      by t r false true e f is = absurd (true≢false (sym (eq-eqb s t (sym (same_key t s f))) ∙ e))
+      by t r false false e f is = (r, is, sym (append-nil (texts r)))
+
+      told : Tellings (opened s) old.rings (insert old.rings s fresh_ring) []
+      told t r is = by t r (s == t) (eq_by_cmp nat_cmp t s) refl refl (sym (get-insert old.rings s fresh_ring t) ∙ is)
+
+  round_kept : (ss : List ℕ) (outs : List (ℕ × Text)) → Takes (round ss) old new outs → ((s : ℕ) → IsServed (is_in s ss) (texts_to s outs) (get old.rings s) (get new.rings s)) → IsKept new
+  round_kept ss outs takes serves =
+      kept_on (round ss) old new outs kept takes told (λ r went opens_so s. same s (is_in s ss) (get old.rings s) (get new.rings s) (serves s) ∙ open_round (served_by old.server.schema) old.rings old.server.world ss r went opens_so s)
+    where
+      same : (s : ℕ) (b : Bool) (o p : Option Ring) → IsServed b (texts_to s outs) o p → is_some p ≡ is_some o
+      same s b None p k = ap is_some k.2
+      same s false (Some a) p k = ap is_some k.2
+      same s true (Some a) p k = ap is_some k.1
+
+      same_ring : (a b : Ring) → (let o : Option Ring = Some a in o) ≡ Some b → a ≡ b
+      same_ring a b e = cc
+
+      by : (s : ℕ) (r : Ring) (b : Bool) (o p : Option Ring) → IsServed b (texts_to s outs) o p → p ≡ Some r → IsTold false (texts_to s outs) o r
+      by s r b None p k there = absurd (true≢false (sym (sym (ap is_some k.2) ∙ ap is_some there)))
+      by s r false (Some a) p k there =
+          (a, refl, ap texts (sym (same_ring a r (sym k.2 ∙ there))) ∙ sym (append-nil (texts a)) ∙ ap (λ ts. texts a ++ ts) (sym k.1))
+      by s r true (Some a) p k there = (
+        a,
+        refl,
+        ap texts (sym (same_ring k.0 r (sym k.1 ∙ there))) ∙ ap (λ ts. ts ++ option_to_list k.0.held) k.3 ∙ append_assoc (texts a) k.2 (option_to_list k.0.held) ∙ ap (λ ts. texts a ++ ts) k.4,
+      )
+
+      told : Tellings (round ss) old.rings new.rings outs
+      told s r is = by s r (is_in s ss) (get old.rings s) (get new.rings s) (serves s) is
+
+  pub takes_round_kept : (count : ℕ) → TakesRound count old new → IsKept new
+  takes_round_kept count t = round_kept t.0 t.1 t.2 t.5
+
+-- ---- a round
+
+pub rooms : (m : Rings) (s t : Server) (outs : List (ℕ × Text)) → serve (round (free_of m)) s ≡ Ok (t, outs) → (q : ℕ) → HasRoom (get m q) (texts_to q outs)
+rooms m s t outs is q =
+    let o = step_of (round (free_of m)) s t outs is in
+    let r : Step = o.0 in
+    let went : step (served_by s.schema) (round (free_of m)) s.world ≡ Ok r = o.1 in
+    let same : map printed r.1 ≡ outs = ap (λ (p : Server × List (ℕ × List ℕ)). p.1) o.2 in
+    let took : take_each (served_by s.schema) (once (free_of m)) s.world ≡ r = ok_is _ r went in
+    let most : length (sent_to q r.1) ≤ cond (is_in q (free_of m)) 1 0 = subst (λ (p : Step). length (sent_to q p.1) ≤ cond (is_in q (free_of m)) 1 0) took (most_given (served_by s.schema) q (free_of m) s.world) in
+    let long : length (texts_to q outs) ≡ length (sent_to q r.1) = ap (λ os. length (texts_to q os)) (sym same) ∙ ap length (texts_printed q r.1) ∙ length-map (sent_to q r.1) text_of in
+    subst (λ n. n ≤ room_of (get m q)) (sym long) (subst (λ n. length (sent_to q r.1) ≤ n) (ap (λ b. cond b 1 0) (listed m q) ∙ room (get m q)) most)
+  where
+    room : (o : Option Ring) → cond (is_free_at o) 1 0 ≡ room_of o
+    room None = refl
+    room (Some r) = refl
+
+-- the rings were flushed, and the round of those for which nothing is held back was handed over
+pub round_taken : (old new : Kept) (mid : Rings) (outs : List (ℕ × Text)) → ((s : ℕ) → IsFlushedAt (get old.rings s) (get mid s)) → Takes (round (free_of mid)) old new outs
+    → ((s : ℕ) → HandsOver (get mid s) (texts_to s outs) (get new.rings s)) → TakesRound (length outs) old new
+round_taken old new mid outs flushed takes over = (
+  free_of mid,
+  outs,
+  takes,
+  refl,
+  rising mid,
+  λ s. served (is_in s (free_of mid)) (texts_to s outs) (get old.rings s) (get mid s) (get new.rings s) (flushed s) (listed mid s) (rooms mid old.server new.server outs takes.0 s) (over s),
+)
+
+-- ---- the beginning, and a new base
+
+pub begins : (s : Server) → s.world.sessions ≡ empty → IsKept (record { server = s; base = s.world; events = []; rings = empty })
+begins s none = ((λ t. [], history_begins (served_by s.schema) s.world, λ t r is. ends_nothing (texts r)), λ t. ap is_some (get-empty t) ∙ sym (ap (λ m. is_some (get m t)) none ∙ ap is_some (get-empty t)))
+
+pub settles : (k : Kept) → IsKept k → IsKept (record k { base = k.server.world; events = [] })
+settles k kept = ((λ t. [], history_begins (served_by k.server.schema) k.server.world, λ t r is. ends_nothing (texts r)), kept.1)
+
+-- ---- numbers that are still to be given
+
+pub unused_opened : (m : Rings) (n : ℕ) → AreUnused m n → AreUnused (insert m n fresh_ring) (n + 1)
+unused_opened m n unused q above = get-insert m n fresh_ring q ∙ by (eq_by_cmp nat_cmp q n) refl
+  where
+    by : (b : Bool) → eq_by_cmp nat_cmp q n ≡ b → cond b (Some fresh_ring) (get m q) ≡ None
+    by true e = absurd (let is : q ≡ n = same_key q n e in omega (arith, above, is))
+    by false e = unused q (omega (arith, above))
+
+pub unused_closed : (m : Rings) (s n : ℕ) → AreUnused m n → AreUnused (remove m s) n
+unused_closed m s n unused q above = get-remove m s q ∙ by (eq_by_cmp nat_cmp q s)
+  where
+    by : (b : Bool) → cond b None (get m q) ≡ None
+    by true = refl
+    by false = unused q above
+
+none_there : (o : Option Ring) → is_some o ≡ false → o ≡ None
+none_there None e = refl
+none_there (Some x) e = absurd (true≢false e)
+
+pub unused_round : (old new : Kept) (n : ℕ) (count : ℕ) → TakesRound count old new → AreUnused old.rings n → AreUnused new.rings n
+unused_round old new n count t unused q above = by (is_in q t.0) (get old.rings q) (unused q above) (t.5 q)
+  where
+    by : (b : Bool) (o : Option Ring) → o ≡ None → IsServed b (texts_to q t.1) o (get new.rings q) → get new.rings q ≡ None
+    by b None e k = k.2
+    by b (Some a) e k = absurd (true≢false (ap is_some e))
+
+pub unused_flushed : (m k : Rings) (n : ℕ) → ((s : ℕ) → IsFlushedAt (get m s) (get k s)) → AreUnused m n → AreUnused k n
+unused_flushed m k n flushed unused q above = subst (λ (o : Option Ring). IsFlushedAt o (get k q)) (unused q above) (flushed q)
+
+-- one that was put in under a number that isn't used, and taken out again
+pub taken_out : (m : Rings) (n : ℕ) → get m n ≡ None → remove (insert m n fresh_ring) n ≡ m
+taken_out m n none = same_map _ _ (λ q. get-remove (insert m n fresh_ring) n q ∙ ap (cond (eq_by_cmp nat_cmp q n) None) (get-insert m n fresh_ring q) ∙ by q (eq_by_cmp nat_cmp q n) refl)
+  where
+    by : (q : ℕ) (b : Bool) → eq_by_cmp nat_cmp q n ≡ b → cond b None (cond b (Some fresh_ring) (get m q)) ≡ get m q
+    by q true e = sym (ap (get m) (same_key q n e) ∙ none)
+    by q false e = refl
+
+-- a flush alone
+pub flushed_kept : (k : Kept) (m : Rings) → IsKept k → ((s : ℕ) → IsFlushedAt (get k.rings s) (get m s)) → IsKept (record k { rings = m })
+flushed_kept k m kept flushed = ((kept.0.0, kept.0.1, told), λ s. same (get k.rings s) (get m s) (flushed s) ∙ kept.1 s)
+  where
+    same : (o p : Option Ring) → IsFlushedAt o p → is_some p ≡ is_some o
+    same None p e = ap is_some e
+    same (Some a) p e = ap is_some e.1
+
+    same_ring : (a b : Ring) → (let o : Option Ring = Some a in o) ≡ Some b → a ≡ b
+    same_ring a b e = cc
+
+    texts_same : (a b : Ring) → IsFlushed a b → texts b ≡ texts a
+    texts_same a b (inl e) = ap texts e
+    texts_same a b (inr e) = ap texts e ∙ append-nil (texts a)
+
+    by : (s : ℕ) (r : Ring) (o p : Option Ring) → get k.rings s ≡ o → IsFlushedAt o p → p ≡ Some r → EndsWith (texts r) (map text_of (kept.0.0 s))
+    by s r None p at e there = absurd (true≢false (sym (sym (ap is_some e) ∙ ap is_some there)))
+    by s r (Some a) p at e there =
+        let is : texts r ≡ texts a = ap texts (sym (same_ring e.0 r (sym e.1 ∙ there))) ∙ texts_same a e.0 e.2 in
+        subst (λ ts. EndsWith ts (map text_of (kept.0.0 s))) (sym is) (kept.0.2 s a at)
+
+    told : AreTold m kept.0.0
+    told s r there = by s r (get k.rings s) (get m s) refl (flushed s) there
+
+-- ---- numbers
+
+pub same_opened : (e : Event) (s t : Server) (outs : List (ℕ × Text)) → serve e s ≡ Ok (t, outs) → t.opened ≡ opened_after e s.opened
+same_opened e s t outs is = sym (ap (λ (p : Server × List (ℕ × List ℕ)). p.0.opened) (step_of e s t outs is).2)
+
+min_more : (m n : ℕ) → min (min n m + 1) m ≡ min (n + 1) m
+min_more m n = by (nat_le n m) refl
+  where
+    by : (b : Bool) → nat_le n m ≡ b → min (min n m + 1) m ≡ min (n + 1) m
+    by true e = grind (arith, nat_tests)
+    by false e = grind (arith, nat_tests)
+
+pub counted_more : (n : ℕ) (es all : List Event) (e : Event) → n ≡ counted es → all ≡ es ++ e ∷ [] → min (n + 1) (2 ^ 64 - 1) ≡ counted all
+counted_more n es all e count is =
+    ap (λ k. min (k + 1) (2 ^ 64 - 1)) count ∙ min_more (2 ^ 64 - 1) (length es)
+    ∙ ap (λ k. min k (2 ^ 64 - 1)) (sym (length-append es (e ∷ [])))
+    ∙ ap (λ es. min (length es) (2 ^ 64 - 1)) (sym is)

@@ -1,0 +1,5 @@
+use Rattle.odb_hub.specs.Represented.Mailbox.{IsWritten, taken}
+use Rattle.odb_hub.proofs.mailbox.write_outs.Given as goal
+
+abbrev pub invariant-loop-count : goal.invariant-loop-count
+invariant-loop-count g l = IsWritten l.count (taken l.initial.mailbox) (taken l.mailbox) (g.W.Write.contents l.initial.writer) (g.W.Write.contents l.writer)

@@ -1,0 +1,4 @@
+pub mod EventCode
+pub mod Kept
+pub mod Represented
+pub mod Rings

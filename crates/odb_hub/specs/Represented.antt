@@ -1,0 +1,3 @@
+pub mod Happened
+pub mod Mailbox
+pub mod Rings

@@ -1,0 +1,81 @@
+-- What the rings of sessions were sent, and what is held back.
+use Rattle.std.specs.Prelude.{◌≡◌, ◌⊎◌, ℕ, ◌==◌, ◌≤◌, length, Bool, true, false, List, [], ◌∷◌, ◌++◌, Option, Some, None, is_some, not, filter, map, option_to_list, refl, if◌then◌else◌}
+use Rattle.std.specs.Coded.{Coded, code_by, coded×, coded_ℕ, coded_list, coded_option}
+use Rattle.std.specs.Ordering.{nat_cmp}
+use Rattle.odb_atoms.specs.FinMap as map
+use Rattle.odb_atoms.specs.FinMap.{FinMap, get, entries_of}
+
+abbrev pub Text : Type 0
+Text = List ℕ
+
+-- the messages of a session that were sent into its ring, and the one that is held back, where the ring was full
+pub record Ring : Type 0 where
+  pub sent : List Text
+  pub held : Option Text
+
+abbrev pub ring_code : Coded Ring
+ring_code = code_by (List Text × Option Text) (coded× (coded_list (coded_list coded_ℕ)) (coded_option (coded_list coded_ℕ))) (λ r. (r.sent, r.held)) (λ p. record { sent = p.0; held = p.1 }) (λ _. refl)
+
+-- by sessions
+abbrev pub Rings : Type 0
+Rings = FinMap nat_cmp Ring
+
+abbrev pub rings_code : Coded Rings
+rings_code = map.code coded_ℕ ring_code
+
+abbrev pub fresh_ring : Ring
+fresh_ring = record { sent = []; held = None }
+
+-- all that the session is sent, in order
+abbrev pub texts : Ring → List Text
+texts r = r.sent ++ option_to_list r.held
+
+-- what is held back was sent, or is held back still
+abbrev pub IsFlushed : Ring → Ring → Type 0
+IsFlushed old new = (new ≡ old) ⊎ (new ≡ record { sent = texts old; held = None })
+
+-- the text comes behind what was sent: it was sent too, or is held back
+abbrev pub IsPut : Text → Ring → Ring → Type 0
+IsPut text old new = (new ≡ record { sent = old.sent ++ text ∷ []; held = None }) ⊎ (new ≡ record { sent = old.sent; held = Some text })
+
+abbrev pub IsFlushedAt : Option Ring → Option Ring → Type 0
+IsFlushedAt None o = o ≡ None
+IsFlushedAt (Some a) o = (b : Ring) × (o ≡ Some b) × IsFlushed a b
+
+-- nothing is held back for this session, which has a ring
+abbrev pub is_free : Ring → Bool
+is_free r = not (is_some r.held)
+
+-- the sessions for which nothing is held back, ascending
+abbrev pub free_of : Rings → List ℕ
+free_of m = map (λ e. e.0) (filter (λ e. is_free e.1) (entries_of m))
+
+-- what is sent to a session, in order
+abbrev pub texts_to : ℕ → List (ℕ × Text) → List Text
+texts_to s [] = []
+texts_to s (o ∷ os) = if o.0 == s then o.1 ∷ texts_to s os else texts_to s os
+
+-- what a ring becomes by these messages, of which one is held back at most
+abbrev pub HandsOver : Option Ring → List Text → Option Ring → Type 0
+HandsOver None outs o = (outs ≡ []) × (o ≡ None)
+HandsOver (Some a) outs o = (b : Ring) × (o ≡ Some b) × ((more : List Text) × (b.sent ≡ a.sent ++ more) × (more ++ option_to_list b.held ≡ option_to_list a.held ++ outs)) × (outs ≡ [] → b ≡ a)
+
+-- what a round makes of a session's ring, where it has one. What is held back goes first; where it is still held back the session isn't listed, and nothing changes. A session that is listed is sent what the round gives it, or it is held back
+abbrev pub IsServed : Bool → List Text → Option Ring → Option Ring → Type 0
+IsServed listed outs None o = (listed ≡ false) × (outs ≡ []) × (o ≡ None)
+IsServed false outs (Some a) o = (is_some a.held ≡ true) × (outs ≡ []) × (o ≡ Some a)
+IsServed true outs (Some a) o = (b : Ring) × (o ≡ Some b) × (more : List Text) × (b.sent ≡ texts a ++ more) × (more ++ option_to_list b.held ≡ outs)
+
+-- how many messages a session may be given while at most one is held back
+abbrev pub room_of : Option Ring → ℕ
+room_of None = 0
+room_of (Some r) = if is_free r then 1 else 0
+
+abbrev pub HasRoom : Option Ring → List Text → Type 0
+HasRoom o outs = length outs ≤ room_of o
+
+-- what putting a message makes of its session's ring, and of another's
+abbrev pub IsPutAt : Bool → Text → Option Ring → Option Ring → Type 0
+IsPutAt true text None o = o ≡ None
+IsPutAt true text (Some a) o = (b : Ring) × (o ≡ Some b) × IsPut text a b
+IsPutAt false text a o = o ≡ a

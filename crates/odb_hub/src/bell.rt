@@ -1,0 +1,77 @@
+//! How the threads of a session wake each other.
+
+use std::sync::Wait;
+use std::sync::atomic::{AtomicU64, Ordering};
+use std::thread::Parker;
+
+/// What the threads of one session share: the thread that writes sleeps until there is something to write, the
+/// one that reads sleeps where its request met `Busy`. No contract speaks of it: whether a thread wakes is tested.
+#[derive(Drop)]
+pub struct Bell {
+    writer: Parker,
+    reader: Parker,
+    ended: AtomicU64,
+    failed: AtomicU64,
+    holds: AtomicU64,
+}
+
+impl Bell {
+    /// Nothing was rung, and the session goes on.
+    pub fn new() -> Bell {
+        Bell {
+            writer: Parker::new(),
+            reader: Parker::new(),
+            ended: AtomicU64::new(0),
+            failed: AtomicU64::new(0),
+            holds: AtomicU64::new(0),
+        }
+    }
+
+    /// Something was given to the session: both threads look again.
+    pub fn ring(&self) {
+        self.writer.unpark();
+        self.reader.unpark();
+    }
+
+    /// The session ends: the thread that writes writes what its mailbox has, and returns.
+    pub fn end(&self) {
+        self.ended.store(1, Ordering::SeqCst);
+        self.writer.unpark();
+    }
+
+    /// Whether the session ends.
+    pub fn has_ended(&self) -> bool {
+        self.ended.load(Ordering::SeqCst) != 0
+    }
+
+    /// Writing failed: the thread that reads ends the session.
+    pub fn fail(&self) {
+        self.failed.store(1, Ordering::SeqCst);
+        self.reader.unpark();
+    }
+
+    /// Whether writing failed.
+    pub fn has_failed(&self) -> bool {
+        self.failed.load(Ordering::SeqCst) != 0
+    }
+
+    /// A message is held back, since the ring is full.
+    pub fn hold(&self) {
+        self.holds.store(1, Ordering::SeqCst);
+    }
+
+    /// Whether a message was held back since the last call.
+    pub fn held(&self) -> bool {
+        self.holds.swap(0, Ordering::SeqCst) != 0
+    }
+
+    /// Sleeps until there may be something to write, or the session ends.
+    pub fn wait_to_write<R: Wait>(&self, rt: &R) {
+        self.writer.park(rt);
+    }
+
+    /// Sleeps until the session may have been given something, or writing failed.
+    pub fn wait_to_submit<R: Wait>(&self, rt: &R) {
+        self.reader.park(rt);
+    }
+}

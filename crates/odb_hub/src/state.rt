@@ -1,0 +1,209 @@
+//! What lies behind the lock.
+ghost use Rattle.std.specs.Prelude.{◌≡◌, ◌≤◌, ◌⊎◌, ℕ, [], map, length, IfErr, IfOk, Ok, OnErr, OnOk};
+ghost use Rattle.odb_atoms.specs.Represented.Atom.{uuid_of};
+ghost use Rattle.odb_wire.specs.Message.{inserts_of};
+ghost use Rattle.odb_wire.specs.Shown.{request_data};
+ghost use Rattle.odb_core.specs.declared.refused.Refused.TheVariants as refused;
+ghost use Rattle.odb_service.specs.Run.{closed, opened, round, submitted, ticked};
+
+use crate::bell::Bell;
+use crate::journal::{Happened, Journal};
+use crate::mailbox::Mailbox;
+use crate::rings::Rings;
+use crate::submission::Submission;
+use odb_core::{Core, Refused, SessionId};
+use std::alloc::{AllocError, Global};
+use std::marker::Model;
+use std::snapshot::Snapshot;
+use std::sync::Arc;
+
+/// A server, the events that it took since a base state, and the rings of its sessions. Each call is one event of the
+/// service machine: where it succeeds the journal grows by that event, and where it is refused nothing changes. What
+/// is always so (`IsKept`): base and journal are a legal history that ends in the server's state, and each ring was
+/// sent, last, what that history gives its session.
+///
+/// In the costs below `n` sessions are open. The journal takes no memory.
+#[derive(Drop)]
+pub struct HubState {
+    core: Core,
+    journal: Journal,
+    since_base: u64,
+    opened: usize,
+    rings: Rings,
+}
+
+impl Model for HubState {
+    ghost use Rattle.std.specs.Prelude.{◌≡◌};
+    ghost use Rattle.odb_hub.specs.Kept.{AreUnused, IsKept, Kept, counted, kept_code};
+
+    ghost Value = { Kept };
+
+    ghost coded = { kept_code };
+
+    ghost view = { λ s. record { server = s.core; base = s.journal.base; events = s.journal.events; rings = s.rings } };
+
+    ghost invariant = { λ s. IsKept (record { server = s.core; base = s.journal.base; events = s.journal.events; rings = s.rings })
+        × (s.opened ≡ s.core.opened) × AreUnused s.rings s.opened × (s.since_base ≡ counted s.journal.events) };
+}
+
+impl HubState {
+    ghost use Rattle.odb_atoms.specs.FinMap.{empty, get, insert, len, remove};
+    ghost use Rattle.odb_service.specs.Server.{serve};
+    ghost use Rattle.odb_core.specs.Represented.Reason.{IsReason};
+    ghost use Rattle.odb_hub.specs.Kept.{IsKept, Takes, TakesRound, counted};
+    ghost use Rattle.odb_hub.specs.Rings.{fresh_ring, IsFlushedAt};
+
+    /// A core without sessions, with the state that it is in for base, and no event.
+    pub fn new(alloc: Global, core: Core) -> HubState
+        requires { (core.world.sessions ≡ empty) × (core.opened ≡ 0) }
+        ensures { result ≡ record { server = core; base = core.world; events = []; rings = empty } }
+    {
+        HubState {
+            journal: Journal::begin(&core),
+            since_base: 0,
+            opened: 0,
+            rings: Rings::new(alloc),
+            core,
+        }
+    }
+
+    /// How many events there were since the base, and what is so whenever the lock is free.
+    pub fn since_base(&self) -> u64
+        ensures count { result ≡ counted self.now.events }
+        ensures kept { IsKept self.now }
+    {
+        self.since_base
+    }
+
+    /// Opens a session, with a ring of its own, the mailbox where that comes out, and the bell of both. It is refused with `TooMany` where
+    /// 4,096 sessions are open, and with `Memory`, also where no number is left. O(log n).
+    pub fn open(&mut self) -> Result<(SessionId, Mailbox, Arc<Bell>), Refused>
+        ensures ok { IfOk result (λ ends. Takes (opened ends.0) self.old self.new []) }
+        ensures ring { IfOk result (λ ends. self.new.rings ≡ insert self.old.rings ends.0 fresh_ring) }
+        ensures why { IfErr result (λ why. (why ≡ refused.Memory) ⊎ IsReason why (serve (opened self.old.server.opened) self.old.server)) }
+        ensures err { OnErr result (self.new ≡ self.old) }
+    {
+        let number = self.opened;
+        if number == usize::MAX {
+            return Err(Refused::Memory);
+        }
+        let (mailbox, bell) = self.rings.add(number)?;
+        match self.core.open() {
+            Ok(session) => {
+                self.journal = self.journal.with(Happened::Opened(session));
+                self.since_base = self.since_base.saturating_add(1);
+                self.opened = number + 1;
+                Ok((session, mailbox, bell))
+            }
+            Err(why) => {
+                self.rings.remove(number);
+                Err(why)
+            }
+        }
+    }
+
+    /// Takes a message of a session in; `now` is the moment in milliseconds. It is refused as `Core::submit` is, and
+    /// hands the submission back then. It costs what that call costs.
+    pub fn submit(
+        &mut self,
+        session: SessionId,
+        submission: Submission,
+        now: u64,
+    ) -> Result<(), (Submission, Refused)>
+        ensures ok { OnOk result (Takes (submitted session (request_data submission.request) (map uuid_of submission.fresh.items) now) self.old self.new []) }
+        ensures rings { OnOk result (self.new.rings ≡ self.old.rings) }
+        ensures why { IfErr result (λ back. IsReason back.1
+            (serve (submitted session (request_data submission.request) (map uuid_of submission.fresh.items) now) self.old.server)) }
+        ensures err { OnErr result (self.new ≡ self.old) }
+        ensures back { IfErr result (λ back. (back.0.request ≡ submission.request) × (back.0.fresh ≡ submission.fresh)) }
+    {
+        let Submission { request, fresh } = submission;
+        let event = Happened::Submitted(session, Snapshot::of(&request), Snapshot::of(&fresh), now);
+        let grown = self.journal.with(event);
+        match self.core.submit(session, request, fresh.as_slice(), now) {
+            Ok(()) => {
+                self.journal = grown;
+                self.since_base = self.since_base.saturating_add(1);
+                Ok(())
+            }
+            Err((request, why)) => Err((Submission { request, fresh }, why)),
+        }
+    }
+
+    /// Submits what stands in the batch, from its last to its first. At a refusal it stops, and what was refused is the
+    /// last of the batch again; where there is no room for it there, it is `Memory`.
+    pub fn submit_all(
+        &mut self,
+        session: SessionId,
+        batch: &mut Vec<Submission>,
+        now: u64,
+    ) -> Result<(), Refused>
+        ensures base { self.new.base ≡ self.old.base }
+        ensures all { OnOk result (batch.new.items ≡ []) }
+    {
+        while let Some(submission) = batch.pop() {
+            if let Err((submission, why)) = self.submit(session, submission, now) {
+                batch.push(submission)?;
+                return Err(why);
+            }
+        }
+        Ok(())
+    }
+
+    /// The moment is `now` in milliseconds, and what waits till then is tried. An error says that memory was refused.
+    pub fn tick(&mut self, now: u64) -> Result<(), AllocError>
+        ensures ok { OnOk result (Takes (ticked now) self.old self.new []) }
+        ensures rings { OnOk result (self.new.rings ≡ self.old.rings) }
+        ensures err { OnErr result (self.new ≡ self.old) }
+    {
+        self.core.tick(now)?;
+        self.journal = self.journal.with(Happened::Ticked(now));
+        self.since_base = self.since_base.saturating_add(1);
+        Ok(())
+    }
+
+    /// Ends a session: its ring goes with what is held back. It is refused as `Core::close` is.
+    pub fn close(&mut self, session: SessionId) -> Result<(), Refused>
+        ensures ok { OnOk result (Takes (closed session) self.old self.new []) }
+        ensures rings { OnOk result (self.new.rings ≡ remove self.old.rings session) }
+        ensures why { IfErr result (λ why. IsReason why (serve (closed session) self.old.server)) }
+        ensures err { OnErr result (self.new ≡ self.old) }
+    {
+        self.core.close(session)?;
+        self.rings.remove(session);
+        self.journal = self.journal.with(Happened::Closed(session));
+        self.since_base = self.since_base.saturating_add(1);
+        Ok(())
+    }
+
+    /// Gives each open session its next message, if it has one and none is held back for it. What is held back is sent
+    /// first, where its ring has room now; then each message goes into its session's ring, or is held back where that
+    /// is full. It returns how many messages there were. An error says that memory was refused: then what was held back
+    /// may have been sent, and nothing else changed. O(n log n).
+    pub fn round(&mut self) -> Result<usize, AllocError>
+        ensures ok { IfOk result (λ count. TakesRound count self.old self.new) }
+        ensures err { OnErr result (self.new.server ≡ self.old.server) }
+        ensures journal { OnErr result ((self.new.base ≡ self.old.base) × (self.new.events ≡ self.old.events)) }
+        ensures flushed { OnErr result ((s : ℕ) → IsFlushedAt (get self.old.rings s) (get self.new.rings s)) }
+    {
+        let listed = self.rings.ready()?;
+        let outs = self.core.round(listed.as_slice())?;
+        let count = outs.len();
+        self.rings.hand_over(outs);
+        self.journal = self.journal.with(Happened::Round(Snapshot::of(&listed)));
+        self.since_base = self.since_base.saturating_add(1);
+        Ok(count)
+    }
+
+    /// The base becomes the state that the server is in, and the journal empty: nothing is copied. It returns how many
+    /// events there were, 2^64-1 where there were more.
+    pub fn settle(&mut self) -> u64
+        ensures count { result ≡ counted self.old.events }
+        ensures base { self.new ≡ record self.old { base = self.old.server.world; events = [] } }
+    {
+        let settled = self.since_base;
+        self.journal = Journal::begin(&self.core);
+        self.since_base = 0;
+        settled
+    }
+}
