@@ -45,7 +45,8 @@ impl Model for Chains {
 impl Chains {
     /// The database, without changes and marks. O(tables).
     pub fn new(alloc: Global, db: Db, hashing: RandomState) -> Result<Chains, AllocError>
-        ensures { IfOk result (λ chains. chains ≡ chains_of db) }
+        ensures chains { IfOk result (λ chains. chains ≡ chains_of db) }
+        ensures now { IfOk result (λ chains. IsNow chains) }
     {
         let mut chains = Vec::with_capacity(alloc, db.len())?;
         for _ in 0..db.len() {
@@ -77,7 +78,8 @@ impl Chains {
 
     /// Makes the whole change, or none; all that marks stand for stays. Where memory is refused nothing
     /// changed, and the change comes back; so it does after 2^64 - 1 changes of one table. O(rows changed)
-    /// and O(tables).
+    /// and O(tables); a row that changes for the first time since the newest mark of its table was made costs
+    /// O(places with marks) more, on the average.
     pub fn absorb(&mut self, change: ChangeSet) -> Result<(), AllocFailed<ChangeSet>>
         requires { IsChangeOf self.old.db change }
         ensures ok { OnOk result (self.new ≡ absorbed change self.old) }

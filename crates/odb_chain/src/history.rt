@@ -46,8 +46,8 @@ impl Old {
 }
 
 /// What a row was, the earliest first, each up to its place. Once there are as many as the limit it is looked
-/// whether each is needed; the limit is then twice those that are left, so that this costs O(1) a row that
-/// is pushed.
+/// whether each is needed, at O(places) each; the limit is then twice those that are left. So a push costs
+/// O(places) for this on the average.
 #[derive(Drop)]
 pub(crate) struct History {
     olds: Vec<Old>,
