@@ -14,7 +14,7 @@ use std::alloc::{AllocError, Global};
 use std::marker::Model;
 
 /// What is owed to the client of a monitor: the difference between what it was told and what is asked, table
-/// by table, in the order of the tables' names.
+/// by table, in the order of the parts.
 #[derive(Drop)]
 pub struct Job<'a> {
     kind: Kind,
