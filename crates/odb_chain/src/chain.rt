@@ -60,7 +60,7 @@ impl Chain {
         }
     }
 
-    /// The same once more. O(old rows); an error says that memory was refused.
+    /// The same once more. O(old rows).
     pub(crate) fn try_copy(&self, hashing: RandomState) -> Result<Chain, AllocError>
         ensures { IfOk result (λ copy. IsCopyOf self.now copy) }
     {

@@ -150,8 +150,8 @@ impl Chains {
         self.chains[place].since(&self.db.tables()[place], mark.place)
     }
 
-    /// Equal chains, whose rows are shared with these. Their marks are made by `Mark::again`. O(rows) and
-    /// O(old rows); an error says that memory was refused.
+    /// Equal chains, whose rows are shared with these. Their marks are made by `Mark::again`.
+    /// O(rows) and O(old rows).
     pub fn try_copy(&self) -> Result<Chains, AllocError>
         ensures { IfOk result (λ copy. copy ≡ self.now) }
     {

@@ -113,7 +113,7 @@ impl Kept {
         }
     }
 
-    /// The same once more, with the rows shared. O(old rows); an error says that memory was refused.
+    /// The same once more, with the rows shared. O(old rows).
     pub(crate) fn try_copy(&self, hashing: RandomState) -> Result<Kept, AllocError>
         ensures { IfOk result (λ copy. copy ≡ self.now) }
     {

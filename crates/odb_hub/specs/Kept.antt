@@ -1,4 +1,4 @@
--- What is kept behind the lock: the server, the base state and the events since it, and the rings of its sessions.
+-- What the lock guards: the server, the base state and the events since it, and the rings of its sessions.
 use Rattle.std.specs.Prelude.{◌≡◌, ℕ, ◌-◌, ◌^◌, ◌≤◌, ◌==◌, Bool, length, min, List, [], ◌∷◌, ◌++◌, map, Some, None, is_some, Ok, refl}
 use Rattle.std.specs.Coded.{Coded, code_by, coded×}
 use Rattle.serde_json.specs.Written.{compact_text}

@@ -34,7 +34,7 @@ texts r = r.sent ++ option_to_list r.held
 abbrev pub IsFlushed : Ring → Ring → Type 0
 IsFlushed old new = (new ≡ old) ⊎ (new ≡ record { sent = texts old; held = None })
 
--- the text comes behind what was sent: it was sent too, or is held back
+-- the text comes after what was sent: it was sent too, or is held back
 abbrev pub IsPut : Text → Ring → Ring → Type 0
 IsPut text old new = (new ≡ record { sent = old.sent ++ text ∷ []; held = None }) ⊎ (new ≡ record { sent = old.sent; held = Some text })
 

@@ -9,8 +9,8 @@ use odb_core::{Core, Refused, SessionId};
 use std::alloc::{AllocError, Global};
 use std::sync::{Arc, Mutex, Wait};
 
-/// A server that many threads share. Each call takes the lock and makes one call of the [`HubState`] behind it, whose
-/// contracts say what it does: of a value behind a lock only the facts of its type are known, here that the journal is
+/// A server that many threads share. Each call takes the lock and makes one call of the [`HubState`] under it, whose
+/// contracts say what it does: of a value under a lock only the facts of its type are known, here that the journal is
 /// a legal history and that the rings were sent what it gives. Messages are taken out of a [`Mailbox`] without the
 /// lock.
 #[derive(Drop)]

@@ -1,4 +1,7 @@
 //! The server behind a lock, for many threads: a journal of what it took, and a ring of messages for each session.
+//!
+//! Where memory is refused a call returns `AllocError` or the refusal `Memory`, and what it was given
+//! is as it was, unless its own page says otherwise.
 #![tactic(auto)]
 
 mod bell;

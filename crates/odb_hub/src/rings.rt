@@ -33,7 +33,7 @@ impl Rings {
     ghost use Rattle.odb_atoms.specs.FinMap.{empty, get, insert, remove};
     ghost use Rattle.odb_hub.specs.Rings.{HandsOver, IsFlushedAt, HasRoom, IsPutAt, fresh_ring, free_of, texts_to};
 
-    /// No session has a ring. It takes no memory.
+    /// No session has a ring.
     pub(crate) fn new(alloc: Global) -> Rings
         ensures { result ≡ empty }
     {
@@ -43,7 +43,7 @@ impl Rings {
         }
     }
 
-    /// A ring for a session, and the mailbox where it comes out. O(log n); where memory is refused nothing changes.
+    /// A ring for a session, and the mailbox where it comes out. O(log n).
     pub(crate) fn add(&mut self, session: SessionId) -> Result<(Mailbox, Arc<Bell>), AllocError>
         ensures ok { OnOk result (self.new ≡ insert self.old session fresh_ring) }
         ensures err { OnErr result (self.new ≡ self.old) }
@@ -53,7 +53,7 @@ impl Rings {
         Ok((mailbox, bell))
     }
 
-    /// The ring of a session goes, with what is held back. O(log n), without memory.
+    /// The ring of a session goes, with what is held back. O(log n).
     pub(crate) fn remove(&mut self, session: SessionId)
         ensures { self.new ≡ remove self.old session }
     {
@@ -114,7 +114,8 @@ impl Rings {
         Ok(free)
     }
 
-    /// Sends each message to its session's ring, or holds it back where the ring is full. O(log n) for each, without memory.
+    /// Sends each message to its session's ring, or holds it back where the ring is full. O(log n)
+    /// for each.
     pub(crate) fn hand_over(&mut self, outs: Vec<Out>)
         requires { (s : ℕ) → HasRoom (get self.old s) (texts_to s (map sent_in outs.items)) }
         ensures { (s : ℕ) → HandsOver (get self.old s) (texts_to s (map sent_in outs.items)) (get self.new s) }

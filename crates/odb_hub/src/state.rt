@@ -1,4 +1,4 @@
-//! What lies behind the lock.
+//! What the lock guards.
 ghost use Rattle.std.specs.Prelude.{◌≡◌, ◌≤◌, ◌⊎◌, ℕ, [], map, length, IfErr, IfOk, Ok, OnErr, OnOk};
 ghost use Rattle.odb_atoms.specs.Represented.Atom.{uuid_of};
 ghost use Rattle.odb_wire.specs.Message.{inserts_of};
@@ -150,7 +150,7 @@ impl HubState {
         Ok(())
     }
 
-    /// The moment is `now` in milliseconds, and what waits till then is tried. An error says that memory was refused.
+    /// The moment is `now` in milliseconds, and what waits till then is tried.
     pub fn tick(&mut self, now: u64) -> Result<(), AllocError>
         ensures ok { OnOk result (Takes (ticked now) self.old self.new []) }
         ensures rings { OnOk result (self.new.rings ≡ self.old.rings) }

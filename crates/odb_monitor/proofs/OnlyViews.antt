@@ -36,7 +36,7 @@ change-itself (Some c) = ap (λ b. cond b None (Some (differs c c))) (same_value
 AreChanges : List (Uuid × Change) → Contents → Contents → Type 0
 AreChanges es t w = (q : Uuid) → find uuid_cmp q es ≡ change (get t q) (get w q)
 
--- all names of the list stand behind this one
+-- all names of the list stand after this one
 AreBehind : Option Uuid → List (Uuid × Change) → Type 0
 AreBehind None es = Unit {0}
 AreBehind (Some u) es = T (below_all uuid_cmp u es)

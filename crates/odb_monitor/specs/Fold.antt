@@ -139,7 +139,7 @@ step_row n first cs held (e ∷ []) = step_one n first cs held e.0 e.1
 step_row n first cs held (e ∷ f ∷ []) = if bytes_eq e.0 (codes "new") && bytes_eq f.0 (codes "old") then step_two n first cs held e.1 f.1 else None
 step_row n first cs held (e ∷ f ∷ g ∷ es) = None
 
--- a row's name stands behind the one in front of it
+-- a row's name stands after the one in front of it
 abbrev pub is_behind : Option Uuid → Uuid → Bool
 is_behind None u = true
 is_behind (Some last) u = is_lt (uuid_cmp last u)

@@ -1,5 +1,5 @@
-//! An OVSDB server (RFC 7047): `ovsdbd script --schema F` runs a script from standard input on a server of the schema
-//! in the file F, with empty tables.
+//! An OVSDB server (RFC 7047): `ovsdbd script --schema F` runs a script from standard input on a
+//! server of the schema in the file F, with empty tables. [P 15.1]
 //!
 //! The exit status is 0 after a script that ran to its end and after help, 1 after a fault, which standard error names,
 //! and 2 where the words of the command line are wrong.

@@ -11,6 +11,6 @@ use Rattle.odb_hub.specs.declared.mailbox.Mailbox.{Mailbox}
 abbrev pub taken : Mailbox → List Out
 taken m = received m.consumer
 
--- so many messages were taken out, and written one behind another
+-- so many messages were taken out, and written one after another
 abbrev pub IsWritten : ℕ → List Out → List Out → Option (List ℕ) → Option (List ℕ) → Type 0
 IsWritten count before after contents filled = (outs : List Out) × (after ≡ before ++ outs) × (length outs ≡ count) × Appends contents filled (flat_map text_of_out outs)
