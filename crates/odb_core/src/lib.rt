@@ -6,7 +6,6 @@
 
 mod locking;
 mod out;
-mod waiting;
 mod refused;
 mod requests;
 mod server;
@@ -14,6 +13,7 @@ mod session;
 mod sessions;
 mod state;
 mod submitted;
+mod waiting;
 
 pub use odb_locks::SessionId;
 pub use out::Out;

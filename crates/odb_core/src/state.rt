@@ -20,9 +20,9 @@ ghost use Rattle.odb_service.specs.Server.{served_by};
 ghost use Rattle.odb_service.specs.Session.{say, to};
 ghost use Rattle.odb_core.specs.Represented.Waiting.{left_waiting, outcome_in, waiting_as, IsDone};
 
-use crate::waiting::{Waiting, Tried};
 use crate::sessions::Sessions;
 use crate::submitted::Submitted;
+use crate::waiting::{Tried, Waiting};
 use odb_commit::{Outcome, transact};
 use odb_locks::{Locks, SessionId};
 use odb_ops::Context;
@@ -381,7 +381,10 @@ impl State {
 }
 
 /// The transaction comes back where memory was refused.
-fn back_on_error(ended: Result<(), AllocError>, asked: Submitted) -> Result<(), (Submitted, AllocError)>
+fn back_on_error(
+    ended: Result<(), AllocError>,
+    asked: Submitted,
+) -> Result<(), (Submitted, AllocError)>
     ensures ok { IsOk result ↔ IsOk ended }
     ensures back { IfErr result (λ back. back.0 ≡ asked) }
 {

@@ -12,7 +12,9 @@ use crate::atom::SYNTAX;
 use crate::clause::read_where;
 use crate::column::read_columns;
 use crate::fault::OpFault;
-use crate::leaf::{needed, refuse_other_members, read_bool, read_id, read_natural, read_object, read_text};
+use crate::leaf::{
+    needed, read_bool, read_id, read_natural, read_object, read_text, refuse_other_members,
+};
 use crate::mutation::read_mutations;
 use crate::names::Names;
 use crate::row::{WrittenBy, read_expected_rows, read_row};

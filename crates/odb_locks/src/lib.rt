@@ -11,5 +11,5 @@ mod locks;
 mod notice;
 mod table;
 
-pub use locks::{LockFault, Locks, SessionId, LockOutcome};
+pub use locks::{LockFault, LockOutcome, Locks, SessionId};
 pub use notice::Notice;

@@ -185,7 +185,11 @@ pub fn perform(
             )?;
             wait_or_go_on(alloc, context, reached, timeout)
         }
-        Op::Commit { durable } => empty_result_if(alloc, !durable, Stop::Fails(Error::NotSupported)),
+        Op::Commit { durable } => empty_result_if(
+            alloc,
+            !durable,
+            Stop::Fails(Error::NotSupported),
+        ),
         Op::Abort => Err(Stop::Fails(Error::Aborted)),
         Op::Comment => Ok(results::nothing(alloc)),
         Op::Assert { lock } => {

@@ -9,7 +9,7 @@ ghost use Rattle.odb_service.specs.Server.{served_by};
 ghost use Rattle.odb_script.specs.Script.{Script, in_world, world_after};
 
 use crate::command::Command;
-use crate::draining::{print_line, drain_all, drain};
+use crate::draining::{drain, drain_all, print_line};
 use crate::fresh::fresh_uuids;
 use crate::session::ScriptSession;
 use odb_core::{Core, Refused, SessionId};

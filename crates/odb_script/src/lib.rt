@@ -8,8 +8,8 @@ mod draining;
 mod engine;
 mod fault;
 mod fresh;
-mod session;
 mod script;
+mod session;
 mod watched;
 
 pub use fault::RunFault;
