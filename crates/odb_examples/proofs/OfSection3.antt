@@ -361,6 +361,30 @@ pub numbers_that_are_mutated : Plays cnt (
 unfolding shows
 numbers_that_are_mutated = refl
 
+-- Operands that the column could not hold
+pub operands_that_the_column_could_not_hold : Plays net (
+    codes "> A transact 1 {\"op\":\"mutate\",\"table\":\"Port\",\"where\":[],\"mutations\":[[\"tag\",\"delete\",5000]]}"
+    ∷ codes "< A reply 1 [{\"count\":0}]"
+    ∷ codes "> A transact 2 {\"op\":\"mutate\",\"table\":\"Port\",\"where\":[],\"mutations\":[[\"tag\",\"insert\",5000]]}"
+    ∷ codes "< A reply 2 [{\"count\":0}]"
+    ∷ codes "> A transact 3 {\"op\":\"mutate\",\"table\":\"Port\",\"where\":[],\"mutations\":[[\"tag\",\"insert\",[\"set\",[1,2]]]]}"
+    ∷ codes "< A reply 3 [{\"count\":0}]"
+    ∷ codes "> A transact 4 {\"op\":\"insert\",\"table\":\"Bridge\",\"row\":{\"name\":\"b\",\"ports\":[\"named-uuid\",\"p\"]}},{\"op\":\"insert\",\"table\":\"Port\",\"row\":{\"name\":\"p\",\"tag\":1},\"uuid-name\":\"p\"}"
+    ∷ codes "< A reply 4 [{\"uuid\":[\"uuid\",\"U1\"]},{\"uuid\":[\"uuid\",\"U2\"]}]"
+    ∷ codes "> A transact 5 {\"op\":\"mutate\",\"table\":\"Port\",\"where\":[],\"mutations\":[[\"tag\",\"delete\",5000]]}"
+    ∷ codes "< A reply 5 [{\"count\":1}]"
+    ∷ codes "> A transact 6 {\"op\":\"mutate\",\"table\":\"Port\",\"where\":[],\"mutations\":[[\"tag\",\"insert\",5000]]}"
+    ∷ codes "< A reply 6 [{\"error\":\"constraint violation\"}]"
+    ∷ codes "> A transact 7 {\"op\":\"mutate\",\"table\":\"Port\",\"where\":[],\"mutations\":[[\"tag\",\"insert\",[\"set\",[1,2]]]]}"
+    ∷ codes "< A reply 7 [{\"error\":\"constraint violation\"}]"
+    ∷ codes "> A transact 8 {\"op\":\"mutate\",\"table\":\"Port\",\"where\":[],\"mutations\":[[\"tag\",\"insert\",[\"set\",[1,5]]]]}"
+    ∷ codes "< A reply 8 [{\"error\":\"constraint violation\"}]"
+    ∷ codes "> A transact 9 {\"op\":\"select\",\"table\":\"Port\",\"where\":[],\"columns\":[\"tag\"]}"
+    ∷ codes "< A reply 9 [{\"rows\":[{\"tag\":1}]}]"
+    ∷ [])
+unfolding shows
+operands_that_the_column_could_not_hold = refl
+
 -- Results past 64 bits
 pub results_past_64_bits : Plays kinds (
     codes "> A transact 1 {\"op\":\"insert\",\"table\":\"T\",\"row\":{\"i\":0}}"

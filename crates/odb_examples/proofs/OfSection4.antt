@@ -383,6 +383,18 @@ pub rows_are_inserted_updated_and_deleted_in_one_transaction : Plays choices (
 unfolding shows
 rows_are_inserted_updated_and_deleted_in_one_transaction = refl
 
+-- Rows of a wait that the table could not hold
+pub rows_of_a_wait_that_the_table_could_not_hold : Plays net (
+    codes "> A transact 1 {\"op\":\"wait\",\"timeout\":0,\"table\":\"Port\",\"where\":[],\"columns\":[\"tag\"],\"until\":\"!=\",\"rows\":[{\"tag\":5000}]}"
+    ∷ codes "< A reply 1 [{}]"
+    ∷ codes "> A transact 2 {\"op\":\"wait\",\"timeout\":0,\"table\":\"Port\",\"where\":[],\"columns\":[\"tag\"],\"until\":\"==\",\"rows\":[{\"tag\":5000}]}"
+    ∷ codes "< A reply 2 [{\"error\":\"timed out\"}]"
+    ∷ codes "> A transact 3 {\"op\":\"wait\",\"timeout\":0,\"table\":\"Port\",\"where\":[],\"columns\":[\"tag\"],\"until\":\"!=\",\"rows\":[{\"tag\":[\"set\",[1,2]]}]}"
+    ∷ codes "< A reply 3 [{}]"
+    ∷ [])
+unfolding shows
+rows_of_a_wait_that_the_table_could_not_hold = refl
+
 -- Rows that are selected
 pub rows_that_are_selected : Plays net (
     codes "> A transact 1 {\"op\":\"insert\",\"table\":\"Bridge\",\"row\":{\"name\":\"b\",\"ports\":[\"set\",[[\"named-uuid\",\"p\"],[\"named-uuid\",\"q\"]]]}},{\"op\":\"insert\",\"table\":\"Port\",\"row\":{\"name\":\"p\",\"opts\":[\"map\",[[\"z\",\"1\"],[\"a\",\"2\"]]]},\"uuid-name\":\"p\"},{\"op\":\"insert\",\"table\":\"Port\",\"row\":{\"name\":\"q\",\"tag\":5},\"uuid-name\":\"q\"}"

@@ -1,6 +1,6 @@
 -- Transcripts of section 5 of docs/PROTOCOL.md. Made by `tests/examples` from transcripts/: no hand writes here.
 use Rattle.std.specs.Prelude.{◌∷◌, [], codes, refl}
-use Rattle.odb_examples.proofs.TestSchemas.{lft, limits, lnk, net, references, settlement}
+use Rattle.odb_examples.proofs.TestSchemas.{immutable, lft, limits, lnk, net, northbound, references, settlement}
 use Rattle.odb_examples.proofs.Transcripts.{Plays, shows}
 
 -- A chain goes with its head
@@ -50,6 +50,20 @@ pub a_ring_keeps_itself : Plays lnk (
     ∷ [])
 unfolding shows
 a_ring_keeps_itself = refl
+
+-- A router goes with its NAT rule and the address set that the rule names
+pub a_router_goes_with_its_nat_rule_and_the_address_set_that_the_rule_names : Plays northbound (
+    codes "> A transact 1 {\"op\":\"insert\",\"table\":\"Address_Set\",\"row\":{\"name\":\"a\"},\"uuid-name\":\"a\"},{\"op\":\"insert\",\"table\":\"NAT\",\"row\":{\"allowed_ext_ips\":[\"named-uuid\",\"a\"]},\"uuid-name\":\"n\"},{\"op\":\"insert\",\"table\":\"Logical_Router\",\"row\":{\"name\":\"r\",\"nat\":[\"named-uuid\",\"n\"]}}"
+    ∷ codes "< A reply 1 [{\"uuid\":[\"uuid\",\"U1\"]},{\"uuid\":[\"uuid\",\"U2\"]},{\"uuid\":[\"uuid\",\"U3\"]}]"
+    ∷ codes "> A transact 2 {\"op\":\"delete\",\"table\":\"Address_Set\",\"where\":[]}"
+    ∷ codes "< A reply 2 [{\"count\":1},{\"error\":\"referential integrity violation\"}]"
+    ∷ codes "> A transact 3 {\"op\":\"delete\",\"table\":\"Logical_Router\",\"where\":[]},{\"op\":\"delete\",\"table\":\"Address_Set\",\"where\":[]}"
+    ∷ codes "< A reply 3 [{\"count\":1},{\"count\":1}]"
+    ∷ codes "> A transact 4 {\"op\":\"select\",\"table\":\"NAT\",\"where\":[]},{\"op\":\"select\",\"table\":\"Address_Set\",\"where\":[]}"
+    ∷ codes "< A reply 4 [{\"rows\":[]},{\"rows\":[]}]"
+    ∷ [])
+unfolding shows
+a_router_goes_with_its_nat_rule_and_the_address_set_that_the_rule_names = refl
 
 -- A row doesn't keep itself
 pub a_row_doesnt_keep_itself : Plays lnk (
@@ -134,6 +148,20 @@ pub a_strong_reference_to_nothing_comes_before_too_few_elements : Plays settleme
     ∷ [])
 unfolding shows
 a_strong_reference_to_nothing_comes_before_too_few_elements = refl
+
+-- A weak reference is taken out of an immutable column
+pub a_weak_reference_is_taken_out_of_an_immutable_column : Plays immutable (
+    codes "> A transact 1 {\"op\":\"insert\",\"table\":\"Port\",\"row\":{\"name\":\"p\"},\"uuid-name\":\"p\"},{\"op\":\"insert\",\"table\":\"Mirror\",\"row\":{\"output\":[\"named-uuid\",\"p\"]}}"
+    ∷ codes "< A reply 1 [{\"uuid\":[\"uuid\",\"U1\"]},{\"uuid\":[\"uuid\",\"U2\"]}]"
+    ∷ codes "> A transact 2 {\"op\":\"update\",\"table\":\"Mirror\",\"where\":[],\"row\":{\"output\":[\"set\",[]]}}"
+    ∷ codes "< A reply 2 [{\"error\":\"constraint violation\"}]"
+    ∷ codes "> A transact 3 {\"op\":\"delete\",\"table\":\"Port\",\"where\":[]}"
+    ∷ codes "< A reply 3 [{\"count\":1}]"
+    ∷ codes "> A transact 4 {\"op\":\"select\",\"table\":\"Mirror\",\"where\":[],\"columns\":[\"_version\",\"output\"]}"
+    ∷ codes "< A reply 4 [{\"rows\":[{\"_version\":[\"uuid\",\"V2\"],\"output\":[\"set\",[]]}]}]"
+    ∷ [])
+unfolding shows
+a_weak_reference_is_taken_out_of_an_immutable_column = refl
 
 -- A weak reference is taken out when its row goes
 pub a_weak_reference_is_taken_out_when_its_row_goes : Plays net (

@@ -71,6 +71,9 @@ fault_type_int = codes "{\"name\":\"net\",\"version\":\"1.0.0\",\"tables\":{\"T\
 abbrev pub fault_version_of_two_numbers : List ℕ
 fault_version_of_two_numbers = codes "{\"name\":\"net\",\"version\":\"1.0\",\"tables\":{}}\n"
 
+abbrev pub immutable : List ℕ
+immutable = codes "{\"name\":\"immutable\",\"version\":\"1.0.0\",\"tables\":{\n\"Port\":{\"isRoot\":true,\"columns\":{\n \"name\":{\"type\":\"string\"}}},\n\"Mirror\":{\"isRoot\":true,\"columns\":{\n \"output\":{\"type\":{\"key\":{\"type\":\"uuid\",\"refTable\":\"Port\",\"refType\":\"weak\"},\"min\":0},\"mutable\":false}}}}}\n"
+
 abbrev pub kinds : List ℕ
 kinds = codes "{\"name\":\"kinds\",\"version\":\"1.0.0\",\"tables\":{\"T\":{\"columns\":{\n \"bs\":{\"type\":{\"key\":\"boolean\",\"min\":0,\"max\":\"unlimited\"}},\n \"few\":{\"type\":{\"key\":{\"type\":\"integer\",\"maxInteger\":5},\"min\":0,\"max\":2}},\n \"i\":{\"type\":\"integer\"},\n \"is\":{\"type\":{\"key\":\"integer\",\"min\":0,\"max\":\"unlimited\"}},\n \"mi\":{\"type\":{\"key\":\"string\",\"value\":\"integer\",\"min\":0,\"max\":\"unlimited\"}},\n \"mu\":{\"type\":{\"key\":\"string\",\"value\":\"uuid\",\"min\":0,\"max\":\"unlimited\"}},\n \"s\":{\"type\":\"string\"},\n \"short\":{\"type\":{\"key\":{\"type\":\"string\",\"maxLength\":2}}},\n \"ss\":{\"type\":{\"key\":\"string\",\"min\":0,\"max\":\"unlimited\"}},\n \"tag\":{\"type\":{\"key\":{\"type\":\"integer\",\"minInteger\":0,\"maxInteger\":4095}}},\n \"us\":{\"type\":{\"key\":\"uuid\",\"min\":0,\"max\":\"unlimited\"}}}}}}\n"
 
@@ -88,6 +91,9 @@ lnk = codes "{\"name\":\"lnk\",\"version\":\"1.0.0\",\"tables\":{\n\"R\":{\"isRo
 
 abbrev pub net : List ℕ
 net = codes "{\"name\":\"net\",\"version\":\"1.0.0\",\"tables\":{\n\"Bridge\":{\"isRoot\":true,\"indexes\":[[\"name\"]],\"columns\":{\n \"name\":{\"type\":\"string\"},\n \"ports\":{\"type\":{\"key\":{\"type\":\"uuid\",\"refTable\":\"Port\"},\"min\":0,\"max\":\"unlimited\"}}}},\n\"Port\":{\"columns\":{\n \"name\":{\"type\":\"string\"},\n \"tag\":{\"type\":{\"key\":{\"type\":\"integer\",\"minInteger\":0,\"maxInteger\":4095},\"min\":0}},\n \"opts\":{\"type\":{\"key\":\"string\",\"value\":\"string\",\"min\":0,\"max\":\"unlimited\"}},\n \"peer\":{\"type\":{\"key\":{\"type\":\"uuid\",\"refTable\":\"Port\",\"refType\":\"weak\"},\"min\":0}}}}}}\n"
+
+abbrev pub northbound : List ℕ
+northbound = codes "{\"name\":\"northbound\",\"version\":\"1.0.0\",\"tables\":{\n\"Address_Set\":{\"isRoot\":true,\"indexes\":[[\"name\"]],\"columns\":{\n \"name\":{\"type\":\"string\"}}},\n\"Logical_Router\":{\"isRoot\":true,\"columns\":{\n \"name\":{\"type\":\"string\"},\n \"nat\":{\"type\":{\"key\":{\"type\":\"uuid\",\"refTable\":\"NAT\"},\"min\":0,\"max\":\"unlimited\"}}}},\n\"NAT\":{\"columns\":{\n \"allowed_ext_ips\":{\"type\":{\"key\":{\"type\":\"uuid\",\"refTable\":\"Address_Set\"},\"min\":0}}}}}}\n"
 
 abbrev pub one_pair : List ℕ
 one_pair = codes "{\"name\":\"p\",\"version\":\"1.0.0\",\"tables\":{\n\"P\":{\"columns\":{\n \"m\":{\"type\":{\"key\":\"string\",\"value\":\"integer\"}}}}}}\n"
