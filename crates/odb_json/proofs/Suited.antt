@@ -172,9 +172,9 @@ abbrev is_taken : List Column → Mutation → Bool
 is_taken cs m = takes (column_type cs m.column) m.mutator m.value
 
 operand_taken : (t : ColType) (m : Mutator) (b : Bool) (v : Value) → takes_mutator t m ≡ true → HasKind (operand_type t m b) v × IsOne (operand_type t m b) v → takes t m v ≡ true
-operand_taken t mutation.insert b v e h = h.0
-operand_taken t mutation.delete true v e h = ap (λ a. a || is_set_of t.key.kind v) h.0
-operand_taken t mutation.delete false v e h = or_right (has_kind t v) (is_set_of t.key.kind v) h.0
+operand_taken t mutation.insert b v e h = λ i. e i && h.0 i
+operand_taken t mutation.delete true v e h = λ i. e i && (h.0 i || is_set_of t.key.kind v)
+operand_taken t mutation.delete false v e h = λ i. e i && or_right (has_kind t v) (is_set_of t.key.kind v) h.0 i
 operand_taken t mutation.add b v e h = λ i. e i && (h.0 i && h.1 i)
 operand_taken t mutation.subtract b v e h = λ i. e i && (h.0 i && h.1 i)
 operand_taken t mutation.multiply b v e h = λ i. e i && (h.0 i && h.1 i)

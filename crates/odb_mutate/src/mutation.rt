@@ -97,8 +97,8 @@ impl Mutation {
 
     /// Whether a column of the type has the mutation with this operand (RFC 7047, section 5.1,
     /// `<mutation>`): arithmetic with one integer, where the type is of integers and no map;
-    /// `insert` with a value of the type's kind; and `delete` with such a value, or on a map with a
-    /// set of keys.
+    /// where it is a set or a map, `insert` with a value of the type's kind, and `delete` with such a
+    /// value, or on a map with a set of keys.
     ///
     /// O(n) for n elements or pairs of the operand, times what `Value::admit` takes for one.
     pub fn suits(&self, column: &ColType) -> bool
@@ -107,10 +107,11 @@ impl Mutation {
         match self.mutator {
             Mutator::Calculate(_) => kinds::are_integers(column)
                 && kinds::is_one_integer(&self.value),
-            Mutator::Insert => kinds::is_of_kind(&self.value, column),
+            Mutator::Insert => !column.is_scalar() && kinds::is_of_kind(&self.value, column),
             Mutator::Delete => {
-                kinds::is_of_kind(&self.value, column)
-                    || kinds::is_set_of(&self.value, column.key.kind)
+                !column.is_scalar()
+                    && (kinds::is_of_kind(&self.value, column)
+                        || kinds::is_set_of(&self.value, column.key.kind))
             }
         }
     }
