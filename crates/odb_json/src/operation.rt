@@ -6,7 +6,7 @@ ghost use Rattle.odb_schema.specs.Json.{get_member, if_given};
 ghost use Rattle.odb_json.specs.Operation as model;
 ghost use Rattle.odb_json.specs.Represented.Fault.{Gives, Reads};
 ghost use Rattle.odb_json.specs.Suited.{IsFor};
-ghost use Rattle.odb_json.specs.Represented.Operation.{on_table_of, op_of, table_reader, until_of, verb_of};
+ghost use Rattle.odb_json.specs.Represented.Operation.{on_table_of, op_of, read_by, table_reader, until_of, verb_of};
 
 use crate::atom::SYNTAX;
 use crate::clause::read_where;
@@ -155,111 +155,6 @@ fn read_name(alloc: Global, members: &Map<String, Value>) -> Result<Option<Strin
     }
 }
 
-/// `insert`, after its table.
-fn read_insert(
-    alloc: Global,
-    names: &Names,
-    id: TableId,
-    table: &TableSchema,
-    members: &Map<String, Value>,
-) -> Result<Op, OpFault>
-    ensures { Reads op_of result
-        (model.read_insert names.now id table.now.columns (members_view members.now.entries)) }
-{
-    let row = needed("row", members)?;
-    let row = read_row(alloc, row, table, WrittenBy::Insert, names)?;
-    let name = read_name(alloc, members)?;
-    refuse_other_members(&["table", "row", "uuid-name"], members)?;
-    Ok(Op::Insert {
-        table: id,
-        row,
-        name,
-    })
-}
-
-/// `select`, after its table.
-fn read_select(
-    alloc: Global,
-    names: &Names,
-    id: TableId,
-    table: &TableSchema,
-    members: &Map<String, Value>,
-) -> Result<Op, OpFault>
-    ensures { Reads op_of result
-        (model.read_select names.now id table.now.columns (members_view members.now.entries)) }
-{
-    let conditions = read_where(alloc, members, table, names)?;
-    let columns = read_columns(alloc, table, members)?;
-    refuse_other_members(&["table", "where", "columns"], members)?;
-    Ok(Op::Select {
-        table: id,
-        conditions,
-        columns,
-    })
-}
-
-/// `update`, after its table.
-fn read_update(
-    alloc: Global,
-    names: &Names,
-    id: TableId,
-    table: &TableSchema,
-    members: &Map<String, Value>,
-) -> Result<Op, OpFault>
-    ensures { Reads op_of result
-        (model.read_update names.now id table.now.columns (members_view members.now.entries)) }
-{
-    let conditions = read_where(alloc, members, table, names)?;
-    let row = needed("row", members)?;
-    let row = read_row(alloc, row, table, WrittenBy::Update, names)?;
-    refuse_other_members(&["table", "where", "row"], members)?;
-    Ok(Op::Update {
-        table: id,
-        conditions,
-        row,
-    })
-}
-
-/// `mutate`, after its table.
-fn read_mutate(
-    alloc: Global,
-    names: &Names,
-    id: TableId,
-    table: &TableSchema,
-    members: &Map<String, Value>,
-) -> Result<Op, OpFault>
-    ensures { Reads op_of result
-        (model.read_mutate names.now id table.now.columns (members_view members.now.entries)) }
-{
-    let conditions = read_where(alloc, members, table, names)?;
-    let mutations = read_mutations(alloc, members, table, names)?;
-    refuse_other_members(&["table", "where", "mutations"], members)?;
-    Ok(Op::Mutate {
-        table: id,
-        conditions,
-        mutations,
-    })
-}
-
-/// `delete`, after its table.
-fn read_delete(
-    alloc: Global,
-    names: &Names,
-    id: TableId,
-    table: &TableSchema,
-    members: &Map<String, Value>,
-) -> Result<Op, OpFault>
-    ensures { Reads op_of result
-        (model.read_delete names.now id table.now.columns (members_view members.now.entries)) }
-{
-    let conditions = read_where(alloc, members, table, names)?;
-    refuse_other_members(&["table", "where"], members)?;
-    Ok(Op::Delete {
-        table: id,
-        conditions,
-    })
-}
-
 /// `until` of `wait`.
 fn read_until(members: &Map<String, Value>) -> Result<Until, OpFault>
     ensures { Gives until_of result
@@ -285,55 +180,122 @@ fn read_timeout(members: &Map<String, Value>) -> Result<Option<u64>, OpFault>
     }
 }
 
-/// `wait`, after its table.
-fn read_wait(
+/// An operation on a table: its members, and what they are read by.
+#[derive(Clone, Copy)]
+struct OnTable<'a> {
     alloc: Global,
-    names: &Names,
+    names: &'a Names,
     id: TableId,
-    table: &TableSchema,
-    members: &Map<String, Value>,
-) -> Result<Op, OpFault>
-    ensures { Reads op_of result
-        (model.read_wait names.now id table.now.columns (members_view members.now.entries)) }
-{
-    let conditions = read_where(alloc, members, table, names)?;
-    let columns = read_columns(alloc, table, members)?;
-    let until = read_until(members)?;
-    let rows = read_expected_rows(alloc, members, table, names)?;
-    let timeout = read_timeout(members)?;
-    refuse_other_members(
-        &["table", "where", "columns", "until", "rows", "timeout"],
-        members,
-    )?;
-    Ok(Op::Wait {
-        table: id,
-        conditions,
-        columns,
-        until,
-        rows,
-        timeout,
-    })
+    table: &'a TableSchema,
+    members: &'a Map<String, Value>,
 }
 
-/// An operation on a table, after its table.
-fn read_behind_table(
-    alloc: Global,
-    verb: TableVerb,
-    names: &Names,
-    id: TableId,
-    table: &TableSchema,
-    members: &Map<String, Value>,
-) -> Result<Op, OpFault>
-    ensures { Reads op_of result
-        (table_reader verb names.now id table.now.columns (members_view members.now.entries)) }
-{
-    match verb {
-        TableVerb::Insert => read_insert(alloc, names, id, table, members),
-        TableVerb::Select => read_select(alloc, names, id, table, members),
-        TableVerb::Update => read_update(alloc, names, id, table, members),
-        TableVerb::Mutate => read_mutate(alloc, names, id, table, members),
-        TableVerb::Delete => read_delete(alloc, names, id, table, members),
-        TableVerb::Wait => read_wait(alloc, names, id, table, members),
+impl OnTable<'_> {
+    /// `insert`.
+    fn read_insert(&self) -> Result<Op, OpFault>
+        ensures { Reads op_of result (read_by model.read_insert self.entry.now) }
+    {
+        let row = needed("row", self.members)?;
+        let row = read_row(self.alloc, row, self.table, WrittenBy::Insert, self.names)?;
+        let name = read_name(self.alloc, self.members)?;
+        refuse_other_members(&["table", "row", "uuid-name"], self.members)?;
+        Ok(Op::Insert {
+            table: self.id,
+            row,
+            name,
+        })
+    }
+
+    /// `select`.
+    fn read_select(&self) -> Result<Op, OpFault>
+        ensures { Reads op_of result (read_by model.read_select self.entry.now) }
+    {
+        let conditions = read_where(self.alloc, self.members, self.table, self.names)?;
+        let columns = read_columns(self.alloc, self.table, self.members)?;
+        refuse_other_members(&["table", "where", "columns"], self.members)?;
+        Ok(Op::Select {
+            table: self.id,
+            conditions,
+            columns,
+        })
+    }
+
+    /// `update`.
+    fn read_update(&self) -> Result<Op, OpFault>
+        ensures { Reads op_of result (read_by model.read_update self.entry.now) }
+    {
+        let conditions = read_where(self.alloc, self.members, self.table, self.names)?;
+        let row = needed("row", self.members)?;
+        let row = read_row(self.alloc, row, self.table, WrittenBy::Update, self.names)?;
+        refuse_other_members(&["table", "where", "row"], self.members)?;
+        Ok(Op::Update {
+            table: self.id,
+            conditions,
+            row,
+        })
+    }
+
+    /// `mutate`.
+    fn read_mutate(&self) -> Result<Op, OpFault>
+        ensures { Reads op_of result (read_by model.read_mutate self.entry.now) }
+    {
+        let conditions = read_where(self.alloc, self.members, self.table, self.names)?;
+        let mutations = read_mutations(self.alloc, self.members, self.table, self.names)?;
+        refuse_other_members(&["table", "where", "mutations"], self.members)?;
+        Ok(Op::Mutate {
+            table: self.id,
+            conditions,
+            mutations,
+        })
+    }
+
+    /// `delete`.
+    fn read_delete(&self) -> Result<Op, OpFault>
+        ensures { Reads op_of result (read_by model.read_delete self.entry.now) }
+    {
+        let conditions = read_where(self.alloc, self.members, self.table, self.names)?;
+        refuse_other_members(&["table", "where"], self.members)?;
+        Ok(Op::Delete {
+            table: self.id,
+            conditions,
+        })
+    }
+
+    /// `wait`.
+    fn read_wait(&self) -> Result<Op, OpFault>
+        ensures { Reads op_of result (read_by model.read_wait self.entry.now) }
+    {
+        let conditions = read_where(self.alloc, self.members, self.table, self.names)?;
+        let columns = read_columns(self.alloc, self.table, self.members)?;
+        let until = read_until(self.members)?;
+        let rows = read_expected_rows(self.alloc, self.members, self.table, self.names)?;
+        let timeout = read_timeout(self.members)?;
+        refuse_other_members(
+            &["table", "where", "columns", "until", "rows", "timeout"],
+            self.members,
+        )?;
+        Ok(Op::Wait {
+            table: self.id,
+            conditions,
+            columns,
+            until,
+            rows,
+            timeout,
+        })
+    }
+
+    /// The operation that `op` names.
+    fn read(&self, verb: TableVerb) -> Result<Op, OpFault>
+        ensures { Reads op_of result (read_by (table_reader verb) self.entry.now) }
+    {
+        match verb {
+            TableVerb::Insert => self.read_insert(),
+            TableVerb::Select => self.read_select(),
+            TableVerb::Update => self.read_update(),
+            TableVerb::Mutate => self.read_mutate(),
+            TableVerb::Delete => self.read_delete(),
+            TableVerb::Wait => self.read_wait(),
+        }
     }
 }
 
@@ -351,7 +313,14 @@ fn read_on_table(
 {
     let id = read_table(schema, members)?;
     let table = &schema.tables()[id.place()];
-    read_behind_table(alloc, verb, names, id, table, members)
+    let operation = OnTable {
+        alloc,
+        names,
+        id,
+        table,
+        members,
+    };
+    operation.read(verb)
 }
 
 /// `commit`.

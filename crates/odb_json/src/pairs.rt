@@ -33,63 +33,6 @@ struct Front {
     fault: Option<Error>,
 }
 
-/// Reads the value of a key and adds the pair to those in front. If the value has a fault, the key
-/// stands with another value, so that it is seen if it stands twice: that is the earlier fault.
-fn append_value(
-    alloc: Global,
-    key: Atom,
-    kind: Kind,
-    value: &Value,
-    names: Option<&Names>,
-    pairs: &mut Vec<(Atom, Atom)>,
-) -> Result<Option<Error>, AllocError>
-    ensures pairs { IfOk result (λ _. map pair_of pairs.new.items
-        ≡ map pair_of pairs.old.items
-        ++ (parts.pair_with (atom_of key) (kind_in kind) (notation.read_atom
-        (option_map (λ n. n.now) names.entry) (kind_in kind) (view value.now))).0) }
-    ensures fault { IfOk result (λ fault. option_map error_of fault
-        ≡ (parts.pair_with (atom_of key) (kind_in kind) (notation.read_atom
-        (option_map (λ n. n.now) names.entry) (kind_in kind) (view value.now))).1) }
-{
-    match read_atom(alloc, kind, value, names) {
-        Ok(atom) => {
-            pairs.push((key, atom))?;
-            Ok(None)
-        }
-        Err(OpFault::Failed(error)) => {
-            pairs.push((key, Atom::zero(alloc, kind)))?;
-            Ok(Some(error))
-        }
-        Err(OpFault::Memory) => Err(AllocError),
-    }
-}
-
-/// Reads a pair and adds it to those in front, or says what its fault is.
-fn append(
-    alloc: Global,
-    kinds: Kinds,
-    item: &Value,
-    names: Option<&Names>,
-    pairs: &mut Vec<(Atom, Atom)>,
-) -> Result<Option<Error>, AllocError>
-    ensures pairs { IfOk result (λ _. map pair_of pairs.new.items
-        ≡ map pair_of pairs.old.items
-        ++ (parts.pair_front (option_map (λ n. n.now) names.entry) (kind_in kinds.key)
-        (kind_in kinds.value) (view item.now)).0) }
-    ensures fault { IfOk result (λ fault. option_map error_of fault
-        ≡ (parts.pair_front (option_map (λ n. n.now) names.entry) (kind_in kinds.key)
-        (kind_in kinds.value) (view item.now)).1) }
-{
-    let Some((key, value)) = two_of(item) else {
-        return Ok(Some(Error::SyntaxError));
-    };
-    match read_atom(alloc, kinds.key, key, names) {
-        Ok(key) => append_value(alloc, key, kinds.value, value, names, pairs),
-        Err(OpFault::Failed(error)) => Ok(Some(error)),
-        Err(OpFault::Memory) => Err(AllocError),
-    }
-}
-
 /// `[key, value]`.
 fn two_of(item: &Value) -> Option<(&Value, &Value)>
     ensures { option_map (λ pair. (view pair.0.now, view pair.1.now)) result
@@ -101,47 +44,101 @@ fn two_of(item: &Value) -> Option<(&Value, &Value)>
     }
 }
 
-fn read_front(
+/// What a map is read by.
+#[derive(Clone, Copy)]
+struct PairReader<'a> {
     alloc: Global,
     kinds: Kinds,
-    items: &[Value],
-    names: Option<&Names>,
-) -> Result<Front, AllocError>
-    ensures pairs { IfOk result (λ front. map pair_of front.pairs.items
-        ≡ (parts.pairs_front (option_map (λ n. n.now) names.entry) (kind_in kinds.key)
-        (kind_in kinds.value) (items_view items.now)).0) }
-    ensures fault { IfOk result (λ front. option_map error_of front.fault
-        ≡ (parts.pairs_front (option_map (λ n. n.now) names.entry) (kind_in kinds.key)
-        (kind_in kinds.value) (items_view items.now)).1) }
-{
-    let mut pairs = Vec::with_capacity(alloc, items.len())?;
-    for item in items {
-        let fault = append(alloc, kinds, item, names, &mut pairs)?;
-        if fault.is_some() {
-            return Ok(Front { pairs, fault });
-        }
-    }
-    Ok(Front { pairs, fault: None })
+    names: Option<&'a Names>,
 }
 
-/// The map of an array's pairs, of which no two may have the same key.
-fn read_pairs(
-    alloc: Global,
-    kinds: Kinds,
-    items: &[Value],
-    names: Option<&Names>,
-) -> Result<odb_atoms::Value, OpFault>
-    ensures { Reads (λ v. v) result (map_value (notation.read_pairs
-        (option_map (λ n. n.now) names.entry) (kind_in kinds.key) (kind_in kinds.value)
-        finite.empty (items_view items.now))) }
-{
-    let front = read_front(alloc, kinds, items, names)?;
-    let Ok(map) = odb_atoms::Value::map(front.pairs) else {
-        return Err(SYNTAX);
-    };
-    match front.fault {
-        None => Ok(map),
-        Some(error) => Err(OpFault::Failed(error)),
+impl PairReader<'_> {
+    /// Reads the value of a key and adds the pair to those in front. If the value has a fault, the key
+    /// stands with another value, so that it is seen if it stands twice: that is the earlier fault.
+    fn append_value(
+        self,
+        key: Atom,
+        value: &Value,
+        pairs: &mut Vec<(Atom, Atom)>,
+    ) -> Result<Option<Error>, AllocError>
+        ensures pairs { IfOk result (λ _. map pair_of pairs.new.items
+            ≡ map pair_of pairs.old.items
+            ++ (parts.pair_with (atom_of key) (kind_in self.entry.kinds.value) (notation.read_atom
+            (option_map (λ n. n.now) self.entry.names) (kind_in self.entry.kinds.value) (view value.now))).0) }
+        ensures fault { IfOk result (λ fault. option_map error_of fault
+            ≡ (parts.pair_with (atom_of key) (kind_in self.entry.kinds.value) (notation.read_atom
+            (option_map (λ n. n.now) self.entry.names) (kind_in self.entry.kinds.value) (view value.now))).1) }
+    {
+        match read_atom(self.alloc, self.kinds.value, value, self.names) {
+            Ok(atom) => {
+                pairs.push((key, atom))?;
+                Ok(None)
+            }
+            Err(OpFault::Failed(error)) => {
+                pairs.push((key, Atom::zero(self.alloc, self.kinds.value)))?;
+                Ok(Some(error))
+            }
+            Err(OpFault::Memory) => Err(AllocError),
+        }
+    }
+
+    /// Reads a pair and adds it to those in front, or says what its fault is.
+    fn append(
+        self,
+        item: &Value,
+        pairs: &mut Vec<(Atom, Atom)>,
+    ) -> Result<Option<Error>, AllocError>
+        ensures pairs { IfOk result (λ _. map pair_of pairs.new.items
+            ≡ map pair_of pairs.old.items
+            ++ (parts.pair_front (option_map (λ n. n.now) self.entry.names) (kind_in self.entry.kinds.key)
+            (kind_in self.entry.kinds.value) (view item.now)).0) }
+        ensures fault { IfOk result (λ fault. option_map error_of fault
+            ≡ (parts.pair_front (option_map (λ n. n.now) self.entry.names) (kind_in self.entry.kinds.key)
+            (kind_in self.entry.kinds.value) (view item.now)).1) }
+    {
+        let Some((key, value)) = two_of(item) else {
+            return Ok(Some(Error::SyntaxError));
+        };
+        match read_atom(self.alloc, self.kinds.key, key, self.names) {
+            Ok(key) => self.append_value(key, value, pairs),
+            Err(OpFault::Failed(error)) => Ok(Some(error)),
+            Err(OpFault::Memory) => Err(AllocError),
+        }
+    }
+
+    /// Reads the pairs in front of the first fault.
+    fn read_front(self, items: &[Value]) -> Result<Front, AllocError>
+        ensures pairs { IfOk result (λ front. map pair_of front.pairs.items
+            ≡ (parts.pairs_front (option_map (λ n. n.now) self.entry.names) (kind_in self.entry.kinds.key)
+            (kind_in self.entry.kinds.value) (items_view items.now)).0) }
+        ensures fault { IfOk result (λ front. option_map error_of front.fault
+            ≡ (parts.pairs_front (option_map (λ n. n.now) self.entry.names) (kind_in self.entry.kinds.key)
+            (kind_in self.entry.kinds.value) (items_view items.now)).1) }
+    {
+        let mut pairs = Vec::with_capacity(self.alloc, items.len())?;
+        for item in items {
+            let fault = self.append(item, &mut pairs)?;
+            if fault.is_some() {
+                return Ok(Front { pairs, fault });
+            }
+        }
+        Ok(Front { pairs, fault: None })
+    }
+
+    /// The map of an array's pairs, of which no two may have the same key.
+    fn read_pairs(self, items: &[Value]) -> Result<odb_atoms::Value, OpFault>
+        ensures { Reads (λ v. v) result (map_value (notation.read_pairs
+            (option_map (λ n. n.now) self.entry.names) (kind_in self.entry.kinds.key) (kind_in self.entry.kinds.value)
+            finite.empty (items_view items.now))) }
+    {
+        let front = self.read_front(items)?;
+        let Ok(map) = odb_atoms::Value::map(front.pairs) else {
+            return Err(SYNTAX);
+        };
+        match front.fault {
+            None => Ok(map),
+            Some(error) => Err(OpFault::Failed(error)),
+        }
     }
 }
 
@@ -161,6 +158,13 @@ pub fn read_map(
     };
     match content.as_array() {
         None => Err(SYNTAX),
-        Some(items) => read_pairs(alloc, kinds, items.as_slice(), names),
+        Some(items) => {
+            let reader = PairReader {
+                alloc,
+                kinds,
+                names,
+            };
+            reader.read_pairs(items.as_slice())
+        }
     }
 }

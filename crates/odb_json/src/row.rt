@@ -53,43 +53,44 @@ fn writable(table: &TableSchema, name: &str, writing: WrittenBy) -> Result<Colum
     }
 }
 
-/// A column of a row and its value.
-fn read_cell(
+/// What the row of an `insert` or `update` is read by.
+#[derive(Clone, Copy)]
+struct RowReader<'a> {
     alloc: Global,
-    name: &str,
-    value: &Value,
-    table: &TableSchema,
+    table: &'a TableSchema,
     writing: WrittenBy,
-    names: &Names,
-) -> Result<(ColumnId, odb_atoms::Value), OpFault>
-    ensures { Reads (λ cell. cell) result
-        (model.read_cell names.now table.now.columns (written writing table.now.columns) name.now
-        (view value.now)) }
-{
-    let column = writable(table, name, writing)?;
-    let uuid = ColType::scalar(Kind::Uuid);
-    let column_type = type_of(table, Selector::Declared(column.place()), &uuid);
-    let value = read_value(alloc, value, column_type, Some(names))?;
-    Ok((column, value))
+    names: &'a Names,
 }
 
-/// The columns of a row and their values, by ascending name.
-fn read_cells(
-    alloc: Global,
-    members: &Map<String, Value>,
-    table: &TableSchema,
-    writing: WrittenBy,
-    names: &Names,
-) -> Result<Vec<(ColumnId, odb_atoms::Value)>, OpFault>
-    ensures { Reads (λ v. v.items) result
-        (model.read_cells names.now table.now.columns (written writing table.now.columns)
-        (members_view members.now.entries)) }
-{
-    let mut row = Vec::with_capacity(alloc, members.len())?;
-    for (name, value) in members.iter() {
-        row.push(read_cell(alloc, name.as_str(), value, table, writing, names)?)?;
+impl RowReader<'_> {
+    /// A column of a row and its value.
+    fn read_cell(self, name: &str, value: &Value) -> Result<(ColumnId, odb_atoms::Value), OpFault>
+        ensures { Reads (λ cell. cell) result
+            (model.read_cell self.entry.names.now self.entry.table.now.columns
+            (written self.entry.writing self.entry.table.now.columns) name.now (view value.now)) }
+    {
+        let column = writable(self.table, name, self.writing)?;
+        let uuid = ColType::scalar(Kind::Uuid);
+        let column_type = type_of(self.table, Selector::Declared(column.place()), &uuid);
+        let value = read_value(self.alloc, value, column_type, Some(self.names))?;
+        Ok((column, value))
     }
-    Ok(row)
+
+    /// The columns of a row and their values, by ascending name.
+    fn read_cells(
+        self,
+        members: &Map<String, Value>,
+    ) -> Result<Vec<(ColumnId, odb_atoms::Value)>, OpFault>
+        ensures { Reads (λ v. v.items) result
+            (model.read_cells self.entry.names.now self.entry.table.now.columns
+            (written self.entry.writing self.entry.table.now.columns) (members_view members.now.entries)) }
+    {
+        let mut row = Vec::with_capacity(self.alloc, members.len())?;
+        for (name, value) in members.iter() {
+            row.push(self.read_cell(name.as_str(), value)?)?;
+        }
+        Ok(row)
+    }
 }
 
 /// The row that `insert` or `update` writes (RFC 7047, section 5.1, `<row>`): the columns that it
@@ -113,7 +114,13 @@ pub fn read_row(
         (model.read_row names.now table.now.columns (written writing table.now.columns)
         (view value.now)) }
 {
-    read_cells(alloc, read_object(value)?, table, writing, names)
+    let reader = RowReader {
+        alloc,
+        table,
+        writing,
+        names,
+    };
+    reader.read_cells(read_object(value)?)
 }
 
 /// A column of a row of `wait` and its value.

@@ -1,5 +1,6 @@
 -- What an operation of the code stands for.
 use Rattle.std.specs.Prelude.{ℕ, List, map, option_map, string_bytes}
+use Rattle.serde_json.specs.View.{members_view}
 use Rattle.odb_atoms.specs.Error.{Error}
 use Rattle.odb_atoms.specs.First.{Result}
 use Rattle.odb_cond.specs.Represented.Clause.{selector_of}
@@ -8,6 +9,7 @@ use Rattle.odb_schema.specs.Notation.{Names}
 use Rattle.odb_schema.specs.Schema.{Column}
 use Rattle.odb_json.specs.Operation as model
 use Rattle.odb_json.specs.Represented.Row.{cells_of}
+use Rattle.odb_json.specs.declared.operation.OnTable.{OnTable}
 use Rattle.odb_json.specs.declared.operation.Op.{Op}
 use Rattle.odb_json.specs.declared.operation.Op.TheVariants as op
 use Rattle.odb_json.specs.declared.operation.TableVerb.{TableVerb}
@@ -47,6 +49,10 @@ verb_of verb.Commit = model.Verb.commit
 verb_of verb.Abort = model.Verb.abort
 verb_of verb.Comment = model.Verb.comment
 verb_of verb.Assert = model.Verb.assert
+
+-- the members of an operation on a table, read
+abbrev pub read_by : (Names → ℕ → List Column → Members → Result model.Op Error) → OnTable → Result model.Op Error
+read_by reader o = reader o.names.now o.id o.table.now.columns (members_view o.members.now.entries)
 
 -- what stands after the table
 abbrev pub table_reader : TableVerb → Names → ℕ → List Column → Members → Result model.Op Error

@@ -5,13 +5,13 @@ use Rattle.odb_schema.specs.Json.{members_list}
 use Rattle.odb_schema.proofs.Eachs.{after, each_more}
 use Rattle.odb_json.specs.Operation.{read_cell, read_cells}
 use Rattle.odb_json.specs.Represented.Row.{written}
-use Rattle.odb_json.proofs.row.read_cells.Goals as goal
+use Rattle.odb_json.proofs.row.RowReader.read_cells.Goals as goal
 
 pub loop-name-preserved : goal.loop-name-preserved
 loop-name-preserved c =
-    let names = c.args.names.now in
-    let cs = c.args.table.now.columns in
-    let place = written c.args.writing cs in
+    let names = c.args.self.names.now in
+    let cs = c.args.self.table.now.columns in
+    let place = written c.args.self.writing cs in
     let done = c.loop-name.row.items in
     let rest = members_view c.next.new.self in
     rw c.in_ok-push.ensures.items

@@ -1,9 +1,0 @@
-use Rattle.std.proofs.Common.{◌≡◌}
-use Rattle.serde_json.specs.View.{members_view}
-use Rattle.odb_schema.proofs.Eachs.{after}
-use Rattle.odb_json.specs.Operation.{read_cells}
-use Rattle.odb_json.specs.Represented.Row.{written}
-use Rattle.odb_json.proofs.row.read_cells.Given as goal
-
-abbrev pub invariant-loop-name : goal.invariant-loop-name
-invariant-loop-name l = read_cells l.names l.table.columns (written l.writing l.table.columns) (members_view l.members.entries) ≡ after l.row.items (read_cells l.names l.table.columns (written l.writing l.table.columns) (members_view l.name-iterator))
