@@ -13,7 +13,7 @@ ghost use Rattle.odb_ops.specs.Represented.Stop.{Carried, stop_of};
 ghost use Rattle.odb_schema.specs.Json.{null};
 ghost use Rattle.odb_tables.specs.Typed.{IsTyped};
 
-use crate::context::Context;
+use crate::context::{Context, Setting};
 use crate::fresh::{next_uuid, remaining_uuids};
 use crate::names::names_of;
 use crate::operation::perform;
@@ -40,25 +40,23 @@ pub enum Ran {
 
 /// Reads an operation, whole, and carries it out.
 fn read_and_perform(
-    alloc: Global,
+    setting: &Setting<'_>,
     draft: &mut Draft,
-    schema: &Schema,
-    context: &Context,
-    names: &Names,
     taken: &mut Names,
     uuid: Uuid,
     operation: &Value,
 ) -> Result<Value, Stop>
-    requires tables { length draft.old.old ≡ length schema.now.tables }
-    requires typed { IsTyped schema.now draft.old.now }
+    requires tables { length draft.old.old ≡ length setting.now.schema.now.tables }
+    requires typed { IsTyped setting.now.schema.now draft.old.now }
     ensures ran { (named : List (List ℕ)) → AreTaken taken.old named
-        → Carried schema.now result taken.new draft.new
-        (model.read_and_perform schema.now (context_of context.entry.now) names.now (uuid_of uuid)
+        → Carried setting.entry.now.schema.now result taken.new draft.new
+        (model.read_and_perform setting.entry.now.schema.now (context_of setting.entry.now.context.now)
+        setting.entry.now.names.now (uuid_of uuid)
         (naming named draft.old) (view operation.now)) }
     ensures base { draft.new.old ≡ draft.old.old }
 {
-    let op = read_op(alloc, operation, schema, names)?;
-    perform(alloc, draft, schema, context, taken, uuid, op)
+    let op = read_op(setting.alloc, operation, setting.schema, setting.names)?;
+    perform(setting, draft, taken, uuid, op)
 }
 
 /// The results, and a `null` for each of the later operations.
@@ -99,29 +97,25 @@ fn stopped(alloc: Global, results: Vec<Value>, stop: Stop, later: usize) -> Resu
 
 /// Carries the operations out, where the names stand for these identifiers.
 fn run_all(
-    alloc: Global,
+    setting: &Setting<'_>,
     draft: &mut Draft,
-    schema: &Schema,
     operations: &[Value],
-    context: &Context,
-    names: &Names,
 ) -> Result<Ran, AllocError>
-    requires tables { length draft.old.old ≡ length schema.now.tables }
-    requires typed { IsTyped schema.now draft.old.now }
+    requires tables { length draft.old.old ≡ length setting.now.schema.now.tables }
+    requires typed { IsTyped setting.now.schema.now draft.old.now }
     ensures ran { IfOk result (λ ran. Answers ran draft.new.now
-        (model.run_from schema.now (context_of context.entry.now) names.now
-        (map uuid_of context.entry.now.fresh.now) (begun draft.old) (map view operations.now))) }
+        (model.run_from setting.entry.now.schema.now (context_of setting.entry.now.context.now) setting.entry.now.names.now
+        (map uuid_of setting.entry.now.context.now.fresh.now) (begun draft.old) (map view operations.now))) }
     ensures base { draft.new.old ≡ draft.old.old }
 {
+    let alloc = setting.alloc;
     let mut taken = Names::new(alloc);
-    let mut left = context.fresh;
+    let mut left = setting.context.fresh;
     let mut results = Vec::with_capacity(alloc, operations.len())?;
     for (place, operation) in operations.iter().enumerate() {
         let uuid = next_uuid(left);
         left = remaining_uuids(operation, left);
-        match read_and_perform(
-            alloc, draft, schema, context, names, &mut taken, uuid, operation,
-        ) {
+        match read_and_perform(setting, draft, &mut taken, uuid, operation) {
             Ok(result) => results.push(result)?,
             Err(stop) => return stopped(alloc, results, stop, operations.len() - 1 - place),
         }
@@ -147,5 +141,11 @@ pub fn run(
     let names = names_of(alloc, operations, context.fresh)?;
     // It has as many tables as its database had, which is what each operation rests on.
     let _tables = draft.len();
-    run_all(alloc, draft, schema, operations, context, &names)
+    let setting = Setting {
+        alloc,
+        schema,
+        context,
+        names: &names,
+    };
+    run_all(&setting, draft, operations)
 }

@@ -9,10 +9,11 @@ ghost use Rattle.odb_ops.specs.Execution as model;
 ghost use Rattle.odb_ops.specs.Represented.Draft.{begun};
 ghost use Rattle.odb_ops.specs.Represented.Parts.{insert_row, with_value};
 
+use crate::context::Target;
 use crate::results;
 use odb_atoms::{Error, Row, Value, default_of};
 use odb_json::OpFault;
-use odb_schema::{Column, ColumnId, TableId, TableSchema};
+use odb_schema::{Column, ColumnId, TableId};
 use odb_tables::Draft;
 use std::alloc::{AllocError, Global};
 use uuid::Uuid;
@@ -86,25 +87,23 @@ fn all_admit(columns: &[Column], values: &[Value]) -> bool
 /// The first of these faults is returned: an identifier that a row of the table has or had
 /// (`duplicate uuid`), and a value that its column doesn't admit (`constraint violation`).
 pub fn insert(
-    alloc: Global,
+    target: &Target<'_>,
     draft: &mut Draft,
-    table: TableId,
-    schema: &TableSchema,
     uuid: Uuid,
     given: Vec<(ColumnId, Value)>,
 ) -> Result<serde_json::Value, OpFault>
-    requires { table < length draft.old.old }
+    requires { target.now.table < length draft.old.old }
     ensures row { Reads (λ v. (draft.new, view v)) result
-        (insert_row schema.now.columns table (uuid_of uuid) given.items draft.old) }
+        (insert_row target.entry.now.columns.now target.entry.now.table (uuid_of uuid) given.items draft.old) }
     ensures base { draft.new.old ≡ draft.old.old }
 {
-    if has_used(draft, table, uuid) {
+    if has_used(draft, target.table, uuid) {
         return Err(OpFault::Failed(Error::DuplicateUuid));
     }
-    let row = new_row(alloc, schema.columns(), given)?;
-    if !all_admit(schema.columns(), row.columns()) {
+    let row = new_row(target.alloc, target.columns, given)?;
+    if !all_admit(target.columns, row.columns()) {
         return Err(OpFault::Failed(Error::ConstraintViolation));
     }
-    draft.put(table, uuid, row)?;
-    Ok(results::inserted(alloc, uuid)?)
+    draft.put(target.table, uuid, row)?;
+    Ok(results::inserted(target.alloc, uuid)?)
 }

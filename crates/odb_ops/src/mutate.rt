@@ -23,13 +23,14 @@ ghost use Rattle.odb_schema.specs.Schema.{column_type};
 ghost use Rattle.odb_tables.specs.Database.{table_at};
 ghost use Rattle.odb_tables.specs.Typed.{fits};
 
+use crate::context::Target;
 use crate::insert::set;
 use crate::results;
 use odb_atoms::{ColType, Error, Kind, Row, Value};
 use odb_cond::Where;
 use odb_json::OpFault;
 use odb_mutate::{Mutation, MutationFault};
-use odb_schema::{Column, ColumnId, TableId, TableSchema};
+use odb_schema::{Column, ColumnId};
 use odb_tables::Draft;
 use std::alloc::{AllocError, Global};
 use uuid::Uuid;
@@ -135,30 +136,28 @@ fn earlier(fault: Option<MutationFault>, other: Option<MutationFault>) -> Option
 
 /// Mutates the row of an identifier, if the table has it. A row that has a fault stays as it is.
 fn mutate_one(
-    alloc: Global,
+    target: &Target<'_>,
     draft: &mut Draft,
-    table: TableId,
     uuid: Uuid,
-    columns: &[Column],
     mutations: &[Mutation],
 ) -> Result<Option<MutationFault>, AllocError>
-    requires inside { table < length draft.old.old }
-    requires fit { AllFit columns.now (table_at draft.old.now table) }
-    requires suit { are_taken columns.now mutations.now ≡ true }
+    requires inside { target.now.table < length draft.old.old }
+    requires fit { AllFit target.now.columns.now (table_at draft.old.now target.now.table) }
+    requires suit { are_taken target.now.columns.now mutations.now ≡ true }
     ensures row { OnOk result (draft.new
-        ≡ rewritten (λ r. result_ok (mutated columns.now mutations.now r)) table (uuid_of uuid)
+        ≡ rewritten (λ r. result_ok (mutated target.entry.now.columns.now mutations.now r)) target.entry.now.table (uuid_of uuid)
         draft.old) }
     ensures fault { IfOk result (λ fault. option_map error_of fault
-        ≡ row_fault (mutated columns.now mutations.now)
-        (finite.get (table_at draft.old.now table) (uuid_of uuid))) }
+        ≡ row_fault (mutated target.entry.now.columns.now mutations.now)
+        (finite.get (table_at draft.old.now target.entry.now.table) (uuid_of uuid))) }
     ensures base { draft.new.old ≡ draft.old.old }
 {
-    let Some(row) = draft.get(table, uuid) else {
+    let Some(row) = draft.get(target.table, uuid) else {
         return Ok(None);
     };
-    match mutated_row(alloc, row, columns, mutations)? {
+    match mutated_row(target.alloc, row, target.columns, mutations)? {
         Ok(row) => {
-            draft.put(table, uuid, row)?;
+            draft.put(target.table, uuid, row)?;
             Ok(None)
         }
         Err(fault) => Ok(Some(fault)),
@@ -167,27 +166,25 @@ fn mutate_one(
 
 /// The same for each of these rows; the fault that the operation has, if some row has one.
 fn mutate_all(
-    alloc: Global,
+    target: &Target<'_>,
     draft: &mut Draft,
-    table: TableId,
     uuids: &[Uuid],
-    columns: &[Column],
     mutations: &[Mutation],
 ) -> Result<Option<MutationFault>, AllocError>
-    requires inside { table < length draft.old.old }
-    requires fit { AllFit columns.now (table_at draft.old.now table) }
-    requires suit { are_taken columns.now mutations.now ≡ true }
+    requires inside { target.now.table < length draft.old.old }
+    requires fit { AllFit target.now.columns.now (table_at draft.old.now target.now.table) }
+    requires suit { are_taken target.now.columns.now mutations.now ≡ true }
     ensures rows { OnOk result (draft.new
-        ≡ all_rewritten (λ r. result_ok (mutated columns.now mutations.now r)) table
+        ≡ all_rewritten (λ r. result_ok (mutated target.entry.now.columns.now mutations.now r)) target.entry.now.table
         (map uuid_of uuids.now) draft.old) }
     ensures fault { IfOk result (λ fault. option_map error_of fault
         ≡ first_fault
-        (all_faults (mutated columns.now mutations.now) table (map uuid_of uuids.now) draft.old)) }
+        (all_faults (mutated target.entry.now.columns.now mutations.now) target.entry.now.table (map uuid_of uuids.now) draft.old)) }
     ensures base { draft.new.old ≡ draft.old.old }
 {
     let mut first = None;
     for uuid in uuids {
-        let fault = mutate_one(alloc, draft, table, *uuid, columns, mutations)?;
+        let fault = mutate_one(target, draft, *uuid, mutations)?;
         first = earlier(first, fault);
     }
     Ok(first)
@@ -210,24 +207,22 @@ fn error_in(fault: MutationFault) -> Error
 /// Where rows have faults, the first of them in this order is returned: `domain error`, `range
 /// error`, `resources exhausted`, `constraint violation`. The draft isn't of use then.
 pub fn mutate(
-    alloc: Global,
+    target: &Target<'_>,
     draft: &mut Draft,
-    table: TableId,
-    schema: &TableSchema,
     conditions: &Where,
     mutations: &[Mutation],
 ) -> Result<serde_json::Value, OpFault>
-    requires inside { table < length draft.old.old }
-    requires fit { AllFit schema.now.columns (table_at draft.old.now table) }
-    requires suit { are_taken schema.now.columns mutations.now ≡ true }
+    requires inside { target.now.table < length draft.old.old }
+    requires fit { AllFit target.now.columns.now (table_at draft.old.now target.now.table) }
+    requires suit { are_taken target.now.columns.now mutations.now ≡ true }
     ensures rows { Reads (λ v. (draft.new, view v)) result
-        (mutate_rows schema.now.columns table conditions.now mutations.now draft.old) }
+        (mutate_rows target.entry.now.columns.now target.entry.now.table conditions.now mutations.now draft.old) }
     ensures base { draft.new.old ≡ draft.old.old }
 {
-    let found = draft.matching(table, conditions)?;
+    let found = draft.matching(target.table, conditions)?;
     let uuids = found.as_slice();
-    match mutate_all(alloc, draft, table, uuids, schema.columns(), mutations)? {
-        None => Ok(results::count(alloc, uuids)?),
+    match mutate_all(target, draft, uuids, mutations)? {
+        None => Ok(results::count(target.alloc, uuids)?),
         Some(fault) => Err(OpFault::Failed(error_in(fault))),
     }
 }

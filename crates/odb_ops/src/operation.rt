@@ -12,10 +12,9 @@ ghost use Rattle.odb_ops.specs.Represented.Context.{context_of, is_named};
 ghost use Rattle.odb_ops.specs.Represented.Draft.{naming};
 ghost use Rattle.odb_ops.specs.Represented.Parts.{AreTaken};
 ghost use Rattle.odb_ops.specs.Represented.Stop.{Performs, named_after, stop_of};
-ghost use Rattle.odb_schema.specs.Schema.{columns_at};
 ghost use Rattle.odb_tables.specs.Typed.{IsTyped};
 
-use crate::context::Context;
+use crate::context::{Context, Setting};
 use crate::deadline::unmet;
 use crate::delete::delete;
 use crate::insert::insert;
@@ -25,10 +24,10 @@ use crate::results;
 use crate::select::select;
 use crate::stop::Stop;
 use crate::update::update;
-use crate::wait::wait;
+use crate::wait::{has_rows, is_reached};
 use odb_atoms::Error;
 use odb_json::{Names, Op, OpFault};
-use odb_schema::{ColumnId, Schema, TableId, TableSchema};
+use odb_schema::{ColumnId, TableId};
 use odb_tables::Draft;
 use serde_json::Value;
 use std::alloc::Global;
@@ -46,40 +45,37 @@ fn empty_result_if(alloc: Global, holds: bool, stop: Stop) -> Result<Value, Stop
     }
 }
 
-/// A table of the schema.
-fn table_in(schema: &Schema, table: TableId) -> &TableSchema
-    requires { table < length schema.now.tables }
-    ensures { result.now.columns ≡ columns_at schema.now table }
-{
-    &schema.tables()[table.place()]
+/// What an `insert` puts in.
+struct NewRow {
+    table: TableId,
+    row: Vec<(ColumnId, odb_atoms::Value)>,
+    name: Option<String>,
 }
 
 /// `insert`, whose name is taken first.
 fn insert_named(
-    alloc: Global,
+    setting: &Setting<'_>,
     draft: &mut Draft,
-    schema: &Schema,
     taken: &mut Names,
-    table: TableId,
     uuid: Uuid,
-    row: Vec<(ColumnId, odb_atoms::Value)>,
-    name: Option<String>,
+    new: NewRow,
 ) -> Result<Value, OpFault>
-    requires inside { table < length draft.old.old }
-    requires in_schema { table < length schema.now.tables }
+    requires inside { new.table < length draft.old.old }
+    requires in_schema { new.table < length setting.now.schema.now.tables }
     ensures ran { (named : List (List ℕ)) → AreTaken taken.old named
         → Reads (λ v. (
-          naming (model.name_list (option_map string_bytes name) ++ named) draft.new,
+          naming (model.name_list (option_map string_bytes new.name) ++ named) draft.new,
           view v,
         )) result
-        (model.inserted schema.now (naming named draft.old) (uuid_of uuid) table row.items
-        (option_map string_bytes name)) }
+        (model.inserted setting.entry.now.schema.now (naming named draft.old) (uuid_of uuid) new.table
+        new.row.items (option_map string_bytes new.name)) }
     ensures taken { OnOk result ((named : List (List ℕ)) → AreTaken taken.old named
-        → AreTaken taken.new (model.name_list (option_map string_bytes name) ++ named)) }
+        → AreTaken taken.new (model.name_list (option_map string_bytes new.name) ++ named)) }
     ensures base { draft.new.old ≡ draft.old.old }
 {
+    let NewRow { table, row, name } = new;
     claim(taken, name, uuid)?;
-    insert(alloc, draft, table, table_in(schema, table), uuid, row)
+    insert(&setting.target(table), draft, uuid, row)
 }
 
 /// The result of a `wait` that is met or isn't.
@@ -114,39 +110,40 @@ fn owns(context: &Context, lock: &str) -> bool
 /// name may not be among those `taken`, to which it is added.
 #[tactic(auto, unfolding(crate::specs::Execution::perform))]
 pub fn perform(
-    alloc: Global,
+    setting: &Setting<'_>,
     draft: &mut Draft,
-    schema: &Schema,
-    context: &Context,
     taken: &mut Names,
     uuid: Uuid,
     op: Op,
 ) -> Result<Value, Stop>
-    requires tables { length draft.old.old ≡ length schema.now.tables }
-    requires typed { IsTyped schema.now draft.old.now }
-    requires suits { IsFor schema.now (op_of op) }
+    requires tables { length draft.old.old ≡ length setting.now.schema.now.tables }
+    requires typed { IsTyped setting.now.schema.now draft.old.now }
+    requires suits { IsFor setting.now.schema.now (op_of op) }
     ensures ran { (named : List (List ℕ)) → AreTaken taken.old named
         → Performs (λ v. (naming (named_after (op_of op) named) draft.new, view v)) result
-        (model.perform schema.now (context_of context.entry.now) (uuid_of uuid)
+        (model.perform setting.entry.now.schema.now (context_of setting.entry.now.context.now) (uuid_of uuid)
         (naming named draft.old) (op_of op)) }
     ensures taken { OnOk result ((named : List (List ℕ)) → AreTaken taken.old named
         → AreTaken taken.new (named_after (op_of op) named)) }
     ensures base { draft.new.old ≡ draft.old.old }
 {
+    let alloc = setting.alloc;
     match op {
         Op::Insert { table, row, name } => {
-            let inserted = insert_named(alloc, draft, schema, taken, table, uuid, row, name)?;
+            let new = NewRow { table, row, name };
+            let inserted = insert_named(setting, draft, taken, uuid, new)?;
             Ok(inserted)
         }
         Op::Select {
             table,
             conditions,
             columns,
-        } => {
-            let schema = table_in(schema, table);
-            let columns = columns.as_slice();
-            Ok(select(alloc, draft, table, schema, &conditions, columns)?)
-        }
+        } => Ok(select(
+            &setting.target(table),
+            draft,
+            &conditions,
+            columns.as_slice(),
+        )?),
         Op::Update {
             table,
             conditions,
@@ -156,11 +153,12 @@ pub fn perform(
             table,
             conditions,
             mutations,
-        } => {
-            let schema = table_in(schema, table);
-            let mutations = mutations.as_slice();
-            Ok(mutate(alloc, draft, table, schema, &conditions, mutations)?)
-        }
+        } => Ok(mutate(
+            &setting.target(table),
+            draft,
+            &conditions,
+            mutations.as_slice(),
+        )?),
         Op::Delete { table, conditions } => Ok(delete(alloc, draft, table, &conditions)?),
         Op::Wait {
             table,
@@ -170,20 +168,10 @@ pub fn perform(
             rows,
             timeout,
         } => {
-            let schema = table_in(schema, table);
             let columns = columns.as_slice();
             let rows = rows.as_slice();
-            let reached = wait(
-                alloc,
-                draft,
-                table,
-                schema,
-                &conditions,
-                columns,
-                until,
-                rows,
-            )?;
-            wait_or_go_on(alloc, context, reached, timeout)
+            let same = has_rows(&setting.target(table), draft, &conditions, columns, rows)?;
+            wait_or_go_on(alloc, setting.context, is_reached(until, same), timeout)
         }
         Op::Commit { durable } => empty_result_if(
             alloc,
@@ -193,7 +181,7 @@ pub fn perform(
         Op::Abort => Err(Stop::Fails(Error::Aborted)),
         Op::Comment => Ok(results::nothing(alloc)),
         Op::Assert { lock } => {
-            let owns = owns(context, lock.as_str());
+            let owns = owns(setting.context, lock.as_str());
             empty_result_if(alloc, owns, Stop::Fails(Error::NotOwner))
         }
     }

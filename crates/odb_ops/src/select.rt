@@ -13,10 +13,11 @@ ghost use Rattle.odb_tables.specs.Matching.{matching};
 
 use crate::cells::{Cells, selected};
 use crate::contents::first_of_each;
+use crate::context::Target;
 use crate::results;
 use odb_cond::{Selector, Where};
 use odb_json::write_value;
-use odb_schema::{TableId, TableSchema};
+use odb_schema::Column;
 use odb_tables::Draft;
 use serde_json::{Map, Value};
 use std::alloc::{AllocError, Global};
@@ -26,37 +27,35 @@ use std::alloc::{AllocError, Global};
 ///
 /// What `Draft::matching` costs, and O(n log n) comparisons of rows for the n that match.
 pub fn select(
-    alloc: Global,
+    target: &Target<'_>,
     draft: &Draft,
-    table: TableId,
-    schema: &TableSchema,
     conditions: &Where,
     columns: &[Selector],
 ) -> Result<Value, AllocError>
     ensures { IfOk result (λ rows. view rows
-        ≡ rows_result schema.now.columns (map selector_of columns.now)
+        ≡ rows_result target.entry.now.columns.now (map selector_of columns.now)
         (distinct (selected (map selector_of columns.now)
-        (matching conditions.now (table_at draft.now.now table))))) }
+        (matching conditions.now (table_at draft.now.now target.entry.now.table))))) }
 {
-    let rows = selected(alloc, draft, table, conditions, columns)?;
-    let kept = first_of_each(alloc, &rows)?;
-    let rows = write_rows(alloc, schema, columns, &kept)?;
-    results::rows(alloc, rows)
+    let rows = selected(target.alloc, draft, target.table, conditions, columns)?;
+    let kept = first_of_each(target.alloc, &rows)?;
+    let rows = write_rows(target.alloc, target.columns, columns, &kept)?;
+    results::rows(target.alloc, rows)
 }
 
 /// The rows as JSON.
 fn write_rows(
     alloc: Global,
-    schema: &TableSchema,
+    declared: &[Column],
     columns: &[Selector],
     rows: &[&Cells],
 ) -> Result<Value, AllocError>
     ensures { IfOk result (λ json. view json
-        ≡ array_of (map (λ row. write_cells schema.now.columns (map selector_of columns.now) row.now) rows.now)) }
+        ≡ array_of (map (λ row. write_cells declared.now (map selector_of columns.now) row.now) rows.now)) }
 {
     let mut items = Vec::with_capacity(alloc, rows.len())?;
     for row in rows {
-        items.push(write_row(alloc, schema, columns, row)?)?;
+        items.push(write_row(alloc, declared, columns, row)?)?;
     }
     Ok(Value::from(items))
 }
@@ -64,14 +63,14 @@ fn write_rows(
 /// A row as JSON: an object with the value of each column under its name.
 fn write_row(
     alloc: Global,
-    schema: &TableSchema,
+    declared: &[Column],
     columns: &[Selector],
     row: &Cells,
 ) -> Result<Value, AllocError>
-    ensures { IfOk result (λ json. view json ≡ write_cells schema.now.columns (map selector_of columns.now) row.now) }
+    ensures { IfOk result (λ json. view json ≡ write_cells declared.now (map selector_of columns.now) row.now) }
 {
     let mut members = Map::new(alloc);
-    put_all(alloc, &mut members, schema, columns, row.values())?;
+    put_all(alloc, &mut members, declared, columns, row.values())?;
     Ok(Value::from(members))
 }
 
@@ -79,12 +78,12 @@ fn write_row(
 fn put_all(
     alloc: Global,
     members: &mut Map<String, Value>,
-    schema: &TableSchema,
+    declared: &[Column],
     columns: &[Selector],
     values: &[odb_atoms::Value],
 ) -> Result<(), AllocError>
     ensures { OnOk result (members_view members.new.entries
-        ≡ onto (written schema.now.columns (map selector_of columns.now) values.now) (members_view members.old.entries)) }
+        ≡ onto (written declared.now (map selector_of columns.now) values.now) (members_view members.old.entries)) }
 {
     let [column, columns @ ..] = columns else {
         return Ok(());
@@ -92,9 +91,9 @@ fn put_all(
     let [value, values @ ..] = values else {
         return Ok(());
     };
-    put_all(alloc, members, schema, columns, values)?;
+    put_all(alloc, members, declared, columns, values)?;
     let value = write_value(alloc, value)?;
-    put(alloc, members, name_of(schema, *column), value)
+    put(alloc, members, name_of(declared, *column), value)
 }
 
 /// Puts a member into an object.
@@ -113,13 +112,13 @@ fn put(
 }
 
 /// The name of a column; of one that isn't there it is empty.
-fn name_of(schema: &TableSchema, column: Selector) -> &str
-    ensures { result.now ≡ selector_name schema.now.columns (selector_of column) }
+fn name_of(declared: &[Column], column: Selector) -> &str
+    ensures { result.now ≡ selector_name declared.now (selector_of column) }
 {
     match column {
         Selector::Uuid => "_uuid",
         Selector::Version => "_version",
-        Selector::Declared(place) => match schema.columns().get(place) {
+        Selector::Declared(place) => match declared.get(place) {
             Some(column) => column.name(),
             None => "",
         },

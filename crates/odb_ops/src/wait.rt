@@ -14,40 +14,37 @@ ghost use Rattle.odb_tables.specs.Matching.{matching};
 
 use crate::cells::{Cells, selected};
 use crate::contents::{are_among, contents};
+use crate::context::Target;
 use odb_atoms::{ColType, Kind, Value, default_of};
 use odb_cond::{Selector, Where};
 use odb_json::Until;
-use odb_schema::{TableId, TableSchema};
+use odb_schema::Column;
 use odb_tables::Draft;
 use std::alloc::{AllocError, Global};
 
-/// Whether these columns of the rows that match are the rows, or aren't, as `until` wants it.
+/// Whether these columns of the rows that match are the same set of rows as those given.
 ///
 /// What `Draft::matching` costs, and O((m + n) log (m + n)) comparisons of rows for the m that
 /// match and n that are given.
-pub fn wait(
-    alloc: Global,
+pub fn has_rows(
+    target: &Target<'_>,
     draft: &Draft,
-    table: TableId,
-    schema: &TableSchema,
     conditions: &Where,
     columns: &[Selector],
-    until: Until,
     rows: &[Vec<(Selector, Value)>],
 ) -> Result<bool, AllocError>
-    ensures { IfOk result (λ reached. reached ≡ model.is_reached (until_of until)
-        (model.same_rows (model.selected (map selector_of columns.now)
-        (matching conditions.now (table_at draft.now.now table)))
-        (map (model.expected schema.now.columns (map selector_of columns.now)) (map cells_of rows.now)))) }
+    ensures { IfOk result (λ same. same
+        ≡ model.same_rows (model.selected (map selector_of columns.now)
+        (matching conditions.now (table_at draft.now.now target.entry.now.table)))
+        (map (model.expected target.entry.now.columns.now (map selector_of columns.now)) (map cells_of rows.now))) }
 {
-    let found = selected(alloc, draft, table, conditions, columns)?;
-    let expected = all_expected(alloc, schema, columns, rows)?;
-    let same = are_same(alloc, &found, &expected)?;
-    Ok(is_reached(until, same))
+    let found = selected(target.alloc, draft, target.table, conditions, columns)?;
+    let expected = all_expected(target.alloc, target.columns, columns, rows)?;
+    are_same(target.alloc, &found, &expected)
 }
 
 /// Whether it is as `until` wants it.
-fn is_reached(until: Until, same: bool) -> bool
+pub fn is_reached(until: Until, same: bool) -> bool
     ensures { result ≡ model.is_reached (until_of until) same }
 {
     match until {
@@ -76,16 +73,16 @@ fn each_in(alloc: Global, rows: &[Cells], others: &[Cells]) -> Result<bool, Allo
 /// The values of the columns of each of the rows that are waited for.
 fn all_expected(
     alloc: Global,
-    schema: &TableSchema,
+    declared: &[Column],
     columns: &[Selector],
     rows: &[Vec<(Selector, Value)>],
 ) -> Result<Vec<Cells>, AllocError>
     ensures { IfOk result (λ all. all.items
-        ≡ map (model.expected schema.now.columns (map selector_of columns.now)) (map cells_of rows.now)) }
+        ≡ map (model.expected declared.now (map selector_of columns.now)) (map cells_of rows.now)) }
 {
     let mut all = Vec::with_capacity(alloc, rows.len())?;
     for row in rows {
-        all.push(expected(alloc, schema, columns, row.as_slice())?)?;
+        all.push(expected(alloc, declared, columns, row.as_slice())?)?;
     }
     Ok(all)
 }
@@ -93,16 +90,16 @@ fn all_expected(
 /// The values of the columns of a row that is waited for, with defaults for those that it doesn't name.
 fn expected(
     alloc: Global,
-    schema: &TableSchema,
+    declared: &[Column],
     columns: &[Selector],
     given: &[(Selector, Value)],
 ) -> Result<Cells, AllocError>
     ensures { IfOk result (λ cells. cells
-        ≡ model.expected schema.now.columns (map selector_of columns.now) (map cell_of given.now)) }
+        ≡ model.expected declared.now (map selector_of columns.now) (map cell_of given.now)) }
 {
     let mut values = Vec::with_capacity(alloc, columns.len())?;
     for column in columns {
-        values.push(value_for(alloc, schema, *column, given)?)?;
+        values.push(value_for(alloc, declared, *column, given)?)?;
     }
     Ok(Cells::new(values))
 }
@@ -110,16 +107,16 @@ fn expected(
 /// The value given for the column, or its default.
 fn value_for(
     alloc: Global,
-    schema: &TableSchema,
+    declared: &[Column],
     column: Selector,
     given: &[(Selector, Value)],
 ) -> Result<Value, AllocError>
     ensures { IfOk result (λ value. value
-        ≡ value_in schema.now.columns (map cell_of given.now) (selector_of column)) }
+        ≡ value_in declared.now (map cell_of given.now) (selector_of column)) }
 {
     match given_for(given, column) {
         Some(value) => value.try_copy(alloc),
-        None => default_for(alloc, schema, column),
+        None => default_for(alloc, declared, column),
     }
 }
 
@@ -137,12 +134,12 @@ fn given_for(given: &[(Selector, Value)], column: Selector) -> Option<&Value>
 }
 
 /// The default of the column.
-fn default_for(alloc: Global, schema: &TableSchema, column: Selector) -> Result<Value, AllocError>
+fn default_for(alloc: Global, declared: &[Column], column: Selector) -> Result<Value, AllocError>
     ensures { IfOk result (λ value. value
-        ≡ column_type.default_of (selector_type schema.now.columns (selector_of column))) }
+        ≡ column_type.default_of (selector_type declared.now (selector_of column))) }
 {
     match column {
-        Selector::Declared(place) => match schema.columns().get(place) {
+        Selector::Declared(place) => match declared.get(place) {
             Some(column) => default_of(alloc, column.column_type()),
             None => default_of(alloc, &ColType::scalar(Kind::Uuid)),
         },

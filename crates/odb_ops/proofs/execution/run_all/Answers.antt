@@ -21,10 +21,10 @@ use Rattle.odb_ops.proofs.execution.run_all.Goals as goal
 
 pub loop-place-init : goal.loop-place-init
 loop-place-init c =
-    let s : Schema = c.args.schema.now in
-    let ctx : Context = context_of c.args.context.now in
-    let names : Names = c.args.names.now in
-    let fresh : List Uuid = map uuid_of c.args.context.now.fresh.now in
+    let s : Schema = c.args.setting.now.schema.now in
+    let ctx : Context = context_of c.args.setting.now.context.now in
+    let names : Names = c.args.setting.now.names.now in
+    let fresh : List Uuid = map uuid_of c.args.setting.now.context.now.fresh.now in
     let d : Draft = c.args.draft.now in
     let ops : List Data = map view c.args.operations.now in
     let taken : Names = c.new-taken.result in
@@ -38,9 +38,9 @@ loop-place-init c =
 
 pub loop-place-preserved : goal.loop-place-preserved
 loop-place-preserved c =
-    let s : Schema = c.args.schema.now in
-    let ctx : Context = context_of c.args.context.now in
-    let names : Names = c.args.names.now in
+    let s : Schema = c.args.setting.now.schema.now in
+    let ctx : Context = context_of c.args.setting.now.context.now in
+    let names : Names = c.args.setting.now.names.now in
     let ops : List Value = c.args.operations.now in
     let i = c.loop-place.place in
     let op : Value = c.index-operations-place.result in
@@ -51,7 +51,7 @@ loop-place-preserved c =
     let left : List Uuid = map uuid_of c.loop-place.left.now in
     let results : List Data = map view c.loop-place.results.items in
     let v : Value = c.in-Ok.result in
-    let whole : Ran = model.run_from s ctx names (map uuid_of c.args.context.now.fresh.now) (begun c.args.draft.now) (map view ops) in
+    let whole : Ran = model.run_from s ctx names (map uuid_of c.args.setting.now.context.now.fresh.now) (begun c.args.draft.now) (map view ops) in
     let rest : List Data = map view (drop (i + 1) ops) in
     let inside : i < length ops = search rules in
     let here : op ≡ get_or ops i op = search rules in
@@ -73,9 +73,9 @@ loop-place-preserved c =
 
 pub returns-in-Err-clause-ran : goal.returns-in-Err-clause-ran
 returns-in-Err-clause-ran c =
-    let s : Schema = c.args.schema.now in
-    let ctx : Context = context_of c.args.context.now in
-    let names : Names = c.args.names.now in
+    let s : Schema = c.args.setting.now.schema.now in
+    let ctx : Context = context_of c.args.setting.now.context.now in
+    let names : Names = c.args.setting.now.names.now in
     let ops : List Value = c.args.operations.now in
     let i = c.loop-place.place in
     let op : Value = c.index-operations-place.result in
@@ -86,7 +86,7 @@ returns-in-Err-clause-ran c =
     let left : List Uuid = map uuid_of c.loop-place.left.now in
     let results : List Data = map view c.loop-place.results.items in
     let stop = c.in-Err.stop in
-    let whole : Ran = model.run_from s ctx names (map uuid_of c.args.context.now.fresh.now) (begun c.args.draft.now) (map view ops) in
+    let whole : Ran = model.run_from s ctx names (map uuid_of c.args.setting.now.context.now.fresh.now) (begun c.args.draft.now) (map view ops) in
     let rest : List Data = map view (drop (i + 1) ops) in
     let inside : i < length ops = search rules in
     let here : op ≡ get_or ops i op = search rules in
@@ -102,16 +102,16 @@ returns-in-Err-clause-ran c =
 
 pub returns-clause-ran : goal.returns-clause-ran
 returns-clause-ran c =
-    let s : Schema = c.args.schema.now in
-    let ctx : Context = context_of c.args.context.now in
-    let names : Names = c.args.names.now in
+    let s : Schema = c.args.setting.now.schema.now in
+    let ctx : Context = context_of c.args.setting.now.context.now in
+    let names : Names = c.args.setting.now.names.now in
     let ops : List Value = c.args.operations.now in
     let i = c.loop-place.place in
     let d : Draft = c.loop-place.draft in
     let taken : Names = c.loop-place.taken in
     let left : List Uuid = map uuid_of c.loop-place.left.now in
     let results : List Data = map view c.loop-place.results.items in
-    let whole : Ran = model.run_from s ctx names (map uuid_of c.args.context.now.fresh.now) (begun c.args.draft.now) (map view ops) in
+    let whole : Ran = model.run_from s ctx names (map uuid_of c.args.setting.now.context.now.fresh.now) (begun c.args.draft.now) (map view ops) in
     let past : length ops ≤ i = search rules in
     let done : map view (drop i ops) ≡ [] = ap (map view) (drop_all i ops past) in
     answers_finished c.loop-place.results d whole (finishes s ctx names whole results left taken d (subst (Going s ctx names whole results left taken d) done c.loop-place.invariant.going))

@@ -11,7 +11,7 @@ use Rattle.odb_ops.proofs.execution.run_all.Given as goal
 abbrev pub invariant-loop-place : goal.invariant-loop-place
 invariant-loop-place l = record {
   base : l.draft.old ≡ l.fn.draft.old;
-  typed : IsTyped l.schema l.draft.now;
-  going : Going l.schema (context_of l.context) l.names (model.run_from l.schema (context_of l.context) l.names (map uuid_of l.context.fresh.now) (begun l.fn.draft) (map view l.operations))
+  typed : IsTyped l.setting.schema.now l.draft.now;
+  going : Going l.setting.schema.now (context_of l.setting.context.now) l.setting.names.now (model.run_from l.setting.schema.now (context_of l.setting.context.now) l.setting.names.now (map uuid_of l.setting.context.now.fresh.now) (begun l.fn.draft) (map view l.operations))
       (map view l.results.items) (map uuid_of l.left) l.taken l.draft (map view (drop l.place l.operations));
 }

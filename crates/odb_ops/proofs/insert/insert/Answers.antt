@@ -11,9 +11,9 @@ use Rattle.odb_ops.proofs.insert.insert.Goals as goal
 
 pub returns-clause-row : goal.returns-clause-row
 returns-clause-row c =
-    let cs = c.args.schema.now.columns in
+    let cs = c.args.target.now.columns.now in
     let d = c.args.draft.now in
-    let t = c.args.table in
+    let t = c.args.target.now.table in
     let u = uuid_of c.args.uuid in
     let r = c.in_ok-row.row in
     let unused : model.has_used (begun d) t u ≡ false = search rules in

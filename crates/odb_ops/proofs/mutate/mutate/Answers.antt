@@ -16,18 +16,17 @@ use Rattle.odb_ops.proofs.mutate.mutate.Goals as goal
 
 pub returns-in-None-clause-rows : goal.returns-in-None-clause-rows
 returns-in-None-clause-rows c =
-    let cs = c.args.schema.now.columns in
+    let cs = c.args.target.now.columns.now in
     let ms = c.args.mutations.now in
     let cl = c.args.conditions.now in
-    let t = c.args.table in
+    let t = c.args.target.now.table in
     let d : Draft = c.args.draft.now in
     let new : Draft = c.mutate_all.new.draft in
     let us : List Uuid = map uuid_of c.in_ok-found.found.items in
     let found : Table = matching cl (table_at d.now t) in
     let keys : us ≡ finite.keys found = search rules in
     let slice : c.as_slice-uuids.result.now ≡ c.in_ok-found.found.items = search rules in
-    let columns : c.columns.result.now ≡ cs = search rules in
-    let answered : option_map error_of c.in_ok-mutate_all.field-0 ≡ first_fault (all_faults (mutated cs ms) t us d) = c.in_ok-mutate_all.ensures.fault ∙ (λ i. first_fault (all_faults (mutated (columns i) ms) t (map uuid_of (slice i)) d)) in
+    let answered : option_map error_of c.in_ok-mutate_all.field-0 ≡ first_fault (all_faults (mutated cs ms) t us d) = c.in_ok-mutate_all.ensures.fault ∙ (λ i. first_fault (all_faults (mutated cs ms) t (map uuid_of (slice i)) d)) in
     let none : None ≡ first_fault (all_faults (mutated cs ms) t us d) = ap (option_map error_of) (sym c.in-None.is) ∙ answered in
     let all : new ≡ all_rewritten (made cs ms) t us d = search rules in
     let many : view c.in_ok-count-in-None.field-0 ≡ count found = search rules in
@@ -37,17 +36,16 @@ returns-in-None-clause-rows c =
 
 pub returns-clause-rows : goal.returns-clause-rows
 returns-clause-rows c =
-    let cs = c.args.schema.now.columns in
+    let cs = c.args.target.now.columns.now in
     let ms = c.args.mutations.now in
     let cl = c.args.conditions.now in
-    let t = c.args.table in
+    let t = c.args.target.now.table in
     let d : Draft = c.args.draft.now in
     let us : List Uuid = map uuid_of c.in_ok-found.found.items in
     let found : Table = matching cl (table_at d.now t) in
     let keys : us ≡ finite.keys found = search rules in
     let slice : c.as_slice-uuids.result.now ≡ c.in_ok-found.found.items = search rules in
-    let columns : c.columns.result.now ≡ cs = search rules in
-    let answered : option_map error_of c.in_ok-mutate_all.field-0 ≡ first_fault (all_faults (mutated cs ms) t us d) = c.in_ok-mutate_all.ensures.fault ∙ (λ i. first_fault (all_faults (mutated (columns i) ms) t (map uuid_of (slice i)) d)) in
+    let answered : option_map error_of c.in_ok-mutate_all.field-0 ≡ first_fault (all_faults (mutated cs ms) t us d) = c.in_ok-mutate_all.ensures.fault ∙ (λ i. first_fault (all_faults (mutated cs ms) t (map uuid_of (slice i)) d)) in
     let some : Some (error_of c.in-Some.fault) ≡ first_fault (all_faults (mutated cs ms) t us d) = ap (option_map error_of) (sym c.in-Some.is) ∙ answered in
     let named : error.error_of c.error_in.result ≡ error_of c.in-Some.fault = search rules in
     let fault : first_fault (faults cs ms found) ≡ Some (error.error_of c.error_in.result) = ap first_fault (sym (faults_at_once cs t cl ms d)) ∙ ap (λ vs. first_fault (all_faults (mutated cs ms) t vs d)) (sym keys) ∙ sym some ∙ ap (λ e. Some e) (sym named) in

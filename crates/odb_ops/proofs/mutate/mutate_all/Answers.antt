@@ -15,9 +15,9 @@ use Rattle.odb_ops.proofs.mutate.mutate_all.Goals as goal
 
 pub loop-uuid-preserved : goal.loop-uuid-preserved
 loop-uuid-preserved c =
-    let cs = c.args.columns.now in
+    let cs = c.args.target.now.columns.now in
     let ms = c.args.mutations.now in
-    let t = c.args.table in
+    let t = c.args.target.now.table in
     let d : Draft = c.loop-uuid.draft in
     let new : Draft = c.mutate_one.new.draft in
     let us : List (List ℕ) = c.args.uuids.now in

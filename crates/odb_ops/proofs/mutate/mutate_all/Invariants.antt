@@ -10,7 +10,7 @@ use Rattle.odb_ops.proofs.mutate.mutate_all.Given as goal
 abbrev pub invariant-loop-uuid : goal.invariant-loop-uuid
 invariant-loop-uuid l = record {
   base : l.draft.old ≡ l.fn.draft.old;
-  fit : AllFit l.columns (table_at l.draft.now l.table);
-  rows : all_rewritten (λ r. result_ok (mutated l.columns l.mutations r)) l.table (map uuid_of (drop l.uuid-index l.uuids)) l.draft ≡ all_rewritten (λ r. result_ok (mutated l.columns l.mutations r)) l.table (map uuid_of l.uuids) l.fn.draft;
-  faults : first_fault (option_to_list (option_map error_of l.first) ++ all_faults (mutated l.columns l.mutations) l.table (map uuid_of (drop l.uuid-index l.uuids)) l.draft) ≡ first_fault (all_faults (mutated l.columns l.mutations) l.table (map uuid_of l.uuids) l.fn.draft);
+  fit : AllFit l.target.columns.now (table_at l.draft.now l.target.table);
+  rows : all_rewritten (λ r. result_ok (mutated l.target.columns.now l.mutations r)) l.target.table (map uuid_of (drop l.uuid-index l.uuids)) l.draft ≡ all_rewritten (λ r. result_ok (mutated l.target.columns.now l.mutations r)) l.target.table (map uuid_of l.uuids) l.fn.draft;
+  faults : first_fault (option_to_list (option_map error_of l.first) ++ all_faults (mutated l.target.columns.now l.mutations) l.target.table (map uuid_of (drop l.uuid-index l.uuids)) l.draft) ≡ first_fault (all_faults (mutated l.target.columns.now l.mutations) l.target.table (map uuid_of l.uuids) l.fn.draft);
 }

@@ -14,33 +14,33 @@ use Rattle.odb_ops.proofs.mutate.mutate_one.Goals as goal
 pub returns-in_default-clause-row : goal.returns-in_default-clause-row
 returns-in_default-clause-row c =
     let d = c.args.draft.now in
-    let t = c.args.table in
+    let t = c.args.target.now.table in
     let u = uuid_of c.args.uuid in
-    let f = λ (r : Row). result_ok (mutated c.args.columns.now c.args.mutations.now r) in
+    let f = λ (r : Row). result_ok (mutated c.args.target.now.columns.now c.args.mutations.now r) in
     let absent : None ≡ finite.get (table_at d.now t) u = search rules in
     none_rewritten f t u d (sym (ap (option_and_then f) absent))
 
 pub returns-in_ok-put-in-Ok-clause-row : goal.returns-in_ok-put-in-Ok-clause-row
 returns-in_ok-put-in-Ok-clause-row c =
     let d = c.args.draft.now in
-    let t = c.args.table in
+    let t = c.args.target.now.table in
     let u = uuid_of c.args.uuid in
-    let f = λ (r : Row). result_ok (mutated c.args.columns.now c.args.mutations.now r) in
+    let f = λ (r : Row). result_ok (mutated c.args.target.now.columns.now c.args.mutations.now r) in
     let old : Row = c.in-Some.row.now in
     let new : Row = c.in-Ok.row in
     let there : Some old ≡ finite.get (table_at d.now t) u = search rules in
     let kept : set.contains (removed_at d t) u ≡ false = search rules in
-    let made : mutated c.args.columns.now c.args.mutations.now old ≡ Ok new = search rules in
+    let made : mutated c.args.target.now.columns.now c.args.mutations.now old ≡ Ok new = search rules in
     let put : c.put.new.self ≡ with_row t u new d = search rules in
     put ∙ there_rewritten f t u d old new there kept (ap result_ok made)
 
 pub returns-in-Err-clause-row : goal.returns-in-Err-clause-row
 returns-in-Err-clause-row c =
     let d = c.args.draft.now in
-    let t = c.args.table in
+    let t = c.args.target.now.table in
     let u = uuid_of c.args.uuid in
-    let f = λ (r : Row). result_ok (mutated c.args.columns.now c.args.mutations.now r) in
+    let f = λ (r : Row). result_ok (mutated c.args.target.now.columns.now c.args.mutations.now r) in
     let old : Row = c.in-Some.row.now in
     let there : Some old ≡ finite.get (table_at d.now t) u = search rules in
-    let made : mutated c.args.columns.now c.args.mutations.now old ≡ Err (error_of c.in-Err.fault) = search rules in
+    let made : mutated c.args.target.now.columns.now c.args.mutations.now old ≡ Err (error_of c.in-Err.fault) = search rules in
     none_rewritten f t u d (sym (ap (option_and_then f) there) ∙ ap result_ok made)

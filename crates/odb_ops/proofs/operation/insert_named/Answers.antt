@@ -15,27 +15,27 @@ use Rattle.odb_ops.proofs.operation.insert_named.Goals as goal
 
 pub returns-clause-ran : goal.returns-clause-ran
 returns-clause-ran c = λ named h.
-    let s = c.args.schema.now in
+    let s = c.args.setting.now.schema.now in
     let d : Draft = c.args.draft.now in
     let new : Draft = c.insert.new.draft in
-    let t = c.args.table in
+    let t = c.args.new.table in
     let u = uuid_of c.args.uuid in
-    let given = c.args.row.items in
-    let name : Option (List ℕ) = option_map string_bytes c.args.name in
+    let given = c.args.new.row.items in
+    let name : Option (List ℕ) = option_map string_bytes c.args.new.name in
     let taken : Names = c.args.taken.now in
     let after : Names = c.claim.new.taken in
     let claim : claimed name u taken ≡ Ok after = search rules in
-    let columns : c.table_in.result.now.columns ≡ columns_at s t = search rules in
+    let columns : c.target.result.columns.now ≡ columns_at s t = c.target.ensures.columns in
     let free = claimed_free taken after named name u d h claim in
     let named_after = model.name_list name ++ named in
-    let reads = reads_renamed named_after (λ v. (new, view v)) c.insert.result (insert_row c.table_in.result.now.columns t u given d) c.insert.ensures.row in
-    let same : renamed named_after (insert_row c.table_in.result.now.columns t u given d) ≡ model.inserted s (naming named d) u t given name = ap (λ cs. renamed named_after (insert_row cs t u given d)) columns ∙ sym (inserted_is s d named u t given name free.0) in
+    let reads = reads_renamed named_after (λ v. (new, view v)) c.insert.result (insert_row c.target.result.columns.now c.target.result.table u given d) c.insert.ensures.row in
+    let same : renamed named_after (insert_row c.target.result.columns.now c.target.result.table u given d) ≡ model.inserted s (naming named d) u t given name = (λ i. renamed named_after (insert_row (columns i) (c.target.ensures.table i) u given d)) ∙ sym (inserted_is s d named u t given name free.0) in
     subst (λ (r : Result (model.Draft × Data) Error). Reads (λ v. (naming named_after new, view v)) c.insert.result r) same reads
 
 pub returns-clause-taken : goal.returns-clause-taken
 returns-clause-taken c =
     let u = uuid_of c.args.uuid in
-    let name : Option (List ℕ) = option_map string_bytes c.args.name in
+    let name : Option (List ℕ) = option_map string_bytes c.args.new.name in
     let taken : Names = c.args.taken.now in
     let after : Names = c.claim.new.taken in
     let claim : claimed name u taken ≡ Ok after = search rules in

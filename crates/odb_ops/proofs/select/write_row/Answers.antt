@@ -10,5 +10,5 @@ use Rattle.odb_schema.specs.Represented.Members.{onto}
 
 pub returns : goal.returns
 returns c =
-    let members : List model.Value → _ = λ vs. written c.args.schema.now.columns (map selector_of c.args.columns.now) vs in
+    let members : List model.Value → _ = λ vs. written c.args.declared.now (map selector_of c.args.columns.now) vs in
     c.from.ensures ∙ ap object (c.in_ok-put_all.ensures ∙ ap (λ es. onto (members c.values.result.now) (members_view es)) c.new-members.ensures.empty ∙ onto_nothing (members c.values.result.now) ∙ ap (λ vs. members_of (members vs)) c.values.ensures)

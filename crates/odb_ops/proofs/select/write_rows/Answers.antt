@@ -10,7 +10,7 @@ use Rattle.odb_ops.proofs.select.write_rows.Goals as goal
 
 pub loop-row-preserved : goal.loop-row-preserved
 loop-row-preserved c =
-    let write : Bor (List Value) → Data = λ row. write_cells c.args.schema.now.columns (map selector_of c.args.columns.now) row.now in
+    let write : Bor (List Value) → Data = λ row. write_cells c.args.declared.now (map selector_of c.args.columns.now) row.now in
     let row : Bor (List Value) = c.row-item.result in
     let items : c.push.new.self.items ≡ c.loop-row.items.items ++ c.in_ok-write_row.field-0 ∷ [] = c.in_ok-push.ensures.items in
     let written : view c.in_ok-write_row.field-0 ≡ write row = c.in_ok-write_row.ensures in

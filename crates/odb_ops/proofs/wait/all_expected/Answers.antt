@@ -9,5 +9,5 @@ use Rattle.odb_ops.proofs.wait.all_expected.Goals as goal
 pub returns : goal.returns
 returns c =
     c.loop-row.invariant
-    ∙ ap (map (λ row. expected c.args.schema.now.columns (map selector_of c.args.columns.now) (cells_of row))) (take_all c.loop-row.row-index c.args.rows.now c.loop-row-test.false)
-    ∙ through (expected c.args.schema.now.columns (map selector_of c.args.columns.now)) cells_of c.args.rows.now
+    ∙ ap (map (λ row. expected c.args.declared.now (map selector_of c.args.columns.now) (cells_of row))) (take_all c.loop-row.row-index c.args.rows.now c.loop-row-test.false)
+    ∙ through (expected c.args.declared.now (map selector_of c.args.columns.now)) cells_of c.args.rows.now

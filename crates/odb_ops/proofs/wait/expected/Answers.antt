@@ -9,5 +9,5 @@ use Rattle.odb_ops.proofs.wait.expected.Goals as goal
 pub returns : goal.returns
 returns c =
     c.new.ensures ∙ c.loop-column.invariant
-    ∙ ap (map (λ k. value_in c.args.schema.now.columns (map cell_of c.args.given.now) (selector_of k))) (take_all c.loop-column.column-index c.args.columns.now c.loop-column-test.false)
-    ∙ through (value_in c.args.schema.now.columns (map cell_of c.args.given.now)) selector_of c.args.columns.now
+    ∙ ap (map (λ k. value_in c.args.declared.now (map cell_of c.args.given.now) (selector_of k))) (take_all c.loop-column.column-index c.args.columns.now c.loop-column-test.false)
+    ∙ through (value_in c.args.declared.now (map cell_of c.args.given.now)) selector_of c.args.columns.now
