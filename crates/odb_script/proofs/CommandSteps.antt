@@ -1,8 +1,8 @@
 -- Parts of commands, one after the other.
-use Rattle.std.proofs.Common.{◌≡◌, ℕ, List, [], ◌∷◌, ◌++◌, ap, sym, ◌∙◌, append_assoc, append-nil}
+use Rattle.std.proofs.Common.{◌≡◌, ℕ, List, [], ◌∷◌, ◌++◌, sym, ◌∙◌, append_assoc, append-nil}
 use Rattle.serde_json.specs.Data.{Data}
 use Rattle.odb_service.specs.Service.{Service}
-use Rattle.odb_script.specs.Script.{Script, drain_all, drain_each, deliver_all, dispatch}
+use Rattle.odb_script.specs.Script.{Script, drain_all, deliver_all, dispatch}
 use Rattle.odb_script.specs.Represented.Steps.{Does}
 
 module _ (h : Service) (n : List ℕ) (s : ℕ) where
@@ -18,10 +18,3 @@ module _ (h : Service) (n : List ℕ) (s : ℕ) where
 
   pub delivers_none : (p : Script) (t : List ℕ) → delivered_from [] p t ≡ (p, t)
   delivers_none p t = λ i. let r : Script × List ℕ = (p, append-nil t i) in r
-
--- a part and then all sessions drained
-pub dries : (h : Service) (f : Script → Script × List ℕ) (p q r : Script) (t u v : List ℕ) → Does f p t q u → drain_all h (q, u) ≡ (r, v) → Does (λ x. drain_all h (f x)) p t r v
-dries h f p q r t u v does drained =
-    let d = drain_each h (f p).0.sessions (f p).0 in
-    let all : (let a : Script × List ℕ = (d.0, (t ++ (f p).1) ++ d.1) in a) ≡ (r, v) = (λ i. drain_all h (does.0 i, does.1 i)) ∙ drained in
-    (ap (λ (a : Script × List ℕ). a.0) all, sym (append_assoc t (f p).1 d.1) ∙ ap (λ (a : Script × List ℕ). a.1) all)

@@ -1,18 +1,17 @@
--- A session is held, or drained and no longer held; the moment changes.
+-- A session is held, or drained and no longer held.
 use Rattle.std.proofs.Common.{◌≡◌, ℕ, Bool, List, [], ◌++◌, None, Some, codes, false, true, slice_index_or, slice_set, ap, sym, ◌∙◌}
 use Rattle.std.proofs.lemmas.List.{append-nil}
 use Rattle.odb_atoms.specs.FinMap.{get}
 use Rattle.odb_service.specs.Server.{Server, served_by}
 use Rattle.odb_service.specs.Service.{Service}
 use Rattle.odb_schema.specs.Schema.{Schema}
-use Rattle.odb_script.specs.Script.{ScriptSession, Script, at_moment, at_name, drain_all, drain_one, hold_named, line_of, perform, set_held, take_named, tick_to, with_held}
+use Rattle.odb_script.specs.Script.{ScriptSession, Script, at_name, drain_one, hold_named, line_of, set_held, take_named, with_held}
 use Rattle.odb_script.specs.Represented.Draining.{drained_session}
 use Rattle.odb_script.specs.Represented.Names.{AreApart}
 use Rattle.odb_script.specs.Represented.Steps.{Does}
 use Rattle.odb_script.proofs.DrainAll.{one_dry, one_same, server_of}
 use Rattle.odb_script.proofs.OpenedSessions.{IsPlaceOf, acts, gone_away, standing}
 use Rattle.odb_script.proofs.NamePlaces.{at_place}
-use Rattle.odb_script.proofs.CommandSteps.{dries}
 
 module _ (n : List ℕ) (p : Script) (k : ℕ) (x : ScriptSession) (is : IsPlaceOf n p.sessions (Some k)) (at : x ≡ slice_index_or p.sessions k x) (apart : AreApart p.sessions) where
   -- whether the session at the place of the name is held
@@ -52,7 +51,3 @@ holds_none h n p t u none text = gone_away h n (λ y q. (set_held true n q, []))
 
 pub takes_none : (h : Service) (n : List ℕ) (p : Script) (t u : List ℕ) → IsPlaceOf n p.sessions None → u ≡ t ++ line_of n (codes "!gone") → Does (take_named h n) p t p u
 takes_none h n p t u none text = gone_away h n (λ y q. let d = drain_one h y (get q.world.sessions y.session) q in (set_held false n d.0, d.1)) p t u none text
-
--- the moment, and then all sessions drained
-pub ticks : (h : Service) (now : ℕ) (p q r : Script) (t u : List ℕ) → q ≡ at_moment h now p → drain_all h (q, t) ≡ (r, u) → Does (perform h (tick_to now)) p t r u
-ticks h now p q r t u set drained = dries h (λ x. (at_moment h now x, [])) p q r t t u (sym set, append-nil t) drained

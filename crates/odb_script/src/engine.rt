@@ -92,11 +92,26 @@ impl Engine {
         let mut text = Vec::new(self.alloc);
         match command {
             Command::Piece { name, bytes } => self.receive(name, bytes, &mut text)?,
-            Command::Open(name) => self.open(name, &mut text)?,
-            Command::Close(name) => self.close(name, &mut text)?,
-            Command::Hold(name) => self.hold(name, &mut text)?,
-            Command::Take(name) => self.take(name, &mut text)?,
-            Command::Tick(moment) => self.tick(moment, &mut text)?,
+            Command::Open(name) => {
+                self.open_named(name, &mut text)?;
+                self.drain_all(&mut text)?;
+            }
+            Command::Close(name) => {
+                self.close_named(name, &mut text)?;
+                self.drain_all(&mut text)?;
+            }
+            Command::Hold(name) => {
+                self.hold_named(name, &mut text)?;
+                self.drain_all(&mut text)?;
+            }
+            Command::Take(name) => {
+                self.take_named(name, &mut text)?;
+                self.drain_all(&mut text)?;
+            }
+            Command::Tick(moment) => {
+                self.set_moment(moment)?;
+                self.drain_all(&mut text)?;
+            }
         }
         Ok(text)
     }
@@ -107,15 +122,6 @@ impl Engine {
         ensures schema { OnOk result (self.new.schema ≡ self.old.schema) }
     {
         drain_all(&mut self.core, self.sessions.as_slice(), text)
-    }
-
-    fn open(&mut self, name: &[u8], text: &mut Vec<u8>) -> Result<(), AllocError>
-        ensures done { OnOk result (Performs (λ h. perform h (open_session name.now))
-            self.old text.old.items self.new text.new.items) }
-        ensures schema { OnOk result (self.new.schema ≡ self.old.schema) }
-    {
-        self.open_named(name, text)?;
-        self.drain_all(text)
     }
 
     fn open_named(&mut self, name: &[u8], text: &mut Vec<u8>) -> Result<(), AllocError>
@@ -143,15 +149,6 @@ impl Engine {
         }
     }
 
-    fn close(&mut self, name: &[u8], text: &mut Vec<u8>) -> Result<(), AllocError>
-        ensures done { OnOk result (Performs (λ h. perform h (close_session name.now))
-            self.old text.old.items self.new text.new.items) }
-        ensures schema { OnOk result (self.new.schema ≡ self.old.schema) }
-    {
-        self.close_named(name, text)?;
-        self.drain_all(text)
-    }
-
     fn close_named(&mut self, name: &[u8], text: &mut Vec<u8>) -> Result<(), AllocError>
         ensures done { OnOk result (Performs (λ h. close_named h name.now)
             self.old text.old.items self.new text.new.items) }
@@ -175,15 +172,6 @@ impl Engine {
         Ok(())
     }
 
-    fn hold(&mut self, name: &[u8], text: &mut Vec<u8>) -> Result<(), AllocError>
-        ensures done { OnOk result (Performs (λ h. perform h (hold name.now))
-            self.old text.old.items self.new text.new.items) }
-        ensures schema { OnOk result (self.new.schema ≡ self.old.schema) }
-    {
-        self.hold_named(name, text)?;
-        self.drain_all(text)
-    }
-
     fn hold_named(&mut self, name: &[u8], text: &mut Vec<u8>) -> Result<(), AllocError>
         ensures done { OnOk result (Performs (λ h. hold_named h name.now)
             self.old text.old.items self.new text.new.items) }
@@ -194,15 +182,6 @@ impl Engine {
         };
         self.sessions[place].set_held(true);
         Ok(())
-    }
-
-    fn take(&mut self, name: &[u8], text: &mut Vec<u8>) -> Result<(), AllocError>
-        ensures done { OnOk result (Performs (λ h. perform h (drain name.now))
-            self.old text.old.items self.new text.new.items) }
-        ensures schema { OnOk result (self.new.schema ≡ self.old.schema) }
-    {
-        self.take_named(name, text)?;
-        self.drain_all(text)
     }
 
     fn take_named(&mut self, name: &[u8], text: &mut Vec<u8>) -> Result<(), AllocError>
@@ -217,15 +196,6 @@ impl Engine {
         drain(&mut self.core, session, name, text)?;
         self.sessions[place].set_held(false);
         Ok(())
-    }
-
-    fn tick(&mut self, moment: u64, text: &mut Vec<u8>) -> Result<(), AllocError>
-        ensures done { OnOk result (Performs (λ h. perform h (tick_to moment))
-            self.old text.old.items self.new text.new.items) }
-        ensures schema { OnOk result (self.new.schema ≡ self.old.schema) }
-    {
-        self.set_moment(moment)?;
-        self.drain_all(text)
     }
 
     fn set_moment(&mut self, moment: u64) -> Result<(), AllocError>
