@@ -1,5 +1,6 @@
 mod Absorbed
 mod Contents
+mod Counts
 mod Histories
 mod Keeps
 mod Numbers

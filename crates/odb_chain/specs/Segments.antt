@@ -1,10 +1,10 @@
 -- The changes between neighbouring contents that are kept, and what undoing them gives.
-use Rattle.std.specs.Prelude.{◌≡◌, ℕ, nat_lt, cond, List, [], ◌∷◌, Option, Some, None}
+use Rattle.std.specs.Prelude.{◌≡◌, ℕ, nat_lt, cond, filter, length, List, [], ◌∷◌, Option, Some, None}
 use Rattle.odb_atoms.specs.FinMap as map
 use Rattle.odb_atoms.specs.Row.{Row}
 use Rattle.odb_tables.specs.Change.{Changes, change, changed_row, undone}
 use Rattle.odb_tables.specs.Database.{Table, table_at}
-use Rattle.odb_chain.specs.Chains.{Chains, Standing, live_at, standing}
+use Rattle.odb_chain.specs.Chains.{Chains, Standing, live_at, standing, version}
 
 -- what comes after each place up to the next one, or up to now, where the table is t now
 abbrev pub segments_of : List (ℕ × Standing) → Table → List (ℕ × Changes)
@@ -14,6 +14,14 @@ segments_of (e ∷ f ∷ es) t = (e.0, change e.1.content f.1.content) ∷ segme
 
 abbrev pub segments : Chains → ℕ → List (ℕ × Changes)
 segments k t = segments_of (map.entries_of (live_at k t)) (table_at k.db t)
+
+-- how many of them begin before now; one that begins now has nothing in it
+abbrev pub segments_held : Chains → ℕ → ℕ
+segments_held k t = length (filter (λ s. nat_lt s.0 (version k t)) (segments k t))
+
+-- how many contents marks stand for
+abbrev pub contents_held : Chains → ℕ → ℕ
+contents_held k t = map.len (live_at k t)
 
 -- a content with the segments from a place on undone, the last one first
 abbrev pub undone_to : ℕ → List (ℕ × Changes) → Table → Table

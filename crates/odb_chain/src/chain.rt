@@ -92,6 +92,13 @@ impl Chain {
         }
     }
 
+    /// How many of them are before the version.
+    pub(crate) fn earlier(&self) -> usize
+        ensures { result ≡ length self.now.live }
+    {
+        self.live.len()
+    }
+
     /// One mark more for what the table is now.
     pub(crate) fn mark(&mut self)
         requires { self.old.fresh + 1 < 2 ^ 64 }

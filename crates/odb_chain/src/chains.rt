@@ -1,9 +1,10 @@
 //! A database with its past.
-ghost use Rattle.std.specs.Prelude.{◌≡◌, ℕ, map, ◌+◌, ◌-◌, ◌^◌, ◌<◌, nat_eq, true, IfErr, IfOk, OnErr, OnOk, length};
+ghost use Rattle.std.specs.Prelude.{◌≡◌, ℕ, map, ◌+◌, ◌-◌, ◌^◌, ◌<◌, ◌≤◌, nat_eq, true, IfErr, IfOk, OnErr, OnOk, length};
 ghost use Rattle.odb_atoms.specs.FinMap as finite;
 ghost use Rattle.odb_chain.specs.Chains as model;
 ghost use Rattle.odb_chain.specs.Chains.{IsLive, IsNow, absorbed, chains_of, count, live_at, mark_of, marked, released, version};
 ghost use Rattle.odb_chain.specs.Represented.Chain.{IsCopyOf, IsReadyFor, IsStepped, StandsAsBefore, chain_at, change_at, is_moved, is_roomy, moved_at};
+ghost use Rattle.odb_chain.specs.Segments.{contents_held, segments_held};
 ghost use Rattle.odb_tables.specs.Change.{change};
 ghost use Rattle.odb_tables.specs.Database.{table_at};
 ghost use Rattle.odb_tables.specs.Installing.{IsChangeOf};
@@ -74,6 +75,24 @@ impl Chains {
         ensures content { result ≡ true → mark.now.content ≡ table_at self.now.db mark.now.table }
     {
         mark.place == self.chains[mark.table.place()].version()
+    }
+
+    /// How many contents of the table marks stand for; marks between which it didn't change count once. O(1).
+    pub fn distinct_marks(&self, table: TableId) -> usize
+        requires { table < length self.now.db }
+        ensures { result ≡ contents_held self.now table }
+    {
+        self.chains[table.place()].len()
+    }
+
+    /// How many segments of the table are kept: the changes from one content for which marks stand to the
+    /// next one, or to now. There are never more of them than distinct marks. O(1).
+    pub fn segments(&self, table: TableId) -> usize
+        requires { table < length self.now.db }
+        ensures count { result ≡ segments_held self.now table }
+        ensures few { result ≤ contents_held self.now table }
+    {
+        self.chains[table.place()].earlier()
     }
 
     /// Makes the whole change, or none; all that marks stand for stays. Where memory is refused nothing
