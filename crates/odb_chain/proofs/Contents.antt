@@ -75,7 +75,7 @@ dropped q p r (Some es) le = by (reaches q es) refl
     by true is = refl
     by false is = sym (beyond p r es (unreached_after q p es le is))
 
-get-since : (q : ℕ) (rows : Rows) (u : Uuid) → finite.get (since_place q rows) u ≡ option_and_then (where_reached q) (finite.get rows u)
+pub get-since : (q : ℕ) (rows : Rows) (u : Uuid) → finite.get (since_place q rows) u ≡ option_and_then (where_reached q) (finite.get rows u)
 get-since q rows u = get-map_entries uuid_cmp_total uuid_cmp-IsAntisymmetric (λ k h. where_reached q h) rows u
 
 pub since_content : (q p : ℕ) (t : Table) (rows : Rows) → nat_le q p ≡ true → content_at p t (since_place q rows) ≡ content_at p t rows

@@ -3,6 +3,7 @@ mod Contents
 mod Counts
 mod Histories
 mod Keeps
+mod Noted
 mod Numbers
 mod Places
 mod Since

@@ -1,25 +1,21 @@
 -- The change of a table since a place, from what its rows were.
-use Rattle.std.proofs.Common.{◌≡◌, ℕ, Bool, true, false, cond, List, [], ◌∷◌, ◌++◌, Bor, map, option_to_list, Option, Some, None, option_map, option_and_then, refl, sym, ap, subst, ◌∙◌, filter_map, ◌&&◌}
+use Rattle.std.proofs.Common.{◌≡◌, Bool, true, false, cond, List, [], ◌∷◌, ◌++◌, map, option_to_list, Option, Some, None, option_map, option_and_then, refl, sym, ap, subst, ◌∙◌, filter_map, ◌&&◌}
 use Rattle.std.specs.Cmp.{unsigned_Decides}
 use Rattle.std.specs.List.{AllByRecursion, IsDistinct, cons_option}
 use Rattle.std.specs.FinMap.Entries.{find}
 use Rattle.std.specs.Map.{keys_of}
-use Rattle.std.specs.Map.Iter.{deref_pair}
 use Rattle.std.specs.Ordering.{eq_by_cmp}
 use Rattle.std.proofs.lemmas.Map.Keys.{IsDistinct-cons, IsDistinct-head, IsDistinct-tail}
-use Rattle.odb_atoms.specs.FinMap as finite
 use Rattle.odb_atoms.specs.Row.{Row}
 use Rattle.odb_atoms.specs.Uuid.{Uuid, uuid_cmp}
-use Rattle.odb_atoms.proofs.Atoms.{uuid_cmp_total, uuid_cmp-IsAntisymmetric}
+use Rattle.odb_atoms.proofs.Atoms.{uuid_cmp-IsAntisymmetric}
 use Rattle.odb_atoms.proofs.Equal.{same_values-itself}
-use Rattle.odb_atoms.proofs.FinMaps.{get-combine, same_key, same_map}
-use Rattle.odb_tables.specs.Change.{change, changed_row}
-use Rattle.odb_tables.specs.Database.{Table}
+use Rattle.odb_atoms.proofs.FinMaps.{same_key}
+use Rattle.odb_tables.specs.Change.{changed_row}
 use Rattle.odb_tables.specs.Represented.Keyed.{shown}
 use Rattle.odb_tables.specs.Represented.TableChange.{AreDistinct}
-use Rattle.odb_tables.proofs.KeyedMaps.{get-from_entries, keys-shown, none_behind}
-use Rattle.odb_chain.specs.Kept.{History, Rows, at, at_place, content_at}
-use Rattle.odb_chain.proofs.Contents.{get-content}
+use Rattle.odb_tables.proofs.KeyedMaps.{keys-shown, none_behind}
+use Rattle.odb_chain.specs.Kept.{History}
 
 abbrev pub Sides : Type 0
 Sides = Option Row × Option Row
@@ -28,7 +24,7 @@ abbrev pub Entry : Type 0
 Entry = Uuid × Sides
 
 -- a row that is the same is no change
-unchanged : (r : Option Row) → changed_row r r ≡ None
+pub unchanged : (r : Option Row) → changed_row r r ≡ None
 unchanged None = refl
 unchanged (Some p) =
     ap (λ b. cond {A = Option Sides} b None (Some (Some p, Some p)))
@@ -92,35 +88,5 @@ module _ {X : Type 0} (g : Uuid → X → Option Sides) where
       by None cs r a = r
       by (Some d) cs r a = IsDistinct-cons (eq_by_cmp uuid_cmp) e.0 (keys_of cs) a r
 
--- an entry of the code's map, as an iterator yields it
-abbrev pub kept_entry : Bor Uuid × Bor History → Uuid × History
-kept_entry e = (e.0.now, e.1.now)
-
-same_entries : (zs : List (Bor Uuid × Bor History)) → map kept_entry zs ≡ map (shown (λ h. h)) (map deref_pair zs)
-same_entries [] = refl
-same_entries (z ∷ zs) = ap (λ xs. kept_entry z ∷ xs) (same_entries zs)
-
--- what an iterator yielded, as the entries that it goes over
-pub entries-are : (ys : List (Bor Uuid × Bor History)) (es : List (Uuid × History)) → map deref_pair ys ≡ es → map kept_entry ys ≡ map (shown (λ h. h)) es
-entries-are ys es e = same_entries ys ∙ ap (map (shown (λ h. h))) e
-
 pub distinct-kept : (es : List (Uuid × History)) → IsDistinct (eq_by_cmp uuid_cmp) (keys_of es) → IsDistinct (eq_by_cmp uuid_cmp) (keys_of (map (shown (λ h. h)) es))
 distinct-kept es h = subst (IsDistinct (eq_by_cmp uuid_cmp)) (keys-shown (λ h. h) es) h
-
--- ---- since a place
-
--- what a row of which this is kept became since the place, where the table is t now
-abbrev pub row_since : ℕ → Table → Uuid → History → Option Sides
-row_since p t u h = changed_row (at p (finite.get t u) h) (finite.get t u)
-
-pub since-is : (p : ℕ) (t : Table) (es : List (Uuid × History)) → IsDistinct (eq_by_cmp uuid_cmp) (keys_of es) → finite.from_entries {R = uuid_cmp} (changes_of (row_since p t) es) ≡ change (content_at p t (finite.from_entries es)) t
-since-is p t es h =
-    let rows : Rows = finite.from_entries {R = uuid_cmp} es in
-    same_map uuid_cmp_total uuid_cmp-IsAntisymmetric _ _
-    (λ q. get-from_entries (changes_of (row_since p t) es) q ∙ find-changes (row_since p t) es q h ∙ ap (option_and_then (row_since p t q)) (sym (get-from_entries es q))
-    ∙ by q (finite.get rows q) ∙ ap (λ r. changed_row r (finite.get t q)) (sym (get-content p t rows q))
-    ∙ sym (get-combine uuid_cmp_total uuid_cmp-IsAntisymmetric changed_row refl (content_at p t rows) t q))
-  where
-    by : (q : Uuid) (o : Option History) → option_and_then (row_since p t q) o ≡ changed_row (at_place p (finite.get t q) o) (finite.get t q)
-    by q None = sym (unchanged (finite.get t q))
-    by q (Some hs) = refl

@@ -160,7 +160,8 @@ impl Chains {
     }
 
     /// What leads from the content for which the mark stands to what its table is now: each row
-    /// that differs, once. O(rows changed since the earliest mark).
+    /// that differs, once. O(k log k) for the k rows changed since, each counted as often as it changed for
+    /// the first time since a mark was made.
     pub fn since(&self, mark: &Mark) -> Result<TableChange, AllocError>
         requires { IsLive self.now mark.now }
         ensures { IfOk result (λ made. made ≡ change mark.now.content (table_at self.now.db mark.now.table)) }

@@ -3,6 +3,7 @@ ghost use Rattle.std.specs.Prelude.{◌≡◌, ℕ, true, false, [], ◌∷◌, 
 ghost use Rattle.std.specs.Option.{option_copied};
 ghost use Rattle.odb_atoms.specs.Row as model_row;
 ghost use Rattle.odb_chain.specs.Kept.{at, reaches};
+ghost use Rattle.odb_chain.specs.Represented.Log.{passes};
 ghost use Rattle.odb_chain.specs.Represented.Places.{Past, cleaned, is_kept, is_label};
 ghost use Rattle.odb_tables.specs.Represented.Overlay.{row_of};
 
@@ -96,6 +97,13 @@ impl History {
         self.olds.iter().any(|old| place <= old.place)
     }
 
+    /// Whether it is kept what the row was up to a later place.
+    pub(crate) fn passes(&self, place: u64) -> bool
+        ensures { result ≡ passes place self.now }
+    {
+        self.olds.iter().any(|old| place < old.place)
+    }
+
     /// What the row was at the place, where it is this now.
     pub(crate) fn row_at<'a>(
         &'a self,
@@ -146,7 +154,7 @@ impl History {
 }
 
 /// Twice the number, or about so.
-fn twice(number: usize) -> usize {
+pub(crate) fn twice(number: usize) -> usize {
     if number < usize::MAX / 4 {
         number * 2 + 2
     } else {

@@ -1,22 +1,27 @@
 //! What the rows of one table were.
 ghost use Rattle.std.specs.Prelude.{◌≡◌, ◌++◌, [], ◌∷◌, true, false, is_some, option_to_list, IfOk, OnErr, OnOk};
+ghost use Rattle.std.specs.BTreeSet.{contains};
 ghost use Rattle.std.specs.Option.{option_copied};
 ghost use Rattle.std.specs.Ordering.{eq_by_cmp};
 ghost use Rattle.odb_atoms.specs.FinMap as finite;
 ghost use Rattle.odb_atoms.specs.Uuid as model_uuid;
 ghost use Rattle.odb_atoms.specs.Uuid.{uuid_cmp};
-ghost use Rattle.odb_chain.specs.Kept.{content_at, is_reached};
+ghost use Rattle.odb_chain.specs.Kept.{at_place, content_at, is_reached};
 ghost use Rattle.odb_chain.specs.Represented.Chain.{since_place};
 ghost use Rattle.odb_chain.specs.Represented.Places.{AsBefore};
 ghost use Rattle.odb_tables.specs.Change.{change};
+ghost use Rattle.odb_tables.specs.Represented.Keyed.{keyed};
 ghost use Rattle.odb_tables.specs.Represented.Overlay.{row_of};
+ghost use Rattle.odb_tables.specs.Represented.RowChange.{change_at};
 
 use crate::history::{History, Old, share};
 use crate::live::Live;
+use crate::log::Log;
 use indexmap::IndexMap;
 use odb_atoms::Row;
 use odb_tables::{Key, RowChange, Table, TableChange};
 use std::alloc::{AllocError, Global};
+use std::collections::BTreeSet;
 use std::hash::RandomState;
 use std::marker::Model;
 use std::sync::Arc;
@@ -26,11 +31,13 @@ use std::sync::Arc;
 pub(crate) struct Kept {
     alloc: Global,
     rows: IndexMap<Key, History, RandomState>,
+    log: Log,
 }
 
 impl Model for Kept {
     ghost use Rattle.odb_chain.specs.Kept as model;
     ghost use Rattle.odb_chain.specs.Represented.Codes.{rows_code};
+    ghost use Rattle.odb_chain.specs.Represented.Log.{AreNoted};
     ghost use Rattle.odb_tables.specs.Represented.Keyed.{keyed};
 
     ghost Value = { model.Rows };
@@ -38,6 +45,8 @@ impl Model for Kept {
     ghost coded = { rows_code };
 
     ghost view = { λ k. keyed (λ h. h) k.rows };
+
+    ghost invariant = { λ k. AreNoted (keyed (λ h. h) k.rows) k.log };
 }
 
 impl Kept {
@@ -48,6 +57,7 @@ impl Kept {
         Kept {
             alloc,
             rows: IndexMap::with_hasher(alloc, hashing),
+            log: Log::new(alloc),
         }
     }
 
@@ -88,44 +98,28 @@ impl Kept {
         ensures row { AsBefore old.0 live.now old.1 (finite.get self.old key) (finite.get self.new key) }
         ensures others { (u : model_uuid.Uuid) → eq_by_cmp uuid_cmp u key ≡ false → finite.get self.new u ≡ finite.get self.old u }
     {
+        self.log.tidy(&self.rows);
+        self.log.note(old.place, key)?;
         let Some(history) = self.rows.get_mut(&key) else {
-            return self.start(key, old);
+            return start(self.alloc, &mut self.rows, key, old);
         };
         history.push(old, live)
-    }
-
-    /// Adds what a row of which nothing is kept is now.
-    fn start(&mut self, key: Key, old: Old) -> Result<(), AllocError>
-        ensures ok { OnOk result (self.new ≡ finite.insert self.old key (old ∷ [])) }
-        ensures err { OnErr result (self.new ≡ self.old) }
-    {
-        let history = History::of(self.alloc, old)?;
-        self.put(key, history)
-    }
-
-    fn put(&mut self, key: Key, history: History) -> Result<(), AllocError>
-        ensures ok { OnOk result (self.new ≡ finite.insert self.old key history) }
-        ensures err { OnErr result (self.new ≡ self.old) }
-    {
-        match self.rows.insert(key, history) {
-            Ok(_) => Ok(()),
-            Err(_) => Err(AllocError),
-        }
     }
 
     /// The same once more, with the rows shared. O(old rows).
     pub(crate) fn try_copy(&self, hashing: RandomState) -> Result<Kept, AllocError>
         ensures { IfOk result (λ copy. copy ≡ self.now) }
     {
-        let rows = IndexMap::with_capacity_and_hasher(self.alloc, self.rows.len(), hashing)?;
-        let mut copy = Kept {
+        let mut rows = IndexMap::with_capacity_and_hasher(self.alloc, self.rows.len(), hashing)?;
+        for (key, history) in self.rows.iter() {
+            put(&mut rows, *key, history.try_copy(self.alloc)?)?;
+        }
+        let log = self.log.try_copy(self.alloc)?;
+        Ok(Kept {
             alloc: self.alloc,
             rows,
-        };
-        for (key, history) in self.rows.iter() {
-            copy.put(*key, history.try_copy(self.alloc)?)?;
-        }
-        Ok(copy)
+            log,
+        })
     }
 
     /// Keeps what the rows that the change names are now, up to the newest place. Where memory is refused,
@@ -146,17 +140,55 @@ impl Kept {
         Ok(())
     }
 
-    /// What leads from the table at the place to the table now. O(rows kept).
+    /// What leads from the table at the place to the table now. O(k log k) for the k rows that changed since,
+    /// each as often as it was kept since.
     pub(crate) fn since(&self, table: &Table, place: u64) -> Result<TableChange, AllocError>
         ensures { IfOk result (λ made. made ≡ change (content_at place table.now self.now) table.now) }
     {
-        let mut rows = Vec::with_capacity(self.alloc, self.rows.len())?;
-        for (key, history) in &self.rows {
-            let now = table.share(*key);
-            let change = RowChange::between(*key, history.row_at(place, now), now)?;
-            add(&mut rows, change)?;
+        let keys = self.log.since(self.alloc, place)?;
+        self.changes(table, place, &keys)
+    }
+
+    /// The same, where each row that changed since is one of these.
+    fn changes(
+        &self,
+        table: &Table,
+        place: u64,
+        keys: &BTreeSet<Key>,
+    ) -> Result<TableChange, AllocError>
+        requires { (u : model_uuid.Uuid) → contains uuid_cmp keys.now u ≡ false → is_reached place (finite.get self.now u) ≡ false }
+        ensures { IfOk result (λ made. made ≡ change (content_at place table.now self.now) table.now) }
+    {
+        let mut rows = Vec::with_capacity(self.alloc, keys.len())?;
+        for key in keys.iter() {
+            self.add_change(&mut rows, *key, table, place)?;
         }
         Ok(TableChange::new(rows))
+    }
+
+    /// Adds what the row became since the place, if it differs.
+    fn add_change(
+        &self,
+        rows: &mut Vec<RowChange>,
+        key: Key,
+        table: &Table,
+        place: u64,
+    ) -> Result<(), AllocError>
+        ensures { OnOk result (rows.new.items ≡ rows.old.items ++ option_to_list (change_at key (at_place place (finite.get table.now key) (finite.get self.now key)) (finite.get table.now key))) }
+    {
+        let now = table.share(key);
+        let change = RowChange::between(key, self.row_at(key, place, now), now)?;
+        add(rows, change)
+    }
+
+    /// What the row was at the place, where it is this now.
+    fn row_at<'a>(&'a self, key: Key, place: u64, now: Option<&'a Arc<Row>>) -> Option<&'a Arc<Row>>
+        ensures { row_of (option_copied result) ≡ at_place place (row_of (option_copied now.entry)) (finite.get self.now key) }
+    {
+        match self.rows.get(&key) {
+            Some(history) => history.row_at(place, now),
+            None => now,
+        }
     }
 
     /// Leaves out the rows that didn't change since the place. O(rows kept).
@@ -174,6 +206,7 @@ impl Kept {
         ensures { self.new ≡ finite.empty }
     {
         self.rows.clear();
+        self.log.clear();
     }
 }
 
@@ -183,5 +216,33 @@ fn add(rows: &mut Vec<RowChange>, change: Option<RowChange>) -> Result<(), Alloc
     match change {
         Some(change) => Ok(rows.push(change)?),
         None => Ok(()),
+    }
+}
+
+/// Adds what a row of which nothing is kept is now.
+fn start(
+    alloc: Global,
+    rows: &mut IndexMap<Key, History, RandomState>,
+    key: Key,
+    old: Old,
+) -> Result<(), AllocError>
+    ensures ok { OnOk result (keyed (λ h. h) rows.new ≡ finite.insert (keyed (λ h. h) rows.old) key (old ∷ [])) }
+    ensures err { OnErr result (keyed (λ h. h) rows.new ≡ keyed (λ h. h) rows.old) }
+{
+    let history = History::of(alloc, old)?;
+    put(rows, key, history)
+}
+
+fn put(
+    rows: &mut IndexMap<Key, History, RandomState>,
+    key: Key,
+    history: History,
+) -> Result<(), AllocError>
+    ensures ok { OnOk result (keyed (λ h. h) rows.new ≡ finite.insert (keyed (λ h. h) rows.old) key history) }
+    ensures err { OnErr result (keyed (λ h. h) rows.new ≡ keyed (λ h. h) rows.old) }
+{
+    match rows.insert(key, history) {
+        Ok(_) => Ok(()),
+        Err(_) => Err(AllocError),
     }
 }

@@ -12,6 +12,7 @@ mod content;
 mod history;
 mod kept;
 mod live;
+mod log;
 mod mark;
 
 pub use chains::Chains;

@@ -3,7 +3,7 @@ use Rattle.std.specs.Prelude.{ℕ, Bool, List, Option, refl}
 use Rattle.std.specs.Coded.{Coded, code_by, coded×, coded_ℕ, coded_bool, coded_list, coded_option}
 use Rattle.odb_atoms.specs.FinMap as map
 use Rattle.odb_atoms.specs.Row.{Row, row_code}
-use Rattle.odb_atoms.specs.Uuid.{uuid_code}
+use Rattle.odb_atoms.specs.Uuid.{Uuid, uuid_code}
 use Rattle.odb_tables.specs.Database.{Db, Table, db_code, table_code}
 use Rattle.odb_chain.specs.Chains.{Chains, Live, Mark, Standing}
 use Rattle.odb_chain.specs.Kept.{History, Rows}
@@ -20,6 +20,9 @@ rows_code = map.code uuid_code history_code
 
 abbrev pub place_code : Coded (ℕ × ℕ)
 place_code = coded× coded_ℕ coded_ℕ
+
+abbrev pub noted_code : Coded (ℕ × Uuid)
+noted_code = coded× coded_ℕ uuid_code
 
 abbrev pub chain_code : Coded Chain
 chain_code =

@@ -1,4 +1,4 @@
-use Rattle.std.proofs.Common.{rules, ◌≡◌, ◌∷◌, [], Some, None, IsSome, option_map, OnOk, OnErr, refl, subst, sym, ap, ◌∙◌}
+use Rattle.std.proofs.Common.{rules, ◌≡◌, List, true, ◌∷◌, [], Some, None, IsSome, option_map, OnOk, OnErr, refl, subst, sym, ap, ◌∙◌}
 use Rattle.std.proofs.lemmas.Result.{on_ok_weaker}
 use Rattle.odb_atoms.specs.FinMap as finite
 use Rattle.odb_atoms.specs.Uuid.{Uuid, uuid_cmp}
@@ -12,6 +12,8 @@ use Rattle.odb_chain.specs.Represented.Places.{AsBefore, IsPast}
 use Rattle.odb_tables.proofs.KeyedMaps.{inserted}
 use Rattle.odb_chain.proofs.Histories.{reached_pushed}
 use Rattle.odb_chain.proofs.Keeps.{as_it_is, begun, either, got, inserted_else, inserted_here}
+use Rattle.odb_chain.specs.Represented.Log.{AreNoted, Noted, is_noted}
+use Rattle.odb_chain.proofs.Noted.{still_noted}
 use Rattle.odb_chain.proofs.kept.Kept.add.Goals as goal
 
 abbrev started : Rows → Uuid → History → Rows → Type 0
@@ -22,7 +24,8 @@ returns-in_default-clause-ok c =
     let m : Rows = c.args.self.now in
     let k = c.args.key in
     let n = c.args.old.0 in
-    let made : OnOk c.start.result (c.start.new.self ≡ finite.insert m k (c.args.old ∷ [])) = search rules in
+    let now : Rows = keyed (λ (h : History). h) c.start.new.rows in
+    let made : OnOk c.start.result (now ≡ finite.insert m k (c.args.old ∷ [])) = subst (λ (x : Rows). OnOk c.start.result (now ≡ finite.insert x k (c.args.old ∷ []))) (ap (keyed (λ (h : History). h)) c.get_mut.follows.holds-at-none ∙ c.self.view_is) c.start.ensures.ok in
     on_ok_weaker c.start.result (λ e. ap (λ (r : Rows). is_reached n (finite.get r k)) e ∙ ap (is_reached n) (inserted_here m k (c.args.old ∷ [])) ∙ reached_pushed n c.args.old.1 []) made
 
 pub returns-in_default-clause-row : goal.returns-in_default-clause-row
@@ -34,8 +37,9 @@ returns-in_default-clause-row c =
     let ls = c.args.live.now in
     let none : get_by (eq_by_cmp uuid_cmp k) c.self.inside.rows ≡ None = search rules in
     let had : finite.get m k ≡ None = got c.self.inside.rows m k c.self.view_is ∙ ap (option_map (λ (h : History). h)) none in
-    let made : OnOk c.start.result (c.start.new.self ≡ finite.insert m k (c.args.old ∷ [])) = search rules in
-    let kept : OnErr c.start.result (c.start.new.self ≡ m) = search rules in
+    let now : Rows = keyed (λ (h : History). h) c.start.new.rows in
+    let made : OnOk c.start.result (now ≡ finite.insert m k (c.args.old ∷ [])) = subst (λ (x : Rows). OnOk c.start.result (now ≡ finite.insert x k (c.args.old ∷ []))) (ap (keyed (λ (h : History). h)) c.get_mut.follows.holds-at-none ∙ c.self.view_is) c.start.ensures.ok in
+    let kept : OnErr c.start.result (now ≡ m) = subst (λ (x : Rows). OnErr c.start.result (now ≡ x)) (ap (keyed (λ (h : History). h)) c.get_mut.follows.holds-at-none ∙ c.self.view_is) c.start.ensures.err in
     either c.start.result made kept
     (λ e. subst (AsBefore n ls r (finite.get m k)) (sym (ap (λ (x : Rows). finite.get x k) e ∙ inserted_here m k (c.args.old ∷ []))) (subst (λ o. AsBefore n ls r o (Some (c.args.old ∷ []))) (sym had) (begun n ls r)))
     (λ e. subst (AsBefore n ls r (finite.get m k)) (sym (ap (λ (x : Rows). finite.get x k) e)) (as_it_is n ls r (finite.get m k)))
@@ -44,8 +48,9 @@ pub returns-in_default-clause-others : goal.returns-in_default-clause-others
 returns-in_default-clause-others c = λ u apart.
     let m : Rows = c.args.self.now in
     let k = c.args.key in
-    let made : OnOk c.start.result (c.start.new.self ≡ finite.insert m k (c.args.old ∷ [])) = search rules in
-    let kept : OnErr c.start.result (c.start.new.self ≡ m) = search rules in
+    let now : Rows = keyed (λ (h : History). h) c.start.new.rows in
+    let made : OnOk c.start.result (now ≡ finite.insert m k (c.args.old ∷ [])) = subst (λ (x : Rows). OnOk c.start.result (now ≡ finite.insert x k (c.args.old ∷ []))) (ap (keyed (λ (h : History). h)) c.get_mut.follows.holds-at-none ∙ c.self.view_is) c.start.ensures.ok in
+    let kept : OnErr c.start.result (now ≡ m) = subst (λ (x : Rows). OnErr c.start.result (now ≡ x)) (ap (keyed (λ (h : History). h)) c.get_mut.follows.holds-at-none ∙ c.self.view_is) c.start.ensures.err in
     either c.start.result made kept
     (λ e. ap (λ (x : Rows). finite.get x u) e ∙ inserted_else m k (c.args.old ∷ []) u apart)
     (λ e. ap (λ (x : Rows). finite.get x u) e)
@@ -90,3 +95,41 @@ returns-clause-others c = λ u apart.
     let there : get_by (eq_by_cmp uuid_cmp k) rows ≡ Some c.in-Some.history.now = search rules in
     let changed : Updates (eq_by_cmp uuid_cmp) rows (c.get_mut.follows.lender w) k (Some w) = (c.get_mut.follows.holds w).3 (subst IsSome (sym there) refl) in
     ap (λ (x : Rows). finite.get x u) (inserted (λ (h : History). h) rows (c.get_mut.follows.lender w) k w changed) ∙ inserted_else (keyed (λ (h : History). h) rows) k w u apart ∙ ap (λ (x : Rows). finite.get x u) c.self.view_is
+
+pub returns-in_err-note-clause-row : goal.returns-in_err-note-clause-row
+returns-in_err-note-clause-row c =
+    let k = c.args.key in
+    let m : Rows = c.args.self.now in
+    subst (λ (x : Rows). AsBefore c.args.old.0 c.args.live.now c.args.old.1 (finite.get m k) (finite.get x k)) (sym c.self.view_is) (as_it_is c.args.old.0 c.args.live.now c.args.old.1 (finite.get m k))
+
+pub invariant_of-self : goal.invariant_of-self
+invariant_of-self c =
+    let rows : Rows = keyed (λ (h : History). h) c.self.inside.rows in
+    let tidied : AreNoted rows c.tidy.new.self = c.tidy.ensures c.self.invariant in
+    λ p u e. c.note.ensures.still p u (tidied p u e)
+
+pub invariant_of-self-in_default : goal.invariant_of-self-in_default
+invariant_of-self-in_default c =
+    let k = c.args.key in
+    let n = c.args.old.0 in
+    let m : Rows = c.args.self.now in
+    let rows : Rows = keyed (λ (h : History). h) c.self.inside.rows in
+    let now : Rows = keyed (λ (h : History). h) c.start.new.rows in
+    let ns : List Noted = c.note.new.self in
+    let tidied : AreNoted rows c.tidy.new.self = c.tidy.ensures c.self.invariant in
+    let before : AreNoted m ns = subst (λ (x : Rows). AreNoted x ns) c.self.view_is (λ p u e. c.note.ensures.still p u (tidied p u e)) in
+    let here : is_noted n k ns ≡ true = search rules in
+    still_noted m now ns n k before here (returns-in_default-clause-others c) (returns-in_default-clause-row c).2
+
+pub invariant_of-self-2 : goal.invariant_of-self-2
+invariant_of-self-2 c =
+    let k = c.args.key in
+    let n = c.args.old.0 in
+    let m : Rows = c.args.self.now in
+    let rows : Rows = keyed (λ (h : History). h) c.self.inside.rows in
+    let now : Rows = keyed (λ (h : History). h) (c.get_mut.follows.lender c.push.new.self) in
+    let ns : List Noted = c.note.new.self in
+    let tidied : AreNoted rows c.tidy.new.self = c.tidy.ensures c.self.invariant in
+    let before : AreNoted m ns = subst (λ (x : Rows). AreNoted x ns) c.self.view_is (λ p u e. c.note.ensures.still p u (tidied p u e)) in
+    let here : is_noted n k ns ≡ true = search rules in
+    still_noted m now ns n k before here (returns-clause-others c) (returns-clause-row c).2

@@ -1,0 +1,21 @@
+use Rattle.std.proofs.Common.{rules, ◌≡◌, filter, subst, sym, ap, ◌∙◌}
+use Rattle.std.proofs.lemmas.Fn.{filter_same}
+use Rattle.odb_tables.specs.Represented.Keyed.{keyed}
+use Rattle.odb_chain.specs.Kept.{History, Rows}
+use Rattle.odb_chain.specs.Represented.Log.{AllUpTo, AreInOrder, is_needed}
+use Rattle.odb_chain.proofs.Noted.{order_filtered, up_to_filtered}
+use Rattle.odb_chain.proofs.log.Log.clean.Goals as goal
+
+pub invariant_of-self : goal.invariant_of-self
+invariant_of-self c =
+    let rows : Rows = keyed (λ (h : History). h) c.args.rows.now in
+    let old = c.self.inside.noted.items in
+    let left : c.retain.new.self.items ≡ filter (is_needed rows) old = filter_same _ (is_needed rows) _ (λ x b f' k. search rules) _ _ c.retain.ensures.filtered in
+    (subst AreInOrder (sym left) (order_filtered (is_needed rows) old c.self.invariant.0), subst (AllUpTo c.self.inside.latest) (sym left) (up_to_filtered (is_needed rows) c.self.inside.latest old c.self.invariant.1))
+
+pub returns : goal.returns
+returns c =
+    let rows : Rows = keyed (λ (h : History). h) c.args.rows.now in
+    let old = c.self.inside.noted.items in
+    let left : c.retain.new.self.items ≡ filter (is_needed rows) old = filter_same _ (is_needed rows) _ (λ x b f' k. search rules) _ _ c.retain.ensures.filtered in
+    left ∙ ap (filter (is_needed rows)) c.self.view_is

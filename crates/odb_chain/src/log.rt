@@ -1,0 +1,178 @@
+//! In which order rows were kept, so that those that changed since a place are found without a look at others.
+ghost use Rattle.std.specs.Prelude.{◌≡◌, ◌≤◌, ℕ, true, [], drop, filter, length, IfOk, OnOk};
+ghost use Rattle.std.specs.BTreeSet.{contains};
+ghost use Rattle.odb_atoms.specs.Uuid as model_uuid;
+ghost use Rattle.odb_atoms.specs.Uuid.{uuid_cmp};
+ghost use Rattle.odb_chain.specs.Represented.Log.{AreNoted, is_named, is_needed, is_noted};
+ghost use Rattle.odb_tables.specs.Represented.Keyed.{keyed};
+
+use crate::history::{History, twice};
+use indexmap::IndexMap;
+use odb_tables::Key;
+use std::alloc::{AllocError, Global};
+use std::collections::BTreeSet;
+use std::hash::RandomState;
+use std::marker::Model;
+
+/// A row of which something was kept up to the place, or to one before it.
+#[derive(Drop)]
+struct Noted {
+    place: u64,
+    key: Key,
+}
+
+impl Model for Noted {
+    ghost use Rattle.std.specs.Prelude.{ℕ};
+    ghost use Rattle.odb_atoms.specs.Uuid.{Uuid};
+    ghost use Rattle.odb_chain.specs.Represented.Codes.{noted_code};
+
+    ghost Value = { ℕ × Uuid };
+
+    ghost coded = { noted_code };
+
+    ghost view = { λ n. (n.place, n.key) };
+}
+
+/// The rows of which something was kept, the earliest first; places never fall. Once there are as many notes as the limit,
+/// those that aren't needed go: at most one for each row is left, or a few of one place. The limit is then
+/// twice as many.
+#[derive(Drop)]
+pub(crate) struct Log {
+    noted: Vec<Noted>,
+    latest: u64,
+    limit: usize,
+}
+
+impl Model for Log {
+    ghost use Rattle.std.specs.Prelude.{List};
+    ghost use Rattle.std.specs.Coded.{coded_list};
+    ghost use Rattle.odb_chain.specs.Represented.Codes.{noted_code};
+    ghost use Rattle.odb_chain.specs.Represented.Log.{AllUpTo, AreInOrder, Noted as Note};
+
+    ghost Value = { List Note };
+
+    ghost coded = { coded_list noted_code };
+
+    ghost view = { λ l. l.noted.items };
+
+    ghost invariant = { λ l. AreInOrder l.noted.items × AllUpTo l.latest l.noted.items };
+}
+
+impl Log {
+    /// Nothing is noted.
+    pub(crate) fn new(alloc: Global) -> Log
+        ensures { result ≡ [] }
+    {
+        Log {
+            noted: Vec::new(alloc),
+            latest: 0,
+            limit: 16,
+        }
+    }
+
+    /// The same once more. O(notes).
+    pub(crate) fn try_copy(&self, alloc: Global) -> Result<Log, AllocError>
+        ensures { IfOk result (λ copy. copy ≡ self.now) }
+    {
+        let mut noted = Vec::with_capacity(alloc, self.noted.len())?;
+        for note in &self.noted {
+            noted.push(Noted {
+                place: note.place,
+                key: note.key,
+            })?;
+        }
+        Ok(Log {
+            noted,
+            latest: self.latest,
+            limit: self.limit,
+        })
+    }
+
+    /// Notes that something of the row is kept up to the place. O(1).
+    pub(crate) fn note(&mut self, place: u64, key: Key) -> Result<(), AllocError>
+        ensures ok { OnOk result (is_noted place key self.new ≡ true) }
+        ensures still { (p : ℕ) (u : model_uuid.Uuid) → is_noted p u self.old ≡ true → is_noted p u self.new ≡ true }
+    {
+        let place = later(self.latest, place);
+        self.latest = place;
+        Ok(self.noted.push(Noted { place, key })?)
+    }
+
+    /// The rows that are noted with the place or a later one. O(k log k) for k notes of them.
+    pub(crate) fn since(&self, alloc: Global, place: u64) -> Result<BTreeSet<Key>, AllocError>
+        ensures { IfOk result (λ keys. (u : model_uuid.Uuid) → is_noted place u self.now ≡ true → contains uuid_cmp keys u ≡ true) }
+    {
+        keys_of(alloc, self.from(place))
+    }
+
+    /// The notes from the place on. O(log n).
+    fn from(&self, place: u64) -> &[Noted]
+        ensures { (u : model_uuid.Uuid) → is_noted place u self.now ≡ true → is_named u result.now ≡ true }
+    {
+        let noted = self.noted.as_slice();
+        let first = noted.partition_point(|note| note.place < place);
+        after(noted, first)
+    }
+
+    /// Leaves out what isn't needed, once there is as much as the limit.
+    pub(crate) fn tidy(&mut self, rows: &IndexMap<Key, History, RandomState>)
+        ensures { AreNoted (keyed (λ h. h) rows.now) self.old → AreNoted (keyed (λ h. h) rows.now) self.new }
+    {
+        if self.noted.len() < self.limit {
+            return;
+        }
+        self.clean(rows);
+    }
+
+    /// Leaves out what isn't needed. O(notes).
+    fn clean(&mut self, rows: &IndexMap<Key, History, RandomState>)
+        ensures { self.new ≡ filter (is_needed (keyed (λ h. h) rows.now)) self.old }
+    {
+        self.noted.retain(|note| is_needed(rows, note));
+        self.limit = twice(self.noted.len());
+    }
+
+    /// Leaves out all notes.
+    pub(crate) fn clear(&mut self)
+        ensures { self.new ≡ [] }
+    {
+        self.noted.clear();
+    }
+}
+
+/// The notes from this one on.
+fn after(noted: &[Noted], first: usize) -> &[Noted]
+    requires { first ≤ length noted.now }
+    ensures { result.now ≡ drop first noted.now }
+{
+    &noted[first..]
+}
+
+/// The later one of two places.
+fn later(a: u64, b: u64) -> u64
+    ensures first { a ≤ result }
+    ensures second { b ≤ result }
+{
+    if a < b { b } else { a }
+}
+
+/// Whether the row is kept, and up to no later place.
+fn is_needed(rows: &IndexMap<Key, History, RandomState>, note: &Noted) -> bool
+    ensures { result ≡ is_needed (keyed (λ h. h) rows.now) note.now }
+{
+    match rows.get(&note.key) {
+        Some(history) => !history.passes(note.place),
+        None => false,
+    }
+}
+
+/// The rows of the notes, each once.
+fn keys_of(alloc: Global, noted: &[Noted]) -> Result<BTreeSet<Key>, AllocError>
+    ensures { IfOk result (λ keys. (u : model_uuid.Uuid) → is_named u noted.now ≡ true → contains uuid_cmp keys u ≡ true) }
+{
+    let mut keys = BTreeSet::new(alloc);
+    for note in noted {
+        keys.insert(note.key)?;
+    }
+    Ok(keys)
+}
