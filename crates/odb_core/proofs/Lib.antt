@@ -15,3 +15,4 @@ pub mod SessionNumbers
 pub mod SessionPosts
 pub mod SessionTables
 pub mod WorldPosts
+pub mod Crossing

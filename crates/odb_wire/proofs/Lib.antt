@@ -7,3 +7,4 @@ pub mod Steps
 pub mod Rests
 pub mod Feeds
 pub mod Pieces
+pub mod JsonCrosses
