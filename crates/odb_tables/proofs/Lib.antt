@@ -1,4 +1,5 @@
 pub mod Changes
+mod Counts
 mod Drafts
 mod Found
 mod Installs

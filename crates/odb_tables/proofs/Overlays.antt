@@ -149,3 +149,11 @@ as_it_was db os k o u e at untouched =
 pub none_twice : IsDistinct (eq_by_cmp uuid_cmp) []
 unfolding IsDistinct
 none_twice = tt
+
+-- a table of which no row is touched is as it was
+pub same_untouched : (db : Db) (os : List Touched) (k : ℕ) → length os ≡ length db → touched_at os k ≡ finite.empty → table_at (all_overlaid db os) k ≡ table_at db k
+same_untouched db os k e none = at-all_overlaid db os k e ∙ ap (overlaid (table_at db k)) none ∙ overlaid-empty (table_at db k)
+
+pub len-empty : (t : Table) → t ≡ finite.empty → finite.len t ≡ 0
+unfolding finite.len finite.empty
+len-empty t e = ap finite.len e

@@ -1,3 +1,4 @@
+pub mod Counted
 pub mod Draft
 pub mod Found
 pub mod Installed

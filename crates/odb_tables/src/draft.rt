@@ -96,6 +96,24 @@ impl<'a> Draft<'a> {
         }
     }
 
+    /// The row of an identifier as it was when the draft was made, if the table had one. O(1).
+    pub fn before(&self, table: TableId, uuid: Uuid) -> Option<&Row>
+        ensures { option_copied result ≡ finite.get (table_at self.now.old table) (uuid_of uuid) }
+    {
+        self.base.get(table, uuid)
+    }
+
+    /// How many rows the table has now. O(rows of it that were touched).
+    pub fn row_count(&self, table: TableId) -> usize
+        ensures { result ≡ finite.len (table_at self.now.now table) }
+    {
+        let Some(overlay) = self.overlays.get(table.place()) else {
+            return 0;
+        };
+        let base = &self.base.tables()[table.place()];
+        overlay.count(base)
+    }
+
     /// Whether a row of this identifier was taken out of the table. O(1).
     pub fn was_removed(&self, table: TableId, uuid: Uuid) -> bool
         ensures { result ≡ set.contains (removed_at self.now table) (uuid_of uuid) }
@@ -103,6 +121,17 @@ impl<'a> Draft<'a> {
         match self.overlays.get(table.place()) {
             Some(overlay) => overlay.is_removed(uuid),
             None => false,
+        }
+    }
+
+    /// Whether it is certain that the table is as it was: no row of it was touched since the draft
+    /// was made. O(1).
+    pub fn is_untouched(&self, table: TableId) -> bool
+        ensures { IsTrue result → table_at self.now.now table ≡ table_at self.now.old table }
+    {
+        match self.overlays.get(table.place()) {
+            Some(overlay) => overlay.is_empty(),
+            None => true,
         }
     }
 

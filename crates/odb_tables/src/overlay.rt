@@ -1,5 +1,5 @@
 //! What a draft made of the rows of a table that it touched.
-ghost use Rattle.std.specs.Prelude.{◌≡◌, ◌++◌, IfOk, OnOk, OnErr, map, option_map, option_to_list};
+ghost use Rattle.std.specs.Prelude.{◌≡◌, ◌++◌, IfOk, IsTrue, OnOk, OnErr, map, option_map, option_to_list};
 ghost use Rattle.std.specs.Arc.{arc_value};
 ghost use Rattle.std.specs.List.{IsDistinct, list_any};
 ghost use Rattle.std.specs.Option.{option_copied};
@@ -12,6 +12,7 @@ ghost use Rattle.odb_tables.specs.Represented.Draft.{overlaid, taken_out};
 ghost use Rattle.odb_tables.specs.Change.{change};
 ghost use Rattle.odb_atoms.specs.Represented.Atom.{uuid_of};
 ghost use Rattle.odb_tables.specs.Matching.{matching};
+ghost use Rattle.odb_tables.specs.Represented.Counted as counted;
 ghost use Rattle.odb_tables.specs.Represented.Found.{Appends, standing};
 ghost use Rattle.odb_tables.specs.Represented.Overlay.{holds_now, row_of};
 ghost use Rattle.odb_tables.specs.Stamped.{stamped_table};
@@ -91,6 +92,26 @@ impl Overlay {
         }
     }
 
+    /// Whether no row was touched. O(1).
+    pub(crate) fn is_empty(&self) -> bool
+        ensures { IsTrue result → self.now ≡ finite.empty }
+    {
+        self.rows.is_empty()
+    }
+
+    /// How many rows the table has under it. O(rows touched).
+    pub(crate) fn count(&self, base: &Table) -> usize
+        ensures { result ≡ finite.len (overlaid base.now self.now) }
+    {
+        let mut gained = 0;
+        let mut lost = 0;
+        for (key, now) in self.rows.iter() {
+            gained += gain(base, *key, now.as_ref());
+            lost += loss(base, *key, now.as_ref());
+        }
+        base.len() + gained - lost
+    }
+
     /// Whether the row of a key was touched. O(1).
     pub(crate) fn touches(&self, key: Key) -> bool
         ensures { result ≡ finite.contains_key self.now key }
@@ -163,6 +184,28 @@ fn is_found(key: Key, now: Option<&Arc<Row>>, conditions: &Where) -> bool
     match now {
         Some(row) => conditions.holds(key.uuid(), &**row),
         None => false,
+    }
+}
+
+/// 1 where the row is there and the table has none of its key, else 0.
+fn gain(base: &Table, key: Key, now: Option<&Arc<Row>>) -> usize
+    ensures { result ≡ counted.gain base.now (key, row_of (option_copied now.entry)) }
+{
+    if now.is_some() && !base.contains(key) {
+        1
+    } else {
+        0
+    }
+}
+
+/// 1 where the row was taken out and the table has one of its key, else 0.
+fn loss(base: &Table, key: Key, now: Option<&Arc<Row>>) -> usize
+    ensures { result ≡ counted.loss base.now (key, row_of (option_copied now.entry)) }
+{
+    if now.is_none() && base.contains(key) {
+        1
+    } else {
+        0
     }
 }
 

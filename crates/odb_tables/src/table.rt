@@ -1,5 +1,5 @@
 //! Tables: rows by their identifiers (RFC 7047, section 3.2). [P 2.1]
-ghost use Rattle.std.specs.Prelude.{◌≡◌, ◌&&◌, IfOk, OnOk, OnErr, IfErr, map, not, option_map};
+ghost use Rattle.std.specs.Prelude.{◌≡◌, ◌&&◌, ◌<◌, ◌^◌, IfOk, OnOk, OnErr, IfErr, map, not, option_map};
 ghost use Rattle.std.specs.Arc.{arc_value};
 ghost use Rattle.std.specs.List.{IsDistinct};
 ghost use Rattle.std.specs.Map.{keys_of};
@@ -58,7 +58,8 @@ impl Table {
 
     /// How many rows it has. O(1).
     pub fn len(&self) -> usize
-        ensures { result ≡ finite.len self.now }
+        ensures rows { result ≡ finite.len self.now }
+        ensures small { result < 2 ^ 63 }
     {
         self.rows.len()
     }
@@ -69,6 +70,13 @@ impl Table {
     {
         let row = self.rows.get(&Key::of(uuid))?;
         Some(&**row)
+    }
+
+    /// Whether it has a row of the key. O(1).
+    pub(crate) fn contains(&self, key: Key) -> bool
+        ensures { result ≡ finite.contains_key self.now key }
+    {
+        self.rows.contains_key(&key)
     }
 
     /// Lets the identifier have the row, in place of the one that it had. O(1), but for growth. Where memory

@@ -4,5 +4,5 @@ use Rattle.odb_atoms.specs.FinMap as finite
 use Rattle.odb_tables.proofs.KeyedMaps.{len-keyed}
 use Rattle.odb_tables.proofs.table.Table.len.Goals as goal
 
-pub returns : goal.returns
-returns c = c.len.ensures.len ∙ sym (len-keyed arc_value c.self.inside.rows c.len.ensures.unique) ∙ ap finite.len c.self.view_is
+pub returns-clause-rows : goal.returns-clause-rows
+returns-clause-rows c = c.len.ensures.len ∙ sym (len-keyed arc_value c.self.inside.rows c.len.ensures.unique) ∙ ap finite.len c.self.view_is
