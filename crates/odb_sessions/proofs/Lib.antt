@@ -1,0 +1,4 @@
+mod Numbers
+mod Releases
+mod Sums
+mod Ties

@@ -1,0 +1,33 @@
+use Rattle.std.proofs.Common.{◌≡◌, None, subst, sym, ap, ◌∙◌}
+use Rattle.std.proofs.lemmas.Result.{on_err_weaker, on_ok_weaker}
+use Rattle.odb_atoms.specs.FinMap as finite
+use Rattle.odb_chain.specs.Chains.{Chains}
+use Rattle.odb_sessions.specs.Book.{Book, fresh_session}
+use Rattle.odb_sessions.specs.Held.{Sessions, all_seen, nothing_kept}
+use Rattle.odb_sessions.specs.Tied.{IsTied}
+use Rattle.odb_sessions.proofs.Ties.{either, none_kept, seen-insert, tied_opened}
+use Rattle.odb_sessions.proofs.sessions.Sessions.open.Goals as goal
+
+pub invariant_of-self : goal.invariant_of-self
+invariant_of-self c =
+    let k : Chains = c.self.inside.chains in
+    let m : Sessions = c.self.inside.sessions in
+    let s = c.args.session in
+    let shut : finite.get (all_seen m) s ≡ None = ap (λ (b : Book). finite.get b.sessions s) c.self.view_is ∙ c.requires in
+    either c.insert.result c.insert.ensures.ok c.insert.ensures.err
+    (λ is. subst (IsTied k) (sym (is ∙ ap (finite.insert m s) c.new.ensures)) (tied_opened k m s c.self.invariant (none_kept m s shut)))
+    (λ is. subst (IsTied k) (sym is) c.self.invariant)
+
+pub returns-clause-ok : goal.returns-clause-ok
+returns-clause-ok c =
+    let m : Sessions = c.self.inside.sessions in
+    let s = c.args.session in
+    on_ok_weaker c.insert.result
+    (λ is. (λ i. let x : Book = record { db = c.self.inside.chains.db; sessions = (ap all_seen (is ∙ ap (finite.insert m s) c.new.ensures) ∙ seen-insert m s nothing_kept) i } in x) ∙ ap (λ (b : Book). let y : Book = record b { sessions = finite.insert b.sessions s fresh_session } in y) c.self.view_is)
+    c.insert.ensures.ok
+
+pub returns-clause-err : goal.returns-clause-err
+returns-clause-err c =
+    on_err_weaker c.insert.result
+    (λ is. (λ i. let x : Book = record { db = c.self.inside.chains.db; sessions = all_seen (is i) } in x) ∙ c.self.view_is)
+    c.insert.ensures.err

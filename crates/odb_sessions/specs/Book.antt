@@ -1,0 +1,18 @@
+-- The database and the open sessions, as the service machine has them.
+use Rattle.std.specs.Prelude.{[]}
+use Rattle.std.specs.Ordering.{nat_cmp}
+use Rattle.odb_atoms.specs.FinMap.{FinMap, empty}
+use Rattle.odb_service.specs.Session.{Session}
+use Rattle.odb_tables.specs.Database.{Db}
+
+pub record Book : Type 0 where
+  pub db : Db
+  pub sessions : FinMap nat_cmp Session
+
+-- nothing is queued, and there is no monitor
+abbrev pub fresh_session : Session
+fresh_session = record { queue = []; monitors = [] }
+
+-- no session is open
+abbrev pub book_of : Db → Book
+book_of db = record { db = db; sessions = empty }

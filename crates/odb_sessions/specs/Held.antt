@@ -1,0 +1,60 @@
+-- What is kept of sessions: marks in place of what clients have.
+use Rattle.std.specs.Prelude.{ℕ, List, [], map, flat_map}
+use Rattle.std.specs.Ordering.{nat_cmp}
+use Rattle.odb_atoms.specs.FinMap.{FinMap, entries_of, from_entries}
+use Rattle.odb_chain.specs.Chains.{Mark}
+use Rattle.odb_cond.specs.Filter.{Filter}
+use Rattle.odb_monitor.specs.View.{View, selected}
+use Rattle.odb_request.specs.Request.{Notation, Request}
+use Rattle.odb_schema.specs.Json.{Data}
+use Rattle.odb_service.specs.Session.{Item, Monitor, Session, Watch}
+
+-- one table of a monitor: what is asked, and what the client was told of it: the content of a mark, under a filter
+pub record Watched : Type 0 where
+  pub request : Request
+  pub told : Filter
+  pub mark : Mark
+
+pub record Held : Type 0 where
+  pub id : Data
+  pub notation : Notation
+  pub tables : List Watched
+
+pub record Kept : Type 0 where
+  pub queue : List Item
+  pub monitors : List Held
+
+abbrev pub Sessions : Type 0
+Sessions = FinMap nat_cmp Kept
+
+-- ---- what the machine sees of it
+
+abbrev pub watch_of : Held → Watch
+watch_of h = record { id = h.id; notation = h.notation; requests = map (λ w. w.request) h.tables }
+
+abbrev pub view_of : Held → View
+view_of h = map (λ w. selected (record (w.request) { filter = w.told }) w.mark.content) h.tables
+
+abbrev pub monitor_of : Held → Monitor
+monitor_of h = record { watch = watch_of h; view = view_of h }
+
+abbrev pub seen : Kept → Session
+seen x = record { queue = x.queue; monitors = map monitor_of x.monitors }
+
+abbrev pub seen_entry : ℕ × Kept → ℕ × Session
+seen_entry e = (e.0, seen e.1)
+
+abbrev pub all_seen : Sessions → FinMap nat_cmp Session
+all_seen m = from_entries (map seen_entry (entries_of m))
+
+-- ---- marks
+
+abbrev pub marks_in : Held → List Mark
+marks_in h = map (λ w. w.mark) h.tables
+
+abbrev pub marks_of : Kept → List Mark
+marks_of x = flat_map marks_in x.monitors
+
+-- nothing is queued, and there is no monitor
+abbrev pub nothing_kept : Kept
+nothing_kept = record { queue = []; monitors = [] }

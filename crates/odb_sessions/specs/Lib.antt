@@ -1,0 +1,4 @@
+pub mod Book
+pub mod Held
+pub mod Represented
+pub mod Tied

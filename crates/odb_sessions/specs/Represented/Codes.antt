@@ -1,0 +1,32 @@
+-- The codes of what contracts see of the code's types.
+use Rattle.std.specs.Prelude.{List, refl}
+use Rattle.std.specs.Ordering.{nat_cmp}
+use Rattle.std.specs.Coded.{Coded, code_by, coded×, coded_ℕ, coded_list}
+use Rattle.odb_atoms.specs.FinMap as map
+use Rattle.odb_chain.specs.Chains.{Mark}
+use Rattle.odb_chain.specs.Represented.Codes.{mark_code}
+use Rattle.odb_cond.specs.Filter.{Filter}
+use Rattle.odb_request.specs.Request.{Notation, Request}
+use Rattle.odb_request.specs.Represented.Codes.{filter_code, notation_code, request_code}
+use Rattle.odb_schema.specs.Json.{Data}
+use Rattle.odb_schema.specs.JsonCode.{data_code}
+use Rattle.odb_service.specs.Session.{Item, Session}
+use Rattle.odb_service.specs.WorldCode.{item_code, session_code}
+use Rattle.odb_tables.specs.Database.{Db, db_code}
+use Rattle.odb_sessions.specs.Book.{Book}
+use Rattle.odb_sessions.specs.Held.{Held, Kept, Sessions, Watched}
+
+abbrev pub watched_code : Coded Watched
+watched_code = code_by (Request × (Filter × Mark)) (coded× request_code (coded× filter_code mark_code)) (λ w. (w.request, (w.told, w.mark))) (λ p. record { request = p.0; told = p.1.0; mark = p.1.1 }) (λ w. refl)
+
+abbrev pub held_code : Coded Held
+held_code = code_by (Data × (Notation × List Watched)) (coded× data_code (coded× notation_code (coded_list watched_code))) (λ h. (h.id, (h.notation, h.tables))) (λ p. record { id = p.0; notation = p.1.0; tables = p.1.1 }) (λ h. refl)
+
+abbrev pub kept_code : Coded Kept
+kept_code = code_by (List Item × List Held) (coded× (coded_list item_code) (coded_list held_code)) (λ x. (x.queue, x.monitors)) (λ p. record { queue = p.0; monitors = p.1 }) (λ x. refl)
+
+abbrev pub sessions_code : Coded Sessions
+sessions_code = map.code coded_ℕ kept_code
+
+abbrev pub book_code : Coded Book
+book_code = code_by (Db × map.FinMap nat_cmp Session) (coded× db_code (map.code coded_ℕ session_code)) (λ b. (b.db, b.sessions)) (λ p. record { db = p.0; sessions = p.1 }) (λ b. refl)

@@ -1,0 +1,47 @@
+-- How the marks of sessions hang together with the chains: each is live, and the chains count these marks and no others.
+use Rattle.std.specs.Prelude.{◌≡◌, ℕ, ◌+◌, ◌<◌, ◌≤◌, Bool, true, false, ◌&&◌, nat_eq, List, [], ◌∷◌, Some}
+use Rattle.odb_atoms.specs.FinMap.{entries_of, get}
+use Rattle.odb_chain.specs.Chains.{Chains, IsLive, IsNow, Mark, Standing, count, standing}
+use Rattle.odb_sessions.specs.Held.{Kept, Sessions, marks_of}
+
+abbrev pub is_at : ℕ → ℕ → Mark → Bool
+is_at t p m = nat_eq t m.table && nat_eq p m.place
+
+abbrev pub bit : Bool → ℕ
+bit true = 1
+bit false = 0
+
+-- how many of the marks stand at a place of a table
+abbrev pub uses : ℕ → ℕ → List Mark → ℕ
+uses t p [] = 0
+uses t p (m ∷ ms) = bit (is_at t p m) + uses t p ms
+
+abbrev pub AreLive : Chains → List Mark → Type 0
+AreLive k [] = Unit {0}
+AreLive k (m ∷ ms) = IsLive k m × AreLive k ms
+
+-- the sum of a weight over entries
+abbrev pub total : {X : Type 0} → (X → ℕ) → List (ℕ × X) → ℕ
+total w [] = 0
+total w (e ∷ es) = w e.1 + total w es
+
+-- how many marks of sessions stand at a place of a table
+abbrev pub used : ℕ → ℕ → Sessions → ℕ
+used t p m = total (λ x. uses t p (marks_of x)) (entries_of m)
+
+abbrev pub IsTied : Chains → Sessions → Type 0
+IsTied k m = IsNow k × ((t p : ℕ) → count k t p ≡ used t p m) × ((s : ℕ) (x : Kept) → get m s ≡ Some x → AreLive k (marks_of x))
+
+-- ---- marks that are released
+
+-- the marks are live, and counted
+abbrev pub HasAll : Chains → List Mark → Type 0
+HasAll k ms = AreLive k ms × ((t p : ℕ) → uses t p ms ≤ count k t p)
+
+-- where marks are left, the content stays
+abbrev pub KeepsContents : Chains → Chains → Type 0
+KeepsContents old new = (t p : ℕ) (x : Standing) → standing old t p ≡ Some x → 0 < count new t p → standing new t p ≡ Some (record { content = x.content; marks = count new t p })
+
+-- without these marks, and with all others
+abbrev pub Frees : Chains → Chains → List Mark → Type 0
+Frees old new ms = (new.db ≡ old.db) × (new.versions ≡ old.versions) × ((t p : ℕ) → count old t p ≡ count new t p + uses t p ms) × KeepsContents old new × (IsNow old → IsNow new)

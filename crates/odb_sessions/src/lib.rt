@@ -1,0 +1,12 @@
+//! The open sessions: what is queued for each, its monitors, and the database with what these need of its past.
+//!
+//! Where memory is refused a call returns `AllocError`, and what it was given is as it was,
+//! unless its own page says otherwise. A call whose result has no such error takes no memory.
+#![tactic(auto)]
+
+mod monitor;
+mod numbered;
+mod session;
+mod sessions;
+
+pub use sessions::Sessions;
