@@ -1,4 +1,6 @@
 mod Numbers
+mod Posts
 mod Releases
+mod Seen
 mod Sums
 mod Ties

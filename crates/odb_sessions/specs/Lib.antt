@@ -1,4 +1,5 @@
 pub mod Book
 pub mod Held
+pub mod Posts
 pub mod Represented
 pub mod Tied

@@ -1,9 +1,14 @@
 //! The open sessions by their numbers.
-ghost use Rattle.std.specs.Prelude.{◌≡◌, OnErr, OnOk};
+ghost use Rattle.std.specs.Prelude.{◌≡◌, map, IfOk, OnErr, OnOk};
+ghost use Rattle.std.specs.Option.{option_copied};
 ghost use Rattle.odb_atoms.specs.FinMap as finite;
+ghost use Rattle.odb_queue.specs.Represented.Item.{item_of};
+ghost use Rattle.odb_queue.specs.Represented.Post.{post_of};
+ghost use Rattle.odb_sessions.specs.Posts.{all_kept_posted, at_number, kept_posted, kept_unposted, without_newest};
 
 use crate::session::Session;
 use odb_locks::SessionId;
+use odb_queue::{Finished, Post};
 use std::alloc::{AllocError, Global};
 use std::collections::BTreeMap;
 use std::marker::Model;
@@ -58,5 +63,72 @@ impl Numbered {
         ensures sessions { self.new ≡ finite.remove self.old number }
     {
         self.sessions.remove(&number)
+    }
+
+    /// A session, if it is open.
+    pub(crate) fn get(&self, number: SessionId) -> Option<&Session>
+        ensures { option_copied result ≡ finite.get self.now number }
+    {
+        self.sessions.get(&number)
+    }
+
+    /// Posts each item to its session, and returns the sessions for which one was queued.
+    pub(crate) fn post_all(
+        &mut self,
+        alloc: Global,
+        posts: Vec<Post>,
+    ) -> Result<Vec<SessionId>, AllocError>
+        ensures ok { IfOk result (λ posted_to. self.new ≡ all_kept_posted self.old (map post_of posts.items)) }
+        ensures back { IfOk result (λ posted_to. kept_unposted posted_to.items self.new ≡ self.old) }
+        ensures err { OnErr result (self.new ≡ self.old) }
+    {
+        let mut posted_to = Vec::new(alloc);
+        for post in posts {
+            if let Err(refused) = self.post(&mut posted_to, post.session, post.item) {
+                self.unpost(posted_to);
+                return Err(refused);
+            }
+        }
+        Ok(posted_to)
+    }
+
+    /// Queues an item for a session, if it is open, and then adds the session to `posted_to`.
+    fn post(
+        &mut self,
+        posted_to: &mut Vec<SessionId>,
+        session: SessionId,
+        item: Finished,
+    ) -> Result<(), AllocError>
+        ensures ok { OnOk result (self.new ≡ kept_posted self.old (session, item_of item)) }
+        ensures back { OnOk result (kept_unposted posted_to.new.items self.new ≡ kept_unposted posted_to.old.items self.old) }
+        ensures err { OnErr result (self.new ≡ self.old) }
+        ensures posted_to { OnErr result (posted_to.new.items ≡ posted_to.old.items) }
+    {
+        posted_to.reserve(1)?;
+        let Some(to) = self.sessions.get_mut(&session) else {
+            return Ok(());
+        };
+        to.push(item)?;
+        posted_to.push_reserved(session);
+        Ok(())
+    }
+
+    /// The newest item of each of these sessions' queues goes, that of the last session first.
+    pub(crate) fn unpost(&mut self, posted_to: Vec<SessionId>)
+        ensures { self.new ≡ kept_unposted posted_to.items self.old }
+    {
+        let mut posted_to = posted_to;
+        while let Some(session) = posted_to.pop() {
+            self.take_newest_back(session);
+        }
+    }
+
+    fn take_newest_back(&mut self, session: SessionId)
+        ensures { self.new ≡ at_number without_newest self.old session }
+    {
+        let Some(of) = self.sessions.get_mut(&session) else {
+            return;
+        };
+        of.unpost();
     }
 }

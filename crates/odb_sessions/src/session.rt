@@ -1,13 +1,26 @@
 //! A session: what is queued for it, and its monitors. [P 10.1]
-ghost use Rattle.std.specs.Prelude.{◌≡◌, ◌+◌, ◌&&◌, not, nat_lt, flat_map};
+ghost use Rattle.std.specs.Prelude.{◌≡◌, ◌+◌, ◌&&◌, not, nat_lt, flat_map, OnErr, OnOk};
+ghost use Rattle.odb_queue.specs.Represented.Answer.{call_at};
+ghost use Rattle.odb_queue.specs.Represented.Item.{item_of};
+ghost use Rattle.odb_rpc.specs.Message.{has_reply};
+ghost use Rattle.odb_schema.specs.Schema.{Schema};
+ghost use Rattle.odb_service.specs.Run.{max_owed};
+ghost use Rattle.odb_service.specs.Session.{replies_in};
 ghost use Rattle.odb_sessions.specs.Held.{marks_in, marks_of, nothing_kept};
+ghost use Rattle.odb_sessions.specs.Posts.{with_item, without_newest};
 ghost use Rattle.odb_sessions.specs.Tied.{Frees, HasAll};
+ghost use Rattle.odb_wire.specs.Shown.{request_data};
 
 use crate::monitor::Monitor;
 use odb_chain::Chains;
-use odb_queue::Queue;
-use std::alloc::Global;
+use odb_queue::{Finished, Queue};
+use odb_rpc::has_reply;
+use odb_wire::Request;
+use std::alloc::{AllocError, Global};
 use std::marker::Model;
+
+/// How many replies a session may be owed.
+const MAX_OWED: usize = 256;
 
 /// A session: what is queued for it, and the monitors whose first reply was taken, the earliest first.
 #[derive(Drop)]
@@ -36,6 +49,29 @@ impl Session {
             queue: Queue::new(alloc),
             monitors: Vec::new(alloc),
         }
+    }
+
+    /// Whether the request has a reply while the session is owed as many as it may be; `waiting` of them
+    /// are replies of its transactions that wait. O(1).
+    pub(crate) fn owes_too_many(&self, request: &Request, waiting: usize) -> bool
+        ensures { (schema : Schema) → result ≡ (has_reply (call_at schema (request_data request.now)) && not (nat_lt (replies_in self.now.queue + waiting) max_owed)) }
+    {
+        has_reply(request) && self.queue.replies().saturating_add(waiting) >= MAX_OWED
+    }
+
+    /// Puts an item at the end of the queue.
+    pub(crate) fn push(&mut self, item: Finished) -> Result<(), AllocError>
+        ensures ok { OnOk result (self.new ≡ with_item (item_of item) self.old) }
+        ensures err { OnErr result (self.new ≡ self.old) }
+    {
+        self.queue.push(item)
+    }
+
+    /// Takes the newest item of the queue out, if there is one.
+    pub(crate) fn unpost(&mut self)
+        ensures { self.new ≡ without_newest self.old }
+    {
+        drop(self.queue.pop_newest());
     }
 
     /// Gives the marks of its monitors back.

@@ -1,15 +1,25 @@
 //! The database with its past, and the open sessions. [P 10.1, 10.3]
-ghost use Rattle.std.specs.Prelude.{◌≡◌, None, IfErr, IfOk, OnErr, OnOk};
+ghost use Rattle.std.specs.Prelude.{◌≡◌, ◌+◌, ◌&&◌, not, nat_lt, map, option_map, None, IfErr, IfOk, OnErr, OnOk};
 ghost use Rattle.odb_atoms.specs.FinMap as finite;
+ghost use Rattle.odb_queue.specs.Represented.Answer.{call_at};
+ghost use Rattle.odb_queue.specs.Represented.Post.{post_of};
+ghost use Rattle.odb_rpc.specs.Message.{has_reply};
+ghost use Rattle.odb_schema.specs.Schema.{Schema};
+ghost use Rattle.odb_service.specs.Run.{max_owed};
+ghost use Rattle.odb_service.specs.Session.{replies_in};
 ghost use Rattle.odb_sessions.specs.Book.{book_of, fresh_session};
+ghost use Rattle.odb_sessions.specs.Posts.{all_posted, unposted};
 ghost use Rattle.odb_tables.specs.Change.{all_changed_by};
 ghost use Rattle.odb_tables.specs.Installing.{IsChangeOf};
+ghost use Rattle.odb_wire.specs.Shown.{request_data};
 
 use crate::numbered::Numbered;
 use crate::session::Session;
 use odb_chain::Chains;
 use odb_locks::SessionId;
+use odb_queue::Post;
 use odb_tables::{ChangeSet, Db};
+use odb_wire::Request;
 use std::alloc::{AllocError, AllocFailed, Global};
 use std::hash::RandomState;
 use std::marker::Model;
@@ -71,6 +81,38 @@ impl Sessions {
         ensures err { OnErr result (self.new ≡ self.old) }
     {
         self.sessions.insert(session, Session::new(self.alloc))
+    }
+
+    /// Whether the request has a reply while the session is owed as many as it may be, `waiting` of them as
+    /// replies of its transactions that wait; `None` where no such session is open. O(log n).
+    pub fn owes_too_many(
+        &self,
+        session: SessionId,
+        request: &Request,
+        waiting: usize,
+    ) -> Option<bool>
+        ensures { (schema : Schema) → result ≡ option_map (λ x. has_reply (call_at schema (request_data request.now)) && not (nat_lt (replies_in x.queue + waiting) max_owed)) (finite.get self.now.sessions session) }
+    {
+        let of = self.sessions.get(session)?;
+        Some(of.owes_too_many(request, waiting))
+    }
+
+    /// Posts each item to its session, and returns the sessions for which one was queued, by which
+    /// `take_back` undoes it. O(log n) for each.
+    pub fn post_all(&mut self, posts: Vec<Post>) -> Result<Vec<SessionId>, AllocError>
+        ensures ok { IfOk result (λ posted_to. self.new ≡ record (self.old) { sessions = all_posted self.old.sessions (map post_of posts.items) }) }
+        ensures back { IfOk result (λ posted_to. unposted posted_to.items self.new.sessions ≡ self.old.sessions) }
+        ensures err { OnErr result (self.new ≡ self.old) }
+    {
+        self.sessions.post_all(self.alloc, posts)
+    }
+
+    /// The newest item of each of these sessions' queues goes, that of the last session first.
+    /// O(log n) for each.
+    pub fn take_back(&mut self, posted_to: Vec<SessionId>)
+        ensures { self.new ≡ record (self.old) { sessions = unposted posted_to.items self.old.sessions } }
+    {
+        self.sessions.unpost(posted_to);
     }
 
     /// Makes the whole change of the database, or none; what clients have stays. Where memory is refused

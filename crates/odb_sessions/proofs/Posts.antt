@@ -1,0 +1,83 @@
+-- The code's map of sessions changes at one session as the finite map that it stands for, and posts are taken back.
+use Rattle.std.proofs.Common.{◌≡◌, ℕ, Bool, true, false, cond, List, [], ◌∷◌, ◌++◌, Option, Some, None, Result, Ok, Err, refl, sym, ap, ◌∙◌}
+use Rattle.std.specs.Prelude.{OnErr}
+use Rattle.std.specs.BTreeMap as tree
+use Rattle.std.specs.BTreeMap.{BTreeMap}
+use Rattle.std.specs.Ordering.{eq_by_cmp, nat_cmp}
+use Rattle.odb_atoms.specs.FinMap as finite
+use Rattle.odb_atoms.specs.FinMap.{get, insert}
+use Rattle.odb_service.specs.Session.{Item}
+use Rattle.odb_sessions.specs.Held.{Kept, Sessions}
+use Rattle.odb_sessions.specs.Posts.{at_number, kept_unposted, with_item, without_newest}
+use Rattle.odb_queue.specs.Represented.Newest.{all_but_last}
+use Rattle.odb_service.proofs.SessionMaps.{get-insert, key-itself, same_key, same_map}
+use Rattle.odb_sessions.proofs.Numbers.{Updates, get-sessions_in, inserted, sessions_in}
+
+module _ {X : Type 0} (f : X → X) (m : finite.FinMap nat_cmp X) (s : ℕ) where
+  abbrev found_at : Option X → finite.FinMap nat_cmp X
+  found_at o = elim o as (λ _. finite.FinMap nat_cmp X) [ None ↦ m | Some x ↦ insert m s (f x) ]
+
+  pub at_open : (x : X) → get m s ≡ Some x → at_number f m s ≡ insert m s (f x)
+  at_open x there = ap found_at there
+
+  pub at_shut : get m s ≡ None → at_number f m s ≡ m
+  at_shut shut = ap found_at shut
+
+-- a session that is put where it was
+reinserted : (m : Sessions) (s : ℕ) (x : Kept) → get m s ≡ Some x → insert m s x ≡ m
+reinserted m s x there = same_map _ _ (λ q. get-insert m s x q ∙ by (eq_by_cmp nat_cmp q s) q refl)
+  where
+    by : (b : Bool) (q : ℕ) → eq_by_cmp nat_cmp q s ≡ b → cond b (Some x) (get m q) ≡ get m q
+    by true q is = sym there ∙ ap (get m) (sym (same_key q s is))
+    by false q is = refl
+
+inserted_twice : (m : Sessions) (s : ℕ) (x y : Kept) → insert (insert m s y) s x ≡ insert m s x
+inserted_twice m s x y = same_map _ _ (λ q. get-insert (insert m s y) s x q ∙ ap (cond (eq_by_cmp nat_cmp q s) (Some x)) (get-insert m s y q) ∙ by (eq_by_cmp nat_cmp q s) q ∙ sym (get-insert m s x q))
+  where
+    by : (b : Bool) (q : ℕ) → cond b (Some x) (cond b (Some y) (get m q)) ≡ cond b (Some x) (get m q)
+    by true q = refl
+    by false q = refl
+
+-- the same, where the inner one is the session that f makes what it was
+undone : (f : Kept → Kept) (m : Sessions) (s : ℕ) (x y : Kept) → get m s ≡ Some x → f y ≡ x → at_number f (insert m s y) s ≡ m
+undone f m s x y there back =
+    at_open f (insert m s y) s y (get-insert m s y s ∙ ap (λ b. cond b (Some y) (get m s)) (key-itself s))
+    ∙ inserted_twice m s (f y) y ∙ ap (insert m s) back ∙ reinserted m s x there
+
+pub kept_unposted-append : (ss : List ℕ) (s : ℕ) (m : Sessions) → kept_unposted (ss ++ s ∷ []) m ≡ kept_unposted ss (at_number without_newest m s)
+kept_unposted-append [] s m = refl
+kept_unposted-append (t ∷ ts) s m = ap (λ k. at_number without_newest k t) (kept_unposted-append ts s m)
+
+last_dropped : (is : List Item) (i : Item) → all_but_last (is ++ i ∷ []) ≡ is
+last_dropped [] i = refl
+last_dropped (j ∷ []) i = refl
+last_dropped (j ∷ k ∷ is) i = ap (λ (ls : List Item). j ∷ ls) (last_dropped (k ∷ is) i)
+
+-- an item that goes to the end is the newest
+pushed_back : (i : Item) (x : Kept) → without_newest (with_item i x) ≡ x
+pushed_back i x = λ k. record { queue = last_dropped x.queue i k; monitors = x.monitors }
+
+-- ---- the table
+
+module _ (old : BTreeMap ℕ Kept) (s : ℕ) where
+  pub changed_at : (f : Kept → Kept) (new : BTreeMap ℕ Kept) (x y : Kept) → tree.get nat_cmp old s ≡ Some x → Updates old new s (Some y) → y ≡ f x → sessions_in new ≡ at_number f (sessions_in old) s
+  changed_at f new x y there changed is =
+      inserted old new s y changed ∙ ap (insert (sessions_in old) s) is ∙ sym (at_open f (sessions_in old) s x (get-sessions_in old s ∙ there))
+
+  pub unchanged_at : (f : Kept → Kept) → tree.get nat_cmp old s ≡ None → sessions_in old ≡ at_number f (sessions_in old) s
+  unchanged_at f shut = sym (at_shut f (sessions_in old) s (get-sessions_in old s ∙ shut))
+
+  pub kept_at : (new : BTreeMap ℕ Kept) (x y : Kept) → tree.get nat_cmp old s ≡ Some x → Updates old new s (Some y) → y ≡ x → sessions_in new ≡ sessions_in old
+  kept_at new x y there changed is =
+      inserted old new s y changed ∙ ap (insert (sessions_in old) s) is ∙ reinserted (sessions_in old) s x (get-sessions_in old s ∙ there)
+
+  -- an item that was put at the end is taken back
+  pub taken_off : (new : BTreeMap ℕ Kept) (x y : Kept) (i : Item) → tree.get nat_cmp old s ≡ Some x → Updates old new s (Some y) → y ≡ with_item i x → kept_unposted (s ∷ []) (sessions_in new) ≡ sessions_in old
+  taken_off new x y i there changed is =
+      ap (λ (m : Sessions). at_number without_newest m s) (inserted old new s y changed)
+      ∙ undone without_newest (sessions_in old) s x y (get-sessions_in old s ∙ there) (ap without_newest is ∙ pushed_back i x)
+
+-- what holds whatever the result holds of an error
+pub whatever : {A E : Type 0} (P : Type 0) (r : Result A E) → P → OnErr r P
+whatever P (Ok x) p = tt
+whatever P (Err e) p = p
