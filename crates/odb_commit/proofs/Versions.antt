@@ -1,5 +1,5 @@
 -- Versions stand in no reference, no index and no column: a settled database stays settled with them.
-use Rattle.std.specs.Prelude.{◌≡◌, ℕ, zero, suc, Bool, true, false, cond, not, ◌&&◌, ◌||◌, nat_le, T, List, [], ◌∷◌, filter_map, flat_map, length, map as map_list, slice_get, zip, is_some, unwrap_or, Option, Some, None, option_and_then}
+use Rattle.std.specs.Prelude.{◌≡◌, ℕ, zero, suc, Bool, true, false, cond, not, ◌&&◌, ◌||◌, nat_le, T, List, [], ◌∷◌, filter_map, flat_map, length, map as map_list, slice_get, zip, is_some, unwrap_or, Option, Some, None, option_and_then, option_map}
 use Rattle.std.specs.List.{list_all, list_any}
 use Rattle.std.specs.declared.cmp.Ordering.{Ordering}
 use Rattle.std.specs.Ordering.{eq_by_cmp, is_lt}
@@ -21,9 +21,11 @@ use Rattle.odb_atoms.proofs.Atoms.{uuid_cmp-IsAntisymmetric}
 use Rattle.odb_atoms.proofs.Equal.{same_values-equal}
 use Rattle.odb_atoms.proofs.FinMaps.{get-empty, get-entries, get-map_entries, same_key, same_map}
 use Rattle.odb_integrity.specs.Settled.{IsSettled}
-use Rattle.odb_integrity.specs.Settlement.{RowId, any_row, dangles, has_duplicates, has_too_few, has_twins, index_cells, is_short, is_there, row_of, rows_of, strong_of_value, within_max_rows}
+use Rattle.odb_integrity.specs.Settlement.{RowId, any_row, dangles, has_duplicates, has_too_few, has_twins, index_cells, is_kept, is_short, is_there, refers, row_of, rows_of, same_row, strong_of_row, strong_of_value, within_max_rows}
 use Rattle.odb_integrity.specs.Steps.{row_has_stale}
-use Rattle.odb_integrity.proofs.Settles.{has_stale_alike, nowhere_passes, passes_nowhere}
+use Rattle.odb_integrity.proofs.Databases.{any-row_ids}
+use Rattle.odb_integrity.proofs.Kept.{kept_is_largest, kept_is_supported}
+use Rattle.odb_integrity.proofs.Settles.{carried, has_stale_alike, nowhere_passes, passes_nowhere}
 use Rattle.odb_schema.specs.Schema.{Column, Schema, TableSchema, column_place, columns_at}
 use Rattle.odb_tables.specs.Database.{Db, Table, table_at}
 use Rattle.odb_tables.specs.Represented.Key.{uuid_cmp_total}
@@ -142,8 +144,20 @@ module _ (s : Schema) (number : Uuid) (old new : Db) (same : length old ≡ leng
       by x r None there e = absurd (none-some r e)
       by x r (Some now) there e = ap (q x) (sym (same_Some (stamped_row number (row_of old x) now) r e)) ∙ alike x (row_of old x) now ∙ passes_nowhere p new none x now there
 
+  refers_stamped : (y z : RowId) → refers s (stamped number old new) y z ≡ refers s new y z
+  refers_stamped y z = ap (λ o. unwrap_or (option_map (λ r. list_any (same_row z) (strong_of_row s y r)) o) false) (row_of-stamped y) ∙ by (row_of new y)
+    where
+      by : (o : Option Row) → unwrap_or (option_map (λ r. list_any (same_row z) (strong_of_row s y r)) (option_and_then (λ r. Some (stamped_row number (row_of old y) r)) o)) false ≡ unwrap_or (option_map (λ r. list_any (same_row z) (strong_of_row s y r)) o) false
+      by None = refl
+      by (Some r) = λ i. list_any (same_row z) (flat_map (λ e. strong_of_value s e.0.type e.1) (zip (columns_at s y.0) (stamped_columns number (row_of old y) r i)))
+
+  -- the same rows are kept
+  kept_stamped : (x : RowId) → is_kept s new x ≡ true → is_kept s (stamped number old new) x ≡ true
+  kept_stamped = kept_is_largest s (stamped number old new) (is_kept s new) (carried s new (stamped number old new) (is_kept s new) (λ y k. there_stamped y ∙ sym (any-row_ids new y) ∙ (kept_is_supported s new y k).0) (λ y z k e. refers_stamped y z ∙ e) (kept_is_supported s new))
+
   pub stamped_settled : IsSettled s new → IsSettled s (stamped number old new)
   stamped_settled h = record {
+    kept = λ plain x there. kept_stamped x (h.kept plain x (sym (there_stamped x) ∙ there));
     joined = none_stamped (dangles s new) (dangles s (stamped number old new)) (λ x o r i. list_any (λ y. not (there_stamped y i)) (flat_map (λ e. strong_of_value s e.0.type e.1) (zip (columns_at s x.0) (stamped_columns number o r i)))) h.joined;
     fresh = none_stamped (row_has_stale s new) (row_has_stale s (stamped number old new)) (λ x o r i. list_any (λ e. has_stale_alike (stamped number old new) new there_stamped s e.0.type e.1 i) (zip (columns_at s x.0) (stamped_columns number o r i))) h.fresh;
     filled = none_stamped (has_too_few s) (has_too_few s) (λ x o r i. list_any is_short (zip (columns_at s x.0) (stamped_columns number o r i))) h.filled;

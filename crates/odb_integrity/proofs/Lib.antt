@@ -1,4 +1,5 @@
 pub mod Databases
+pub mod Held
 pub mod Ids
 pub mod KeepsTyped
 pub mod Kept
@@ -9,5 +10,8 @@ pub mod Referents
 pub mod Rounds
 pub mod Settled
 pub mod Settles
+pub mod Targets
+pub mod Touched
 pub mod Twins
+pub mod Unchanged
 pub mod Zipped

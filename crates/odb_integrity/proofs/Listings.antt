@@ -23,7 +23,7 @@ use Rattle.odb_integrity.proofs.Databases.{ids_at, ids_from}
 -- ---- entries are found by their keys
 
 module _ {K X : Type 0} {R : K → K → Ordering} (o : IsTotalOrder R) where
-  before_later : (k : K) (es : List (K × X)) (m : K × X) → T (below_all R k es) → Member m es → eq_by_cmp R m.0 k ≡ false
+  pub before_later : (k : K) (es : List (K × X)) (m : K × X) → T (below_all R k es) → Member m es → eq_by_cmp R m.0 k ≡ false
   before_later k [] m low n = absurd n
   before_later k (e ∷ es) m low (inl h) = ap (λ y. eq_by_cmp R y.0 k) h ∙ ap is_eq (o.antisymm e.0 k ∙ ap ordering_reverse (less _ (first _ _ low)))
   before_later k (e ∷ es) m low (inr n) = before_later k es m (second _ _ low) n
@@ -66,11 +66,3 @@ any_from-listed p g (t ∷ db) n at =
 pub any_row-listed : (p : RowId → Row → Bool) (db : Db) → any_row p db ≡ list_any (at_row p db) (row_ids db)
 unfolding any_from
 any_row-listed p db = any_from-listed p (row_of db) db 0 (λ k m u e. let same : m ≡ k = omega arith in ap (λ j. map.get (table_at db j) u) same)
-
--- a loop over the ids of all rows: one of which p holds was met, or none
-module _ (p : RowId → Row → Bool) (db : Db) (rows : List RowId) (all : rows ≡ row_ids db) where
-  pub one_row : (i : ℕ) (y : RowId) → i < length rows → y ≡ get_or rows i y → at_row p db y ≡ true → true ≡ any_row p db
-  one_row i y inside is holds = sym (any_row-listed p db ∙ ap (list_any (at_row p db)) (sym all) ∙ list_any_at (at_row p db) rows i y inside (ap (at_row p db) (sym is) ∙ holds))
-
-  pub no_row : (i : ℕ) → length rows ≤ i → list_any (at_row p db) (take i rows) ≡ false → false ≡ any_row p db
-  no_row i past none = sym (any_row-listed p db ∙ ap (list_any (at_row p db)) (sym all ∙ sym (take_all i rows past)) ∙ none)

@@ -20,7 +20,7 @@ use Rattle.odb_atoms.specs.declared.value.Entries.TheVariants as entries
 use Rattle.odb_schema.specs.Schema.{Schema}
 use Rattle.odb_integrity.specs.Settlement.{RowId, referent, strong_of_value, strong_target}
 
-none_named : (atoms : List Atom) → filter_map (referent None) atoms ≡ []
+pub none_named : (atoms : List Atom) → filter_map (referent None) atoms ≡ []
 none_named [] = refl
 none_named (integer z ∷ atoms) = none_named atoms
 none_named (boolean b ∷ atoms) = none_named atoms

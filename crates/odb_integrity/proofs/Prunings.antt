@@ -32,9 +32,10 @@ use Rattle.odb_mutate.proofs.Maps.{find-pairs, get-from_entries}
 use Rattle.odb_schema.specs.Schema.{Column, Schema, columns_at}
 use Rattle.odb_tables.specs.Database.{Db}
 use Rattle.odb_tables.specs.Typed.{IsTyped, fits}
-use Rattle.odb_integrity.specs.Settlement.{RowId, is_stale, pruned, pruned_row, pruned_value, row_ids, row_of, same_row, weak_target}
+use Rattle.odb_integrity.specs.Settlement.{RowId, is_stale, pruned, pruned_row, pruned_value, row_of, same_row, weak_target}
 use Rattle.odb_integrity.specs.Steps.{has_stale, pruning, row_has_stale, with_row, with_rows}
-use Rattle.odb_integrity.proofs.Databases.{any-row_ids, length-each_row, row_of-each_row, row_of-put, same_db, there_inside}
+use Rattle.odb_integrity.specs.Touched.{Covers}
+use Rattle.odb_integrity.proofs.Databases.{length-each_row, row_of-each_row, row_of-put, same_db, there_inside}
 use Rattle.odb_integrity.proofs.Ids.{same_row_equal}
 
 -- ---- what is stale
@@ -170,7 +171,7 @@ all_pairs_retained m stale none =
     by q (Some v) e = ap (λ b. cond b None (Some v)) (not_found (λ e. stale e.0 e.1) m.entries none (q, v) (found_member q m.entries v (sym (get-entries m q) ∙ e)))
 
 module _ (s : Schema) (db : Db) where
-  value_same : (t : ColType) (v : Value) → has_stale s db t v ≡ false → pruned_value s db t v ≡ v
+  pub value_same : (t : ColType) (v : Value) → has_stale s db t v ≡ false → pruned_value s db t v ≡ v
   value_same t (set_of elements) none = ap set_of (all_retained elements (is_stale db (weak_target s t.key)) none)
   value_same t (map_of m) none = ap map_of (all_pairs_retained m (λ a b. is_stale db (weak_target s t.key) a || is_stale db (weak_target s (value_base t)) b) none)
 
@@ -271,22 +272,28 @@ module _ (s : Schema) (db : Db) where
       by (Some r) there rest = by_test r there (row_has_stale s db y r) refl rest
 
   -- where each row that pruning changes is put, all are pruned
-  pub all_pruned : (rows : List RowId) → rows ≡ row_ids db → IsTyped s db → with_rows (filter_map (pruning s db) rows) db ≡ pruned s db
+  pub all_pruned : (rows : List RowId) → Covers (row_has_stale s db) db rows → IsTyped s db → with_rows (filter_map (pruning s db) rows) db ≡ pruned s db
   unfolding stale_at
-  all_pruned rows all typed =
+  all_pruned rows covers typed =
       same_db (with_rows (filter_map (pruning s db) rows) db) (pruned s db) (length-with_rows (filter_map (pruning s db) rows) db ∙ sym (length-each_row (λ x r. Some (pruned_row s db x r)) db)) (λ x.
       put_each (λ y. option_map (pruned_row s db y) (row_of db y)) (filter_map (pruning s db) rows) db (made_of rows) x
-      ∙ ap (λ b. cond b (option_map (pruned_row s db x) (row_of db x)) (row_of db x)) (any-prunings rows x ∙ ap (λ b. b && unwrap_or (option_map (row_has_stale s db x) (row_of db x)) false) (ap (list_any (same_row x)) all ∙ any-row_ids db x))
-      ∙ by x (row_of db x) refl
+      ∙ ap (λ b. cond b (option_map (pruned_row s db x) (row_of db x)) (row_of db x)) (any-prunings rows x)
+      ∙ by x (row_of db x) refl (list_any (same_row x) rows) refl
       ∙ sym (row_of-each_row (λ x r. Some (pruned_row s db x r)) db x))
     where
-      by_test : (x : RowId) (r : Row) → row_of db x ≡ Some r → (b : Bool) → row_has_stale s db x r ≡ b → cond b (Some (pruned_row s db x r)) (Some r) ≡ Some (pruned_row s db x r)
-      by_test x r there true is = refl
-      by_test x r there false is = ap Some (sym (row_same s db x r (typed.1 x.0 x.1 r there) is))
+      by_test : (x : RowId) (r : Row) → row_of db x ≡ Some r → (l : Bool) → list_any (same_row x) rows ≡ l → (b : Bool) → row_has_stale s db x r ≡ b → cond (l && b) (Some (pruned_row s db x r)) (Some r) ≡ Some (pruned_row s db x r)
+      by_test x r there true listed true is = refl
+      by_test x r there false absent true is = absurd (true≢false (sym is ∙ covers x r there absent))
+      by_test x r there true listed false is = ap Some (sym (row_same s db x r (typed.1 x.0 x.1 r there) is))
+      by_test x r there false absent false is = ap Some (sym (row_same s db x r (typed.1 x.0 x.1 r there) is))
 
-      by : (x : RowId) (o : Option Row) → row_of db x ≡ o → cond (is_some o && unwrap_or (option_map (row_has_stale s db x) o) false) (option_map (pruned_row s db x) o) o ≡ option_and_then (λ r. Some (pruned_row s db x r)) o
-      by x None there = refl
-      by x (Some r) there = by_test x r there (row_has_stale s db x r) refl
+      nothing : (b : Bool) → ◌≡◌ {A = Option Row} (cond (b && false) None None) None
+      nothing true = refl
+      nothing false = refl
+
+      by : (x : RowId) (o : Option Row) → row_of db x ≡ o → (l : Bool) → list_any (same_row x) rows ≡ l → cond (l && unwrap_or (option_map (row_has_stale s db x) o) false) (option_map (pruned_row s db x) o) o ≡ option_and_then (λ r. Some (pruned_row s db x r)) o
+      by x None there l is = nothing l
+      by x (Some r) there l is = by_test x r there l is (row_has_stale s db x r) refl
 
 member_at : {A : Type 0} (xs : List A) (k : ℕ) (d : A) → k < length xs → Member (get_or xs k d) xs
 member_at [] k d low = absurd (omega (arith, low))

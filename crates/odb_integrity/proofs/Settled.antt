@@ -1,4 +1,4 @@
--- Settled databases: the number of all rows, the order of the constraints, and that settlement keeps databases of their schema.
+-- Settled databases: the order of the constraints, and that settlement keeps databases of their schema.
 use Rattle.std.specs.Prelude.{◌≡◌, ℕ, ◌+◌, ◌<◌, ◌≤◌, Bool, true, false, cond, not, nat_le, List, [], ◌∷◌, length, map as map_list, zip, Option, Some, None, option_and_then, sum_by}
 use Rattle.std.specs.List.{list_all, list_any}
 use mathlib.Core.Path.{refl, sym, ap, ◌∙◌}
@@ -17,30 +17,7 @@ use Rattle.odb_tables.specs.Typed.{IsTyped, fits}
 use Rattle.odb_integrity.specs.Settlement.{RowId, any_row, constrained, has_duplicates, has_too_few, is_kept, kept, row_count, row_ids, row_of, within_max_rows}
 use Rattle.odb_integrity.proofs.Databases.{ids_at, ids_from, length-each_row, row_of-each_row}
 
--- ---- the number of all rows
-
-length-ids_at : (k : ℕ) (t : Table) → length (ids_at k t) ≡ map.len t
-unfolding map.keys map.len
-length-ids_at k t = length-map (map_list (λ e. e.0) t.entries) (λ u. let x : RowId = (k, u) in x) ∙ length-map t.entries (λ (e : Uuid × Row). e.0)
-
-length-ids_from : (n : ℕ) (db : Db) → length (ids_from n db) ≡ sum_by map.len db
-length-ids_from n [] = refl
-length-ids_from n (t ∷ db) = length-append (ids_at n t) (ids_from (n + 1) db) ∙ (λ i. length-ids_at n t i + length-ids_from (n + 1) db i) ∙ sym (sum_by-cons map.len t db)
-
-pub length-row_ids : (db : Db) → length (row_ids db) ≡ row_count db
-length-row_ids db = length-ids_from 0 db
-
-pub above_limit : (rows : List RowId) (db : Db) (n max_rows : ℕ) → rows ≡ row_ids db → n ≡ length rows → max_rows < n → nat_le (row_count db) max_rows ≡ false
-above_limit rows db n max_rows all e h = tests (row_count db) (let size : max_rows < row_count db = omega (arith, e ∙ ap length all ∙ length-row_ids db, h) in size)
-  where
-    tests : (m : ℕ) → max_rows < m → nat_le m max_rows ≡ false
-    tests m h = grind (arith, nat_tests)
-
-pub within_limit : (rows : List RowId) (db : Db) (n max_rows : ℕ) → rows ≡ row_ids db → n ≡ length rows → n ≤ max_rows → nat_le (row_count db) max_rows ≡ true
-within_limit rows db n max_rows all e h = tests (row_count db) (let size : row_count db ≤ max_rows = omega (arith, e ∙ ap length all ∙ length-row_ids db, h) in size)
-  where
-    tests : (m : ℕ) → m ≤ max_rows → nat_le m max_rows ≡ true
-    tests m h = grind (arith, nat_tests)
+-- ---- the order of the constraints
 
 -- where all constraints but the last are kept
 pub last_test : (s : Schema) (max_rows : ℕ) (db : Db) → any_row (has_too_few s) db ≡ false → list_all within_max_rows (zip s.tables db) ≡ true → list_any has_duplicates (zip s.tables db) ≡ false → (b : Bool) → nat_le (row_count db) max_rows ≡ b → constrained s max_rows db ≡ cond b (Ok db) (Err resources_exhausted)

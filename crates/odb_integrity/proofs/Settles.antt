@@ -1,7 +1,9 @@
 -- What settlement leaves is settled, so are tables without rows, and what is settled settles to itself.
-use Rattle.std.specs.Prelude.{◌≡◌, ℕ, Bool, true, false, cond, not, ◌&&◌, ◌||◌, nat_le, List, [], ◌∷◌, ◌++◌, filter, filter_map, flat_map, length, map as map_list, replicate, zip, is_some, unwrap_or, Option, Some, None, option_and_then, option_map}
+use Rattle.std.specs.Prelude.{◌≡◌, ◌⊎◌, ℕ, Bool, true, false, cond, not, ◌&&◌, ◌||◌, nat_le, List, [], ◌∷◌, ◌++◌, filter, filter_map, flat_map, length, map as map_list, replicate, zip, is_some, unwrap_or, Option, Some, None, option_and_then, option_map}
 use Rattle.std.specs.List.{cons_option, list_all, list_any}
 use mathlib.Core.Path.{refl, sym, ap, subst, ◌∙◌}
+use mathlib.Core.Logic.{inl, inr}
+use mathlib.Core.Bool.{true≢false}
 use Rattle.std.proofs.Common.{arith}
 use Rattle.std.proofs.lemmas.Bool.Decides.{nat_tests}
 use Rattle.std.proofs.lemmas.List.Folds.{list_any-append}
@@ -17,17 +19,20 @@ use Rattle.odb_atoms.specs.FinSet as set
 use Rattle.odb_atoms.specs.Row.{Row}
 use Rattle.odb_atoms.specs.Uuid.{uuid_cmp}
 use Rattle.odb_atoms.specs.Value.{Pairs, Value, map_of, set_of}
-use Rattle.odb_schema.specs.Schema.{Column, Schema, TableSchema, columns_at}
+use Rattle.odb_schema.specs.Schema.{Column, Schema, TableSchema, columns_at, is_root_at}
 use Rattle.odb_tables.specs.Database.{Db}
 use Rattle.odb_tables.specs.Typed.{IsTyped}
+use Rattle.odb_integrity.specs.References.{has_type, is_mixed}
 use Rattle.odb_integrity.specs.Settled.{IsSettled}
-use Rattle.odb_integrity.specs.Settlement.{RowId, any_row, at_row, constrained, dangles, has_dangling, has_duplicates, has_too_few, is_kept, is_stale, is_there, kept, pruned, pruned_row, pruned_value, referent, row_count, row_ids, row_of, settle, strong_of_value, strong_target, weak_target, within_max_rows}
+use Rattle.odb_integrity.specs.Settlement.{IsSupported, RowId, any_row, at_row, constrained, dangles, has_dangling, has_duplicates, has_too_few, is_kept, is_stale, is_there, kept, pruned, pruned_row, pruned_value, referent, refers, row_count, row_ids, row_of, same_row, settle, strong_of_row, strong_of_value, strong_target, weak_target, within_max_rows}
 use Rattle.odb_integrity.specs.Steps.{has_stale, row_has_stale}
 use Rattle.odb_integrity.proofs.Databases.{any-row_ids, each_row_same, row_of-each_row}
 use Rattle.odb_integrity.proofs.Ids.{member}
 use Rattle.odb_integrity.proofs.KeepsTyped.{Passed, items-retain, left_entry, none_at, settled_passed}
+use Rattle.odb_integrity.proofs.Kept.{kept_is_largest, kept_is_supported}
 use Rattle.odb_integrity.proofs.Listings.{any_agree, any_row-listed}
 use Rattle.odb_integrity.proofs.Prunings.{neither, not_found, row_same}
+use Rattle.odb_integrity.proofs.Targets.{row_strong}
 use Rattle.odb_integrity.proofs.Settled.{last_test}
 
 not_so : (b : Bool) → not b ≡ true → b ≡ false
@@ -167,12 +172,62 @@ module _ (s : Schema) (rest : Db) where
       by x r None there e = absurd (none-some r e)
       by x r (Some old) there e = ap (q x) (sym (same_Some (pruned_row s rest x old) r e)) ∙ h x old there
 
+-- ---- kept rows of another database
+
+-- a set of rows that is supported in one database is so in another, where these rows are there and refer as they did
+pub carried : (s : Schema) (a b : Db) (p : RowId → Bool) → ((x : RowId) → p x ≡ true → is_there b x ≡ true) → ((y x : RowId) → p y ≡ true → refers s a y x ≡ true → refers s b y x ≡ true) → IsSupported s a p → IsSupported s b p
+carried s a b p there same h x e = (any-row_ids b x ∙ there x e, by (h x e).1)
+  where
+    by : (is_root_at s x.0 ≡ true) ⊎ ((y : RowId) × (p y ≡ true) × (same_row x y ≡ false) × (refers s a y x ≡ true)) → (is_root_at s x.0 ≡ true) ⊎ ((y : RowId) × (p y ≡ true) × (same_row x y ≡ false) × (refers s b y x ≡ true))
+    by (inl root) = inl root
+    by (inr v) = inr (v.0, v.1, v.2, same v.0 x v.1 v.3)
+
+module _ (s : Schema) (db : Db) where
+  abbrev left : Db
+  left = kept s db
+
+  row_left : (x : RowId) → row_of left x ≡ option_and_then (λ r. cond (is_kept s db x) (Some r) None) (row_of db x)
+  row_left x = row_of-each_row (λ x r. cond (is_kept s db x) (Some r) None) db x
+
+  -- who is left was kept
+  was_kept : (x : RowId) → is_there left x ≡ true → is_kept s db x ≡ true
+  was_kept x e = by (row_of db x) (is_kept s db x) (sym (ap is_some (row_left x)) ∙ e)
+    where
+      by : (o : Option Row) (b : Bool) → is_some (option_and_then (λ r. cond b (Some r) None) o) ≡ true → b ≡ true
+      by None b e = absurd (true≢false (sym e))
+      by (Some r) true e = refl
+      by (Some r) false e = e
+
+  kept_left : (x : RowId) → is_kept s db x ≡ true → row_of left x ≡ row_of db x
+  kept_left x e = row_left x ∙ ap (λ b. option_and_then (λ r. cond b (Some r) None) (row_of db x)) e ∙ by (row_of db x)
+    where
+      by : (o : Option Row) → option_and_then (λ r. Some r) o ≡ o
+      by None = refl
+      by (Some r) = refl
+
+  -- each row that pruning leaves is kept, where no column is mixed
+  pub kept_again : has_type is_mixed s ≡ false → (x : RowId) → is_there (pruned s left) x ≡ true → is_kept s (pruned s left) x ≡ true
+  kept_again plain x e = kept_is_largest s (pruned s left) (is_kept s db) (carried s db (pruned s left) (is_kept s db) there refer (kept_is_supported s db)) x (was_kept x (sym (there_pruned s left x) ∙ e))
+    where
+      there : (y : RowId) → is_kept s db y ≡ true → is_there (pruned s left) y ≡ true
+      there y k = there_pruned s left y ∙ ap is_some (kept_left y k) ∙ sym (any-row_ids db y) ∙ (kept_is_supported s db y k).0
+
+      pruned_alike : (y z : RowId) (o : Option Row) → unwrap_or (option_map (λ r. list_any (same_row z) (strong_of_row s y r)) (option_and_then (λ r. Some (pruned_row s left y r)) o)) false ≡ unwrap_or (option_map (λ r. list_any (same_row z) (strong_of_row s y r)) o) false
+      pruned_alike y z None = refl
+      pruned_alike y z (Some r) = ap (list_any (same_row z)) (row_strong s left plain y r)
+
+      refer : (y z : RowId) → is_kept s db y ≡ true → refers s db y z ≡ true → refers s (pruned s left) y z ≡ true
+      refer y z k one =
+          ap (λ o. unwrap_or (option_map (λ r. list_any (same_row z) (strong_of_row s y r)) o) false) (row_of-each_row (λ x r. Some (pruned_row s left x r)) left y ∙ ap (option_and_then (λ r. Some (pruned_row s left y r))) (kept_left y k))
+          ∙ pruned_alike y z (row_of db y) ∙ one
+
 -- what settlement leaves
 pub settles : (s : Schema) (max_rows : ℕ) (db new : Db) → settle s max_rows db ≡ Ok new → IsSettled s new
 settles s max_rows db new e =
     let rest : Db = kept s db in
     let passed : Passed s rest (pruned s rest) new = settled_passed s max_rows db new e in
     subst (IsSettled s) (sym passed.is) (record {
+      kept = kept_again s db;
       joined = none_pruned s rest (dangles s (pruned s rest)) (λ x r there. row_joined s rest x r (passes_nowhere (dangles s rest) rest (not_so _ passed.joined) x r there));
       fresh = none_pruned s rest (row_has_stale s (pruned s rest)) (λ x r there. row_fresh s rest x r);
       filled = not_so _ passed.filled;
@@ -209,7 +264,7 @@ pub empty_settled : (s : Schema) → IsSettled s (replicate (length s.tables) ma
 empty_settled s =
     let db : Db = replicate (length s.tables) map.empty in
     let none : (p : RowId → Row → Bool) → any_row p db ≡ false = λ p. nowhere_passes p db (λ x r there. absurd (none-some r (sym (ap (λ t. map.get t x.1) (none_at (length s.tables) x.0) ∙ get-empty uuid_cmp x.1) ∙ there))) in
-    record { joined = none (dangles s db); fresh = none (row_has_stale s db); filled = none (has_too_few s); bounded = each_bounded s.tables; apart = each_apart s.tables }
+    record { kept = λ plain x there. absurd (true≢false (sym there ∙ ap is_some (ap (λ t. map.get t x.1) (none_at (length s.tables) x.0) ∙ get-empty uuid_cmp x.1))); joined = none (dangles s db); fresh = none (row_has_stale s db); filled = none (has_too_few s); bounded = each_bounded s.tables; apart = each_apart s.tables }
 
 -- ---- settled again
 

@@ -48,7 +48,7 @@ same_values-itself : (vs : List Value) → same_values vs vs ≡ true
 same_values-itself [] = refl
 same_values-itself (v ∷ vs) = λ i. same_value-itself v i && same_values-itself vs i
 
-same_values-turned : (vs ws : List Value) → same_values vs ws ≡ same_values ws vs
+pub same_values-turned : (vs ws : List Value) → same_values vs ws ≡ same_values ws vs
 same_values-turned vs ws = by (same_values vs ws) (same_values ws vs) refl refl
   where
     by : (b c : Bool) → same_values vs ws ≡ b → same_values ws vs ≡ c → b ≡ c
@@ -137,12 +137,6 @@ twin_later seen now x rest e grown =
     moved true false c = refl
     moved false true c = refl
     moved false false c = refl
-
--- the cells of the rows are those of the table's rows in the columns that an index names
-pub index_cells_of : (rows : List (Bor Row)) (places : List ℕ) (cs : List Column) (index : List (List ℕ)) (t : Table) → map_list (λ r. r.now) rows ≡ map.values t → places ≡ filter_map (column_place cs) index → map_list (cells_of places) rows ≡ map_list (index_cells cs index) (rows_of t)
-index_cells_of rows places cs index t all is =
-    sym (map-map (λ (r : Row). map_list (λ i. cell zero_uuid r (declared i)) places) (λ (r : Bor Row). r.now) rows)
-    ∙ (λ j. map_list (λ r. map_list (λ i. cell zero_uuid r (declared i)) (is j)) (all j))
 
 pub nothing_seen : {Z : Type 0} (seen : BTreeSet (Vec (Bor Value) Z)) → seen.keys ≡ [] → (all : List (List Value)) → list_any (seen_values seen) all ≡ false
 nothing_seen seen e [] = refl

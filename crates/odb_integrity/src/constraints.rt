@@ -1,21 +1,22 @@
 //! The numbers of elements and of rows (RFC 7047, section 3.2, `min` and `maxRows`). [P 5]
-ghost use Rattle.std.specs.Prelude.{◌≡◌, not, IfOk};
+ghost use Rattle.std.specs.Prelude.{◌≡◌, nat_le, not};
 ghost use Rattle.std.specs.List.{list_all, list_any};
 ghost use Rattle.std.specs.Prelude.{length, zip};
 ghost use Rattle.odb_tables.specs.Database.{table_at};
 ghost use Rattle.odb_integrity.specs.Settlement as model;
-ghost use Rattle.odb_integrity.specs.Settlement.{any_row, at_row, is_short, row_ids, within_max_rows};
+ghost use Rattle.odb_integrity.specs.Settlement.{any_row, at_row, is_short, row_count, within_max_rows};
+ghost use Rattle.odb_integrity.specs.Touched.{Covers};
 
 use crate::references::columns_of;
 use crate::row_id::RowId;
 use odb_atoms::{Row, Value};
 use odb_schema::{Column, Schema, TableId, TableSchema};
 use odb_tables::Draft;
-use std::alloc::AllocError;
 
-/// Whether a column of a row has fewer elements than its `min`. O(the rows and their columns).
+/// Whether a column of a row has fewer elements than its `min`. No row but those of the list may have
+/// one. O(the rows of the list and their columns).
 pub(crate) fn has_too_few(draft: &Draft, schema: &Schema, rows: &[RowId]) -> bool
-    requires { rows.now ≡ row_ids draft.now.now }
+    requires { Covers (model.has_too_few schema.now) draft.now.now rows.now }
     ensures { result ≡ any_row (model.has_too_few schema.now) draft.now.now }
 {
     for row in rows {
@@ -52,27 +53,39 @@ fn has_fewer(column: &Column, value: &Value) -> bool
     value.len() < column.column_type().min as usize
 }
 
-/// Whether a table has more rows than its `maxRows`. O(n log n) for the n rows of tables that have
-/// it.
-pub(crate) fn has_too_many(draft: &Draft, schema: &Schema) -> Result<bool, AllocError>
+/// Whether a table has more rows than its `maxRows`. O(rows touched) and O(tables).
+pub(crate) fn has_too_many(draft: &Draft, schema: &Schema) -> bool
     requires { length draft.now.now ≡ length schema.now.tables }
-    ensures { IfOk result (λ too_many.
-        too_many ≡ not (list_all within_max_rows (zip schema.now.tables draft.now.now))) }
+    ensures { result ≡ not (list_all within_max_rows (zip schema.now.tables draft.now.now)) }
 {
     for (place, table) in schema.tables().iter().enumerate() {
-        if exceeds_max_rows(draft, TableId::at(place), table)? {
-            return Ok(true);
+        if exceeds_max_rows(draft, TableId::at(place), table) {
+            return true;
         }
     }
-    Ok(false)
+    false
 }
 
-fn exceeds_max_rows(draft: &Draft, id: TableId, table: &TableSchema) -> Result<bool, AllocError>
-    ensures { IfOk result (λ exceeds.
-        exceeds ≡ not (within_max_rows (table.now, table_at draft.now.now id))) }
+fn exceeds_max_rows(draft: &Draft, id: TableId, table: &TableSchema) -> bool
+    ensures { result ≡ not (within_max_rows (table.now, table_at draft.now.now id)) }
 {
     match table.max_rows() {
-        Some(max_rows) => Ok(draft.uuids(id)?.len() as u64 > max_rows),
-        None => Ok(false),
+        Some(max_rows) => draft.row_count(id) as u64 > max_rows,
+        None => false,
     }
+}
+
+/// Whether there are more rows than these in all. O(rows touched) and O(tables).
+pub(crate) fn exceeds_limit(draft: &Draft, max_rows: usize) -> bool
+    ensures { result ≡ not (nat_le (row_count draft.now.now) max_rows) }
+{
+    let mut left = max_rows;
+    for place in 0..draft.len() {
+        let count = draft.row_count(TableId::at(place));
+        if count > left {
+            return true;
+        }
+        left -= count;
+    }
+    false
 }

@@ -2,7 +2,8 @@
 ghost use Rattle.std.specs.Prelude.{◌≡◌, not, IfOk};
 ghost use Rattle.std.specs.List.{list_any};
 ghost use Rattle.odb_integrity.specs.Settlement as model;
-ghost use Rattle.odb_integrity.specs.Settlement.{at_row, is_there, row_ids};
+ghost use Rattle.odb_integrity.specs.Settlement.{at_row, is_there};
+ghost use Rattle.odb_integrity.specs.Touched.{Covers};
 
 use crate::references::strong_of_row;
 use crate::row_id::RowId;
@@ -10,14 +11,15 @@ use odb_schema::Schema;
 use odb_tables::Draft;
 use std::alloc::{AllocError, Global};
 
-/// Whether a row has a strong reference to a row that isn't there. O(the rows and their atoms).
+/// Whether a row has a strong reference to a row that isn't there. No row but those of the list may
+/// have one. O(the rows of the list and their atoms).
 pub(crate) fn has_dangling(
     alloc: Global,
     draft: &Draft,
     schema: &Schema,
     rows: &[RowId],
 ) -> Result<bool, AllocError>
-    requires { rows.now ≡ row_ids draft.now.now }
+    requires { Covers (model.dangles schema.now draft.now.now) draft.now.now rows.now }
     ensures { IfOk result (λ dangling. dangling ≡ model.has_dangling schema.now draft.now.now) }
 {
     for row in rows {
@@ -41,7 +43,8 @@ fn dangles(alloc: Global, draft: &Draft, schema: &Schema, id: RowId) -> Result<b
     }
 }
 
-fn is_one_missing(draft: &Draft, rows: &[RowId]) -> bool
+/// Whether one of the rows isn't there. O(the rows).
+pub(crate) fn is_one_missing(draft: &Draft, rows: &[RowId]) -> bool
     ensures { result ≡ list_any (λ x. not (is_there draft.now.now x)) rows.now }
 {
     rows.iter().any(|row| is_missing(draft, *row))

@@ -1,32 +1,121 @@
 //! Garbage collection (RFC 7047, section 3.2, `isRoot`). [P 5]
-ghost use Rattle.std.specs.Prelude.{◌≡◌, ◌++◌, ◌&&◌, ◌||◌, filter, not, IfOk, OnOk};
+ghost use Rattle.std.specs.Prelude.{◌≡◌, ◌++◌, ◌&&◌, ◌||◌, ◌<◌, filter, length, not, true, ℕ, IfOk, IsTrue, OnOk};
 ghost use Rattle.std.specs.BTreeSet.{contains};
-ghost use Rattle.std.specs.List.{list_any};
+ghost use Rattle.std.specs.List.{list_all, list_any};
+ghost use Rattle.odb_integrity.specs.Settled.{IsSettled};
 ghost use Rattle.odb_integrity.specs.Settlement as model;
-ghost use Rattle.odb_integrity.specs.Settlement.{is_kept, is_there, kept, refers, same_row};
-ghost use Rattle.odb_integrity.specs.Represented.RowId.{row_id_cmp};
+ghost use Rattle.odb_integrity.specs.Settlement.{is_kept, is_there, kept, refers, row_of, same_row};
+ghost use Rattle.odb_integrity.specs.Represented.RowId.{row_id_cmp, supports};
+ghost use Rattle.odb_integrity.specs.Touched.{is_held};
 ghost use Rattle.odb_schema.specs.Schema.{is_root_at};
+ghost use Rattle.odb_tables.specs.Typed.{IsTyped};
 
-use crate::references::strong_of_row;
+use crate::dangling::is_one_missing;
+use crate::references::{has_mixed, strong_of_row};
 use crate::row_id::RowId;
-use crate::rows::{remove_all, rows_of};
-use odb_schema::Schema;
+use crate::rows::{remove_all, rows_of, touched_rows};
+use odb_schema::{Schema, TableId};
 use odb_tables::Draft;
 use std::alloc::{AllocError, Global};
 use std::collections::BTreeSet;
 
 /// Takes out the rows that nothing keeps: those that are neither of a root table nor strongly referenced
-/// by another row that is kept.
+/// by another row that is kept. Where it is plain that each row is kept, it looks at touched rows alone.
 pub(crate) fn collect_garbage(
     alloc: Global,
     draft: &mut Draft,
     schema: &Schema,
 ) -> Result<(), AllocError>
+    requires typed { IsTyped schema.now draft.old.now }
+    requires settled { IsSettled schema.now draft.old.old }
     ensures kept { OnOk result (draft.new.now ≡ kept schema.now draft.old.now) }
     ensures base { draft.new.old ≡ draft.old.old }
 {
+    if keeps_all(alloc, draft, schema)? {
+        return Ok(());
+    }
     let lost = lost_rows(alloc, draft, schema)?;
     remove_all(draft, &lost)
+}
+
+/// Whether it is plain that each row is kept: where all tables are root, or where no column pairs weak
+/// references with strong ones, no row went, and each touched row left what supports as it was.
+fn keeps_all(alloc: Global, draft: &Draft, schema: &Schema) -> Result<bool, AllocError>
+    requires typed { IsTyped schema.now draft.now.now }
+    requires settled { IsSettled schema.now draft.now.old }
+    ensures { IfOk result (λ keeps. IsTrue keeps
+        → (x : model.RowId) → is_there draft.now.now x ≡ true → is_kept schema.now draft.now.now x ≡ true) }
+{
+    if is_all_root(schema) {
+        return Ok(true);
+    }
+    if has_mixed(schema) {
+        return Ok(false);
+    }
+    let touched = touched_rows(alloc, draft)?;
+    if is_one_missing(draft, &touched) {
+        return Ok(false);
+    }
+    let referred = referred(alloc, draft, schema, &touched)?;
+    are_held(alloc, draft, schema, &touched, &referred)
+}
+
+/// Whether each table is a root table. O(tables).
+fn is_all_root(schema: &Schema) -> bool
+    ensures { IsTrue result → (t : ℕ) → t < length schema.now.tables → is_root_at schema.now t ≡ true }
+{
+    for place in 0..schema.tables().len() {
+        if !schema.is_root(TableId::at(place)) {
+            return false;
+        }
+    }
+    true
+}
+
+/// Whether each of the rows left nothing without support, where these rows are referred to now.
+fn are_held(
+    alloc: Global,
+    draft: &Draft,
+    schema: &Schema,
+    rows: &[RowId],
+    referred: &BTreeSet<RowId>,
+) -> Result<bool, AllocError>
+    ensures { IfOk result (λ held. held
+        ≡ list_all (λ x. is_held schema.now (supports schema.now referred.now) x (row_of draft.now.old x)) rows.now) }
+{
+    for row in rows {
+        if !is_held(alloc, draft, schema, *row, referred)? {
+            return Ok(false);
+        }
+    }
+    Ok(true)
+}
+
+fn is_held(
+    alloc: Global,
+    draft: &Draft,
+    schema: &Schema,
+    id: RowId,
+    referred: &BTreeSet<RowId>,
+) -> Result<bool, AllocError>
+    ensures { IfOk result (λ held. held
+        ≡ is_held schema.now (supports schema.now referred.now) id (row_of draft.now.old id)) }
+{
+    match draft.before(id.table(), id.uuid()) {
+        Some(row) => {
+            let referents = strong_of_row(alloc, schema, id, row)?;
+            Ok(have_support(schema, referred, id, &referents))
+        }
+        None => Ok(has_support(schema, referred, &id)),
+    }
+}
+
+/// Whether each of the rows but `id` has support.
+fn have_support(schema: &Schema, referred: &BTreeSet<RowId>, id: RowId, rows: &[RowId]) -> bool
+    ensures { result ≡ list_all (λ x. same_row x id || supports schema.now referred.now x) rows.now }
+{
+    rows.iter()
+        .all(|row| *row == id || has_support(schema, referred, row))
 }
 
 /// The rows that nothing keeps. It scans the remaining rows again and again, and takes out those to
@@ -76,8 +165,7 @@ fn supported(
 }
 
 fn has_support(schema: &Schema, referred: &BTreeSet<RowId>, row: &RowId) -> bool
-    ensures { result
-        ≡ (is_root_at schema.now row.now.0 || contains row_id_cmp referred.now row.now) }
+    ensures { result ≡ supports schema.now referred.now row.now }
 {
     schema.is_root(row.table()) || referred.contains(row)
 }

@@ -11,9 +11,10 @@ ghost use Rattle.odb_atoms.specs.Represented.Value.{pair_of};
 ghost use Rattle.odb_atoms.specs.Value as model_value;
 ghost use Rattle.odb_atoms.specs.Value.{atoms};
 ghost use Rattle.odb_integrity.specs.Settlement as model;
-ghost use Rattle.odb_integrity.specs.Settlement.{pruned, row_ids};
+ghost use Rattle.odb_integrity.specs.Settlement.{pruned};
 ghost use Rattle.odb_integrity.specs.Steps as steps;
 ghost use Rattle.odb_integrity.specs.Steps.{pruning, row_has_stale, with_rows};
+ghost use Rattle.odb_integrity.specs.Touched.{Covers};
 ghost use Rattle.odb_schema.specs.Schema.{columns_at};
 ghost use Rattle.odb_tables.specs.Typed.{IsTyped, fits};
 
@@ -26,14 +27,14 @@ use odb_tables::Draft;
 use std::alloc::{AllocError, Global};
 
 /// Takes out weak references to rows that aren't there; of a map the whole pair. Only rows that have one
-/// are put. O(the rows and their atoms).
+/// are put. No row but those of the list may have one. O(the rows of the list and their atoms).
 pub(crate) fn prune(
     alloc: Global,
     draft: &mut Draft,
     schema: &Schema,
     rows: &[RowId],
 ) -> Result<(), AllocError>
-    requires rows { rows.now ≡ row_ids draft.old.now }
+    requires rows { Covers (row_has_stale schema.now draft.old.now) draft.old.now rows.now }
     requires typed { IsTyped schema.now draft.old.now }
     ensures pruned { OnOk result (draft.new.now ≡ pruned schema.now draft.old.now) }
     ensures base { draft.new.old ≡ draft.old.old }

@@ -1,14 +1,16 @@
 //! What rows refer to (RFC 7047, section 3.2, `refTable` and `refType`).
-ghost use Rattle.std.specs.Prelude.{◌≡◌, ◌++◌, filter_map, map, IfOk, OnOk, option_to_list, Some};
+ghost use Rattle.std.specs.Prelude.{◌≡◌, ◌++◌, ◌&&◌, filter_map, map, IfOk, OnOk, option_to_list, Some};
+ghost use Rattle.std.specs.List.{list_any};
 ghost use Rattle.odb_atoms.specs.Represented.Atom.{atom_of};
 ghost use Rattle.odb_atoms.specs.Represented.ColType.{base_of, type_of};
+ghost use Rattle.odb_integrity.specs.References.{has_reference, has_type, is_mixed, is_strong};
 ghost use Rattle.odb_integrity.specs.Settlement as model;
 ghost use Rattle.odb_atoms.specs.ColType as model_type;
 ghost use Rattle.odb_schema.specs.Schema.{columns_at};
 
 use crate::row_id::RowId;
 use odb_atoms::{Atom, Base, ColType, Entries, Row, Value};
-use odb_schema::{Column, Schema, TableId};
+use odb_schema::{Column, Schema, TableId, TableSchema};
 use std::alloc::{AllocError, Global};
 
 /// The columns of the table. O(1).
@@ -107,6 +109,78 @@ pub(crate) fn value_base(column: &ColType) -> &Base
     match &column.value {
         Some(base) => base,
         None => &column.key,
+    }
+}
+
+/// Whether the type of a column has references. O(columns of the schema).
+pub(crate) fn has_references(schema: &Schema) -> bool
+    ensures { result ≡ has_type has_reference schema.now }
+{
+    schema
+        .tables()
+        .iter()
+        .any(|table| table_has_references(table))
+}
+
+fn table_has_references(table: &TableSchema) -> bool
+    ensures { result ≡ list_any (λ column. has_reference column.type) table.now.columns }
+{
+    table
+        .columns()
+        .iter()
+        .any(|column| has_reference(column.column_type()))
+}
+
+fn has_reference(column: &ColType) -> bool
+    ensures { result ≡ has_reference (type_of column.now) }
+{
+    column.key.reference.is_some() || value_base(column).reference.is_some()
+}
+
+/// Whether a column pairs weak references with strong ones. O(columns of the schema).
+pub(crate) fn has_mixed(schema: &Schema) -> bool
+    ensures { result ≡ has_type is_mixed schema.now }
+{
+    schema.tables().iter().any(|table| table_has_mixed(table))
+}
+
+fn table_has_mixed(table: &TableSchema) -> bool
+    ensures { result ≡ list_any (λ column. is_mixed column.type) table.now.columns }
+{
+    table
+        .columns()
+        .iter()
+        .any(|column| is_mixed(column.column_type()))
+}
+
+fn is_mixed(column: &ColType) -> bool
+    ensures { result ≡ is_mixed (type_of column.now) }
+{
+    let values = value_base(column);
+    go_together(&column.key, values) || go_together(values, &column.key)
+}
+
+fn go_together(weak: &Base, strong: &Base) -> bool
+    ensures { result ≡ (model.is_weak (base_of weak.now) && is_strong (base_of strong.now)) }
+{
+    is_weak(weak) && is_strong(strong)
+}
+
+fn is_weak(base: &Base) -> bool
+    ensures { result ≡ model.is_weak (base_of base.now) }
+{
+    match &base.reference {
+        Some(reference) => reference.weak,
+        None => false,
+    }
+}
+
+fn is_strong(base: &Base) -> bool
+    ensures { result ≡ is_strong (base_of base.now) }
+{
+    match &base.reference {
+        Some(reference) => !reference.weak,
+        None => false,
     }
 }
 

@@ -1,9 +1,10 @@
 //! The rows of a draft.
-ghost use Rattle.std.specs.Prelude.{◌≡◌, ◌++◌, ◌<◌, length, map, IfOk, OnOk};
+ghost use Rattle.std.specs.Prelude.{◌≡◌, ◌++◌, ◌<◌, length, map, IfOk, OnOk, ℕ};
 ghost use Rattle.std.specs.List.{All};
 ghost use Rattle.odb_atoms.specs.FinMap as finite;
 ghost use Rattle.odb_integrity.specs.Settlement.{row_ids};
 ghost use Rattle.odb_integrity.specs.Steps.{without_rows};
+ghost use Rattle.odb_integrity.specs.Touched.{SameAt, SameBut};
 ghost use Rattle.odb_tables.specs.Database.{table_at};
 
 use crate::row_id::RowId;
@@ -29,6 +30,33 @@ fn append_table(draft: &Draft, table: TableId, rows: &mut Vec<RowId>) -> Result<
         ≡ rows.old.items ++ map (λ uuid. (table, uuid)) (finite.keys (table_at draft.now.now table))) }
 {
     let uuids = draft.uuids(table)?;
+    for uuid in &uuids {
+        rows.push(RowId::new(table, *uuid))?;
+    }
+    Ok(())
+}
+
+/// The rows that the draft touched; the others are as they were. O(rows touched) and O(tables).
+pub(crate) fn touched_rows(alloc: Global, draft: &Draft) -> Result<Vec<RowId>, AllocError>
+    ensures { IfOk result (λ rows. SameBut rows.items draft.now.old draft.now.now) }
+{
+    let mut rows = Vec::new(alloc);
+    for place in 0..draft.len() {
+        append_touched(alloc, draft, TableId::at(place), &mut rows)?;
+    }
+    Ok(rows)
+}
+
+fn append_touched(
+    alloc: Global,
+    draft: &Draft,
+    table: TableId,
+    rows: &mut Vec<RowId>,
+) -> Result<(), AllocError>
+    ensures table { OnOk result (SameAt table rows.new.items draft.now.old draft.now.now) }
+    ensures others { OnOk result ((k : ℕ) → SameAt k rows.old.items draft.now.old draft.now.now → SameAt k rows.new.items draft.now.old draft.now.now) }
+{
+    let uuids = draft.touched(alloc, table)?;
     for uuid in &uuids {
         rows.push(RowId::new(table, *uuid))?;
     }

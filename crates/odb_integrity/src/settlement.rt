@@ -1,15 +1,21 @@
 //! Settlement at the end of a transaction (RFC 7047, section 3.2, and 4.1.3, "commit"). [P 5]
 ghost use Rattle.std.specs.Prelude.{◌≡◌, length, IfOk};
 ghost use Rattle.odb_integrity.specs.Represented.{answer_of};
+ghost use Rattle.odb_integrity.specs.Settled.{IsSettled};
 ghost use Rattle.odb_integrity.specs.Settlement as model;
+ghost use Rattle.odb_integrity.specs.Settlement.{dangles};
+ghost use Rattle.odb_integrity.specs.Steps.{row_has_stale};
+ghost use Rattle.odb_integrity.specs.Touched.{Covers};
 ghost use Rattle.odb_tables.specs.Typed.{IsTyped};
 
-use crate::constraints::{has_too_few, has_too_many};
-use crate::dangling::has_dangling;
+use crate::constraints::{exceeds_limit, has_too_few, has_too_many};
+use crate::dangling::{has_dangling, is_one_missing};
 use crate::garbage::collect_garbage;
 use crate::indexes::has_duplicates;
 use crate::pruning::prune;
-use crate::rows::rows_of;
+use crate::references::has_references;
+use crate::row_id::RowId;
+use crate::rows::{rows_of, touched_rows};
 use odb_atoms::Error;
 use odb_schema::Schema;
 use odb_tables::Draft;
@@ -27,11 +33,20 @@ use std::alloc::{AllocError, Global};
 /// 5. `ResourcesExhausted`, where there are more than `max_rows` rows in all.
 ///
 /// A fault leaves the draft somewhere on this way: it is to be dropped then. Rows that don't change aren't
-/// put. The draft's rows have to be of the schema.
+/// put. The draft's rows have to be of the schema, and the database that it began with settled.
 ///
-/// It scans all rows once a round; there are as many rounds as the longest chain of deleted rows
-/// has links: O(n log n) for each round over n rows and their references, and O(n log n) for each
-/// index. An error of the outer result says that memory was refused.
+/// What wasn't touched isn't looked at: O(rows touched, and the atoms in them, before and now), O(tables)
+/// and O(columns of the schema). Beyond that, with n rows in all,
+///
+/// - O(m log m) over the m rows of a table for each of its indexes in whose columns a touched row has
+///   another value than before, or is new;
+/// - O(n log n) over all rows and their references, where a row went and the schema has references;
+/// - the same for each round of garbage collection, where the schema has tables that aren't root, and a row
+///   went, or one that wasn't touched may have lost the strong reference that kept it, or a new one is
+///   referred to by no touched row, or a column pairs weak references with strong ones. There are as many
+///   rounds as the longest chain of deleted rows has links.
+///
+/// An error of the outer result says that memory was refused.
 #[tactic(auto, unfolding(crate::specs::Settlement::settle))]
 pub fn settle(
     alloc: Global,
@@ -40,17 +55,38 @@ pub fn settle(
     max_rows: usize,
 ) -> Result<Result<(), Error>, AllocError>
     requires typed { IsTyped schema.now draft.old.now }
+    requires base { IsSettled schema.now draft.old.old }
     ensures settled { IfOk result (λ settled.
         answer_of settled draft.new.now ≡ model.settle schema.now max_rows draft.old.now) }
     ensures base { draft.new.old ≡ draft.old.old }
 {
     collect_garbage(alloc, draft, schema)?;
-    let rows = rows_of(alloc, draft)?;
+    let rows = rows_to_test(alloc, draft, schema)?;
     if has_dangling(alloc, draft, schema, &rows)? {
         return Ok(Err(Error::ReferentialIntegrityViolation));
     }
     prune(alloc, draft, schema, &rows)?;
     constrained(alloc, draft, schema, max_rows)
+}
+
+/// The rows that may have a reference to a row that isn't there. The rows of the base had none; so where
+/// no row went, these are among the rows that were touched.
+///
+/// O(rows touched) and O(tables), and O(columns of the schema) where a row went; O(n log n) for n rows
+/// where one went and the schema has a reference.
+fn rows_to_test(alloc: Global, draft: &Draft, schema: &Schema) -> Result<Vec<RowId>, AllocError>
+    requires { IsSettled schema.now draft.now.old }
+    ensures dangling { IfOk result (λ rows. Covers (dangles schema.now draft.now.now) draft.now.now rows.items) }
+    ensures stale { IfOk result (λ rows. Covers (row_has_stale schema.now draft.now.now) draft.now.now rows.items) }
+{
+    let touched = touched_rows(alloc, draft)?;
+    if !is_one_missing(draft, &touched) {
+        return Ok(touched);
+    }
+    if !has_references(schema) {
+        return Ok(touched);
+    }
+    rows_of(alloc, draft)
 }
 
 /// The first constraint that the draft breaks, if it breaks one.
@@ -60,21 +96,22 @@ fn constrained(
     schema: &Schema,
     max_rows: usize,
 ) -> Result<Result<(), Error>, AllocError>
-    requires { length draft.now.now ≡ length schema.now.tables }
+    requires length { length draft.now.now ≡ length schema.now.tables }
+    requires base { IsSettled schema.now draft.now.old }
     ensures { IfOk result (λ tested.
         answer_of tested draft.now.now ≡ model.constrained schema.now max_rows draft.now.now) }
 {
-    let rows = rows_of(alloc, draft)?;
-    if has_too_few(draft, schema, &rows) {
+    let touched = touched_rows(alloc, draft)?;
+    if has_too_few(draft, schema, &touched) {
         return Ok(Err(Error::ConstraintViolation));
     }
-    if has_too_many(draft, schema)? {
+    if has_too_many(draft, schema) {
         return Ok(Err(Error::ConstraintViolation));
     }
     if has_duplicates(alloc, draft, schema)? {
         return Ok(Err(Error::ConstraintViolation));
     }
-    if rows.len() > max_rows {
+    if exceeds_limit(draft, max_rows) {
         return Ok(Err(Error::ResourcesExhausted));
     }
     Ok(Ok(()))

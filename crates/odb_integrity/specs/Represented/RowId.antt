@@ -3,7 +3,9 @@ use Rattle.std.specs.Coded.{Coded, coded×, coded_ℕ}
 use Rattle.std.specs.declared.cmp.Ordering.{Ordering}
 use Rattle.std.specs.Ordering.{eq_by_cmp, nat_cmp, on, then_cmp}
 use Rattle.std.specs.Cmp.{IsEquivalence, IsPartialEquivalence, IsPartialOrder, IsTotalOrder, eq_by_cmp_equiv, nat_cmp_total, on_total, partial_equiv_from_equiv, po, then_total}
-use Rattle.std.specs.Prelude.{Some, refl}
+use Rattle.std.specs.BTreeSet.{BTreeSet, contains}
+use Rattle.std.specs.Prelude.{Bool, ◌||◌, Some, refl}
+use Rattle.odb_schema.specs.Schema.{Schema, is_root_at}
 use Rattle.odb_atoms.specs.Uuid.{uuid_code}
 use Rattle.odb_integrity.specs.Settlement.{RowId}
 
@@ -25,3 +27,7 @@ row_ids_equivalent = eq_by_cmp_equiv row_ids_total
 
 pub row_ids_partially_equivalent : IsPartialEquivalence (eq_by_cmp row_id_cmp)
 row_ids_partially_equivalent = partial_equiv_from_equiv row_ids_equivalent
+
+-- of a root table, or one of the rows
+abbrev pub supports : Schema → BTreeSet RowId → RowId → Bool
+supports s referred x = is_root_at s x.0 || contains row_id_cmp referred x

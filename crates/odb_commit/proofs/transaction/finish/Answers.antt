@@ -3,6 +3,7 @@ use Rattle.odb_atoms.specs.Represented.Atom.{uuid_of}
 use Rattle.odb_atoms.specs.Uuid.{uuid_from}
 use Rattle.odb_integrity.specs.Settlement.{settle}
 use Rattle.odb_commit.proofs.Outcomes.{done}
+use Rattle.odb_commit.proofs.Sound.{sound_settled}
 use Rattle.odb_commit.proofs.transaction.finish.Goals as goal
 use Rattle.odb_tables.specs.Change.{all_changed_by, change_between}
 use Rattle.odb_tables.specs.Database.{Db}
@@ -20,3 +21,6 @@ returns-in_ok-commit-in-Ok c =
     (c.in_ok-commit-in-Ok.ensures.changes ∙ (λ i. change_between (base i) (stamped (version i) (base i) new)))
     (subst (λ db. IsChangeOf db c.in_ok-commit-in-Ok.field-0) base c.in_ok-commit-in-Ok.ensures.change_of)
     (sym (ap (λ db. all_changed_by db c.in_ok-commit-in-Ok.field-0) base) ∙ c.in_ok-commit-in-Ok.ensures.leads_to ∙ (λ i. stamped (version i) (base i) new))
+
+pub settle-requires-clause-base : goal.settle-requires-clause-base
+settle-requires-clause-base c = sound_settled c.args.schema.now c.args.draft.old c.requires.old

@@ -10,6 +10,7 @@ use Rattle.odb_integrity.specs.Settlement.{RowId, is_kept, is_there, kept, same_
 use Rattle.odb_integrity.specs.Steps.{without_rows}
 use Rattle.odb_schema.specs.Schema.{Schema}
 use Rattle.odb_integrity.proofs.Databases.{each_row_agree, there_inside}
+use Rattle.odb_integrity.proofs.Held.{all_kept}
 use Rattle.odb_integrity.proofs.Ids.{own_row}
 use Rattle.odb_integrity.proofs.garbage.collect_garbage.Goals as goal
 
@@ -45,3 +46,6 @@ returns-clause-kept c =
     let db = c.args.draft.now.now in
     let are : AreLost s db c.deref.result.now = search rules in
     on_ok_weaker c.remove_all.result (λ e. e ∙ without_lost s db c.deref.result.now are) c.remove_all.ensures.removed
+
+pub returns-then-branch-clause-kept : goal.returns-then-branch-clause-kept
+returns-then-branch-clause-kept c = all_kept c.args.schema.now c.args.draft.now.now (c.in_ok-keeps_all.ensures c.if-branch.true)

@@ -1,11 +1,11 @@
-use Rattle.std.proofs.Common.{rules, ◌≡◌, ◌<◌, ◌+◌, ◌||◌, List, ℕ, Bool, true, false, length, map, slice_index_or, take, String, Vec, sym, ap, ◌∙◌}
+use Rattle.std.proofs.Common.{rules, ◌≡◌, ◌<◌, ◌+◌, ◌||◌, List, ℕ, Bool, true, false, length, map, slice_index_or, take, String, Vec, refl, sym, ap, ◌∙◌}
 use Rattle.std.specs.declared.alloc.Global.{Global}
 use Rattle.std.specs.List.{list_any}
 use Rattle.std.proofs.lemmas.List.Folds.{list_any_at, list_any_more}
 use Rattle.odb_atoms.proofs.Lists.{any-map}
 use Rattle.odb_atoms.specs.Value.{same_values}
-use Rattle.odb_integrity.specs.Settlement.{has_twins, index_cells, rows_of}
-use Rattle.odb_integrity.proofs.Twins.{index_cells_of}
+use Rattle.odb_integrity.specs.Settlement.{has_duplicates, has_twins, index_cells, rows_of}
+use Rattle.odb_integrity.specs.Touched.{cells_at}
 use Rattle.odb_schema.specs.Represented.Names.{names_of}
 use Rattle.odb_schema.specs.Schema.{Column}
 use Rattle.odb_tables.specs.Database.{Table, table_at}
@@ -24,6 +24,13 @@ module _ (cs : List Column) (t : Table) (indexes : List (Vec (String Global) Glo
       ∙ list_any_more (λ v. twice cs t (names_of v)) indexes i x inside
       ∙ (λ j. (sym (any-map (twice cs t) names_of (take i indexes)) ∙ before) j || (ap (λ v. twice cs t (names_of v)) (sym is) ∙ e) j)
 
+  not_twice : list_any (twice cs t) (map names_of indexes) ≡ false → twice cs t (names_of x) ≡ false
+  not_twice none = by (twice cs t (names_of x)) refl
+    where
+      by : (b : Bool) → twice cs t (names_of x) ≡ b → b ≡ false
+      by true e = sym (one_twice e) ∙ none
+      by false e = refl
+
 pub returns-then-branch : goal.returns-then-branch
 unfolding twice
 returns-then-branch c =
@@ -34,7 +41,8 @@ returns-then-branch c =
     let x = c.index-item.result in
     let inside : i < length indexes = search rules in
     let is : x ≡ slice_index_or indexes i x = search rules in
-    let answer : c.in_ok-has_twins.field-0 ≡ twice cs t (names_of x) = c.in_ok-has_twins.ensures ∙ ap (has_twins same_values) (index_cells_of c.deref.result.now c.deref-in-loop-index.result.now cs (names_of x) t (ap (map (λ r. r.now)) c.deref.ensures.value ∙ c.in_ok-rows.ensures) (c.deref-in-loop-index.ensures.value ∙ c.in_ok-places.ensures)) in
+    let places = c.deref.ensures.value ∙ c.in_ok-places.ensures in
+    let answer : c.in_ok-has_twins_at.field-0 ≡ twice cs t (names_of x) = c.in_ok-has_twins_at.ensures ∙ ap (λ ps. has_twins same_values (map (cells_at ps) (rows_of t))) places in
     sym (ap (list_any (twice cs t)) (sym c.indexes-indexes.ensures) ∙ one_twice cs t indexes i x inside is (sym answer ∙ c.if-branch.true))
 
 pub loop-index-preserved : goal.loop-index-preserved
@@ -47,5 +55,22 @@ loop-index-preserved c =
     let x = c.index-item.result in
     let inside : i < length indexes = search rules in
     let is : x ≡ slice_index_or indexes i x = search rules in
-    let answer : c.in_ok-has_twins.field-0 ≡ twice cs t (names_of x) = c.in_ok-has_twins.ensures ∙ ap (has_twins same_values) (index_cells_of c.deref.result.now c.deref-in-loop-index.result.now cs (names_of x) t (ap (map (λ r. r.now)) c.deref.ensures.value ∙ c.in_ok-rows.ensures) (c.deref-in-loop-index.ensures.value ∙ c.in_ok-places.ensures)) in
+    let places = c.deref.ensures.value ∙ c.in_ok-places.ensures in
+    let answer : c.in_ok-has_twins_at.field-0 ≡ twice cs t (names_of x) = c.in_ok-has_twins_at.ensures ∙ ap (λ ps. has_twins same_values (map (cells_at ps) (rows_of t))) places in
     none_twice cs t indexes i x inside is (sym answer ∙ c.if-branch.false) c.loop-index.invariant
+
+pub returns-then-is_untouched : goal.returns-then-is_untouched
+returns-then-is_untouched c = sym (ap (λ t. has_duplicates (c.args.table.now, t)) (c.is_untouched.ensures c.if-is_untouched.true) ∙ c.requires)
+
+pub has_twins_at-requires : goal.has_twins_at-requires
+unfolding twice
+has_twins_at-requires c =
+    let cs = c.args.table.now.columns in
+    let t = table_at c.args.draft.now.old c.args.id in
+    let indexes = c.indexes-indexes.result.now in
+    let i = c.loop-index.index-index in
+    let x = c.index-item.result in
+    let inside : i < length indexes = search rules in
+    let is : x ≡ slice_index_or indexes i x = search rules in
+    let places = c.deref.ensures.value ∙ c.in_ok-places.ensures in
+    ap (λ ps. has_twins same_values (map (cells_at ps) (rows_of t))) places ∙ not_twice cs t indexes i x inside is (ap (list_any (twice cs t)) c.indexes-indexes.ensures ∙ c.requires)
