@@ -1,3 +1,5 @@
+pub mod Batches
+pub mod Crossing
 pub mod Free
 pub mod HandingOver
 pub mod Keeping

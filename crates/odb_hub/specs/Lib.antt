@@ -1,3 +1,4 @@
+pub mod Batch
 pub mod EventCode
 pub mod Kept
 pub mod Represented

@@ -1,3 +1,4 @@
 pub mod Happened
 pub mod Mailbox
 pub mod Rings
+pub mod Submission

@@ -50,7 +50,9 @@ impl HubState {
     ghost use Rattle.odb_atoms.specs.FinMap.{empty, get, insert, len, remove};
     ghost use Rattle.odb_service.specs.Server.{serve};
     ghost use Rattle.odb_core.specs.Represented.Reason.{IsReason};
+    ghost use Rattle.odb_hub.specs.Batch.{RefusesFirst, TakesUpTo};
     ghost use Rattle.odb_hub.specs.Kept.{IsKept, Takes, TakesRound, counted};
+    ghost use Rattle.odb_hub.specs.Represented.Submission.{events_of};
     ghost use Rattle.odb_hub.specs.Rings.{fresh_ring, IsFlushedAt};
 
     /// A core without sessions, with the state that it is in for base, and no event.
@@ -130,20 +132,21 @@ impl HubState {
         }
     }
 
-    /// Submits what stands in the batch, from its last to its first. At a refusal it stops, and what was refused is the
-    /// last of the batch again; where there is no room for it there, it is `Memory`.
+    /// Submits what stands in the batch, from its last to its first, each as `submit` does. At a refusal it stops: those
+    /// before it were taken, and what was refused is the last of the batch again. It costs what the submits cost.
     pub fn submit_all(
         &mut self,
         session: SessionId,
         batch: &mut Vec<Submission>,
         now: u64,
     ) -> Result<(), Refused>
-        ensures base { self.new.base ≡ self.old.base }
+        ensures taken { TakesUpTo (events_of session now batch.old.items) (events_of session now batch.new.items) self.old self.new }
         ensures all { OnOk result (batch.new.items ≡ []) }
+        ensures why { IfErr result (λ why. RefusesFirst why (events_of session now batch.new.items) self.new.server) }
     {
         while let Some(submission) = batch.pop() {
             if let Err((submission, why)) = self.submit(session, submission, now) {
-                batch.push(submission)?;
+                batch.push_reserved(submission);
                 return Err(why);
             }
         }

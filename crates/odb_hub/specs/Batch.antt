@@ -1,0 +1,21 @@
+-- What a batch of events makes of what the lock guards.
+use Rattle.std.specs.Prelude.{◌≡◌, Result, List, [], ◌∷◌, ◌++◌}
+use Rattle.odb_service.specs.Run.{Event}
+use Rattle.odb_service.specs.Server.{Server, serve}
+use Rattle.odb_core.specs.declared.refused.Refused.{Refused}
+use Rattle.odb_core.specs.Represented.Reason.{IsReason}
+use Rattle.odb_hub.specs.Kept.{Kept, Takes}
+
+-- the events are taken in order, and nothing is sent
+abbrev pub TakesAll : List Event → Kept → Kept → Type 0
+TakesAll [] old new = new ≡ old
+TakesAll (e ∷ es) old new = (next : Kept) × Takes e old next [] × (next.rings ≡ old.rings) × TakesAll es next new
+
+-- the first of these events are taken in order, and the others are left
+abbrev pub TakesUpTo : List Event → List Event → Kept → Kept → Type 0
+TakesUpTo events left old new = (taken : List Event) × (events ≡ taken ++ left) × TakesAll taken old new
+
+-- there is a first event, and the server refuses it for this reason
+abbrev pub RefusesFirst : Refused → List Event → Server → Type 0
+RefusesFirst why [] server = ⊥
+RefusesFirst why (e ∷ es) server = IsReason why (serve e server)
