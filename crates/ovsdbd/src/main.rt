@@ -1,19 +1,32 @@
-//! An OVSDB server (RFC 7047): `ovsdbd script --schema F` runs a script from standard input on a
-//! server of the schema in the file F, with empty tables. [P 15.1]
+//! An OVSDB server (RFC 7047): `ovsdbd serve --schema F` serves the schema in the file F, with empty
+//! tables, over TCP, and `ovsdbd script --schema F` runs a script from standard input on such a
+//! server. [P 15.1]
 //!
-//! The exit status is 0 after a script that ran to its end and after help, 1 after a fault, which standard error names,
-//! and 2 where the words of the command line are wrong.
+//! The exit status is 0 after a script that ran to its end, after as many connections as were asked
+//! for and after help, 1 after a fault, which standard error names, and 2 where the words of the
+//! command line are wrong.
 #![tactic(auto)]
 
-use clap::{Arg, ArgAction, Command, Error};
+mod connection;
+mod daemon;
+mod deadlines;
+mod serve;
+
+use crate::serve::run_serve;
+use clap::builder::ValueParser;
+use clap::{Arg, ArgAction, ArgMatches, Command, Error};
 use odb_schema::{Schema, SchemaFault};
 use odb_script::{RunFault, Watched, run_script};
 use std::alloc::Global;
 use std::hash::RandomState;
 use std::io::{self, BufReader};
+use std::net::{Net, TcpListener, TcpStream};
 use std::process::ExitCode;
 use std::random::RandomSource;
 use std::rt::Files;
+use std::sync::Wait;
+use std::thread::Threads;
+use std::time::Clock;
 use std::{env, fs};
 use thiserror::Error as ErrorText;
 
@@ -26,7 +39,10 @@ enum Failure {
     /// The file holds no schema; the fault's number is 1 to 7.
     #[error("schema: fault {0}")]
     Schema(u8),
-    /// The script wasn't run to its end.
+    /// The address isn't one, or can't be listened on.
+    #[error("cannot listen")]
+    NotListening,
+    /// The script wasn't run to its end, or the daemon ended.
     #[error("{0}")]
     Run(RunFault),
 }
@@ -41,11 +57,14 @@ fn main(rt: HostRuntime) -> io::Result<ExitCode> {
         Ok(matches) => matches,
         Err(error) => return refuse(&rt, error),
     };
-    let file = matches
-        .subcommand_matches("script")
-        .and_then(|script| script.get_str("schema"))
-        .unwrap_or("");
-    match script(&rt, file) {
+    let done = match matches.subcommand_matches("serve") {
+        Some(words) => match read_schema(&rt, word(words, "schema", "")) {
+            Ok(schema) => listen(&rt, rt.alloc(), schema, words),
+            Err(failure) => Err(failure),
+        },
+        None => script(&rt, script_file(&matches)),
+    };
+    match done {
         Ok(()) => Ok(ExitCode::SUCCESS),
         Err(failure) => {
             eprintln!(rt; "ovsdbd: {failure}")?;
@@ -54,19 +73,56 @@ fn main(rt: HostRuntime) -> io::Result<ExitCode> {
     }
 }
 
+/// The value of a word that may be absent.
+fn word<'a>(words: &ArgMatches<'a>, name: &str, absent: &'a str) -> &'a str {
+    words.get_str(name).unwrap_or(absent)
+}
+
+/// The file that a script is to run on.
+fn script_file<'a>(matches: &ArgMatches<'a>) -> &'a str {
+    match matches.subcommand_matches("script") {
+        Some(words) => word(words, "schema", ""),
+        None => "",
+    }
+}
+
+/// Where the daemon listens if nothing else is asked for (RFC 7047, 6).
+const ADDRESS: &str = "127.0.0.1:6640";
+
 /// The words that are understood.
 fn command<'a>(alloc: Global) -> Result<Command<'a>, Error> {
-    let schema = Arg::new(alloc, "schema")
+    let script = Command::new(alloc, "script").arg(schema_word(alloc))?;
+    let listen = Arg::new(alloc, "listen")
+        .long("listen")
+        .value_name("A")
+        .help(
+            "The address and port to listen on, 127.0.0.1:6640 if absent; at port 0 the system chooses one",
+        )
+        .action(ArgAction::Set);
+    let sessions = Arg::new(alloc, "sessions")
+        .long("sessions")
+        .value_name("N")
+        .help("How many connections to serve before it ends")
+        .value_parser(ValueParser::Unsigned(1, u64::MAX))
+        .action(ArgAction::Set);
+    let serve = Command::new(alloc, "serve")
+        .arg(schema_word(alloc))?
+        .arg(listen)?
+        .arg(sessions)?;
+    let command = Command::new(alloc, "ovsdbd")
+        .subcommand_required(true)
+        .subcommand(script)?
+        .subcommand(serve)?;
+    Ok(command)
+}
+
+fn schema_word<'a>(alloc: Global) -> Arg<'a> {
+    Arg::new(alloc, "schema")
         .long("schema")
         .value_name("F")
         .help("The file of the schema (RFC 7047, 3.2)")
         .required(true)
-        .action(ArgAction::Set);
-    let script = Command::new(alloc, "script").arg(schema)?;
-    let command = Command::new(alloc, "ovsdbd")
-        .subcommand_required(true)
-        .subcommand(script)?;
-    Ok(command)
+        .action(ArgAction::Set)
 }
 
 /// Prints help, on standard output, or what is wrong with the words, on standard error.
@@ -84,6 +140,25 @@ fn script(rt: &HostRuntime, file: &str) -> Result<(), Failure> {
     let mut reader = BufReader::new(rt.alloc(), reader).map_err(memory)?;
     let mut writer = Watched::new(io::writer(rt));
     run_script(rt.alloc(), schema, hashing, &mut reader, &mut writer).map_err(Failure::Run)
+}
+
+/// Listens, prints the address, and serves.
+fn listen<
+    R: Net<Listener = TcpListener, Stream = TcpStream>
+        + Threads
+        + Wait
+        + Clock
+        + RandomSource
+        + Print
+        + Sync,
+>(rt: &R, alloc: Global, schema: Schema, words: &ArgMatches<'_>) -> Result<(), Failure> {
+    let address = word(words, "listen", ADDRESS);
+    let listener = TcpListener::bind(rt, address).map_err(|_| Failure::NotListening)?;
+    let local = listener.local_addr().map_err(|_| Failure::NotListening)?;
+    println!(rt; "listening {local}").map_err(|_| Failure::Run(RunFault::Write))?;
+    let hashing = RandomState::new(rt).map_err(|_| Failure::Run(RunFault::Memory))?;
+    let sessions: Option<u64> = words.get_one("sessions");
+    run_serve(rt, alloc, schema, hashing, &listener, sessions).map_err(Failure::Run)
 }
 
 /// The schema in a file.

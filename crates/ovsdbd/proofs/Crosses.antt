@@ -1,0 +1,28 @@
+-- The daemon may be used by several threads at once, and what the threads of a connection capture may go to them.
+use denote.Param.Send.{IsSend, IsSync, sendable}
+use Rattle.std.proofs.Crossing as heap
+use Rattle.std.proofs.net.tcp.TcpStream.TheSendSync as stream
+use Rattle.std.specs.contracts.net.tcp.TcpStream as TcpStream
+use Rattle.odb_hub.proofs.Crossing.{Hub-sync}
+use Rattle.odb_hub.proofs.mailbox.Mailbox.TheSendSync as mailbox
+use Rattle.odb_hub.specs.contracts.mailbox.Mailbox as Mailbox
+use Rattle.std.proofs.MapsCrossing as maps
+use Rattle.ovsdbd.specs.contracts.daemon.Daemon as Daemon
+use Rattle.ovsdbd.specs.contracts.deadlines.Deadlines as Deadlines
+
+pub Deadlines-sync : IsSync (Deadlines.the_field).row
+Deadlines-sync = search (sendable, heap.crosses, maps.crosses) depth 40
+
+pub Daemon-sync : IsSync (Daemon.the_field).row
+Daemon-sync = search (Hub-sync, Deadlines-sync, sendable, heap.crosses) depth 20
+
+pub Mailbox-send : IsSend Mailbox.the_row
+Mailbox-send = mailbox.the_send
+
+pub TcpStream-send : IsSend TcpStream.the_row
+TcpStream-send = stream.the_send
+
+pub TcpStream-sync : IsSync TcpStream.the_row
+TcpStream-sync = stream.the_sync
+
+pub ruleset crosses = (Daemon-sync, Mailbox-send, TcpStream-send, TcpStream-sync, sendable, heap.crosses)
