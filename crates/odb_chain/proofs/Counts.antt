@@ -11,12 +11,12 @@ use Rattle.odb_tables.specs.Change.{Changes}
 use Rattle.odb_tables.specs.Database.{Db, Table, table_at}
 use Rattle.odb_chain.specs.Chains.{Live, Standing}
 use Rattle.odb_chain.specs.Kept.{Rows}
-use Rattle.odb_chain.specs.Represented.Chain.{AllAfter, AreChainsOf, AreRising, Chain, chain_at, here, places, shown, stands}
+use Rattle.odb_chain.specs.Represented.Chain.{AllAfter, AreApart, AreChainsOf, AreRising, Chain, chain_at, here, places, shown, stands}
 use Rattle.odb_chain.specs.Segments.{contents_held, segments_held, segments_of}
 use Rattle.odb_chain.proofs.Numbers.{get-from_entries, same}
 use Rattle.odb_chain.proofs.Places.{Place}
 use Rattle.odb_chain.proofs.Shown.{live_shown, version_shown}
-use Rattle.odb_chain.proofs.Views.{AreApart, places_apart}
+use Rattle.odb_chain.proofs.Views.{places_apart}
 
 -- ---- places in order are the entries of a map
 

@@ -1,4 +1,5 @@
 mod Absorbed
+mod Between
 mod Contents
 mod Counts
 mod Histories

@@ -8,7 +8,7 @@ use Rattle.odb_atoms.specs.FinMap as finite
 use Rattle.odb_tables.specs.Database.{Table}
 use Rattle.odb_chain.specs.Chains.{Live, Standing, marks_of, one_less, with_standing}
 use Rattle.odb_chain.specs.Kept.{Rows, content_at}
-use Rattle.odb_chain.specs.Represented.Chain.{AllAfter, AreRising, Chain, IsKeptOf, fewer, here, live_of, places, stands}
+use Rattle.odb_chain.specs.Represented.Chain.{AreApart, AllAfter, AreRising, Chain, IsKeptOf, fewer, here, live_of, places, stands}
 use Rattle.odb_chain.specs.Represented.Places.{is_place}
 use Rattle.odb_chain.proofs.Contents.{now_content}
 use Rattle.odb_chain.proofs.Numbers.{get-from_entries, get-insert, get-remove, same, same_number, same_test}
@@ -116,12 +116,7 @@ more_marks t c h =
 abbrev pub less : ℕ → Option ℕ
 less n = cond (nat_le n 1) None (Some (n - 1))
 
--- rising, as far as telling places apart wants it
-abbrev pub AreApart : List Place → Type 0
-AreApart [] = Unit {0}
-AreApart (l ∷ ls) = AllAfter l.0 ls × AreApart ls
-
-apart : (v : ℕ) (ls : List Place) → AreRising v ls → AreApart ls
+pub apart : (v : ℕ) (ls : List Place) → AreRising v ls → AreApart ls
 apart v [] h = tt
 apart v (l ∷ ls) h = (h.2, apart v ls h.3)
 

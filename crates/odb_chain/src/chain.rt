@@ -10,7 +10,7 @@ ghost use Rattle.odb_tables.specs.Change.{change};
 ghost use Rattle.odb_tables.specs.Database as model_tables;
 
 use crate::kept::Kept;
-use crate::live::Live;
+use crate::live::{Live, Places};
 use odb_tables::{Table, TableChange};
 use std::alloc::{AllocError, Global};
 use std::hash::RandomState;
@@ -201,8 +201,8 @@ impl Chain {
         let Some(newest) = self.newest() else {
             return Ok(());
         };
-        self.kept
-            .record_all(newest, self.live.as_slice(), table, change)
+        let places = Places::of(self.live.as_slice());
+        self.kept.record_all(newest, &places, table, change)
     }
 
     /// Finds room for one place more, and sees that the version has a next one.

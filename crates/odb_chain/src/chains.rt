@@ -98,7 +98,7 @@ impl Chains {
     /// Makes the whole change, or none; all that marks stand for stays. Where memory is refused nothing
     /// changed, and the change comes back; so it does after 2^64 - 1 changes of one table. O(rows changed)
     /// and O(tables); a row that changes for the first time since the newest mark of its table was made costs
-    /// O(places with marks) more, on the average.
+    /// O(log n) more for n places with marks, on the average.
     pub fn absorb(&mut self, change: ChangeSet) -> Result<(), AllocFailed<ChangeSet>>
         requires { IsChangeOf self.old.db change }
         ensures ok { OnOk result (self.new ≡ absorbed change self.old) }

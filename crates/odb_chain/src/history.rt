@@ -7,7 +7,7 @@ ghost use Rattle.odb_chain.specs.Represented.Log.{passes};
 ghost use Rattle.odb_chain.specs.Represented.Places.{Past, cleaned, is_kept, is_label};
 ghost use Rattle.odb_tables.specs.Represented.Overlay.{row_of};
 
-use crate::live::{Live, is_between};
+use crate::live::Places;
 use odb_atoms::Row;
 use std::alloc::{AllocError, Global};
 use std::marker::Model;
@@ -47,8 +47,8 @@ impl Old {
 }
 
 /// What a row was, the earliest first, each up to its place. Once there are as many as the limit it is looked
-/// whether each is needed, at O(places) each; the limit is then twice those that are left. So a push costs
-/// O(places) for this on the average.
+/// whether each is needed, at O(log n) each for n places; the limit is then twice those that are left. So a push costs
+/// O(log n) for this on the average.
 #[derive(Drop)]
 pub(crate) struct History {
     olds: Vec<Old>,
@@ -121,7 +121,7 @@ impl History {
     }
 
     /// Adds what the row is now, up to the newest place.
-    pub(crate) fn push(&mut self, old: Old, live: &[Live]) -> Result<(), AllocError>
+    pub(crate) fn push(&mut self, old: Old, live: &Places<'_>) -> Result<(), AllocError>
         requires { reaches old.0 self.old ≡ false }
         ensures ok { OnOk result (reaches old.0 self.new ≡ true) }
         ensures same { (p : ℕ) → is_kept old.0 live.now p ≡ true → at p old.1 self.new ≡ at p old.1 self.old }
@@ -133,7 +133,7 @@ impl History {
     }
 
     /// Leaves out what no place needs, once there is as much as the limit.
-    fn tidy(&mut self, live: &[Live])
+    fn tidy(&mut self, live: &Places<'_>)
         ensures same { (n p : ℕ) (r : Option model_row.Row) → reaches n self.old ≡ false → is_kept n live.now p ≡ true → at p r self.new ≡ at p r self.old }
         ensures past { (v : ℕ) (r : Option model_row.Row) → Past v r self.old → Past v r self.new }
         ensures labels { (q : ℕ) → is_label q self.new ≡ true → is_label q self.old ≡ true }
@@ -145,10 +145,10 @@ impl History {
     }
 
     /// Leaves out what no place needs: where two old rows have no place between them, the later one.
-    fn clean(&mut self, live: &[Live])
+    fn clean(&mut self, live: &Places<'_>)
         ensures { self.new ≡ cleaned live.now self.old }
     {
-        self.olds.dedup_by(|later, earlier| !is_between(live, earlier.place, later.place));
+        self.olds.dedup_by(|later, earlier| !live.is_between(earlier.place, later.place));
         self.limit = twice(self.olds.len());
     }
 }

@@ -15,7 +15,7 @@ ghost use Rattle.odb_tables.specs.Represented.Overlay.{row_of};
 ghost use Rattle.odb_tables.specs.Represented.RowChange.{change_at};
 
 use crate::history::{History, Old, share};
-use crate::live::Live;
+use crate::live::Places;
 use crate::log::Log;
 use indexmap::IndexMap;
 use odb_atoms::Row;
@@ -76,7 +76,7 @@ impl Kept {
     fn record(
         &mut self,
         newest: u64,
-        live: &[Live],
+        live: &Places<'_>,
         key: Key,
         table: &Table,
     ) -> Result<(), AllocError>
@@ -92,7 +92,7 @@ impl Kept {
     }
 
     /// Adds what the row is now.
-    fn add(&mut self, key: Key, old: Old, live: &[Live]) -> Result<(), AllocError>
+    fn add(&mut self, key: Key, old: Old, live: &Places<'_>) -> Result<(), AllocError>
         requires { is_reached old.0 (finite.get self.old key) ≡ false }
         ensures ok { OnOk result (is_reached old.0 (finite.get self.new key) ≡ true) }
         ensures row { AsBefore old.0 live.now old.1 (finite.get self.old key) (finite.get self.new key) }
@@ -127,7 +127,7 @@ impl Kept {
     pub(crate) fn record_all(
         &mut self,
         newest: u64,
-        live: &[Live],
+        live: &Places<'_>,
         table: &Table,
         change: &TableChange,
     ) -> Result<(), AllocError>

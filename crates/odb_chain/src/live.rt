@@ -1,5 +1,6 @@
 //! Places at which marks stand.
 ghost use Rattle.std.specs.Prelude.{◌≡◌};
+ghost use Rattle.odb_chain.specs.Represented.Chain.{AreApart};
 ghost use Rattle.odb_chain.specs.Represented.Places.{is_between};
 
 use std::marker::Model;
@@ -24,10 +25,45 @@ impl Model for Live {
     ghost inverse = { λ e. record { place = e.0; marks = e.1 } };
 }
 
-/// Whether one of the places is after the first one and up to the last one. O(places).
-pub(crate) fn is_between(live: &[Live], after: u64, up_to: u64) -> bool
-    ensures { result ≡ is_between live.now after up_to }
-{
-    live.iter()
-        .any(|live| after < live.place && live.place <= up_to)
+/// Places that rise, with their marks.
+#[derive(Drop)]
+pub(crate) struct Places<'a> {
+    live: &'a [Live],
+}
+
+impl<'a> Model for Places<'a> {
+    ghost use Rattle.std.specs.Prelude.{ℕ, List};
+    ghost use Rattle.std.specs.Coded.{coded_list};
+    ghost use Rattle.odb_chain.specs.Represented.Chain.{AreApart};
+    ghost use Rattle.odb_chain.specs.Represented.Codes.{place_code};
+
+    ghost Value = { List (ℕ × ℕ) };
+
+    ghost coded = { coded_list place_code };
+
+    ghost view = { λ p. p.live.now };
+
+    ghost invariant = { λ p. AreApart p.live.now };
+}
+
+impl<'a> Places<'a> {
+    /// These places.
+    pub(crate) fn of(live: &'a [Live]) -> Places<'a>
+        requires { AreApart live.now }
+        ensures { result ≡ live.now }
+    {
+        Places { live }
+    }
+
+    /// Whether one of the places is after the first one and up to the last one. O(log n) for n places.
+    pub(crate) fn is_between(&self, after: u64, up_to: u64) -> bool
+        ensures { result ≡ is_between self.now after up_to }
+    {
+        let next = self.live.partition_point(|live| live.place <= after);
+        if next >= self.live.len() {
+            return false;
+        }
+        let first = &self.live[next];
+        first.place <= up_to
+    }
 }

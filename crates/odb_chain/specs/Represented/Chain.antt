@@ -53,6 +53,11 @@ abbrev pub AreRising : ℕ → List (ℕ × ℕ) → Type 0
 AreRising v [] = Unit {0}
 AreRising v (e ∷ es) = (e.0 < v) × (0 < e.1) × AllAfter e.0 es × AreRising v es
 
+-- each place comes after those before it
+abbrev pub AreApart : List (ℕ × ℕ) → Type 0
+AreApart [] = Unit {0}
+AreApart (e ∷ es) = AllAfter e.0 es × AreApart es
+
 abbrev pub IsChainOf : Table → Chain → Type 0
 IsChainOf t c = (u : Uuid) → IsPast c.version (map.get t u) (map.get c.rows u)
 

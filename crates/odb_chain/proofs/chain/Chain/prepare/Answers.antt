@@ -9,6 +9,8 @@ use Rattle.odb_chain.specs.Represented.Chain.{here}
 use Rattle.odb_chain.specs.Kept.{Rows, content_at}
 use Rattle.odb_chain.specs.Represented.Chain.{Chain, here, is_roomy, places}
 use Rattle.odb_chain.specs.Represented.Places.{IsPast, is_kept, is_place}
+use Rattle.odb_chain.specs.Represented.Chain.{AreApart}
+use Rattle.odb_chain.proofs.Views.{apart}
 use Rattle.odb_chain.proofs.chain.Chain.prepare.Goals as goal
 use Rattle.std.proofs.lemmas.List.{nil_from_length}
 use Rattle.std.proofs.lemmas.Result.{on_ok_weaker}
@@ -46,7 +48,7 @@ returns-clause-stands c =
     let live : x.live ≡ old.live = c.make_room.ensures.live in
     let fresh : x.fresh ≡ old.fresh = c.make_room.ensures.fresh in
     let rows : c.self.inside.kept ≡ old.rows = ap (λ (y : Chain). y.rows) c.self.view_is ∙ c.make_room.ensures.rows in
-    let same_live : c.as_slice.result.now ≡ x.live = c.as_slice.ensures.value ∙ ap (λ (y : Chain). y.live) c.self.view_is in
+    let same_live : c.of-places.result ≡ x.live = c.of-places.ensures ∙ c.as_slice.ensures.value ∙ ap (λ (y : Chain). y.live) c.self.view_is in
     let newest : (p : ℕ) → is_place p (places x) ≡ true → (nat_le p n ≡ true) × (is_kept n x.live p ≡ true) = c.in-Some.ensures.some in
     let past : nat_le n x.version ≡ true = c.in-Some.ensures.past in (
       ap (λ (y : Chain). y.version) c.self.view_is ∙ version,
@@ -54,7 +56,7 @@ returns-clause-stands c =
       ap (λ (y : Chain). y.fresh) c.self.view_is ∙ fresh,
       λ p there.
           let at_x : is_place p (places x) ≡ true = (λ i. is_place p (live i ++ here (version i) (fresh i))) ∙ there in
-          let kept : is_kept n c.as_slice.result.now p ≡ true = ap (λ ls. is_kept n ls p) same_live ∙ (newest p at_x).1 in
+          let kept : is_kept n c.of-places.result p ≡ true = ap (λ ls. is_kept n ls p) same_live ∙ (newest p at_x).1 in
           same_content p t t new c.self.inside.kept (λ u. (c.record_all.ensures.rows u).0 p kept) ∙ ap (content_at p t) rows,
       λ h u.
           let before : IsPast c.self.inside.version (finite.get t u) (finite.get c.self.inside.kept u) =
@@ -80,3 +82,6 @@ returns-clause-labels c = λ q u e.
     let at_x : is_place n (places x) ≡ true = c.in-Some.ensures.place in
     let there : is_place n (places old) ≡ true = (λ i. is_place n (sym c.make_room.ensures.live i ++ here (sym c.make_room.ensures.version i) (sym c.make_room.ensures.fresh i))) ∙ at_x in
     label_of q n (has_label q (finite.get old.rows u)) (places old) there (ap (λ (r : Rows). has_label q (finite.get r u) || nat_eq q n) (sym rows) ∙ (c.record_all.ensures.rows u).2 q e)
+
+pub of-places-requires : goal.of-places-requires
+of-places-requires c = subst AreApart (sym c.as_slice.ensures.value) (apart c.self.inside.version c.self.inside.live.items c.self.invariant)
