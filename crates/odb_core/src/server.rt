@@ -122,9 +122,9 @@ impl Core {
     /// nowhere yet, at least as many as `request.inserts()`; `now` is the time in milliseconds, and
     /// an earlier one than the clock's counts as the clock's. It is refused with `Gone` where no
     /// such session is open, with `Busy` where the request needs a reply and the session is owed
-    /// 256, and with `Memory`; the request is handed back then. A `transact` whose operations
-    /// succeed goes over all rows, since settlement does; any other call costs what its request
-    /// asks for, and O(log n + w).
+    /// 256, and with `Memory`; the request is handed back then. A `transact` costs what its
+    /// operations and its settlement do, by the rows touched where these suffice, and a copy of all
+    /// where transactions wait; any other call costs what its request asks for, and O(log n + w).
     pub fn submit(
         &mut self,
         session: SessionId,

@@ -285,9 +285,9 @@ impl State {
     }
 
     /// A new transaction (RFC 7047, section 4.1.3): it ends, or waits after the others. Where
-    /// memory is refused nothing changes, and it comes back. It goes over all rows where its
-    /// operations succeed, since settlement does; a commit while others wait works on a copy,
-    /// O(rows + bytes queued).
+    /// memory is refused nothing changes, and it comes back. It costs what its operations and its
+    /// settlement do, by the rows touched where these suffice; a commit while others wait works on
+    /// a copy, O(rows + bytes queued).
     pub(crate) fn transact(
         &mut self,
         schema: &Schema,
