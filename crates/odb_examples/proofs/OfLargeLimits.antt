@@ -8,6 +8,7 @@ use Rattle.odb_service.specs.Service.{Service}
 use Rattle.odb_service.specs.World.{World}
 use Rattle.odb_wire.specs.Stream.{front_of, closed_at, outside, incomplete, too_long, max_message}
 use Rattle.odb_schema.specs.SchemaText.{schema_of_text, too_large, max_file}
+use Rattle.odb_service.specs.Service.{max_rows}
 
 -- ---- a lock's name, with 65,536 names claimed, and with one fewer
 
@@ -61,3 +62,7 @@ open_of_the_last_session h w s many none = rw (many, none) refl
 
 pub open_of_one_session_more : (h : Service) (w : World) (s : ℕ) → len w.sessions ≡ 4096 → step h (opened s) w ≡ Err too_many
 open_of_one_session_more h w s many = rw many refl
+
+-- A database has a million rows at most
+pub rows_of_a_database : max_rows ≡ 1000000
+rows_of_a_database = refl
