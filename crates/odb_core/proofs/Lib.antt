@@ -16,3 +16,5 @@ pub mod SessionPosts
 pub mod SessionTables
 pub mod WorldPosts
 pub mod Crossing
+pub mod OwedSessions
+pub mod QuietRounds

@@ -26,7 +26,7 @@ at_shut : (f : Session → Session) (m : Sessions) (s : ℕ) → get m s ≡ Non
 at_shut f m s shut = ap (found_at f m s) shut
 
 -- a session that is put where it was
-reinserted : (m : Sessions) (s : ℕ) (x : Session) → get m s ≡ Some x → insert m s x ≡ m
+pub reinserted : (m : Sessions) (s : ℕ) (x : Session) → get m s ≡ Some x → insert m s x ≡ m
 reinserted m s x there = same_map _ _ (λ q. get-insert m s x q ∙ by (eq_by_cmp nat_cmp q s) q refl)
   where
     by : (b : Bool) (q : ℕ) → eq_by_cmp nat_cmp q s ≡ b → cond b (Some x) (get m q) ≡ get m q

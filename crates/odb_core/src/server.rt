@@ -52,7 +52,7 @@ impl Model for Core {
 
 impl Core {
     ghost use Rattle.odb_service.specs.Server.{serve};
-    ghost use Rattle.odb_core.specs.Represented.Core.{new_server, takes};
+    ghost use Rattle.odb_core.specs.Represented.Core.{IsQuietBut, new_server, takes};
     ghost use Rattle.odb_core.specs.Represented.Out.{sent_in};
     ghost use Rattle.odb_core.specs.Represented.Reason.{IsReason};
 
@@ -180,6 +180,13 @@ impl Core {
             }
         }
         Ok(outs)
+    }
+
+    /// The sessions that may be owed something. A round gives nothing to any other, and changes nothing of it. O(1).
+    pub fn owed(&self) -> &BTreeSet<SessionId>
+        ensures { IsQuietBut result.now self.now }
+    {
+        self.state.sessions.owed()
     }
 
     /// The next message of a session, if it is open and has one. O(log n).

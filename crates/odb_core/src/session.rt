@@ -1,6 +1,6 @@
 //! A session of the core. [P 10.3, 10.5, 14]
 
-ghost use Rattle.std.specs.Prelude.{◌≡◌, ◌+◌, ◌&&◌, not, nat_lt, [], ◌∷◌, OnOk, OnErr, option_map};
+ghost use Rattle.std.specs.Prelude.{◌≡◌, ◌+◌, ◌&&◌, not, nat_lt, [], ◌∷◌, IfNone, OnOk, OnErr, option_map};
 ghost use Rattle.odb_wire.specs.Shown.{request_data};
 
 use odb_queue::{Finished, Queue};
@@ -32,7 +32,7 @@ impl Model for Session {
 
 impl Session {
     ghost use Rattle.odb_queue.specs.Represented.Item.{item_of, text_of};
-    ghost use Rattle.odb_core.specs.Represented.Sessions.{ended_in};
+    ghost use Rattle.odb_core.specs.Represented.Sessions.{ended_in, fresh_session};
     ghost use Rattle.odb_queue.specs.Represented.Newest.{without_last};
     ghost use Rattle.odb_service.specs.World.{push};
     ghost use Rattle.odb_service.specs.Service.{Service};
@@ -80,6 +80,8 @@ impl Session {
     pub(crate) fn take(&mut self) -> Option<Vec<u8>>
         ensures message { (h : Service) (db : Db) → option_map (λ text. text.items) result ≡ option_map text_of (take h db self.old).0 }
         ensures session { (h : Service) (db : Db) → self.new ≡ (take h db self.old).1 }
+        ensures idle { IfNone result (self.new ≡ fresh_session) }
+        ensures stays_idle { self.old ≡ fresh_session → self.new ≡ fresh_session }
     {
         let item = self.queue.pop()?;
         Some(item.text)

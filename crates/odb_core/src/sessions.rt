@@ -1,6 +1,6 @@
 //! The sessions of a core. [P 10.1, 10.3]
 
-ghost use Rattle.std.specs.Prelude.{◌≡◌, map, option_map, IfOk, OnErr, OnOk};
+ghost use Rattle.std.specs.Prelude.{◌≡◌, false, map, option_map, IfOk, OnErr, OnOk, ℕ};
 ghost use Rattle.std.specs.Option.{option_copied};
 ghost use Rattle.odb_queue.specs.Represented.Item.{item_of};
 ghost use Rattle.odb_queue.specs.Represented.Post.{post_of};
@@ -9,15 +9,16 @@ use crate::session::Session;
 use odb_locks::SessionId;
 use odb_queue::{Finished, Post};
 use std::alloc::{AllocError, Global};
-use std::collections::BTreeMap;
+use std::collections::{BTreeMap, BTreeSet};
 use std::marker::Model;
 
-/// The open sessions by their numbers. What is posted to sessions can be taken back, so that a call which
-/// is refused later leaves them as they were.
+/// The open sessions by their numbers, and which of them may be owed something. What is posted to sessions can be taken
+/// back, so that a call which is refused later leaves them as they were.
 #[derive(Drop)]
 pub(crate) struct Sessions {
     alloc: Global,
     sessions: BTreeMap<SessionId, Session>,
+    owed: BTreeSet<SessionId>,
 }
 
 impl Model for Sessions {
@@ -25,6 +26,7 @@ impl Model for Sessions {
     ghost use Rattle.odb_atoms.specs.FinMap as finite;
     ghost use Rattle.odb_service.specs.WorldCode.{session_code};
     ghost use Rattle.odb_core.specs.Represented.Core.{sessions_in};
+    ghost use Rattle.odb_core.specs.Represented.Sessions.{AreOwed};
     ghost use Rattle.odb_core.specs.Represented.Sessions as model;
 
     ghost Value = { model.Sessions };
@@ -32,13 +34,17 @@ impl Model for Sessions {
     ghost coded = { finite.code coded_ℕ session_code };
 
     ghost view = { λ s. sessions_in s.sessions };
+
+    ghost invariant = { λ s. AreOwed s.owed (sessions_in s.sessions) };
 }
 
 impl Sessions {
     ghost use Rattle.odb_atoms.specs.FinMap.{empty, get, insert, len, remove};
     ghost use Rattle.odb_service.specs.Service.{Service};
     ghost use Rattle.odb_service.specs.Session.{take};
-    ghost use Rattle.odb_core.specs.Represented.Sessions.{all_posted, at_session, ended_in, posted};
+    ghost use Rattle.std.specs.BTreeSet.{contains};
+    ghost use Rattle.std.specs.Ordering.{nat_cmp};
+    ghost use Rattle.odb_core.specs.Represented.Sessions.{AreOwed, all_posted, at_session, ended_in, posted};
     ghost use Rattle.odb_core.specs.Represented.Sessions.{fresh_session, unposted, text_taken};
     ghost use Rattle.odb_queue.specs.Represented.Newest.{without_last};
     ghost use Rattle.odb_tables.specs.Database.{Db};
@@ -50,6 +56,7 @@ impl Sessions {
         Sessions {
             alloc,
             sessions: BTreeMap::new(alloc),
+            owed: BTreeSet::new(alloc),
         }
     }
 
@@ -67,6 +74,13 @@ impl Sessions {
         self.sessions.get(&session)
     }
 
+    /// Which sessions may be owed something: nothing is queued for any other. O(1).
+    pub(crate) fn owed(&self) -> &BTreeSet<SessionId>
+        ensures { AreOwed result.now self.now }
+    {
+        &self.owed
+    }
+
     /// Opens a session, for which nothing is queued. O(log n).
     pub(crate) fn open(&mut self, session: SessionId) -> Result<(), AllocError>
         ensures ok { OnOk result (self.new ≡ insert self.old session fresh_session) }
@@ -81,6 +95,7 @@ impl Sessions {
         ensures { self.new ≡ remove self.old session }
     {
         self.sessions.remove(&session);
+        self.owed.remove(&session);
     }
 
     /// Posts each item to its session, and returns the sessions for which one was queued, by which
@@ -132,6 +147,7 @@ impl Sessions {
         ensures posted_to { OnErr result (posted_to.new.items ≡ posted_to.old.items) }
     {
         posted_to.reserve(1)?;
+        self.owed.insert(session)?;
         let Some(to) = self.sessions.get_mut(&session) else {
             return Ok(());
         };
@@ -167,7 +183,11 @@ impl Sessions {
         ensures sessions { (h : Service) (db : Db)
             → self.new ≡ at_session (λ x. (take h db x).1) self.old session }
     {
-        self.sessions.get_mut(&session)?.take()
+        let text = self.sessions.get_mut(&session)?.take();
+        if text.is_none() {
+            self.owed.remove(&session);
+        }
+        text
     }
 
     /// Equal sessions. O(bytes queued).
@@ -177,6 +197,7 @@ impl Sessions {
         Ok(Sessions {
             alloc,
             sessions: self.sessions.clone()?,
+            owed: self.owed.clone()?,
         })
     }
 }

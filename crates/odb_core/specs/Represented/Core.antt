@@ -1,12 +1,13 @@
 -- What the parts of a core stand for.
-use Rattle.std.specs.Prelude.{◌≡◌, ◌≤◌, ℕ, List, [], None, length, map, replicate}
+use Rattle.std.specs.Prelude.{◌≡◌, ◌≤◌, ℕ, false, List, [], None, Some, length, map, replicate}
 use Rattle.std.specs.Ordering.{nat_cmp}
 use Rattle.std.specs.BTreeMap.{BTreeMap}
+use Rattle.std.specs.BTreeSet.{BTreeSet, contains}
 use Rattle.odb_atoms.specs.FinMap as finite
 use Rattle.odb_service.specs.Run.{take_each}
 use Rattle.odb_service.specs.Server.{Server, printed, served_by}
 use Rattle.odb_service.specs.Service.{Service}
-use Rattle.odb_service.specs.Session.{Session}
+use Rattle.odb_service.specs.Session.{Session, take}
 use Rattle.odb_service.specs.World.{World, untried}
 use Rattle.odb_schema.specs.Schema.{Schema}
 use Rattle.odb_commit.specs.Sound.{IsSound}
@@ -43,3 +44,7 @@ abbrev pub takes : List ℕ → Server → Server × List (ℕ × List ℕ)
 takes ss s =
     let r = take_each (served_by s.schema) ss s.world in
     (record s { world = r.0 }, map printed r.1)
+
+-- a taking of an open session that isn't in the set gives nothing and changes nothing
+abbrev pub IsQuietBut : BTreeSet ℕ → Server → Type 0
+IsQuietBut owed s = (q : ℕ) (x : Session) → contains nat_cmp owed q ≡ false → finite.get s.world.sessions q ≡ Some x → take (served_by s.schema) s.world.db x ≡ (None, x)

@@ -1,5 +1,6 @@
 -- What sessions become by items that are posted, and by posts that are taken back.
-use Rattle.std.specs.Prelude.{ℕ, List, [], ◌∷◌, ◌++◌, map, fold, Option, Some, None, option_map}
+use Rattle.std.specs.Prelude.{◌≡◌, ℕ, false, ⊤, List, [], ◌∷◌, ◌++◌, map, fold, Option, Some, None, option_map}
+use Rattle.std.specs.BTreeSet.{BTreeSet, contains}
 use Rattle.std.specs.Ordering.{nat_cmp}
 use Rattle.odb_atoms.specs.FinMap.{FinMap, get, insert}
 use Rattle.odb_service.specs.Service.{Service}
@@ -40,3 +41,12 @@ unposted (s ∷ ss) m = at_session without_last (unposted ss m) s
 abbrev pub text_taken : Service → Db → Option Session → Option (List ℕ)
 text_taken h db None = None
 text_taken h db (Some x) = option_map text_of (take h db x).0
+
+-- nothing is queued for it and it has no monitor, or it isn't open
+abbrev pub IsIdle : Option Session → Type 0
+IsIdle None = ⊤
+IsIdle (Some x) = x ≡ fresh_session
+
+-- every session that isn't in the set is idle
+abbrev pub AreOwed : BTreeSet ℕ → Sessions → Type 0
+AreOwed owed m = (s : ℕ) → contains nat_cmp owed s ≡ false → IsIdle (get m s)

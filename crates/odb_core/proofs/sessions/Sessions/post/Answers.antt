@@ -1,13 +1,15 @@
-use Rattle.std.proofs.Common.{rules, ◌≡◌, IsSome, [], ◌∷◌, ◌++◌, Some, None, refl, sym, ap, subst, ◌∙◌}
+use Rattle.std.proofs.Common.{rules, ◌≡◌, IsSome, true, [], ◌∷◌, ◌++◌, Some, None, refl, sym, ap, subst, ◌∙◌}
 use Rattle.std.specs.BTreeMap as tree
 use Rattle.std.specs.Ordering.{nat_cmp}
 use Rattle.odb_service.specs.Service.{Service}
 use Rattle.odb_service.specs.World.{push}
 use Rattle.odb_core.specs.Represented.Core.{sessions_in}
 use Rattle.odb_queue.specs.Represented.Item.{item_of}
-use Rattle.odb_core.specs.Represented.Sessions.{at_session, ended_in, unposted}
+use Rattle.odb_core.specs.Represented.Sessions.{AreOwed, at_session, ended_in, unposted}
 use Rattle.odb_core.proofs.SessionPosts.{changed_at, kept_at, unposted-append, taken_off, unchanged_at, whatever}
 use Rattle.odb_core.proofs.SessionTables.{Updates}
+use Rattle.std.specs.BTreeSet as set
+use Rattle.odb_core.proofs.OwedSessions.{grown_owed, posted_owed}
 use Rattle.odb_core.proofs.sessions.Sessions.post.Goals as goal
 
 pub returns-in_default-clause-ok : goal.returns-in_default-clause-ok
@@ -61,3 +63,24 @@ returns-clause-back c =
     let new = sessions_in (c.get_mut.follows.lender c.push.new.self) in
     ap (λ us. unposted us new) longer ∙ unposted-append ts s new
     ∙ ap (unposted ts) (taken_off c.self.inside.sessions s (c.get_mut.follows.lender c.push.new.self) c.in-Some.to.now c.push.new.self (item_of c.args.item) there changed same ∙ c.self.view_is)
+
+pub invariant_of-self-in_err-push : goal.invariant_of-self-in_err-push
+invariant_of-self-in_err-push c =
+    let old = c.self.inside in
+    let there : tree.get nat_cmp old.sessions c.args.session ≡ Some c.in-Some.to.now = search rules in
+    let changed : Updates old.sessions (c.get_mut.follows.lender c.push.new.self) c.args.session (Some c.push.new.self) = (c.get_mut.follows.holds c.push.new.self).3 (subst IsSome (sym there) refl) in
+    let same : c.push.new.self ≡ c.in-Some.to.now = search rules in
+    let grown : set.Updates nat_cmp old.owed c.insert.new.self c.args.session true = search rules in
+    subst (AreOwed c.insert.new.self) (sym (kept_at old.sessions c.args.session (c.get_mut.follows.lender c.push.new.self) c.in-Some.to.now c.push.new.self there changed same))
+    (grown_owed old.owed c.insert.new.self (sessions_in old.sessions) c.args.session c.self.invariant grown)
+
+pub invariant_of-self-2 : goal.invariant_of-self-2
+invariant_of-self-2 c =
+    let old = c.self.inside in
+    let f = push (item_of c.args.item ∷ []) in
+    let there : tree.get nat_cmp old.sessions c.args.session ≡ Some c.in-Some.to.now = search rules in
+    let changed : Updates old.sessions (c.get_mut.follows.lender c.push.new.self) c.args.session (Some c.push.new.self) = (c.get_mut.follows.holds c.push.new.self).3 (subst IsSome (sym there) refl) in
+    let same : c.push.new.self ≡ push (item_of c.args.item ∷ []) c.in-Some.to.now = search rules in
+    let grown : set.Updates nat_cmp old.owed c.insert.new.self c.args.session true = search rules in
+    subst (AreOwed c.insert.new.self) (sym (changed_at old.sessions c.args.session f (c.get_mut.follows.lender c.push.new.self) c.in-Some.to.now c.push.new.self there changed same))
+    (posted_owed old.owed c.insert.new.self (sessions_in old.sessions) c.args.session f c.self.invariant grown)
