@@ -4,7 +4,7 @@ use mathlib.Core.List.{reverse, reverse-append, map-append, append_assoc}
 use Rattle.odb_atoms.specs.Represented.Atom.{uuid_of}
 use Rattle.odb_wire.specs.Shown.{request_data}
 use Rattle.odb_service.specs.Run.{Event, submitted}
-use Rattle.odb_hub.specs.Batch.{RefusesFirst, TakesAll, TakesUpTo}
+use Rattle.odb_hub.specs.Batch.{TakesAll, TakesUpTo}
 use Rattle.odb_hub.specs.Kept.{Kept, Takes}
 use Rattle.odb_hub.specs.Represented.Submission.{event_of, events_of}
 use Rattle.odb_hub.specs.declared.submission.Submission.{Submission}

@@ -1,5 +1,5 @@
 -- The sessions for which nothing is held back: who is among them, and that they rise.
-use Rattle.std.proofs.Common.{◌≡◌, ℕ, ◌==◌, Bool, true, false, cond, ◌&&◌, ◌||◌, T, List, [], ◌∷◌, ◌++◌, map, filter, Some, refl, sym, ap, subst, ◌∙◌, true≢false}
+use Rattle.std.proofs.Common.{◌≡◌, ℕ, ◌==◌, Bool, true, false, cond, ◌&&◌, ◌||◌, T, List, [], ◌∷◌, map, filter, Some, refl, sym, ap, subst, ◌∙◌, true≢false}
 use Rattle.std.specs.declared.cmp.Ordering.TheVariants.{Less, Equal}
 use Rattle.std.specs.Cmp.{nat_cmp_total, tied_itself}
 use Rattle.std.specs.FinMap.Entries.{below_all, find, is_sorted}
@@ -9,12 +9,11 @@ use Rattle.std.specs.Ordering.{eq_by_cmp, is_lt, nat_cmp}
 use borrow.Author.Tests.{eqb-true, eq-eqb}
 use Rattle.odb_atoms.specs.FinMap.{get}
 use Rattle.odb_hub.specs.Kept.{Rising, is_in}
-use Rattle.odb_hub.specs.Rings.{Ring, Rings, free_of, is_free}
+use Rattle.odb_hub.specs.Rings.{Ring, Rings, free_of, is_free, is_free_at}
 use Rattle.odb_atoms.proofs.Rising.{less}
-use Rattle.odb_hub.proofs.HandingOver.{is_free_at}
 use Rattle.odb_service.proofs.SessionMaps.{key-itself, same_key}
 
-abbrev pub free_in : List (ℕ × Ring) → List ℕ
+abbrev free_in : List (ℕ × Ring) → List ℕ
 free_in es = map (λ e. e.0) (filter (λ e. is_free e.1) es)
 
 both_of : (a b : Bool) → T (a && b) → T a × T b
@@ -101,21 +100,3 @@ rise (e ∷ es) up =
 
 pub rising : (m : Rings) → Rising (free_of m)
 rising m = rise m.entries m.sorted
-
--- ---- a list that grows
-
-abbrev free_one : ℕ × Ring → List ℕ
-free_one e = cond (is_free e.1) (e.0 ∷ []) []
-
-pub free_in-more : (es : List (ℕ × Ring)) (e : ℕ × Ring) → free_in (es ++ e ∷ []) ≡ free_in es ++ free_one e
-free_in-more [] e = by (is_free e.1)
-  where
-    by : (b : Bool) → map (λ (x : ℕ × Ring). x.0) (cond b (e ∷ []) []) ≡ cond b (e.0 ∷ []) []
-    by true = refl
-    by false = refl
-free_in-more (d ∷ es) e = by (is_free d.1) (free_in-more es e)
-  where
-    by : (b : Bool) → free_in (es ++ e ∷ []) ≡ free_in es ++ free_one e
-        → map (λ (x : ℕ × Ring). x.0) (cond b (d ∷ filter (λ (x : ℕ × Ring). is_free x.1) (es ++ e ∷ [])) (filter (λ (x : ℕ × Ring). is_free x.1) (es ++ e ∷ []))) ≡ map (λ (x : ℕ × Ring). x.0) (cond b (d ∷ filter (λ (x : ℕ × Ring). is_free x.1) es) (filter (λ (x : ℕ × Ring). is_free x.1) es)) ++ free_one e
-    by true is = ap (λ xs. d.0 ∷ xs) is
-    by false is = is

@@ -3,7 +3,7 @@ use Rattle.std.proofs.Common.{◌≡◌, ℕ, ◌==◌, ◌≤◌, Bool, true, f
 use Rattle.std.specs.Prelude.{option_to_list}
 use borrow.Author.Tests.{eq-eqb}
 use Rattle.odb_atoms.specs.FinMap.{get}
-use Rattle.odb_hub.specs.Rings.{HandsOver, HasRoom, IsFlushed, IsFlushedAt, IsPut, IsPutAt, IsServed, Ring, Rings, Text, is_free, room_of, texts, texts_to}
+use Rattle.odb_hub.specs.Rings.{HandsOver, HasRoom, IsFlushed, IsFlushedAt, IsPut, IsPutAt, IsServed, Ring, Rings, Text, is_free, is_free_at, room_of, texts, texts_to}
 
 -- nothing is put
 pub nothing_more : (o : Option Ring) → HandsOver o [] o
@@ -77,10 +77,6 @@ held_none r free = by r.held refl
     by : (o : Option Text) → r.held ≡ o → o ≡ None
     by None e = refl
     by (Some t) e = absurd (true≢false (sym (ap (λ (x : Option Text). not (is_some x)) (sym e) ∙ free)))
-
-abbrev pub is_free_at : Option Ring → Bool
-is_free_at None = false
-is_free_at (Some r) = is_free r
 
 nothing_in : (o : Option Ring) (outs : List Text) → HasRoom o outs → is_free_at o ≡ false → outs ≡ []
 nothing_in None [] room e = refl

@@ -9,9 +9,9 @@ use Rattle.serde_json.specs.Data.{Data}
 use Rattle.odb_atoms.specs.FinMap.{empty, get, insert, remove}
 use Rattle.odb_atoms.specs.Uuid.{Uuid}
 use Rattle.odb_hub.specs.Kept.{AreOpen, AreTold, AreUnused, EndsWith, IsKept, counted, Kept, Takes, TakesRound, is_in, text_of}
-use Rattle.odb_hub.specs.Rings.{HandsOver, HasRoom, IsFlushed, IsFlushedAt, IsServed, Ring, Rings, Text, free_of, fresh_ring, room_of, texts, texts_to}
+use Rattle.odb_hub.specs.Rings.{HandsOver, HasRoom, IsFlushed, IsFlushedAt, IsServed, Ring, Rings, Text, free_of, fresh_ring, is_free_at, room_of, texts, texts_to}
 use Rattle.odb_hub.proofs.Free.{listed, rising}
-use Rattle.odb_hub.proofs.HandingOver.{is_free_at, served}
+use Rattle.odb_hub.proofs.HandingOver.{served}
 use Rattle.odb_hub.proofs.Stepping.{IsTold, history_begins, history_on, ends_nothing, open_closed, open_opened, open_round, open_submitted, open_ticked, ok_is, served_with, step_of, told_on}
 use Rattle.odb_hub.proofs.Takings.{most_given, texts_printed}
 use Rattle.odb_service.proofs.SessionMaps.{get-empty, get-insert, get-remove, same_key, same_map}

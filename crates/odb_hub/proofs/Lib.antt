@@ -1,6 +1,7 @@
 pub mod Batches
 pub mod Crossing
 pub mod Free
+pub mod FreeAmong
 pub mod HandingOver
 pub mod Keeping
 pub mod Putting

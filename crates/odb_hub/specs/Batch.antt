@@ -1,5 +1,5 @@
 -- What a batch of events makes of what the lock guards.
-use Rattle.std.specs.Prelude.{◌≡◌, Result, List, [], ◌∷◌, ◌++◌}
+use Rattle.std.specs.Prelude.{◌≡◌, List, [], ◌∷◌, ◌++◌}
 use Rattle.odb_service.specs.Run.{Event}
 use Rattle.odb_service.specs.Server.{Server, serve}
 use Rattle.odb_core.specs.declared.refused.Refused.{Refused}

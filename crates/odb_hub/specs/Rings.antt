@@ -46,6 +46,10 @@ IsFlushedAt (Some a) o = (b : Ring) × (o ≡ Some b) × IsFlushed a b
 abbrev pub is_free : Ring → Bool
 is_free r = not (is_some r.held)
 
+abbrev pub is_free_at : Option Ring → Bool
+is_free_at None = false
+is_free_at (Some r) = is_free r
+
 -- the sessions for which nothing is held back, ascending
 abbrev pub free_of : Rings → List ℕ
 free_of m = map (λ e. e.0) (filter (λ e. is_free e.1) (entries_of m))

@@ -1,5 +1,7 @@
 //! The rings of all sessions.
-ghost use Rattle.std.specs.Prelude.{◌≡◌, ◌==◌, ℕ, [], ◌∷◌, Some, None, OnErr, OnOk, IfOk, IfErr, map};
+ghost use Rattle.std.specs.Prelude.{◌≡◌, ◌==◌, ℕ, [], ◌∷◌, Some, None, OnErr, OnOk, IfOk, IfErr, filter, map};
+ghost use Rattle.std.specs.BTreeSet.{contains};
+ghost use Rattle.std.specs.Ordering.{nat_cmp};
 ghost use Rattle.odb_core.specs.Represented.Out.{sent_in, text_of_out};
 
 use crate::bell::Bell;
@@ -7,15 +9,17 @@ use crate::mailbox::Mailbox;
 use crate::ring::Ring;
 use odb_core::{Out, SessionId};
 use std::alloc::{AllocError, Global};
-use std::collections::BTreeMap;
+use std::collections::{BTreeMap, BTreeSet};
 use std::marker::Model;
+use std::mem;
 use std::sync::Arc;
 
-/// The rings of the open sessions by their numbers.
+/// The rings of the open sessions by their numbers, and the sessions for which a message may be held back.
 #[derive(Drop)]
 pub(crate) struct Rings {
     alloc: Global,
     rings: BTreeMap<SessionId, Ring>,
+    holding: Vec<SessionId>,
 }
 
 impl Model for Rings {
@@ -31,7 +35,7 @@ impl Model for Rings {
 
 impl Rings {
     ghost use Rattle.odb_atoms.specs.FinMap.{empty, get, insert, remove};
-    ghost use Rattle.odb_hub.specs.Rings.{HandsOver, IsFlushedAt, HasRoom, IsPutAt, fresh_ring, free_of, texts_to};
+    ghost use Rattle.odb_hub.specs.Rings.{HandsOver, IsFlushedAt, HasRoom, IsPutAt, fresh_ring, free_of, is_free_at, texts_to};
 
     /// No session has a ring.
     pub(crate) fn new(alloc: Global) -> Rings
@@ -40,6 +44,7 @@ impl Rings {
         Rings {
             alloc,
             rings: BTreeMap::new(alloc),
+            holding: Vec::new(alloc),
         }
     }
 
@@ -60,36 +65,27 @@ impl Rings {
         drop(self.rings.remove(&session));
     }
 
-    /// Sends what is held back where there is room now, and returns the sessions for which nothing is held back then,
-    /// ascending. O(n).
-    pub(crate) fn ready(&mut self) -> Result<Vec<SessionId>, AllocError>
+    /// Sends what is held back where there is room now, and returns those of `owed` for which nothing is held back then,
+    /// ascending. O(k log n) where k sessions are in `owed` or have a message held back.
+    pub(crate) fn ready(&mut self, owed: &BTreeSet<SessionId>) -> Result<Vec<SessionId>, AllocError>
         ensures flushed { (s : ℕ) → IsFlushedAt (get self.old s) (get self.new s) }
-        ensures ready { IfOk result (λ ready. ready.items ≡ free_of self.new) }
+        ensures ready { IfOk result (λ ready. ready.items ≡ filter (contains nat_cmp owed.now) (free_of self.new)) }
     {
-        self.flush()?;
-        self.free()
+        self.flush(owed.len())?;
+        self.free_among(owed)
     }
 
-    /// Sends what is held back where there is room now. O(n).
-    fn flush(&mut self) -> Result<(), AllocError>
+    /// Sends what is held back where there is room now, and makes room to note `more` sessions.
+    fn flush(&mut self, more: usize) -> Result<(), AllocError>
         ensures { (s : ℕ) → IsFlushedAt (get self.old s) (get self.new s) }
     {
-        let holding = self.holding()?;
+        let room = Vec::with_capacity(self.alloc, self.holding.len().saturating_add(more))?;
+        let holding = mem::replace(&mut self.holding, room);
         for session in holding {
             self.flush_at(session);
+            self.note(session);
         }
         Ok(())
-    }
-
-    /// The sessions for which a message is held back.
-    fn holding(&self) -> Result<Vec<SessionId>, AllocError> {
-        let mut holding = Vec::new(self.alloc);
-        for (session, ring) in self.rings.iter() {
-            if ring.holds() {
-                holding.push(*session)?;
-            }
-        }
-        Ok(holding)
     }
 
     fn flush_at(&mut self, session: SessionId)
@@ -101,17 +97,40 @@ impl Rings {
         ring.flush();
     }
 
-    /// The sessions for which nothing is held back, ascending. O(n).
-    fn free(&self) -> Result<Vec<SessionId>, AllocError>
-        ensures { IfOk result (λ free. free.items ≡ free_of self.now) }
+    /// Notes the session if a message is held back for it. `flush` made room to note each.
+    fn note(&mut self, session: SessionId)
+        ensures { self.new ≡ self.old }
     {
-        let mut free = Vec::new(self.alloc);
-        for (session, ring) in self.rings.iter() {
-            if !ring.holds() {
+        let holds = match self.rings.get(&session) {
+            Some(ring) => ring.holds(),
+            None => false,
+        };
+        if holds && self.holding.len() < self.holding.capacity() {
+            self.holding.push_reserved(session);
+        }
+    }
+
+    /// Those of `owed` for which nothing is held back, ascending.
+    fn free_among(&self, owed: &BTreeSet<SessionId>) -> Result<Vec<SessionId>, AllocError>
+        ensures { IfOk result (λ free. free.items ≡ filter (contains nat_cmp owed.now) (free_of self.now)) }
+    {
+        let mut free = Vec::with_capacity(self.alloc, owed.len())?;
+        for session in owed.iter() {
+            if self.is_free(*session) {
                 free.push(*session)?;
             }
         }
         Ok(free)
+    }
+
+    /// Whether the session has a ring, and nothing is held back for it. O(log n).
+    fn is_free(&self, session: SessionId) -> bool
+        ensures { result ≡ is_free_at (get self.now session) }
+    {
+        match self.rings.get(&session) {
+            Some(ring) => !ring.holds(),
+            None => false,
+        }
     }
 
     /// Sends each message to its session's ring, or holds it back where the ring is full. O(log n)
@@ -121,7 +140,9 @@ impl Rings {
         ensures { (s : ℕ) → HandsOver (get self.old s) (texts_to s (map sent_in outs.items)) (get self.new s) }
     {
         for out in outs {
+            let session = out.session;
             self.put(out);
+            self.note(session);
         }
     }
 

@@ -182,18 +182,20 @@ impl HubState {
     /// Gives each open session its next message, if it has one and none is held back for it. What is held back is sent
     /// first, where its ring has room now; then each message goes into its session's ring, or is held back where that
     /// is full. It returns how many messages there were. An error says that memory was refused: then what was held back
-    /// may have been sent, and nothing else changed. O(n log n).
+    /// may have been sent, and nothing else changed. O(k log n) where k sessions may be owed something or have a message
+    /// held back.
     pub fn round(&mut self) -> Result<usize, AllocError>
         ensures ok { IfOk result (λ count. TakesRound count self.old self.new) }
         ensures err { OnErr result (self.new.server ≡ self.old.server) }
         ensures journal { OnErr result ((self.new.base ≡ self.old.base) × (self.new.events ≡ self.old.events)) }
         ensures flushed { OnErr result ((s : ℕ) → IsFlushedAt (get self.old.rings s) (get self.new.rings s)) }
     {
-        let listed = self.rings.ready()?;
+        let listed = self.rings.ready(self.core.owed())?;
+        let event = Happened::Round(Snapshot::of(&self.rings));
         let outs = self.core.round(listed.as_slice())?;
         let count = outs.len();
         self.rings.hand_over(outs);
-        self.journal = self.journal.with(Happened::Round(Snapshot::of(&listed)));
+        self.journal = self.journal.with(event);
         self.since_base = self.since_base.saturating_add(1);
         Ok(count)
     }

@@ -1,16 +1,18 @@
 //! An event, as the code has it.
 
+use crate::rings::Rings;
 use odb_core::SessionId;
 use odb_wire::Request;
 use std::snapshot::Snapshot;
 use uuid::Uuid;
 
-/// An event of the service machine. What it holds takes no memory.
+/// An event of the service machine, a round by the rings as it found them: it lists each session for which nothing is
+/// held back. What it holds takes no memory.
 #[derive(Drop)]
 pub(crate) enum Happened {
     Opened(SessionId),
     Submitted(SessionId, Snapshot<Request>, Snapshot<Vec<Uuid>>, u64),
     Ticked(u64),
     Closed(SessionId),
-    Round(Snapshot<Vec<SessionId>>),
+    Round(Snapshot<Rings>),
 }

@@ -1,6 +1,9 @@
-use Rattle.std.proofs.Common.{rules, ◌≡◌, ℕ, List, [], ◌∷◌, ◌++◌, length, map, Ok, sym, ap, subst, ◌∙◌}
+use Rattle.std.proofs.Common.{rules, ◌≡◌, ℕ, List, [], ◌∷◌, ◌++◌, filter, length, map, Ok, sym, ap, subst, ◌∙◌}
+use Rattle.std.specs.BTreeSet.{contains}
+use Rattle.std.specs.Ordering.{nat_cmp}
 use Rattle.std.proofs.lemmas.List.{length-map}
 use Rattle.odb_core.specs.Represented.Out.{sent_in}
+use Rattle.odb_core.proofs.QuietRounds.{round_among}
 use Rattle.odb_service.specs.Run.{round}
 use Rattle.odb_service.specs.Server.{serve}
 use Rattle.odb_hub.specs.Kept.{Kept, Takes, TakesRound}
@@ -13,9 +16,9 @@ hand_over-requires c =
     let core = c.self.inside.core in
     let m : Rings = c.ready.new.self in
     let outs : List (ℕ × Text) = map sent_in c.in_ok-outs.outs.items in
-    let listed : c.as_slice.result.now ≡ free_of m = search rules in
+    let listed : c.as_slice.result.now ≡ filter (contains nat_cmp c.owed.result.now) (free_of m) = search rules in
     let went : serve (round c.as_slice.result.now) core ≡ Ok (c.round.new.self, outs) = search rules in
-    rooms m core c.round.new.self outs (ap (λ ss. serve (round ss) core) (sym listed) ∙ went)
+    rooms m core c.round.new.self outs (round_among c.owed.result.now core c.owed.ensures (free_of m) ∙ ap (λ ss. serve (round ss) core) (sym listed) ∙ went)
 
 pub invariant_of-self-2 : goal.invariant_of-self-2
 invariant_of-self-2 c =
@@ -24,12 +27,10 @@ invariant_of-self-2 c =
     let outs : List (ℕ × Text) = map sent_in c.in_ok-outs.outs.items in
     let k : Kept = record { server = i.core; base = i.journal.base; events = i.journal.events; rings = i.rings } in
     let n : Kept = record { server = c.round.new.self; base = c.with-self-inside.result.base; events = c.with-self-inside.result.events; rings = c.hand_over.new.self } in
-    let listed : c.as_slice.result.now ≡ free_of m = search rules in
-    let free : c.in_ok-listed.listed.items ≡ free_of m = search rules in
+    let listed : c.as_slice.result.now ≡ filter (contains nat_cmp c.owed.result.now) (free_of m) = search rules in
     let went : serve (round c.as_slice.result.now) i.core ≡ Ok (c.round.new.self, outs) = search rules in
-    let went_free : serve (round (free_of m)) i.core ≡ Ok (c.round.new.self, outs) = ap (λ ss. serve (round ss) i.core) (sym listed) ∙ went in
-    let events : n.events ≡ k.events ++ round c.in_ok-listed.listed.items ∷ [] = search rules in
-    let events_free : n.events ≡ k.events ++ round (free_of m) ∷ [] = events ∙ ap (λ ss. k.events ++ round ss ∷ []) free in
+    let went_free : serve (round (free_of m)) i.core ≡ Ok (c.round.new.self, outs) = round_among c.owed.result.now i.core c.owed.ensures (free_of m) ∙ ap (λ ss. serve (round ss) i.core) (sym listed) ∙ went in
+    let events_free : n.events ≡ k.events ++ round (free_of m) ∷ [] = search rules in
     let base : n.base ≡ k.base = search rules in
     let takes : Takes (round (free_of m)) k n outs = (went_free, events_free, base) in
     let t : TakesRound (length outs) k n = round_taken k n m outs c.ready.ensures.flushed takes c.hand_over.ensures in (
@@ -46,12 +47,10 @@ returns-clause-ok c =
     let outs : List (ℕ × Text) = map sent_in c.in_ok-outs.outs.items in
     let k : Kept = record { server = i.core; base = i.journal.base; events = i.journal.events; rings = i.rings } in
     let n : Kept = record { server = c.round.new.self; base = c.with-self-inside.result.base; events = c.with-self-inside.result.events; rings = c.hand_over.new.self } in
-    let listed : c.as_slice.result.now ≡ free_of m = search rules in
-    let free : c.in_ok-listed.listed.items ≡ free_of m = search rules in
+    let listed : c.as_slice.result.now ≡ filter (contains nat_cmp c.owed.result.now) (free_of m) = search rules in
     let went : serve (round c.as_slice.result.now) i.core ≡ Ok (c.round.new.self, outs) = search rules in
-    let went_free : serve (round (free_of m)) i.core ≡ Ok (c.round.new.self, outs) = ap (λ ss. serve (round ss) i.core) (sym listed) ∙ went in
-    let events : n.events ≡ k.events ++ round c.in_ok-listed.listed.items ∷ [] = search rules in
-    let events_free : n.events ≡ k.events ++ round (free_of m) ∷ [] = events ∙ ap (λ ss. k.events ++ round ss ∷ []) free in
+    let went_free : serve (round (free_of m)) i.core ≡ Ok (c.round.new.self, outs) = round_among c.owed.result.now i.core c.owed.ensures (free_of m) ∙ ap (λ ss. serve (round ss) i.core) (sym listed) ∙ went in
+    let events_free : n.events ≡ k.events ++ round (free_of m) ∷ [] = search rules in
     let base : n.base ≡ k.base = search rules in
     let takes : Takes (round (free_of m)) k n outs = (went_free, events_free, base) in
     let t : TakesRound (length outs) k n = round_taken k n m outs c.ready.ensures.flushed takes c.hand_over.ensures in

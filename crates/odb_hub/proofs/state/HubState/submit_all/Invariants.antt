@@ -1,4 +1,4 @@
-use Rattle.std.proofs.Common.{◌≡◌, length}
+use Rattle.std.proofs.Common.{length}
 use Rattle.odb_hub.specs.Batch.{TakesUpTo}
 use Rattle.odb_hub.specs.Represented.Submission.{events_of}
 use Rattle.odb_hub.proofs.state.HubState.submit_all.Given as goal
