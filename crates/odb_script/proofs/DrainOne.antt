@@ -58,7 +58,7 @@ module _ (name : List ℕ) (n : ℕ) (p : Server) (t : List ℕ) where
   dry-some x there = ap (λ o. drain_if name n o (p, t)) there
 
   -- a taking that gives nothing is the last
-  ends : (x : Session) → get p.world.sessions n ≡ Some x → (take (served_by p.schema) p.world.db x).0 ≡ None → drained_session name n (p, t) ≡ (after_one (take (served_by p.schema) p.world.db x).1, t)
+  pub ends : (x : Session) → get p.world.sessions n ≡ Some x → (take (served_by p.schema) p.world.db x).0 ≡ None → drained_session name n (p, t) ≡ (after_one (take (served_by p.schema) p.world.db x).1, t)
   ends x there none =
       let h = served_by p.schema in
       dry-some x there

@@ -4,7 +4,9 @@ mod AppendedParts
 mod HeldSessions
 mod LineStep
 mod Lines
+mod NumberedSessions
 mod OpenedSessions
+mod OwedDrains
 mod NamePlaces
 mod Numbers
 mod ScriptRuns

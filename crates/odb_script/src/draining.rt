@@ -1,12 +1,16 @@
 //! Draining: sessions are given all that they are owed. [P 10.4, 15.1]
-ghost use Rattle.std.specs.Prelude.{◌≡◌, ◌++◌, OnOk};
+ghost use Rattle.std.specs.Prelude.{◌≡◌, ◌++◌, IfOk, OnOk};
+ghost use Rattle.std.specs.List.Sorted.{IsStrictlySortedBy};
+ghost use Rattle.std.specs.Ordering.{nat_cmp};
 ghost use Rattle.odb_core.specs.Represented.Out.{text_of_out};
 ghost use Rattle.odb_script.specs.Script.{line_of};
-ghost use Rattle.odb_script.specs.Represented.Draining.{all_drained, drain_session, drained_session};
+ghost use Rattle.odb_script.specs.Represented.Draining.{all_drained, drain_session, drained_session, numbered, numbered_drained};
+ghost use Rattle.odb_script.specs.Represented.Names.{AreInOrder};
 
 use crate::session::ScriptSession;
 use odb_core::{Core, Out, SessionId};
-use std::alloc::AllocError;
+use std::alloc::{AllocError, Global};
+use std::collections::BTreeSet;
 
 /// Drains a session, if it is open: each message is printed in a line of its own, after the name of
 /// the session.
@@ -25,18 +29,50 @@ pub(crate) fn drain(
     Ok(())
 }
 
-/// Drains each of the sessions that isn't held, in order.
+/// Drains each of the sessions that isn't held, in order; their numbers rise. O(k log n) where k of the n sessions may be
+/// owed something, and what these are given.
 pub(crate) fn drain_all(
+    alloc: Global,
     core: &mut Core,
     sessions: &[ScriptSession],
     text: &mut Vec<u8>,
 ) -> Result<(), AllocError>
+    requires { AreInOrder sessions.now }
     ensures { OnOk result (all_drained sessions.now (core.old, text.old.items) ≡ (core.new, text.new.items)) }
 {
-    for named in sessions {
-        drain_unless_held(core, named, text)?;
+    let owed = numbers_in(alloc, core.owed())?;
+    for number in &owed {
+        drain_numbered(core, *number, sessions, text)?;
     }
     Ok(())
+}
+
+/// The numbers of a set, ascending.
+fn numbers_in(alloc: Global, set: &BTreeSet<SessionId>) -> Result<Vec<SessionId>, AllocError>
+    ensures numbers { IfOk result (λ numbers. numbers.items ≡ set.now.keys) }
+    ensures rising { IfOk result (λ numbers. IsStrictlySortedBy nat_cmp numbers.items) }
+{
+    let mut numbers = Vec::with_capacity(alloc, set.len())?;
+    for number in set.iter() {
+        numbers.push(*number)?;
+    }
+    Ok(numbers)
+}
+
+/// Drains the session of the number, if it is among these and isn't held; their numbers rise.
+fn drain_numbered(
+    core: &mut Core,
+    number: SessionId,
+    sessions: &[ScriptSession],
+    text: &mut Vec<u8>,
+) -> Result<(), AllocError>
+    requires { AreInOrder sessions.now }
+    ensures { OnOk result (numbered_drained (numbered number sessions.now) (core.old, text.old.items) ≡ (core.new, text.new.items)) }
+{
+    match sessions.binary_search_by(|named| named.session.cmp(&number)) {
+        Ok(place) => drain_unless_held(core, &sessions[place], text),
+        Err(_) => Ok(()),
+    }
 }
 
 fn drain_unless_held(

@@ -20,19 +20,20 @@ use std::hash::RandomState;
 use std::marker::Model;
 
 /// A script that runs: its server, its sessions in order of opening, how many inserts were counted,
-/// and the moment in milliseconds. No two sessions have one name.
+/// and the moment in milliseconds. No two sessions have one name, and their numbers rise, up to the next one.
 #[derive(Drop)]
 pub(crate) struct Engine {
     alloc: Global,
     core: Core,
     sessions: Vec<ScriptSession>,
+    next: SessionId,
     inserts: u64,
     moment: u64,
 }
 
 impl Model for Engine {
     ghost use Rattle.odb_script.specs.Running.{Running, running_code};
-    ghost use Rattle.odb_script.specs.Represented.Names.{AreApart};
+    ghost use Rattle.odb_script.specs.Represented.Names.{AreOpened};
 
     ghost Value = { Running };
 
@@ -49,7 +50,7 @@ impl Model for Engine {
       };
     } };
 
-    ghost invariant = { λ e. AreApart e.sessions.items };
+    ghost invariant = { λ e. AreOpened e.next e.sessions.items };
 }
 
 impl Engine {
@@ -74,6 +75,7 @@ impl Engine {
                 alloc,
                 core,
                 sessions: Vec::new(alloc),
+                next: 0,
                 inserts: 0,
                 moment: 0,
             }),
@@ -121,7 +123,7 @@ impl Engine {
             ≡ (self.new.script, text.new.items)) }
         ensures schema { OnOk result (self.new.schema ≡ self.old.schema) }
     {
-        drain_all(&mut self.core, self.sessions.as_slice(), text)
+        drain_all(self.alloc, &mut self.core, self.sessions.as_slice(), text)
     }
 
     fn open_named(&mut self, name: &[u8], text: &mut Vec<u8>) -> Result<(), AllocError>
@@ -134,6 +136,10 @@ impl Engine {
         }
         match self.core.open() {
             Ok(session) => {
+                if session < self.next {
+                    return Err(AllocError);
+                }
+                let next = session.checked_add(1).ok_or(AllocError)?;
                 let name = Vec::from_slice(self.alloc, name)?;
                 let framer = Framer::new(self.alloc);
                 self.sessions.push(ScriptSession {
@@ -142,6 +148,7 @@ impl Engine {
                     framer,
                     held: false,
                 })?;
+                self.next = next;
                 Ok(())
             }
             Err(Refused::TooMany) => print_line(text, name, "!toomany"),

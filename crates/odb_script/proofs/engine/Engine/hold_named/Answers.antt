@@ -7,6 +7,7 @@ use Rattle.odb_script.specs.Represented.Steps.{Does}
 use Rattle.odb_script.proofs.HeldSessions.{holds, holds_none}
 use Rattle.odb_script.proofs.OpenedSessions.{IsPlaceOf, script_of, standing}
 use Rattle.odb_script.proofs.NamePlaces.{apart_set}
+use Rattle.odb_script.proofs.NumberedSessions.{below_set, order_set}
 use Rattle.odb_script.proofs.engine.Engine.hold_named.Goals as goal
 
 pub returns-in_default-clause-done : goal.returns-in_default-clause-done
@@ -26,7 +27,11 @@ invariant_of-self c =
     let place : IsPlaceOf c.args.name.now xs (Some c.in-Some.place) = search rules in
     let at : c.index_mut.result.now ≡ slice_index_or xs c.in-Some.place c.index_mut.result.now = search rules in
     let held : c.set_held.new.self ≡ with_held true c.index_mut.result.now = search rules in
-    apart_set xs c.in-Some.place c.index_mut.result.now c.set_held.new.self (standing c.args.name.now xs c.in-Some.place c.index_mut.result.now place at).0 (ap (λ (y : ScriptSession). y.name) held) c.self.invariant
+    let there = (standing c.args.name.now xs c.in-Some.place c.index_mut.result.now place at).0 in
+    let k = c.in-Some.place in
+    let x = c.index_mut.result.now in
+    let y = c.set_held.new.self in
+    (apart_set xs k x y there (ap (λ (y : ScriptSession). y.name) held) c.self.invariant.0, (order_set xs k x y there (ap (λ (y : ScriptSession). y.session) held) c.self.invariant.1.0, below_set c.self.inside.next xs k x y there (ap (λ (y : ScriptSession). y.session) held) c.self.invariant.1.1))
 
 pub returns-clause-done : goal.returns-clause-done
 returns-clause-done c =
@@ -40,4 +45,4 @@ returns-clause-done c =
     let at : x ≡ slice_index_or xs k x = search rules in
     let held : c.set_held.new.self ≡ with_held true x = search rules in
     subst (λ (v : Running). Does (hold_named (served_by v.schema) n) v.script t (script_of old.core (slice_set xs k c.set_held.new.self) old.inserts old.moment) t) c.self.view_is
-    (holds n (script_of old.core xs old.inserts old.moment) k x place at c.self.invariant (served_by old.core.schema) (slice_set xs k c.set_held.new.self) t (ap (slice_set xs k) held))
+    (holds n (script_of old.core xs old.inserts old.moment) k x place at c.self.invariant.0 (served_by old.core.schema) (slice_set xs k c.set_held.new.self) t (ap (slice_set xs k) held))

@@ -1,13 +1,14 @@
-use Rattle.std.proofs.Common.{rules, ◌≡◌, ◌≤◌, ◌++◌, ◌∷◌, [], OnOk, Ok, true, false, codes, sym, subst, is_some}
+use Rattle.std.proofs.Common.{rules, arith, ◌≡◌, ◌≤◌, ◌+◌, ◌++◌, ◌∷◌, [], OnOk, Ok, true, false, codes, sym, subst, is_some}
 use Rattle.odb_atoms.specs.FinMap.{len}
 use Rattle.odb_service.specs.Run.{max_sessions, opened}
 use Rattle.odb_service.specs.Server.{serve, served_by}
 use Rattle.odb_script.specs.Running.{Running}
 use Rattle.odb_script.specs.Script.{ScriptSession, Script, line_of, open_named}
-use Rattle.odb_script.specs.Represented.Names.{AreApart}
+use Rattle.odb_script.specs.Represented.Names.{AreOpened}
 use Rattle.odb_script.specs.Represented.Steps.{Does}
 use Rattle.odb_script.proofs.OpenedSessions.{IsPlaceOf, absent, opens_full, opens_new, opens_there, script_of}
 use Rattle.odb_script.proofs.NamePlaces.{apart_end}
+use Rattle.odb_script.proofs.NumberedSessions.{AreBelow, below_end, below_later, next_number, order_end}
 use Rattle.std.proofs.lemmas.Result.{on_ok_weaker}
 use Rattle.odb_script.proofs.engine.Engine.open_named.Goals as goal
 
@@ -28,7 +29,14 @@ invariant_of-self-in-Ok c =
     let there : IsPlaceOf c.args.name.now old.sessions.items c.place_of.result = search rules in
     let none : is_some c.place_of.result ≡ false = search rules in
     let grown : c.push.new.self.items ≡ old.sessions.items ++ x ∷ [] = search rules in
-    subst AreApart (sym grown) (apart_end old.sessions.items x (absent c.args.name.now old.sessions.items c.place_of.result there none) c.self.invariant)
+    let xs = old.sessions.items in
+    let s = c.in-Ok.session in
+    let up : old.next ≤ s = search rules in
+    let below : AreBelow s xs = below_later old.next s up xs c.self.invariant.1.1 in
+    let next = c.in_ok-next-in-Ok.next in
+    let is : next ≡ s + 1 = search rules in
+    subst (AreOpened next) (sym grown)
+    (apart_end xs x (absent c.args.name.now xs c.place_of.result there none) c.self.invariant.0, (order_end xs x c.self.invariant.1.0 below, below_end next xs x (below_later s next (omega (arith, is)) xs below) (next_number s next is)))
 
 pub returns-in_ok-push-in-Ok-clause-done : goal.returns-in_ok-push-in-Ok-clause-done
 returns-in_ok-push-in-Ok-clause-done c =

@@ -10,6 +10,7 @@ use Rattle.odb_script.specs.Script.{ScriptSession, Script, at_ending, deliver_al
 use Rattle.odb_script.specs.Represented.Steps.{Does}
 use Rattle.odb_script.proofs.OpenedSessions.{IsPlaceOf, acts, gone_away, script_of, standing}
 use Rattle.odb_script.proofs.NamePlaces.{apart_set}
+use Rattle.odb_script.proofs.NumberedSessions.{below_set, order_set}
 use Rattle.std.proofs.lemmas.Result.{on_ok_weaker}
 use Rattle.odb_script.proofs.ReceivedBytes.{received}
 use Rattle.odb_script.proofs.engine.Engine.receive.Goals as goal
@@ -26,7 +27,12 @@ invariant_of-self c =
     let place : IsPlaceOf c.args.name.now xs (Some c.in-Some.place) = search rules in
     let at : c.index_mut.result.now ≡ slice_index_or xs c.in-Some.place c.index_mut.result.now = search rules in
     let name : c.feed.new.self.name ≡ c.index_mut.result.now.name = search rules in
-    apart_set xs c.in-Some.place c.index_mut.result.now c.feed.new.self (standing c.args.name.now xs c.in-Some.place c.index_mut.result.now place at).0 name c.self.invariant
+    let number : c.feed.new.self.session ≡ c.index_mut.result.now.session = search rules in
+    let there = (standing c.args.name.now xs c.in-Some.place c.index_mut.result.now place at).0 in
+    let k = c.in-Some.place in
+    let x = c.index_mut.result.now in
+    let y = c.feed.new.self in
+    (apart_set xs k x y there name c.self.invariant.0, (order_set xs k x y there number c.self.invariant.1.0, below_set c.self.inside.next xs k x y there number c.self.invariant.1.1))
 
 pub invariant_of-self-2 : goal.invariant_of-self-2
 invariant_of-self-2 c =
@@ -34,7 +40,12 @@ invariant_of-self-2 c =
     let place : IsPlaceOf c.args.name.now xs (Some c.in-Some.place) = search rules in
     let at : c.index_mut.result.now ≡ slice_index_or xs c.in-Some.place c.index_mut.result.now = search rules in
     let name : c.feed.new.self.name ≡ c.index_mut.result.now.name = search rules in
-    apart_set xs c.in-Some.place c.index_mut.result.now c.feed.new.self (standing c.args.name.now xs c.in-Some.place c.index_mut.result.now place at).0 name c.self.invariant
+    let number : c.feed.new.self.session ≡ c.index_mut.result.now.session = search rules in
+    let there = (standing c.args.name.now xs c.in-Some.place c.index_mut.result.now place at).0 in
+    let k = c.in-Some.place in
+    let x = c.index_mut.result.now in
+    let y = c.feed.new.self in
+    (apart_set xs k x y there name c.self.invariant.0, (order_set xs k x y there number c.self.invariant.1.0, below_set c.self.inside.next xs k x y there number c.self.invariant.1.1))
 
 pub returns-clause-done : goal.returns-clause-done
 returns-clause-done c =
@@ -69,5 +80,5 @@ returns-clause-done c =
     (on_ok_weaker c.end.result (λ e.
     let done : Does (receive h x bytes) p c.args.text.now.items c.end.new.self.script c.end.new.text.items =
     received h x n bytes s k p c.deliver_all.new.self.script c.end.new.self.script (slice_set xs k c.feed.new.self) c.args.text.now.items c.deliver_all.new.text.items c.end.new.text.items (map message_data c.in_ok-fed.fed.messages.items)
-    c.self.invariant st.2 number st.1 st.0 (ap (slice_set xs k) fed) found does e in
+    c.self.invariant.0 st.2 number st.1 st.0 (ap (slice_set xs k) fed) found does e in
     (ap (λ (r : Script × _). r.0) a.1 ∙ done.0, ap (λ (r : Script × _). c.args.text.now.items ++ r.1) a.1 ∙ done.1)) ended)

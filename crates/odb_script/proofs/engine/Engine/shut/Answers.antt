@@ -1,10 +1,11 @@
-use Rattle.std.proofs.Common.{rules, ◌≡◌, bytes_eq, not, filter, ap, sym, subst, ◌∙◌}
+use Rattle.std.proofs.Common.{rules, ◌≡◌, Bool, List, bytes_eq, not, filter, ap, sym, subst, ◌∙◌}
 use Rattle.std.proofs.lemmas.Fn.{filter_same}
 use Rattle.odb_service.specs.Run.{closed}
 use Rattle.odb_service.specs.Server.{served_by}
 use Rattle.odb_script.specs.Running.{Running}
 use Rattle.odb_script.specs.Script.{ScriptSession, Script, in_world, shut, world_after}
-use Rattle.odb_script.specs.Represented.Names.{AreApart}
+use Rattle.odb_script.specs.Represented.Names.{AreOpened}
+use Rattle.odb_script.proofs.NumberedSessions.{below_filter, order_filter}
 use Rattle.odb_script.proofs.OpenedSessions.{script_of}
 use Rattle.odb_script.proofs.NamePlaces.{apart_filter}
 use Rattle.odb_script.proofs.engine.Engine.shut.Goals as goal
@@ -12,7 +13,10 @@ use Rattle.odb_script.proofs.engine.Engine.shut.Goals as goal
 pub invariant_of-self-2 : goal.invariant_of-self-2
 invariant_of-self-2 c =
     let left : c.retain.new.self.items ≡ filter (λ (y : ScriptSession). not (bytes_eq y.name c.args.name.now)) c.self.inside.sessions.items = filter_same _ _ _ (λ x b f' k. search rules) _ _ c.retain.ensures.filtered in
-    subst AreApart (sym left) (apart_filter (λ y. not (bytes_eq y.name c.args.name.now)) c.self.inside.sessions.items c.self.invariant)
+    let others : ScriptSession → Bool = λ y. not (bytes_eq y.name c.args.name.now) in
+    let xs : List ScriptSession = c.self.inside.sessions.items in
+    let n = c.self.inside.next in
+    subst (AreOpened n) (sym left) (apart_filter others xs c.self.invariant.0, (order_filter others xs c.self.invariant.1.0, below_filter n others xs c.self.invariant.1.1))
 
 pub returns-clause-done : goal.returns-clause-done
 returns-clause-done c =

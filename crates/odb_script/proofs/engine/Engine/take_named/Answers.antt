@@ -9,6 +9,7 @@ use Rattle.odb_script.specs.Represented.Steps.{Does}
 use Rattle.odb_script.proofs.HeldSessions.{takes, takes_none}
 use Rattle.odb_script.proofs.OpenedSessions.{IsPlaceOf, script_of, standing}
 use Rattle.odb_script.proofs.NamePlaces.{apart_set}
+use Rattle.odb_script.proofs.NumberedSessions.{below_set, order_set}
 use Rattle.odb_script.proofs.engine.Engine.take_named.Goals as goal
 
 pub returns-in_default-clause-done : goal.returns-in_default-clause-done
@@ -28,7 +29,11 @@ invariant_of-self-2 c =
     let place : IsPlaceOf c.args.name.now xs (Some c.in-Some.place) = search rules in
     let at : c.index_mut.result.now ≡ slice_index_or xs c.in-Some.place c.index_mut.result.now = search rules in
     let held : c.set_held.new.self ≡ with_held false c.index_mut.result.now = search rules in
-    apart_set xs c.in-Some.place c.index_mut.result.now c.set_held.new.self (standing c.args.name.now xs c.in-Some.place c.index_mut.result.now place at).0 (ap (λ (y : ScriptSession). y.name) held) c.self.invariant
+    let there = (standing c.args.name.now xs c.in-Some.place c.index_mut.result.now place at).0 in
+    let k = c.in-Some.place in
+    let x = c.index_mut.result.now in
+    let y = c.set_held.new.self in
+    (apart_set xs k x y there (ap (λ (y : ScriptSession). y.name) held) c.self.invariant.0, (order_set xs k x y there (ap (λ (y : ScriptSession). y.session) held) c.self.invariant.1.0, below_set c.self.inside.next xs k x y there (ap (λ (y : ScriptSession). y.session) held) c.self.invariant.1.1))
 
 pub returns-clause-done : goal.returns-clause-done
 returns-clause-done c =
@@ -50,7 +55,7 @@ returns-clause-done c =
     let held : c.set_held.new.self ≡ with_held false x = search rules in
     let given : drained_session n s (old.core, t) ≡ (q, u) = search rules in
     subst (λ (v : Running). Does (take_named (served_by v.schema) n) v.script t (script_of q ys old.inserts old.moment) u) c.self.view_is
-    (takes n (script_of old.core xs old.inserts old.moment) k x place at c.self.invariant old.core.schema s q ys t u number (ap (slice_set xs k) held) given).0
+    (takes n (script_of old.core xs old.inserts old.moment) k x place at c.self.invariant.0 old.core.schema s q ys t u number (ap (slice_set xs k) held) given).0
 
 pub returns-clause-schema : goal.returns-clause-schema
 returns-clause-schema c =
@@ -72,4 +77,4 @@ returns-clause-schema c =
     let held : c.set_held.new.self ≡ with_held false x = search rules in
     let given : drained_session n s (old.core, t) ≡ (q, u) = search rules in
     subst (λ (v : Running). q.schema ≡ v.schema) c.self.view_is
-    (takes n (script_of old.core xs old.inserts old.moment) k x place at c.self.invariant old.core.schema s q ys t u number (ap (slice_set xs k) held) given).1
+    (takes n (script_of old.core xs old.inserts old.moment) k x place at c.self.invariant.0 old.core.schema s q ys t u number (ap (slice_set xs k) held) given).1

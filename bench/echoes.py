@@ -1,0 +1,39 @@
+#!/usr/bin/env python3
+"""Measures an echo through the script, by the microseconds of processor, with 1 and with 4,000 sessions open.
+
+usage: bench/echoes.py [PROGRAM]
+
+PROGRAM is the built program, `crates/ovsdbd/out/ovsdbd` if none is named. Each figure is the difference of two runs:
+sessions and echoes, and the sessions alone. The echoes come from one session, and from all in turn.
+"""
+import os
+import resource
+import subprocess
+import sys
+
+ROOT = os.path.dirname(os.path.dirname(os.path.realpath(__file__)))
+PROGRAM = sys.argv[1] if len(sys.argv) > 1 else f"{ROOT}/crates/ovsdbd/out/ovsdbd"
+SCHEMA = f"{ROOT}/crates/ovsdbd/data/net.json"
+ECHO = '{"method":"echo","params":["a"],"id":0}'
+COUNT = 20_000
+
+
+def seconds(lines):
+    """The processor's time of a run."""
+    before = resource.getrusage(resource.RUSAGE_CHILDREN)
+    ran = subprocess.run([PROGRAM, "script", "--schema", SCHEMA], input="\n".join(lines) + "\n", capture_output=True, text=True)
+    after = resource.getrusage(resource.RUSAGE_CHILDREN)
+    assert ran.returncode == 0, ran.stderr
+    return after.ru_utime + after.ru_stime - before.ru_utime - before.ru_stime
+
+
+def echo(sessions, senders):
+    opened = [f"!open s{number}" for number in range(sessions)]
+    echoes = [f"s{number % senders} {ECHO}" for number in range(COUNT)]
+    return (seconds(opened + echoes) - seconds(opened)) / COUNT * 1_000_000
+
+
+one = echo(1, 1)
+for sessions, senders in ((4_000, 1), (4_000, 4_000)):
+    many = echo(sessions, senders)
+    print(f"{sessions:,} sessions, {senders:,} of them send: {many:.1f} us an echo, {many / one:.2f} of {one:.1f} us with 1 session")
