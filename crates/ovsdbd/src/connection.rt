@@ -155,7 +155,14 @@ fn read_for_session<R: Wait + Clock>(
         if read == 0 || seat.bell().has_failed() {
             return Ok(());
         }
-        if take_in(rt, daemon, seat, &mut framer, &piece[..read], rng).is_err() {
+        let Ok(messages) = framer.feed(&piece[..read]) else {
+            return Ok(());
+        };
+        if submit_messages(rt, daemon, seat, messages, rng).is_err() {
+            return Ok(());
+        }
+        // A fault that comes after the messages stops the reading at once.
+        if framer.feed(&[]).is_err() {
             return Ok(());
         }
     }
@@ -172,25 +179,16 @@ impl From<AllocError> for Stopped {
     }
 }
 
-/// Takes a piece of the stream in: its messages are submitted, and what that gives goes into the rings. A fault that
-/// comes after the messages stops the reading at once.
-fn take_in<R: Wait + Clock>(
+/// Submits the messages, and what that gives goes into the rings.
+fn submit_messages<R: Wait + Clock>(
     rt: &R,
     daemon: &Daemon,
     seat: &Seat,
-    framer: &mut Framer,
-    piece: &[u8],
+    messages: Vec<Message>,
     rng: &mut StdRng,
 ) -> Result<(), Stopped> {
-    let Ok(messages) = framer.feed(piece) else {
-        return Err(Stopped);
-    };
     let submissions = submissions_of(daemon.alloc, messages, rng)?;
-    submit_all(rt, daemon, seat, submissions)?;
-    if framer.feed(&[]).is_err() {
-        return Err(Stopped);
-    }
-    Ok(())
+    submit_all(rt, daemon, seat, submissions)
 }
 
 /// The requests among the messages, the first of them last.

@@ -12,7 +12,7 @@ mod daemon;
 mod deadlines;
 mod serve;
 
-use crate::serve::run_serve;
+use crate::serve::{new_daemon, serve_all};
 use clap::builder::ValueParser;
 use clap::{Arg, ArgAction, ArgMatches, Command, Error};
 use odb_schema::{Schema, SchemaFault};
@@ -89,9 +89,68 @@ fn script_file<'a>(matches: &ArgMatches<'a>) -> &'a str {
 /// Where the daemon listens if nothing else is asked for (RFC 7047, 6).
 const ADDRESS: &str = "127.0.0.1:6640";
 
+/// What the help ends with: an example, exit statuses, and the numbers of schema faults. [P 1.4, 15.1, 15.2]
+const AFTER_HELP: &str = "Example:
+  ovsdbd serve --schema net.json
+  ovsdb-client list-dbs tcp:127.0.0.1:6640
+
+The exit status is 0 after a script that ran to its end, after as many connections as were asked for,
+and after help; 1 after a fault, which standard error names; 2 where the words are wrong.
+
+'schema: fault N' says why a file holds no schema (RFC 7047, 3.2):
+  1  memory ran out
+  2  it isn't JSON, a member is missing or of another kind, or the version is no version
+  3  a name of the database, a table or a column isn't one
+  4  a number or a text isn't allowed where it stands
+  5  refTable names no table of the schema
+  6  an index is empty, repeats a column, or names one that isn't there or is ephemeral
+  7  more than 16,777,216 bytes, or more than 256 tables, or columns of a table";
+
+/// What the help of `script` ends with. [P 15.1]
+const AFTER_SCRIPT_HELP: &str = "Lines of a script (NAME is 1 to 16 letters or digits):
+  !open NAME      opens a session
+  NAME BYTES      gives the session these bytes, which are messages of OVSDB or parts of them
+  !hold NAME      leaves what the session is owed in its queue
+  !take NAME      prints all that the session is owed, and ends the hold
+  !tick N         sets the clock to N milliseconds
+  !close NAME     closes the session
+What the sessions are sent is printed, a message a line, after the name of its session.
+
+Example:
+  $ printf '%s\\n' '!open A' 'A {\"id\":1,\"method\":\"list_dbs\",\"params\":[]}' | ovsdbd script --schema net.json
+  A {\"error\":null,\"id\":1,\"result\":[\"net\"]}";
+
+/// What the help of `serve` ends with. [P 15.2]
+const AFTER_SERVE_HELP: &str =
+    "The first line printed is 'listening ADDRESS', with the port that it listens on.
+Each connection is a session. Rows are kept in memory alone, and are gone when it ends.
+
+Example:
+  $ ovsdbd serve --schema net.json --listen 127.0.0.1:0 --sessions 1
+  listening 127.0.0.1:40123";
+
 /// The words that are understood.
 fn command<'a>(alloc: Global) -> Result<Command<'a>, Error> {
-    let script = Command::new(alloc, "script").arg(schema_word(alloc))?;
+    let command = Command::new(alloc, "ovsdbd")
+        .about("An OVSDB server (RFC 7047) that begins with empty tables.")
+        .after_help(AFTER_HELP)
+        .subcommand_required(true)
+        .subcommand(script_command(alloc)?)?
+        .subcommand(serve_command(alloc)?)?;
+    Ok(command)
+}
+
+/// `script` and its words.
+fn script_command<'a>(alloc: Global) -> Result<Command<'a>, Error> {
+    let script = Command::new(alloc, "script")
+        .about("Runs a script from standard input on a server of the schema")
+        .after_help(AFTER_SCRIPT_HELP)
+        .arg(schema_word(alloc))?;
+    Ok(script)
+}
+
+/// `serve` and its words.
+fn serve_command<'a>(alloc: Global) -> Result<Command<'a>, Error> {
     let listen = Arg::new(alloc, "listen")
         .long("listen")
         .value_name("A")
@@ -106,14 +165,12 @@ fn command<'a>(alloc: Global) -> Result<Command<'a>, Error> {
         .value_parser(ValueParser::Unsigned(1, u64::MAX))
         .action(ArgAction::Set);
     let serve = Command::new(alloc, "serve")
+        .about("Serves the schema over TCP")
+        .after_help(AFTER_SERVE_HELP)
         .arg(schema_word(alloc))?
         .arg(listen)?
         .arg(sessions)?;
-    let command = Command::new(alloc, "ovsdbd")
-        .subcommand_required(true)
-        .subcommand(script)?
-        .subcommand(serve)?;
-    Ok(command)
+    Ok(serve)
 }
 
 fn schema_word<'a>(alloc: Global) -> Arg<'a> {
@@ -158,7 +215,8 @@ fn listen<
     println!(rt; "listening {local}").map_err(|_| Failure::Run(RunFault::Write))?;
     let hashing = RandomState::new(rt).map_err(|_| Failure::Run(RunFault::Memory))?;
     let sessions: Option<u64> = words.get_one("sessions");
-    run_serve(rt, alloc, schema, hashing, &listener, sessions).map_err(Failure::Run)
+    let daemon = new_daemon(rt, alloc, schema, hashing).map_err(Failure::Run)?;
+    serve_all(rt, &daemon, &listener, sessions).map_err(Failure::Run)
 }
 
 /// The schema in a file.

@@ -17,28 +17,25 @@ use std::time::{Clock, Duration, Instant};
 /// For how many milliseconds the daemon waits after a connection couldn't be accepted, as where no file descriptor is left.
 const PAUSE: u64 = 100;
 
-/// Serves the schema, with empty tables, to all that connect. With `sessions` it accepts so many connections and returns
-/// when they have ended.
-pub(crate) fn run_serve<R: Threads + Wait + Clock + RandomSource + Sync>(
+/// A daemon for the schema, with empty tables, whose moments are counted from now.
+pub(crate) fn new_daemon<R: Clock>(
     rt: &R,
     alloc: Global,
     schema: Schema,
     hashing: RandomState,
-    listener: &TcpListener,
-    sessions: Option<u64>,
-) -> Result<(), RunFault> {
+) -> Result<Daemon, RunFault> {
     let Ok(core) = Core::new(alloc, schema, hashing) else {
         return Err(RunFault::Memory);
     };
     let Ok(start) = Instant::now(rt) else {
         return Err(RunFault::Read);
     };
-    let daemon = Daemon::new(alloc, core, start);
-    serve_all(rt, &daemon, listener, sessions)
+    Ok(Daemon::new(alloc, core, start))
 }
 
-/// The pump runs while connections are served.
-fn serve_all<R: Threads + Wait + Clock + RandomSource + Sync>(
+/// Serves all that connect. With `sessions` it accepts so many connections and returns when they have ended. The pump
+/// runs meanwhile.
+pub(crate) fn serve_all<R: Threads + Wait + Clock + RandomSource + Sync>(
     rt: &R,
     daemon: &Daemon,
     listener: &TcpListener,
