@@ -8,12 +8,11 @@ ghost use Rattle.odb_atoms.specs.First.{each};
 ghost use Rattle.odb_json.specs.Represented.Fault.{Gives, Reads};
 ghost use Rattle.odb_request.specs.Represented.Change.{change_of};
 ghost use Rattle.odb_request.specs.Represented.Kind.{notation_of};
-ghost use Rattle.odb_request.specs.Represented.Parts.{monitored_as, read_asked};
-ghost use Rattle.odb_request.specs.Represented.Select.{select_of};
+ghost use Rattle.odb_request.specs.Represented.Parts.{read_asked};
 ghost use Rattle.odb_request.specs.Represented.Shape.{table_name};
 ghost use Rattle.odb_request.specs.Requests as model;
 ghost use Rattle.odb_schema.specs.Json.{members_list};
-ghost use Rattle.odb_schema.specs.Schema.{columns_at, table_place};
+ghost use Rattle.odb_schema.specs.Schema.{table_place};
 
 use crate::change::Change;
 use crate::columns::read_monitored;
@@ -22,14 +21,13 @@ use crate::kind::Kind;
 use crate::leaf::{SYNTAX, no_other, read_object, request_object};
 use crate::names::are_named;
 use crate::request::Request;
-use crate::select::{Select, read_select};
+use crate::select::read_select;
 use crate::shape::{Shape, table_at};
 use odb_atoms::Error;
-use odb_cond::{Filter, Selector};
 use odb_json::OpFault;
 use odb_schema::{Schema, TableId};
 use serde_json::{Map, Value};
-use std::alloc::{AllocError, Global};
+use std::alloc::Global;
 use std::sync::Arc;
 
 /// The table with the name.
@@ -56,30 +54,6 @@ fn no_unknown(kind: Kind, members: &Map<String, Value>) -> Result<(), OpFault>
     }
 }
 
-/// The request of these columns of a table.
-fn request_of(
-    alloc: Global,
-    schema: &Arc<Schema>,
-    table: TableId,
-    columns: Vec<Selector>,
-    select: Select,
-    filter: Filter,
-) -> Result<Request, AllocError>
-    requires { table < length (arc_value schema.now).tables }
-    ensures { IfOk result (λ request. request ≡ record {
-      shape = record {
-        name = table_name (arc_value schema.now) table;
-        columns = map (monitored_as (columns_at (arc_value schema.now) table)) columns.items;
-      };
-      place = table;
-      select = select_of select;
-      filter = filter;
-    }) }
-{
-    let shape = Shape::new(schema.clone()?, table, columns, select);
-    Request::new(alloc, shape, filter)
-}
-
 /// What is asked of a table that was found.
 fn read_asked(
     alloc: Global,
@@ -98,7 +72,8 @@ fn read_asked(
     let filter = read_where(alloc, members, table, kind)?;
     let select = read_select(members)?;
     no_unknown(kind, members)?;
-    Ok(request_of(alloc, schema, id, columns, select, filter)?)
+    let shape = Shape::new(schema.clone()?, id, columns, select);
+    Ok(Request::new(alloc, shape, filter)?)
 }
 
 /// A member of an object of requests.
