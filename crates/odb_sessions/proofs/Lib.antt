@@ -1,6 +1,12 @@
+mod Adds
+mod Books
+mod Moved
+mod Newest
 mod Numbers
 mod Posts
 mod Releases
+mod Room
 mod Seen
 mod Sums
 mod Ties
+mod Watches

@@ -6,11 +6,10 @@ use Rattle.std.specs.BTreeMap.{BTreeMap}
 use Rattle.std.specs.Ordering.{eq_by_cmp, nat_cmp}
 use Rattle.odb_atoms.specs.FinMap as finite
 use Rattle.odb_atoms.specs.FinMap.{get, insert}
-use Rattle.odb_service.specs.Session.{Item}
-use Rattle.odb_sessions.specs.Held.{Kept, Sessions}
+use Rattle.odb_sessions.specs.Held.{Kept, Queued, Sessions}
 use Rattle.odb_sessions.specs.Posts.{at_number, kept_unposted, with_item, without_newest}
-use Rattle.odb_queue.specs.Represented.Newest.{all_but_last}
 use Rattle.odb_service.proofs.SessionMaps.{get-insert, key-itself, same_key, same_map}
+use Rattle.odb_sessions.proofs.Newest.{last_dropped}
 use Rattle.odb_sessions.proofs.Numbers.{Updates, get-sessions_in, inserted, sessions_in}
 
 module _ {X : Type 0} (f : X → X) (m : finite.FinMap nat_cmp X) (s : ℕ) where
@@ -24,7 +23,7 @@ module _ {X : Type 0} (f : X → X) (m : finite.FinMap nat_cmp X) (s : ℕ) wher
   at_shut shut = ap found_at shut
 
 -- a session that is put where it was
-reinserted : (m : Sessions) (s : ℕ) (x : Kept) → get m s ≡ Some x → insert m s x ≡ m
+pub reinserted : (m : Sessions) (s : ℕ) (x : Kept) → get m s ≡ Some x → insert m s x ≡ m
 reinserted m s x there = same_map _ _ (λ q. get-insert m s x q ∙ by (eq_by_cmp nat_cmp q s) q refl)
   where
     by : (b : Bool) (q : ℕ) → eq_by_cmp nat_cmp q s ≡ b → cond b (Some x) (get m q) ≡ get m q
@@ -48,14 +47,9 @@ pub kept_unposted-append : (ss : List ℕ) (s : ℕ) (m : Sessions) → kept_unp
 kept_unposted-append [] s m = refl
 kept_unposted-append (t ∷ ts) s m = ap (λ k. at_number without_newest k t) (kept_unposted-append ts s m)
 
-last_dropped : (is : List Item) (i : Item) → all_but_last (is ++ i ∷ []) ≡ is
-last_dropped [] i = refl
-last_dropped (j ∷ []) i = refl
-last_dropped (j ∷ k ∷ is) i = ap (λ (ls : List Item). j ∷ ls) (last_dropped (k ∷ is) i)
-
 -- an item that goes to the end is the newest
-pushed_back : (i : Item) (x : Kept) → without_newest (with_item i x) ≡ x
-pushed_back i x = λ k. record { queue = last_dropped x.queue i k; monitors = x.monitors }
+pushed_back : (q : Queued) (x : Kept) → without_newest (with_item q x) ≡ x
+pushed_back q x = λ k. record { queue = last_dropped x.queue q k; monitors = x.monitors }
 
 -- ---- the table
 
@@ -72,10 +66,10 @@ module _ (old : BTreeMap ℕ Kept) (s : ℕ) where
       inserted old new s y changed ∙ ap (insert (sessions_in old) s) is ∙ reinserted (sessions_in old) s x (get-sessions_in old s ∙ there)
 
   -- an item that was put at the end is taken back
-  pub taken_off : (new : BTreeMap ℕ Kept) (x y : Kept) (i : Item) → tree.get nat_cmp old s ≡ Some x → Updates old new s (Some y) → y ≡ with_item i x → kept_unposted (s ∷ []) (sessions_in new) ≡ sessions_in old
-  taken_off new x y i there changed is =
+  pub taken_off : (new : BTreeMap ℕ Kept) (x y : Kept) (q : Queued) → tree.get nat_cmp old s ≡ Some x → Updates old new s (Some y) → y ≡ with_item q x → kept_unposted (s ∷ []) (sessions_in new) ≡ sessions_in old
+  taken_off new x y q there changed is =
       ap (λ (m : Sessions). at_number without_newest m s) (inserted old new s y changed)
-      ∙ undone without_newest (sessions_in old) s x y (get-sessions_in old s ∙ there) (ap without_newest is ∙ pushed_back i x)
+      ∙ undone without_newest (sessions_in old) s x y (get-sessions_in old s ∙ there) (ap without_newest is ∙ pushed_back q x)
 
 -- what holds whatever the result holds of an error
 pub whatever : {A E : Type 0} (P : Type 0) (r : Result A E) → P → OnErr r P

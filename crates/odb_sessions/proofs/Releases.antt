@@ -1,5 +1,5 @@
 -- Marks that are released, one after the other: what stays.
-use Rattle.std.proofs.Common.{◌≡◌, ℕ, zero, suc, ◌+◌, ◌-◌, ◌<◌, ◌≤◌, arith, Bool, true, false, cond, ◌&&◌, nat_eq, nat_le, List, [], ◌∷◌, ◌++◌, length, map, slice_get, slice_set, unwrap_or, Option, Some, None, option_and_then, refl, sym, ap, subst, ◌∙◌, true≢false}
+use Rattle.std.proofs.Common.{◌≡◌, ℕ, zero, suc, ◌+◌, ◌-◌, ◌<◌, ◌≤◌, arith, Bool, true, false, cond, ◌&&◌, nat_eq, nat_le, List, [], ◌∷◌, ◌++◌, length, slice_get, slice_set, unwrap_or, Option, Some, None, option_and_then, refl, sym, ap, subst, ◌∙◌, true≢false}
 use Rattle.std.proofs.lemmas.Bool.Decides.{nat_tests}
 use Rattle.std.proofs.lemmas.Option.{none-some, same_Some}
 use Rattle.std.specs.Cmp.{unsigned_tied}
@@ -8,12 +8,11 @@ use Rattle.odb_atoms.specs.FinMap as finite
 use Rattle.odb_chain.specs.Chains.{Chains, IsLive, IsNow, Live, Mark, Standing, count, live_at, marks_of, one_less, released, standing, with_standing}
 use Rattle.odb_atoms.proofs.FinMaps.{get-empty}
 use Rattle.odb_service.proofs.SessionMaps.{get-insert, get-remove}
-use Rattle.odb_sessions.specs.Held.{Watched}
 use Rattle.odb_sessions.specs.Tied.{AreLive, Frees, HasAll, KeepsContents, bit, is_at, uses}
 
 -- ---- one mark
 
-got_other : (ls : List Live) (t q : ℕ) (l : Live) → nat_eq q t ≡ false → unwrap_or (slice_get (slice_set ls t l) q) finite.empty ≡ unwrap_or (slice_get ls q) finite.empty
+pub got_other : (ls : List Live) (t q : ℕ) (l : Live) → nat_eq q t ≡ false → unwrap_or (slice_get (slice_set ls t l) q) finite.empty ≡ unwrap_or (slice_get ls q) finite.empty
 got_other [] t q l e = refl
 got_other (x ∷ ls) zero zero l e = absurd (true≢false e)
 got_other (x ∷ ls) zero (suc q) l e = refl
@@ -21,7 +20,7 @@ got_other (x ∷ ls) (suc t) zero l e = refl
 got_other (x ∷ ls) (suc t) (suc q) l e = got_other ls t q l (grind (arith, nat_tests))
 
 -- where somebody stands there is a table
-got_here : (ls : List Live) (t : ℕ) (l : Live) → t < length ls → unwrap_or (slice_get (slice_set ls t l) t) finite.empty ≡ l
+pub got_here : (ls : List Live) (t : ℕ) (l : Live) → t < length ls → unwrap_or (slice_get (slice_set ls t l) t) finite.empty ≡ l
 got_here [] t l low = absurd (omega (arith, low))
 got_here (x ∷ ls) zero l low = refl
 got_here (x ∷ ls) (suc t) l low = got_here ls t l (omega (arith, low))
@@ -109,9 +108,6 @@ module _ (k : Chains) (m : Mark) (live : IsLive k m) where
 
 -- ---- lists of marks
 
-abbrev pub table_marks : List Watched → List Mark
-table_marks ws = map (λ w. w.mark) ws
-
 pub uses-++ : (t p : ℕ) (xs ys : List Mark) → uses t p (xs ++ ys) ≡ uses t p xs + uses t p ys
 uses-++ t p [] ys = omega arith
 uses-++ t p (x ∷ xs) ys = let rest : uses t p (xs ++ ys) ≡ uses t p xs + uses t p ys = uses-++ t p xs ys in omega (arith, rest)
@@ -127,7 +123,7 @@ live-right k (x ∷ xs) ys h = live-right k xs ys h.1
 pub has-left : (k : Chains) (xs ys : List Mark) → HasAll k (xs ++ ys) → HasAll k xs
 has-left k xs ys h = (live-left k xs ys h.0, λ t p. let sum : uses t p (xs ++ ys) ≡ uses t p xs + uses t p ys = uses-++ t p xs ys in let low : uses t p (xs ++ ys) ≤ count k t p = h.1 t p in omega (arith, sum, low))
 
-itself_at : (m : Mark) → is_at m.table m.place m ≡ true
+pub itself_at : (m : Mark) → is_at m.table m.place m ≡ true
 itself_at m = let a : nat_eq m.table m.table ≡ true = grind (arith, nat_tests) in let b : nat_eq m.place m.place ≡ true = grind (arith, nat_tests) in λ i. a i && b i
 
 used_once : (m : Mark) (ms : List Mark) → 1 ≤ uses m.table m.place (m ∷ ms)

@@ -17,7 +17,7 @@ use Rattle.odb_sessions.specs.Tied.{AreLive, Frees, HasAll, IsTied, total, used,
 use Rattle.odb_sessions.proofs.Releases.{still_live}
 use Rattle.odb_sessions.proofs.Sums.{slot, total-put, total-without, weight_within}
 
-abbrev weight : ℕ → ℕ → Kept → ℕ
+abbrev pub weight : ℕ → ℕ → Kept → ℕ
 weight t p x = uses t p (marks_of x)
 
 -- ---- what the machine sees
@@ -76,7 +76,7 @@ seen-empty = same_map _ _ (λ q. get-seen finite.empty q ∙ ap (option_map seen
 
 -- ---- sums over sessions
 
-used-insert : (t p : ℕ) (m : Sessions) (s : ℕ) (x : Kept) → used t p (finite.insert m s x) + slot (weight t p) (finite.get m s) ≡ used t p m + weight t p x
+pub used-insert : (t p : ℕ) (m : Sessions) (s : ℕ) (x : Kept) → used t p (finite.insert m s x) + slot (weight t p) (finite.get m s) ≡ used t p m + weight t p x
 used-insert t p m s x =
     (λ i. total (weight t p) (entries-insert nat_cmp_total m s x i) + slot (weight t p) (get-entries m s i))
     ∙ total-put (weight t p) s x m.entries m.sorted

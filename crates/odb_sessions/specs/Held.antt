@@ -1,5 +1,5 @@
 -- What is kept of sessions: marks in place of what clients have.
-use Rattle.std.specs.Prelude.{ℕ, List, [], map, flat_map}
+use Rattle.std.specs.Prelude.{ℕ, List, [], ◌++◌, map, flat_map}
 use Rattle.std.specs.Ordering.{nat_cmp}
 use Rattle.odb_atoms.specs.FinMap.{FinMap, entries_of, from_entries}
 use Rattle.odb_chain.specs.Chains.{Mark}
@@ -7,7 +7,7 @@ use Rattle.odb_cond.specs.Filter.{Filter}
 use Rattle.odb_monitor.specs.View.{View, selected}
 use Rattle.odb_request.specs.Request.{Notation, Request}
 use Rattle.odb_schema.specs.Json.{Data}
-use Rattle.odb_service.specs.Session.{Item, Monitor, Session, Watch}
+use Rattle.odb_service.specs.Session.{Item, Monitor, Session, Watch, start}
 
 -- one table of a monitor: what is asked, and what the client was told of it: the content of a mark, under a filter
 pub record Watched : Type 0 where
@@ -20,8 +20,13 @@ pub record Held : Type 0 where
   pub notation : Notation
   pub tables : List Watched
 
+-- what is queued: an item without marks; or, for the request d, a monitor whose first reply is due, with its marks
+pub data Queued : Type 0 where
+  plain : Item → Queued
+  due : Data → Held → Queued
+
 pub record Kept : Type 0 where
-  pub queue : List Item
+  pub queue : List Queued
   pub monitors : List Held
 
 abbrev pub Sessions : Type 0
@@ -38,8 +43,12 @@ view_of h = map (λ w. selected (record (w.request) { filter = w.told }) w.mark.
 abbrev pub monitor_of : Held → Monitor
 monitor_of h = record { watch = watch_of h; view = view_of h }
 
+abbrev pub item_seen : Queued → Item
+item_seen (plain i) = i
+item_seen (due d h) = start d (watch_of h)
+
 abbrev pub seen : Kept → Session
-seen x = record { queue = x.queue; monitors = map monitor_of x.monitors }
+seen x = record { queue = map item_seen x.queue; monitors = map monitor_of x.monitors }
 
 abbrev pub seen_entry : ℕ × Kept → ℕ × Session
 seen_entry e = (e.0, seen e.1)
@@ -49,11 +58,19 @@ all_seen m = from_entries (map seen_entry (entries_of m))
 
 -- ---- marks
 
-abbrev pub marks_in : Held → List Mark
-marks_in h = map (λ w. w.mark) h.tables
+abbrev pub table_marks : List Watched → List Mark
+table_marks ws = map (λ w. w.mark) ws
 
+abbrev pub marks_in : Held → List Mark
+marks_in h = table_marks h.tables
+
+abbrev pub marks_due : Queued → List Mark
+marks_due (plain i) = []
+marks_due (due d h) = marks_in h
+
+-- those of its monitors, and those of monitors whose first reply is due
 abbrev pub marks_of : Kept → List Mark
-marks_of x = flat_map marks_in x.monitors
+marks_of x = flat_map marks_in x.monitors ++ flat_map marks_due x.queue
 
 -- nothing is queued, and there is no monitor
 abbrev pub nothing_kept : Kept

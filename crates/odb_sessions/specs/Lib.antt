@@ -2,4 +2,5 @@ pub mod Book
 pub mod Held
 pub mod Posts
 pub mod Represented
+pub mod Started
 pub mod Tied

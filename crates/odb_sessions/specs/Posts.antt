@@ -1,11 +1,11 @@
 -- What sessions become by items that are posted, and by posts that are taken back.
-use Rattle.std.specs.Prelude.{ℕ, List, [], ◌∷◌, ◌++◌, fold, Some, None}
+use Rattle.std.specs.Prelude.{ℕ, List, [], ◌∷◌, ◌++◌, fold, Option, Some, None, option_and_then}
 use Rattle.std.specs.Ordering.{nat_cmp}
 use Rattle.odb_atoms.specs.FinMap.{FinMap, get, insert}
-use Rattle.odb_queue.specs.Represented.Newest.{all_but_last, without_last}
+use Rattle.odb_queue.specs.Represented.Newest.{without_last}
 use Rattle.odb_service.specs.Session.{Item, Session}
 use Rattle.odb_service.specs.World.{push}
-use Rattle.odb_sessions.specs.Held.{Kept}
+use Rattle.odb_sessions.specs.Held.{Kept, Queued, plain}
 
 -- f of what stands at a number, if something does
 abbrev pub at_number : {X : Type 0} → (X → X) → FinMap nat_cmp X → ℕ → FinMap nat_cmp X
@@ -25,14 +25,31 @@ unposted (s ∷ ss) m = at_number without_last (unposted ss m) s
 
 -- ---- the same of what is kept
 
-abbrev pub with_item : Item → Kept → Kept
-with_item i x = record { queue = x.queue ++ i ∷ []; monitors = x.monitors }
+abbrev pub newest : List Queued → Option Queued
+newest [] = None
+newest (q ∷ []) = Some q
+newest (q ∷ r ∷ qs) = newest (r ∷ qs)
+
+abbrev pub but_newest : List Queued → List Queued
+but_newest [] = []
+but_newest (q ∷ []) = []
+but_newest (q ∷ r ∷ qs) = q ∷ but_newest (r ∷ qs)
+
+abbrev pub with_items : List Queued → Kept → Kept
+with_items qs x = record { queue = x.queue ++ qs; monitors = x.monitors }
+
+abbrev pub with_item : Queued → Kept → Kept
+with_item q = with_items (q ∷ [])
 
 abbrev pub without_newest : Kept → Kept
-without_newest x = record { queue = all_but_last x.queue; monitors = x.monitors }
+without_newest x = record { queue = but_newest x.queue; monitors = x.monitors }
+
+-- the newest item of a session's queue
+abbrev pub newest_at : FinMap nat_cmp Kept → ℕ → Option Queued
+newest_at m s = option_and_then (λ x. newest x.queue) (get m s)
 
 abbrev pub kept_posted : FinMap nat_cmp Kept → ℕ × Item → FinMap nat_cmp Kept
-kept_posted m p = at_number (with_item p.1) m p.0
+kept_posted m p = at_number (with_item (plain p.1)) m p.0
 
 abbrev pub all_kept_posted : FinMap nat_cmp Kept → List (ℕ × Item) → FinMap nat_cmp Kept
 all_kept_posted = fold kept_posted

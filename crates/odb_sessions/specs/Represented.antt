@@ -1,2 +1,4 @@
 pub mod Codes
+pub mod Origin
+pub mod Queued
 pub mod Told

@@ -1,5 +1,5 @@
 -- How the marks of sessions hang together with the chains: each is live, and the chains count these marks and no others.
-use Rattle.std.specs.Prelude.{◌≡◌, ℕ, ◌+◌, ◌<◌, ◌≤◌, Bool, true, false, ◌&&◌, nat_eq, List, [], ◌∷◌, Some}
+use Rattle.std.specs.Prelude.{◌≡◌, ℕ, ◌+◌, ◌<◌, ◌≤◌, Bool, true, false, ◌&&◌, nat_eq, List, [], ◌∷◌, length, Some}
 use Rattle.odb_atoms.specs.FinMap.{entries_of, get}
 use Rattle.odb_chain.specs.Chains.{Chains, IsLive, IsNow, Mark, Standing, count, standing}
 use Rattle.odb_sessions.specs.Held.{Kept, Sessions, marks_of}
@@ -45,3 +45,17 @@ KeepsContents old new = (t p : ℕ) (x : Standing) → standing old t p ≡ Some
 -- without these marks, and with all others
 abbrev pub Frees : Chains → Chains → List Mark → Type 0
 Frees old new ms = (new.db ≡ old.db) × (new.versions ≡ old.versions) × ((t p : ℕ) → count old t p ≡ count new t p + uses t p ms) × KeepsContents old new × (IsNow old → IsNow new)
+
+-- ---- marks that are made
+
+-- whatever is kept stays
+abbrev pub HoldsContents : Chains → Chains → Type 0
+HoldsContents old new = (t p : ℕ) (x : Standing) → standing old t p ≡ Some x → standing new t p ≡ Some (record { content = x.content; marks = count new t p })
+
+-- with these marks more, which are live, and with all that was there
+abbrev pub Adds : Chains → Chains → List Mark → Type 0
+Adds old new ms = (new.db ≡ old.db) × (new.versions ≡ old.versions) × (length new.live ≡ length old.live) × ((t p : ℕ) → count new t p ≡ count old t p + uses t p ms) × HoldsContents old new × AreLive new ms × IsNow new
+
+-- a list of places for each table, and no more than n marks at one of them
+abbrev pub HasRoom : Chains → ℕ → Type 0
+HasRoom k n = (length k.live ≡ length k.db) × ((t p : ℕ) → count k t p ≤ n)

@@ -4,9 +4,18 @@
 //! unless its own page says otherwise. A call whose result has no such error takes no memory.
 #![tactic(auto)]
 
+mod granted;
+mod id;
+mod item;
 mod monitor;
 mod numbered;
+mod origin;
+mod past;
+mod queue;
 mod session;
 mod sessions;
+mod starting;
 
+pub use id::Id;
 pub use sessions::Sessions;
+pub use starting::Starting;

@@ -1,12 +1,16 @@
 //! Monitors: what is asked, and what the client was told. [P 9.1, 9.2]
-ghost use Rattle.std.specs.Prelude.{◌≡◌, [], ◌∷◌, map};
-ghost use Rattle.odb_sessions.specs.Held.{marks_in};
-ghost use Rattle.odb_sessions.specs.Tied.{Frees, HasAll};
+ghost use Rattle.std.specs.Prelude.{◌≡◌, ℕ, ◌+◌, ◌^◌, ◌<◌, [], ◌∷◌, length, map, IfOk, OnErr};
+ghost use Rattle.odb_chain.specs.Chains.{IsNow, count};
+ghost use Rattle.odb_sessions.specs.Held.{marks_in, table_marks};
+ghost use Rattle.odb_sessions.specs.Started.{AreOfTables};
+ghost use Rattle.odb_sessions.specs.Tied.{Adds, Frees, HasAll};
 
+use crate::id::Id;
+use crate::past::Past;
 use odb_chain::{Chains, Mark};
 use odb_cond::Filter;
 use odb_request::{Kind, Request};
-use serde_json::Value;
+use std::alloc::{AllocError, Global};
 use std::marker::Model;
 use std::sync::Arc;
 
@@ -35,25 +39,25 @@ impl Model for Watching {
 
 impl Watching {
     /// Gives its mark back.
-    fn release(self, chains: &mut Chains)
-        requires { HasAll chains.old (self.mark ∷ []) }
-        ensures { Frees chains.old chains.new (self.mark ∷ []) }
+    fn release(self, past: &mut Past)
+        requires { HasAll past.old (self.mark ∷ []) }
+        ensures { Frees past.old past.new (self.mark ∷ []) }
     {
         let Watching { mark, .. } = self;
-        chains.release(mark);
+        past.release(mark);
     }
 }
 
-/// A monitor whose first reply was taken.
+/// A monitor: one whose first reply was taken, or is due.
 #[derive(Drop)]
 pub(crate) struct Monitor {
-    pub(crate) id: Value,
+    pub(crate) id: Arc<Id>,
     pub(crate) kind: Kind,
     pub(crate) tables: Vec<Watching>,
 }
 
 impl Model for Monitor {
-    ghost use Rattle.serde_json.specs.View as json;
+    ghost use Rattle.std.specs.Arc.{arc_value};
     ghost use Rattle.odb_request.specs.Represented.Kind.{notation_of};
     ghost use Rattle.odb_sessions.specs.Held as model;
     ghost use Rattle.odb_sessions.specs.Represented.Codes.{held_code};
@@ -62,26 +66,52 @@ impl Model for Monitor {
 
     ghost coded = { held_code };
 
-    ghost view = { λ m. record { id = json.view m.id; notation = notation_of m.kind; tables = m.tables.items } };
+    ghost view = { λ m. record { id = arc_value m.id; notation = notation_of m.kind; tables = m.tables.items } };
 }
 
 impl Monitor {
     /// Gives its marks back.
-    pub(crate) fn release(self, chains: &mut Chains)
-        requires { HasAll chains.old (marks_in self) }
-        ensures { Frees chains.old chains.new (marks_in self) }
+    pub(crate) fn release(self, past: &mut Past)
+        requires { HasAll past.old (marks_in self) }
+        ensures { Frees past.old past.new (marks_in self) }
     {
         let Monitor { tables, .. } = self;
-        release_all(tables, chains);
+        release_all(tables, past);
     }
 }
 
 /// Gives the marks of these tables back.
-fn release_all(tables: Vec<Watching>, chains: &mut Chains)
-    requires { HasAll chains.old (map (λ w. w.mark) tables.items) }
-    ensures { Frees chains.old chains.new (map (λ w. w.mark) tables.items) }
+fn release_all(tables: Vec<Watching>, past: &mut Past)
+    requires { HasAll past.old (table_marks tables.items) }
+    ensures { Frees past.old past.new (table_marks tables.items) }
 {
     for table in tables {
-        table.release(chains);
+        table.release(past);
     }
+}
+
+/// Watches each of these tables as it is now, with a mark each, or none.
+pub(crate) fn watch_all(
+    alloc: Global,
+    chains: &mut Chains,
+    requests: Vec<Request>,
+) -> Result<Vec<Watching>, AllocError>
+    requires tables { AreOfTables chains.old.db requests.items }
+    requires now { IsNow chains.old }
+    requires lives { length chains.old.live ≡ length chains.old.db }
+    requires few { (t p : ℕ) → count chains.old t p + length requests.items < 2 ^ 64 }
+    ensures ok { IfOk result (λ tables. Adds chains.old chains.new (table_marks tables.items)) }
+    ensures asked { IfOk result (λ tables. map (λ w. w.request) tables.items ≡ requests.items) }
+    ensures err { OnErr result (chains.new ≡ chains.old) }
+{
+    let mut tables = Vec::with_capacity(alloc, requests.len())?;
+    for request in requests {
+        let mark = chains.mark_now(request.table());
+        tables.push_reserved(Watching {
+            request,
+            told: None,
+            mark,
+        });
+    }
+    Ok(tables)
 }

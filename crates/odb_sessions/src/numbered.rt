@@ -1,15 +1,16 @@
 //! The open sessions by their numbers.
-ghost use Rattle.std.specs.Prelude.{◌≡◌, map, IfOk, OnErr, OnOk};
+ghost use Rattle.std.specs.Prelude.{◌≡◌, true, map, is_some, option_map, IfErr, IfOk, OnErr, OnOk};
 ghost use Rattle.std.specs.Option.{option_copied};
 ghost use Rattle.odb_atoms.specs.FinMap as finite;
-ghost use Rattle.odb_queue.specs.Represented.Item.{item_of};
 ghost use Rattle.odb_queue.specs.Represented.Post.{post_of};
-ghost use Rattle.odb_sessions.specs.Posts.{all_kept_posted, at_number, kept_posted, kept_unposted, without_newest};
+ghost use Rattle.odb_sessions.specs.Posts.{all_kept_posted, at_number, kept_unposted, newest_at, with_item, without_newest};
+ghost use Rattle.odb_sessions.specs.Represented.Queued.{queued_of};
 
+use crate::item::Item;
 use crate::session::Session;
 use odb_locks::SessionId;
-use odb_queue::{Finished, Post};
-use std::alloc::{AllocError, Global};
+use odb_queue::Post;
+use std::alloc::{AllocError, AllocFailed, Global};
 use std::collections::BTreeMap;
 use std::marker::Model;
 
@@ -72,6 +73,13 @@ impl Numbered {
         self.sessions.get(&number)
     }
 
+    /// Whether a session is open.
+    pub(crate) fn has(&self, number: SessionId) -> bool
+        ensures { result ≡ is_some (finite.get self.now number) }
+    {
+        self.get(number).is_some()
+    }
+
     /// Posts each item to its session, and returns the sessions for which one was queued.
     pub(crate) fn post_all(
         &mut self,
@@ -84,7 +92,7 @@ impl Numbered {
     {
         let mut posted_to = Vec::new(alloc);
         for post in posts {
-            if let Err(refused) = self.post(&mut posted_to, post.session, post.item) {
+            if let Err(refused) = self.post(&mut posted_to, post.session, Item::Say(post.item)) {
                 self.unpost(posted_to);
                 return Err(refused);
             }
@@ -97,9 +105,9 @@ impl Numbered {
         &mut self,
         posted_to: &mut Vec<SessionId>,
         session: SessionId,
-        item: Finished,
+        item: Item,
     ) -> Result<(), AllocError>
-        ensures ok { OnOk result (self.new ≡ kept_posted self.old (session, item_of item)) }
+        ensures ok { OnOk result (self.new ≡ at_number (with_item (queued_of item)) self.old session) }
         ensures back { OnOk result (kept_unposted posted_to.new.items self.new ≡ kept_unposted posted_to.old.items self.old) }
         ensures err { OnErr result (self.new ≡ self.old) }
         ensures posted_to { OnErr result (posted_to.new.items ≡ posted_to.old.items) }
@@ -113,22 +121,37 @@ impl Numbered {
         Ok(())
     }
 
+    /// Queues an item for a session. Where that isn't open, or memory is refused, the item comes back.
+    pub(crate) fn hand(&mut self, session: SessionId, item: Item) -> Result<(), AllocFailed<Item>>
+        ensures ok { OnOk result (self.new ≡ at_number (with_item (queued_of item)) self.old session) }
+        ensures is_open { OnOk result (is_some (finite.get self.old session) ≡ true) }
+        ensures err { OnErr result (self.new ≡ self.old) }
+        ensures handed_back { IfErr result (λ refused. refused.value ≡ item) }
+    {
+        let Some(to) = self.sessions.get_mut(&session) else {
+            return Err(AllocFailed { value: item });
+        };
+        to.push(item)
+    }
+
     /// The newest item of each of these sessions' queues goes, that of the last session first.
     pub(crate) fn unpost(&mut self, posted_to: Vec<SessionId>)
         ensures { self.new ≡ kept_unposted posted_to.items self.old }
     {
         let mut posted_to = posted_to;
         while let Some(session) = posted_to.pop() {
-            self.take_newest_back(session);
+            drop(self.take_newest(session));
         }
     }
 
-    fn take_newest_back(&mut self, session: SessionId)
-        ensures { self.new ≡ at_number without_newest self.old session }
+    /// Takes the newest item of a session's queue out, if the session is open and has one.
+    pub(crate) fn take_newest(&mut self, session: SessionId) -> Option<Item>
+        ensures sessions { self.new ≡ at_number without_newest self.old session }
+        ensures item { option_map queued_of result ≡ newest_at self.old session }
     {
         let Some(of) = self.sessions.get_mut(&session) else {
-            return;
+            return None;
         };
-        of.unpost();
+        of.take_newest()
     }
 }

@@ -1,22 +1,23 @@
 //! A session: what is queued for it, and its monitors. [P 10.1]
-ghost use Rattle.std.specs.Prelude.{◌≡◌, ◌+◌, ◌&&◌, not, nat_lt, flat_map, OnErr, OnOk};
+ghost use Rattle.std.specs.Prelude.{◌≡◌, ◌+◌, ◌&&◌, not, nat_lt, flat_map, map, option_map, IfErr, OnErr, OnOk};
 ghost use Rattle.odb_queue.specs.Represented.Answer.{call_at};
-ghost use Rattle.odb_queue.specs.Represented.Item.{item_of};
 ghost use Rattle.odb_rpc.specs.Message.{has_reply};
 ghost use Rattle.odb_schema.specs.Schema.{Schema};
 ghost use Rattle.odb_service.specs.Run.{max_owed};
 ghost use Rattle.odb_service.specs.Session.{replies_in};
-ghost use Rattle.odb_sessions.specs.Held.{marks_in, marks_of, nothing_kept};
-ghost use Rattle.odb_sessions.specs.Posts.{with_item, without_newest};
+ghost use Rattle.odb_sessions.specs.Held.{item_seen, marks_in, marks_of, nothing_kept};
+ghost use Rattle.odb_sessions.specs.Posts.{newest, with_item, without_newest};
+ghost use Rattle.odb_sessions.specs.Represented.Queued.{queued_of};
 ghost use Rattle.odb_sessions.specs.Tied.{Frees, HasAll};
 ghost use Rattle.odb_wire.specs.Shown.{request_data};
 
+use crate::item::Item;
 use crate::monitor::Monitor;
-use odb_chain::Chains;
-use odb_queue::{Finished, Queue};
+use crate::past::Past;
+use crate::queue::Queue;
 use odb_rpc::has_reply;
 use odb_wire::Request;
-use std::alloc::{AllocError, Global};
+use std::alloc::{AllocFailed, Global};
 use std::marker::Model;
 
 /// How many replies a session may be owed.
@@ -54,42 +55,45 @@ impl Session {
     /// Whether the request has a reply while the session is owed as many as it may be; `waiting` of them
     /// are replies of its transactions that wait. O(1).
     pub(crate) fn owes_too_many(&self, request: &Request, waiting: usize) -> bool
-        ensures { (schema : Schema) → result ≡ (has_reply (call_at schema (request_data request.now)) && not (nat_lt (replies_in self.now.queue + waiting) max_owed)) }
+        ensures { (schema : Schema) → result ≡ (has_reply (call_at schema (request_data request.now)) && not (nat_lt (replies_in (map item_seen self.now.queue) + waiting) max_owed)) }
     {
         has_reply(request) && self.queue.replies().saturating_add(waiting) >= MAX_OWED
     }
 
-    /// Puts an item at the end of the queue.
-    pub(crate) fn push(&mut self, item: Finished) -> Result<(), AllocError>
-        ensures ok { OnOk result (self.new ≡ with_item (item_of item) self.old) }
+    /// Puts an item at the end of the queue. Where memory is refused it comes back.
+    pub(crate) fn push(&mut self, item: Item) -> Result<(), AllocFailed<Item>>
+        ensures ok { OnOk result (self.new ≡ with_item (queued_of item) self.old) }
         ensures err { OnErr result (self.new ≡ self.old) }
+        ensures handed_back { IfErr result (λ refused. refused.value ≡ item) }
     {
         self.queue.push(item)
     }
 
     /// Takes the newest item of the queue out, if there is one.
-    pub(crate) fn unpost(&mut self)
-        ensures { self.new ≡ without_newest self.old }
+    pub(crate) fn take_newest(&mut self) -> Option<Item>
+        ensures session { self.new ≡ without_newest self.old }
+        ensures item { option_map queued_of result ≡ newest self.old.queue }
     {
-        drop(self.queue.pop_newest());
+        self.queue.pop_newest()
     }
 
-    /// Gives the marks of its monitors back.
-    pub(crate) fn release(self, chains: &mut Chains)
-        requires { HasAll chains.old (marks_of self) }
-        ensures { Frees chains.old chains.new (marks_of self) }
+    /// Gives the marks of its monitors back, and those of items that are queued.
+    pub(crate) fn release(self, past: &mut Past)
+        requires { HasAll past.old (marks_of self) }
+        ensures { Frees past.old past.new (marks_of self) }
     {
-        let Session { monitors, .. } = self;
-        release_all(monitors, chains);
+        let Session { queue, monitors } = self;
+        release_all(monitors, past);
+        queue.release(past);
     }
 }
 
 /// Gives the marks of these monitors back.
-fn release_all(monitors: Vec<Monitor>, chains: &mut Chains)
-    requires { HasAll chains.old (flat_map marks_in monitors.items) }
-    ensures { Frees chains.old chains.new (flat_map marks_in monitors.items) }
+fn release_all(monitors: Vec<Monitor>, past: &mut Past)
+    requires { HasAll past.old (flat_map marks_in monitors.items) }
+    ensures { Frees past.old past.new (flat_map marks_in monitors.items) }
 {
     for monitor in monitors {
-        monitor.release(chains);
+        monitor.release(past);
     }
 }

@@ -2,20 +2,24 @@
 ghost use Rattle.std.specs.Prelude.{◌≡◌, ◌+◌, ◌&&◌, not, nat_lt, map, option_map, None, IfErr, IfOk, OnErr, OnOk};
 ghost use Rattle.odb_atoms.specs.FinMap as finite;
 ghost use Rattle.odb_queue.specs.Represented.Answer.{call_at};
+ghost use Rattle.odb_queue.specs.Represented.Newest.{without_last};
 ghost use Rattle.odb_queue.specs.Represented.Post.{post_of};
 ghost use Rattle.odb_rpc.specs.Message.{has_reply};
 ghost use Rattle.odb_schema.specs.Schema.{Schema};
 ghost use Rattle.odb_service.specs.Run.{max_owed};
 ghost use Rattle.odb_service.specs.Session.{replies_in};
 ghost use Rattle.odb_sessions.specs.Book.{book_of, fresh_session};
-ghost use Rattle.odb_sessions.specs.Posts.{all_posted, unposted};
+ghost use Rattle.odb_sessions.specs.Posts.{all_posted, at_number, posted, unposted};
+ghost use Rattle.odb_sessions.specs.Started.{AreOfTables, started};
 ghost use Rattle.odb_tables.specs.Change.{all_changed_by};
 ghost use Rattle.odb_tables.specs.Installing.{IsChangeOf};
 ghost use Rattle.odb_wire.specs.Shown.{request_data};
 
+use crate::item::Item;
 use crate::numbered::Numbered;
+use crate::past::Past;
 use crate::session::Session;
-use odb_chain::Chains;
+use crate::starting::Starting;
 use odb_locks::SessionId;
 use odb_queue::Post;
 use odb_tables::{ChangeSet, Db};
@@ -29,7 +33,7 @@ use std::marker::Model;
 #[derive(Drop)]
 pub struct Sessions {
     alloc: Global,
-    chains: Chains,
+    past: Past,
     sessions: Numbered,
 }
 
@@ -43,9 +47,9 @@ impl Model for Sessions {
 
     ghost coded = { book_code };
 
-    ghost view = { λ s. record { db = s.chains.db; sessions = all_seen s.sessions } };
+    ghost view = { λ s. record { db = s.past.db; sessions = all_seen s.sessions } };
 
-    ghost invariant = { λ s. IsTied s.chains s.sessions };
+    ghost invariant = { λ s. IsTied s.past s.sessions };
 }
 
 impl Sessions {
@@ -55,7 +59,7 @@ impl Sessions {
     {
         Ok(Sessions {
             alloc,
-            chains: Chains::new(alloc, db, hashing)?,
+            past: Past::new(alloc, db, hashing)?,
             sessions: Numbered::new(alloc),
         })
     }
@@ -64,7 +68,7 @@ impl Sessions {
     pub fn db(&self) -> &Db
         ensures { result.now ≡ self.now.db }
     {
-        self.chains.db()
+        self.past.db()
     }
 
     /// How many sessions are open. O(1).
@@ -112,7 +116,41 @@ impl Sessions {
     pub fn take_back(&mut self, posted_to: Vec<SessionId>)
         ensures { self.new ≡ record (self.old) { sessions = unposted posted_to.items self.old.sessions } }
     {
-        self.sessions.unpost(posted_to);
+        let mut posted_to = posted_to;
+        while let Some(session) = posted_to.pop() {
+            self.take_newest_back(session);
+        }
+    }
+
+    /// The newest item of a session's queue goes, with what was kept for it.
+    fn take_newest_back(&mut self, session: SessionId)
+        ensures { self.new ≡ record (self.old) { sessions = at_number without_last self.old.sessions session } }
+    {
+        let Some(item) = self.sessions.take_newest(session) else {
+            return;
+        };
+        item.release(&mut self.past);
+    }
+
+    /// Queues the first reply of a monitor for a session, if it is open; what the client will lack after it is
+    /// kept from now on. Where memory is refused nothing changed; so it is after 2^64 - 1 tables were watched.
+    /// O(tables asked + log n) for n sessions.
+    pub fn start(&mut self, session: SessionId, starting: Starting) -> Result<(), AllocError>
+        requires { AreOfTables self.old.db starting.watch.requests }
+        ensures ok { OnOk result (self.new ≡ record (self.old) { sessions = posted self.old.sessions (session, started starting) }) }
+        ensures err { OnErr result (self.new ≡ self.old) }
+    {
+        if !self.sessions.has(session) {
+            return Ok(());
+        }
+        let start = starting.begin(self.alloc, &mut self.past)?;
+        match self.sessions.hand(session, Item::Start(start)) {
+            Ok(()) => Ok(()),
+            Err(refused) => {
+                refused.value.release(&mut self.past);
+                Err(AllocError)
+            }
+        }
     }
 
     /// Makes the whole change of the database, or none; what clients have stays. Where memory is refused
@@ -124,7 +162,7 @@ impl Sessions {
         ensures err { OnErr result (self.new ≡ self.old) }
         ensures handed_back { IfErr result (λ refused. refused.value ≡ change) }
     {
-        self.chains.absorb(change)
+        self.past.absorb(change)
     }
 
     /// Ends a session, if it is open: its queue and its monitors go, and what was kept for them alone. O(log n)
@@ -135,6 +173,6 @@ impl Sessions {
         let Some(closed) = self.sessions.remove(session) else {
             return;
         };
-        closed.release(&mut self.chains);
+        closed.release(&mut self.past);
     }
 }

@@ -1,7 +1,8 @@
 -- The codes of what contracts see of the code's types.
-use Rattle.std.specs.Prelude.{List, refl}
+use Rattle.std.specs.Prelude.{◌≡◌, ◌⊎◌, List, refl}
+use mathlib.Core.Logic.{inl, inr}
 use Rattle.std.specs.Ordering.{nat_cmp}
-use Rattle.std.specs.Coded.{Coded, code_by, coded×, coded_ℕ, coded_list}
+use Rattle.std.specs.Coded.{Coded, code_by, coded×, coded⊎, coded_ℕ, coded_list}
 use Rattle.odb_atoms.specs.FinMap as map
 use Rattle.odb_chain.specs.Chains.{Mark}
 use Rattle.odb_chain.specs.Represented.Codes.{mark_code}
@@ -10,11 +11,12 @@ use Rattle.odb_request.specs.Request.{Notation, Request}
 use Rattle.odb_request.specs.Represented.Codes.{filter_code, notation_code, request_code}
 use Rattle.odb_schema.specs.Json.{Data}
 use Rattle.odb_schema.specs.JsonCode.{data_code}
-use Rattle.odb_service.specs.Session.{Item, Session}
-use Rattle.odb_service.specs.WorldCode.{item_code, session_code}
+use Rattle.odb_service.specs.Session.{Item, Session, Watch}
+use Rattle.odb_service.specs.WorldCode.{item_code, session_code, watch_code}
 use Rattle.odb_tables.specs.Database.{Db, db_code}
 use Rattle.odb_sessions.specs.Book.{Book}
-use Rattle.odb_sessions.specs.Held.{Held, Kept, Sessions, Watched}
+use Rattle.odb_sessions.specs.Held.{Held, Kept, Queued, Sessions, Watched, due, plain}
+use Rattle.odb_sessions.specs.Started.{Starting}
 
 abbrev pub watched_code : Coded Watched
 watched_code = code_by (Request × (Filter × Mark)) (coded× request_code (coded× filter_code mark_code)) (λ w. (w.request, (w.told, w.mark))) (λ p. record { request = p.0; told = p.1.0; mark = p.1.1 }) (λ w. refl)
@@ -22,11 +24,29 @@ watched_code = code_by (Request × (Filter × Mark)) (coded× request_code (code
 abbrev pub held_code : Coded Held
 held_code = code_by (Data × (Notation × List Watched)) (coded× data_code (coded× notation_code (coded_list watched_code))) (λ h. (h.id, (h.notation, h.tables))) (λ p. record { id = p.0; notation = p.1.0; tables = p.1.1 }) (λ h. refl)
 
+abbrev queued_parts : Queued → Item ⊎ (Data × Held)
+queued_parts (plain i) = inl i
+queued_parts (due d h) = inr (d, h)
+
+abbrev queued_from : Item ⊎ (Data × Held) → Queued
+queued_from (inl i) = plain i
+queued_from (inr p) = due p.0 p.1
+
+pub queued_from-queued_parts : (q : Queued) → queued_from (queued_parts q) ≡ q
+queued_from-queued_parts (plain i) = refl
+queued_from-queued_parts (due d h) = refl
+
+abbrev pub queued_code : Coded Queued
+queued_code = code_by (Item ⊎ (Data × Held)) (coded⊎ item_code (coded× data_code held_code)) queued_parts queued_from queued_from-queued_parts
+
 abbrev pub kept_code : Coded Kept
-kept_code = code_by (List Item × List Held) (coded× (coded_list item_code) (coded_list held_code)) (λ x. (x.queue, x.monitors)) (λ p. record { queue = p.0; monitors = p.1 }) (λ x. refl)
+kept_code = code_by (List Queued × List Held) (coded× (coded_list queued_code) (coded_list held_code)) (λ x. (x.queue, x.monitors)) (λ p. record { queue = p.0; monitors = p.1 }) (λ x. refl)
 
 abbrev pub sessions_code : Coded Sessions
 sessions_code = map.code coded_ℕ kept_code
 
 abbrev pub book_code : Coded Book
 book_code = code_by (Db × map.FinMap nat_cmp Session) (coded× db_code (map.code coded_ℕ session_code)) (λ b. (b.db, b.sessions)) (λ p. record { db = p.0; sessions = p.1 }) (λ b. refl)
+
+abbrev pub starting_code : Coded Starting
+starting_code = code_by (Data × Watch) (coded× data_code watch_code) (λ s. (s.request, s.watch)) (λ p. record { request = p.0; watch = p.1 }) (λ s. refl)

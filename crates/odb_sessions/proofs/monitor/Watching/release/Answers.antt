@@ -7,11 +7,11 @@ use Rattle.odb_sessions.proofs.monitor.Watching.release.Goals as goal
 pub release-requires : goal.release-requires
 release-requires c =
     let mark : c.self.inside.mark ≡ c.args.self.mark = ap (λ (x : Watched). x.mark) c.self.view_is in
-    subst (λ (m : Mark). IsLive c.args.chains.now m) (sym mark) c.requires.0.0
+    subst (λ (m : Mark). IsLive c.args.past.now m) (sym mark) c.requires.0.0
 
 pub returns : goal.returns
 returns c =
-    let k : Chains = c.args.chains.now in
+    let k : Chains = c.args.past.now in
     let mark : c.self.inside.mark ≡ c.args.self.mark = ap (λ (x : Watched). x.mark) c.self.view_is in
     let gone : c.release.new.self ≡ released c.args.self.mark.table c.args.self.mark.place k = subst (λ (m : Mark). c.release.new.self ≡ released m.table m.place k) mark c.release.ensures.chains in
     frees_one k c.release.new.self c.args.self.mark c.requires gone c.release.ensures.now

@@ -8,6 +8,6 @@ pub loop-session-preserved : goal.loop-session-preserved
 loop-session-preserved c =
     let left = c.pop.new.self.items in
     let popped : c.loop-session.posted_to.items ≡ left ++ c.in-Some.session ∷ [] = search rules in
-    let taken : c.take_newest_back.new.self ≡ at_number without_newest c.loop-session.self c.in-Some.session = search rules in
+    let taken : c.take_newest.new.self ≡ at_number without_newest c.loop-session.self c.in-Some.session = search rules in
     ap (kept_unposted left) taken ∙ sym (kept_unposted-append left c.in-Some.session c.loop-session.self)
     ∙ ap (λ ts. kept_unposted ts c.loop-session.self) (sym popped) ∙ c.loop-session.invariant

@@ -10,7 +10,7 @@ use Rattle.odb_sessions.proofs.sessions.Sessions.install.Goals as goal
 
 pub invariant_of-self : goal.invariant_of-self
 invariant_of-self c =
-    let k : Chains = c.self.inside.chains in
+    let k : Chains = c.self.inside.past in
     let m = c.self.inside.sessions in
     either c.absorb.result c.absorb.ensures.ok c.absorb.ensures.err
     (λ is. tied_absorbed k c.absorb.new.self c.args.change m c.self.invariant is c.absorb.ensures.now)

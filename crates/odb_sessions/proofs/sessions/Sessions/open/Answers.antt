@@ -10,7 +10,7 @@ use Rattle.odb_sessions.proofs.sessions.Sessions.open.Goals as goal
 
 pub invariant_of-self : goal.invariant_of-self
 invariant_of-self c =
-    let k : Chains = c.self.inside.chains in
+    let k : Chains = c.self.inside.past in
     let m : Sessions = c.self.inside.sessions in
     let s = c.args.session in
     let shut : finite.get (all_seen m) s ≡ None = ap (λ (b : Book). finite.get b.sessions s) c.self.view_is ∙ c.requires in
@@ -23,11 +23,11 @@ returns-clause-ok c =
     let m : Sessions = c.self.inside.sessions in
     let s = c.args.session in
     on_ok_weaker c.insert.result
-    (λ is. (λ i. let x : Book = record { db = c.self.inside.chains.db; sessions = (ap all_seen (is ∙ ap (finite.insert m s) c.new.ensures) ∙ seen-insert m s nothing_kept) i } in x) ∙ ap (λ (b : Book). let y : Book = record b { sessions = finite.insert b.sessions s fresh_session } in y) c.self.view_is)
+    (λ is. (λ i. let x : Book = record { db = c.self.inside.past.db; sessions = (ap all_seen (is ∙ ap (finite.insert m s) c.new.ensures) ∙ seen-insert m s nothing_kept) i } in x) ∙ ap (λ (b : Book). let y : Book = record b { sessions = finite.insert b.sessions s fresh_session } in y) c.self.view_is)
     c.insert.ensures.ok
 
 pub returns-clause-err : goal.returns-clause-err
 returns-clause-err c =
     on_err_weaker c.insert.result
-    (λ is. (λ i. let x : Book = record { db = c.self.inside.chains.db; sessions = all_seen (is i) } in x) ∙ c.self.view_is)
+    (λ is. (λ i. let x : Book = record { db = c.self.inside.past.db; sessions = all_seen (is i) } in x) ∙ c.self.view_is)
     c.insert.ensures.err

@@ -10,7 +10,7 @@ use Rattle.odb_sessions.proofs.sessions.Sessions.post_all.Goals as goal
 
 pub invariant_of-self : goal.invariant_of-self
 invariant_of-self c =
-    let k = c.self.inside.chains in
+    let k = c.self.inside.past in
     let m : Sessions = c.self.inside.sessions in
     either_posted c.post_all.result (IsTied k c.post_all.new.self)
     (c.post_all.ensures.ok) (c.post_all.ensures.err)
@@ -22,7 +22,7 @@ returns-clause-ok c =
     let m : Sessions = c.self.inside.sessions in
     let ps = map post_of c.args.posts.items in
     IfOk-weaker c.post_all.result _ _
-    (λ p is. (λ i. let x : Book = record { db = c.self.inside.chains.db; sessions = (ap all_seen is ∙ posts_seen m ps) i } in x) ∙ ap (λ (b : Book). let y : Book = record b { sessions = all_posted b.sessions ps } in y) c.self.view_is)
+    (λ p is. (λ i. let x : Book = record { db = c.self.inside.past.db; sessions = (ap all_seen is ∙ posts_seen m ps) i } in x) ∙ ap (λ (b : Book). let y : Book = record b { sessions = all_posted b.sessions ps } in y) c.self.view_is)
     c.post_all.ensures.ok
 
 pub returns-clause-back : goal.returns-clause-back
@@ -34,5 +34,5 @@ returns-clause-back c =
 pub returns-clause-err : goal.returns-clause-err
 returns-clause-err c =
     on_err_weaker c.post_all.result
-    (λ is. (λ i. let x : Book = record { db = c.self.inside.chains.db; sessions = all_seen (is i) } in x) ∙ c.self.view_is)
+    (λ is. (λ i. let x : Book = record { db = c.self.inside.past.db; sessions = all_seen (is i) } in x) ∙ c.self.view_is)
     c.post_all.ensures.err

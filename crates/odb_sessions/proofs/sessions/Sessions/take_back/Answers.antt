@@ -1,16 +1,18 @@
-use Rattle.std.proofs.Common.{subst, sym, ap, ◌∙◌}
+use Rattle.std.proofs.Common.{rules, ◌≡◌, [], ◌∷◌, ◌++◌, sym, ap, ◌∙◌}
 use Rattle.odb_sessions.specs.Book.{Book}
-use Rattle.odb_sessions.specs.Held.{Sessions, all_seen}
-use Rattle.odb_sessions.specs.Posts.{unposted}
-use Rattle.odb_sessions.specs.Tied.{IsTied}
-use Rattle.odb_sessions.proofs.Seen.{unposts_seen, unposts_tied}
+use Rattle.odb_sessions.proofs.Books.{back, back-append, back_one}
 use Rattle.odb_sessions.proofs.sessions.Sessions.take_back.Goals as goal
 
-pub invariant_of-self : goal.invariant_of-self
-invariant_of-self c = subst (IsTied c.self.inside.chains) (sym c.unpost.ensures) (unposts_tied c.self.inside.chains c.args.posted_to.items c.self.inside.sessions c.self.invariant)
+pub loop-session-preserved : goal.loop-session-preserved
+loop-session-preserved c =
+    let left = c.pop.new.self.items in
+    let old : Book = c.loop-session.self in
+    let popped : c.loop-session.posted_to.items ≡ left ++ c.in-Some.session ∷ [] = search rules in
+    let taken : c.take_newest_back.new.self ≡ back_one c.in-Some.session old = c.take_newest_back.ensures in
+    ap (back left) taken ∙ sym (back-append left c.in-Some.session old) ∙ ap (λ ss. back ss old) (sym popped) ∙ c.loop-session.invariant
 
 pub returns : goal.returns
 returns c =
-    let m : Sessions = c.self.inside.sessions in
-    let ss = c.args.posted_to.items in
-    (λ i. let x : Book = record { db = c.self.inside.chains.db; sessions = (ap all_seen c.unpost.ensures ∙ unposts_seen ss m) i } in x) ∙ ap (λ (b : Book). let y : Book = record b { sessions = unposted ss b.sessions } in y) c.self.view_is
+    let old : Book = c.loop-session.self in
+    let none : c.loop-session.posted_to.items ≡ [] = search rules in
+    sym (ap (λ ss. back ss old) none) ∙ c.loop-session.invariant

@@ -1,0 +1,51 @@
+use Rattle.std.proofs.Common.{rules, ◌≡◌, false, is_some, [], ◌∷◌, Some, None, option_map, subst, sym, ap, ◌∙◌}
+use Rattle.odb_atoms.specs.FinMap as finite
+use Rattle.odb_chain.specs.Chains.{Chains}
+use Rattle.odb_service.specs.World.{push}
+use Rattle.odb_sessions.specs.Book.{Book}
+use Rattle.odb_sessions.specs.Held.{Kept, Queued, Sessions, all_seen, due, marks_due, marks_in, seen}
+use Rattle.odb_sessions.specs.Posts.{at_number, posted}
+use Rattle.odb_sessions.specs.Represented.Queued.{queued_of}
+use Rattle.odb_sessions.specs.Started.{started}
+use Rattle.odb_sessions.specs.Tied.{Frees, IsTied}
+use Rattle.odb_sessions.specs.declared.item.Item.{Item}
+use Rattle.odb_sessions.proofs.Books.{nothing_is, there_is}
+use Rattle.odb_sessions.proofs.Moved.{given_back, tied_handed}
+use Rattle.odb_sessions.proofs.Posts.{at_shut}
+use Rattle.odb_sessions.proofs.Seen.{handed_seen}
+use Rattle.odb_sessions.proofs.Ties.{get-seen}
+use Rattle.odb_sessions.proofs.sessions.Sessions.start.Goals as goal
+
+pub returns-then-not-has-clause-ok : goal.returns-then-not-has-clause-ok
+returns-then-not-has-clause-ok c =
+    let m : Sessions = c.self.inside.sessions in
+    let s = c.args.session in
+    let shut : is_some (finite.get m s) ≡ false = search rules in
+    let none : finite.get (all_seen m) s ≡ None = get-seen m s ∙ ap (option_map seen) (nothing_is (finite.get m s) shut) in
+    subst (λ (b : Book). b ≡ (let y : Book = record b { sessions = posted b.sessions (s, started c.args.starting) } in y)) c.self.view_is
+    (λ i. let x : Book = record { db = c.self.inside.past.db; sessions = sym (at_shut (push (started c.args.starting ∷ [])) (all_seen m) s none) i } in x)
+
+pub invariant_of-self-in-Ok : goal.invariant_of-self-in-Ok
+invariant_of-self-in-Ok c =
+    let m : Sessions = c.self.inside.sessions in
+    let s = c.args.session in
+    let new : Chains = c.begin.new.past in
+    let q : Queued = due c.in_ok-start.start.origin c.in_ok-start.start.monitor in
+    let found : (x : Kept) × (finite.get m s ≡ Some x) = there_is (finite.get m s) c.in-Ok.ensures.is_open in
+    subst (IsTied new) (sym c.in-Ok.ensures.ok) (tied_handed c.self.inside.past new m s q c.self.invariant found.0 found.1 c.in_ok-start.ensures.ok)
+
+pub invariant_of-self-in-Err : goal.invariant_of-self-in-Err
+invariant_of-self-in-Err c =
+    let m : Sessions = c.self.inside.sessions in
+    let made : Chains = c.begin.new.past in
+    let new : Chains = c.release.new.past in
+    let frees : Frees made new (marks_in c.in_ok-start.start.monitor) = subst (λ (i : Item). Frees made new (marks_due (queued_of i))) c.in-Err.ensures.handed_back c.release.ensures in
+    subst (IsTied new) (sym c.in-Err.ensures.err) (given_back c.self.inside.past made new m (marks_in c.in_ok-start.start.monitor) c.self.invariant c.in_ok-start.ensures.ok frees)
+
+pub returns-in-Ok-clause-ok : goal.returns-in-Ok-clause-ok
+returns-in-Ok-clause-ok c =
+    let m : Sessions = c.self.inside.sessions in
+    let s = c.args.session in
+    let q : Queued = due c.in_ok-start.start.origin c.in_ok-start.start.monitor in
+    (λ i. let x : Book = record { db = c.in_ok-start.ensures.ok.0 i; sessions = (ap all_seen c.in-Ok.ensures.ok ∙ handed_seen m q s ∙ ap (λ j. at_number (push (j ∷ [])) (all_seen m) s) c.in_ok-start.ensures.item) i } in x)
+    ∙ ap (λ (b : Book). let y : Book = record b { sessions = posted b.sessions (s, started c.args.starting) } in y) c.self.view_is

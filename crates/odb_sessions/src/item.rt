@@ -1,0 +1,112 @@
+//! What is queued for a session. [P 10.1]
+ghost use Rattle.std.specs.Prelude.{◌≡◌};
+ghost use Rattle.odb_service.specs.Session.{is_answer, label};
+ghost use Rattle.odb_sessions.specs.Held.{item_seen, marks_due, marks_in};
+ghost use Rattle.odb_sessions.specs.Represented.Queued.{queued_of};
+ghost use Rattle.odb_sessions.specs.Tied.{Frees, HasAll};
+
+use crate::granted::Granted;
+use crate::id::Id;
+use crate::monitor::Monitor;
+use crate::origin::Origin;
+use crate::past::Past;
+use odb_queue::Finished;
+use odb_request::Change;
+use odb_schema::Schema;
+use std::sync::Arc;
+
+/// An item of a session's queue.
+#[derive(Drop)]
+pub(crate) enum Item {
+    /// A finished message.
+    Say(Finished),
+    /// The first reply of a monitor.
+    Start(Start),
+    /// What the client of the monitor with this id lacks of the database at the taking.
+    Sync(Arc<Id>),
+    /// The same under new filters.
+    Shift(Shift),
+    /// The reply to a change of filters.
+    Renamed(Renamed),
+    /// The reply to a cancel.
+    Stopped(Stopped),
+}
+
+/// The first reply of a monitor, and the monitor that begins with it.
+#[derive(Drop)]
+pub(crate) struct Start {
+    pub(crate) origin: Origin,
+    pub(crate) monitor: Monitor,
+}
+
+/// New filters, by tables of the schema.
+#[derive(Drop)]
+pub(crate) struct Changes {
+    pub(crate) schema: Arc<Schema>,
+    pub(crate) changes: Vec<Change>,
+}
+
+/// New filters for the monitor with this id.
+#[derive(Drop)]
+pub(crate) struct Shift {
+    pub(crate) id: Arc<Id>,
+    pub(crate) changes: Arc<Changes>,
+}
+
+/// The reply to a change of the monitor with the old id: of its id and of its filters.
+#[derive(Drop)]
+pub(crate) struct Renamed {
+    pub(crate) reply: Granted,
+    pub(crate) old_id: Arc<Id>,
+    pub(crate) new_id: Arc<Id>,
+    pub(crate) changes: Arc<Changes>,
+}
+
+/// The reply to a cancel of the monitor with this id.
+#[derive(Drop)]
+pub(crate) struct Stopped {
+    pub(crate) reply: Granted,
+    pub(crate) id: Arc<Id>,
+}
+
+impl Item {
+    /// Whether it is a reply to a request.
+    pub(crate) fn is_reply(&self) -> bool
+        ensures { result ≡ is_answer (label (item_seen (queued_of self.now))) }
+    {
+        match self {
+            Item::Say(said) => said.is_reply,
+            Item::Start(_) => true,
+            Item::Sync(_) => false,
+            Item::Shift(_) => false,
+            Item::Renamed(_) => true,
+            Item::Stopped(_) => true,
+        }
+    }
+
+    /// Gives its marks back.
+    pub(crate) fn release(self, past: &mut Past)
+        requires { HasAll past.old (marks_due (queued_of self)) }
+        ensures { Frees past.old past.new (marks_due (queued_of self)) }
+    {
+        match self {
+            Item::Say(said) => drop(said),
+            Item::Start(start) => start.release(past),
+            Item::Sync(id) => drop(id),
+            Item::Shift(shift) => drop(shift),
+            Item::Renamed(renamed) => drop(renamed),
+            Item::Stopped(stopped) => drop(stopped),
+        }
+    }
+}
+
+impl Start {
+    /// Gives the marks of its monitor back.
+    fn release(self, past: &mut Past)
+        requires { HasAll past.old (marks_in self.monitor) }
+        ensures { Frees past.old past.new (marks_in self.monitor) }
+    {
+        let Start { monitor, .. } = self;
+        monitor.release(past);
+    }
+}

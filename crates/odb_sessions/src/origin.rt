@@ -1,0 +1,43 @@
+//! Replies that are begun, and wait for their results. [P 7.3, 10.1]
+ghost use Rattle.std.specs.Prelude.{◌≡◌, false, IfOk};
+ghost use Rattle.odb_wire.specs.Message.{has_left_out, id_of};
+ghost use Rattle.odb_wire.specs.Shown.{request_data};
+
+use crate::granted::Granted;
+use odb_rpc::{before_result, reply_id};
+use odb_wire::Request;
+use std::alloc::{AllocError, Global};
+use std::marker::Model;
+
+/// A request whose reply is due, with the text with which that begins. Contracts see the request.
+#[derive(Drop)]
+pub(crate) struct Origin {
+    before: Vec<u8>,
+    request: Granted,
+}
+
+impl Model for Origin {
+    ghost use Rattle.odb_schema.specs.Json.{Data};
+    ghost use Rattle.odb_schema.specs.JsonCode.{data_code};
+    ghost use Rattle.odb_sessions.specs.Represented.Origin.{BeginsReply};
+
+    ghost Value = { Data };
+
+    ghost coded = { data_code };
+
+    ghost view = { λ o. o.request };
+
+    ghost invariant = { λ o. BeginsReply o.before.items o.request };
+}
+
+impl Origin {
+    /// The reply to this request. O(n) for an id of n bytes.
+    pub(crate) fn new(alloc: Global, request: &Request) -> Result<Origin, AllocError>
+        requires { has_left_out (id_of (request_data request.now)) ≡ false }
+        ensures { IfOk result (λ origin. origin ≡ request_data request.now) }
+    {
+        let before = before_result(alloc, reply_id(request))?;
+        let request = Granted::new(alloc, request)?;
+        Ok(Origin { before, request })
+    }
+}

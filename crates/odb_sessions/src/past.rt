@@ -1,0 +1,94 @@
+//! The database with its past, in which there is room for each mark that is made. [P 10.3]
+ghost use Rattle.std.specs.Prelude.{◌≡◌, map, IfErr, IfOk, OnErr, OnOk};
+ghost use Rattle.odb_chain.specs.Chains.{IsLive, IsNow, absorbed, chains_of, released};
+ghost use Rattle.odb_sessions.specs.Held.{table_marks};
+ghost use Rattle.odb_sessions.specs.Started.{AreOfTables};
+ghost use Rattle.odb_sessions.specs.Tied.{Adds};
+ghost use Rattle.odb_tables.specs.Installing.{IsChangeOf};
+
+use crate::monitor::{Watching, watch_all};
+use odb_chain::{Chains, Mark};
+use odb_request::Request;
+use odb_tables::{ChangeSet, Db};
+use std::alloc::{AllocError, AllocFailed, Global};
+use std::hash::RandomState;
+use std::marker::Model;
+
+/// The database with its past, and how many marks were made so far. Contracts see the chains.
+#[derive(Drop)]
+pub(crate) struct Past {
+    chains: Chains,
+    made: usize,
+}
+
+impl Model for Past {
+    ghost use Rattle.odb_chain.specs.Chains as model;
+    ghost use Rattle.odb_chain.specs.Represented.Codes.{chains_code};
+    ghost use Rattle.odb_sessions.specs.Tied.{HasRoom};
+
+    ghost Value = { model.Chains };
+
+    ghost coded = { chains_code };
+
+    ghost view = { λ p. p.chains };
+
+    ghost invariant = { λ p. HasRoom p.chains p.made };
+}
+
+impl Past {
+    /// The database, without changes and marks.
+    pub(crate) fn new(alloc: Global, db: Db, hashing: RandomState) -> Result<Past, AllocError>
+        ensures chains { IfOk result (λ past. past ≡ chains_of db) }
+        ensures now { IfOk result (λ past. IsNow past) }
+    {
+        let chains = Chains::new(alloc, db, hashing)?;
+        Ok(Past { chains, made: 0 })
+    }
+
+    /// The database as it is now.
+    pub(crate) fn db(&self) -> &Db
+        ensures { result.now ≡ self.now.db }
+    {
+        self.chains.db()
+    }
+
+    /// Makes the whole change, or none, and then the change comes back.
+    pub(crate) fn absorb(&mut self, change: ChangeSet) -> Result<(), AllocFailed<ChangeSet>>
+        requires { IsChangeOf self.old.db change }
+        ensures ok { OnOk result (self.new ≡ absorbed change self.old) }
+        ensures err { OnErr result (self.new ≡ self.old) }
+        ensures handed_back { IfErr result (λ refused. refused.value ≡ change) }
+        ensures now { IsNow self.new }
+    {
+        self.chains.absorb(change)
+    }
+
+    /// One mark less.
+    pub(crate) fn release(&mut self, mark: Mark)
+        requires { IsLive self.old mark }
+        ensures chains { self.new ≡ released mark.table mark.place self.old }
+        ensures now { IsNow self.new }
+    {
+        self.chains.release(mark);
+    }
+
+    /// Watches each of these tables as it is now, with a mark each, or none.
+    pub(crate) fn watch(
+        &mut self,
+        alloc: Global,
+        requests: Vec<Request>,
+    ) -> Result<Vec<Watching>, AllocError>
+        requires tables { AreOfTables self.old.db requests.items }
+        requires now { IsNow self.old }
+        ensures ok { IfOk result (λ tables. Adds self.old self.new (table_marks tables.items)) }
+        ensures asked { IfOk result (λ tables. map (λ w. w.request) tables.items ≡ requests.items) }
+        ensures err { OnErr result (self.new ≡ self.old) }
+    {
+        let Some(made) = self.made.checked_add(requests.len()) else {
+            return Err(AllocError);
+        };
+        let tables = watch_all(alloc, &mut self.chains, requests)?;
+        self.made = made;
+        Ok(tables)
+    }
+}

@@ -1,0 +1,104 @@
+//! A session's queue. [P 10.1]
+ghost use Rattle.std.specs.Prelude.{◌≡◌, ◌++◌, [], ◌∷◌, flat_map, map, IfErr, IfNone, OnErr, OnOk, option_map, option_to_list};
+ghost use Rattle.odb_service.specs.Session.{replies_in};
+ghost use Rattle.odb_sessions.specs.Held.{item_seen, marks_due};
+ghost use Rattle.odb_sessions.specs.Represented.Queued.{queued_of};
+ghost use Rattle.odb_sessions.specs.Tied.{Frees, HasAll};
+
+use crate::item::Item;
+use crate::past::Past;
+use std::alloc::{AllocFailed, Global};
+use std::collections::VecDeque;
+use std::marker::Model;
+
+/// A session's items, the earliest first, with the count of replies among them.
+#[derive(Drop)]
+pub(crate) struct Queue {
+    items: VecDeque<Item>,
+    replies: usize,
+}
+
+impl Model for Queue {
+    ghost use Rattle.std.specs.Prelude.{◌≡◌, List, map};
+    ghost use Rattle.std.specs.Coded.{coded_list};
+    ghost use Rattle.odb_service.specs.Session.{replies_in};
+    ghost use Rattle.odb_sessions.specs.Held.{Queued, item_seen};
+    ghost use Rattle.odb_sessions.specs.Represented.Codes.{queued_code};
+    ghost use Rattle.odb_sessions.specs.Represented.Queued.{queued_of};
+
+    ghost Value = { List Queued };
+
+    ghost coded = { coded_list queued_code };
+
+    ghost view = { λ q. map queued_of q.items.items };
+
+    ghost invariant = { λ q. q.replies ≡ replies_in (map item_seen (map queued_of q.items.items)) };
+}
+
+impl Queue {
+    /// Nothing is queued.
+    pub(crate) fn new(alloc: Global) -> Queue
+        ensures { result ≡ [] }
+    {
+        Queue {
+            items: VecDeque::new(alloc),
+            replies: 0,
+        }
+    }
+
+    /// How many replies are queued. O(1).
+    pub(crate) fn replies(&self) -> usize
+        ensures { result ≡ replies_in (map item_seen self.now) }
+    {
+        self.replies
+    }
+
+    /// Puts an item at the end. Where memory is refused it comes back.
+    pub(crate) fn push(&mut self, item: Item) -> Result<(), AllocFailed<Item>>
+        ensures ok { OnOk result (self.new ≡ self.old ++ queued_of item ∷ []) }
+        ensures err { OnErr result (self.new ≡ self.old) }
+        ensures handed_back { IfErr result (λ refused. refused.value ≡ item) }
+    {
+        let is_reply = item.is_reply();
+        self.items.push_back(item)?;
+        if is_reply {
+            self.replies += 1;
+        }
+        Ok(())
+    }
+
+    /// Takes the earliest item out, if there is one. O(1).
+    pub(crate) fn pop(&mut self) -> Option<Item>
+        ensures first { self.old ≡ option_to_list (option_map queued_of result) ++ self.new }
+        ensures none { IfNone result (self.old ≡ []) }
+    {
+        let item = self.items.pop_front()?;
+        if item.is_reply() {
+            self.replies -= 1;
+        }
+        Some(item)
+    }
+
+    /// Takes the newest item out, if there is one. O(1).
+    pub(crate) fn pop_newest(&mut self) -> Option<Item>
+        ensures last { self.old ≡ self.new ++ option_to_list (option_map queued_of result) }
+        ensures none { IfNone result (self.old ≡ []) }
+    {
+        let item = self.items.pop_back()?;
+        if item.is_reply() {
+            self.replies -= 1;
+        }
+        Some(item)
+    }
+
+    /// Gives the marks of its items back.
+    pub(crate) fn release(self, past: &mut Past)
+        requires { HasAll past.old (flat_map marks_due self) }
+        ensures { Frees past.old past.new (flat_map marks_due self) }
+    {
+        let mut queue = self;
+        while let Some(item) = queue.pop() {
+            item.release(past);
+        }
+    }
+}
