@@ -1,10 +1,12 @@
 mod Adds
 mod Books
+mod Endings
 mod Moved
 mod Newest
 mod Numbers
 mod Posts
 mod Releases
+mod Replays
 mod Room
 mod Seen
 mod Sums

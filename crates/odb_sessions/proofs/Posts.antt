@@ -1,13 +1,14 @@
 -- The code's map of sessions changes at one session as the finite map that it stands for, and posts are taken back.
-use Rattle.std.proofs.Common.{◌≡◌, ℕ, Bool, true, false, cond, List, [], ◌∷◌, ◌++◌, Option, Some, None, Result, Ok, Err, refl, sym, ap, ◌∙◌}
+use Rattle.std.proofs.Common.{◌≡◌, ℕ, Bool, true, false, cond, List, [], ◌∷◌, ◌++◌, Option, Some, None, Result, Ok, Err, refl, sym, ap, ◌∙◌, append_assoc}
 use Rattle.std.specs.Prelude.{OnErr}
+use Rattle.std.proofs.lemmas.List.{append-nil}
 use Rattle.std.specs.BTreeMap as tree
 use Rattle.std.specs.BTreeMap.{BTreeMap}
 use Rattle.std.specs.Ordering.{eq_by_cmp, nat_cmp}
 use Rattle.odb_atoms.specs.FinMap as finite
 use Rattle.odb_atoms.specs.FinMap.{get, insert}
 use Rattle.odb_sessions.specs.Held.{Kept, Queued, Sessions}
-use Rattle.odb_sessions.specs.Posts.{at_number, kept_unposted, with_item, without_newest}
+use Rattle.odb_sessions.specs.Posts.{at_number, kept_unposted, with_item, with_items, without_newest}
 use Rattle.odb_service.proofs.SessionMaps.{get-insert, key-itself, same_key, same_map}
 use Rattle.odb_sessions.proofs.Newest.{last_dropped}
 use Rattle.odb_sessions.proofs.Numbers.{Updates, get-sessions_in, inserted, sessions_in}
@@ -75,3 +76,29 @@ module _ (old : BTreeMap ℕ Kept) (s : ℕ) where
 pub whatever : {A E : Type 0} (P : Type 0) (r : Result A E) → P → OnErr r P
 whatever P (Ok x) p = tt
 whatever P (Err e) p = p
+
+-- ---- several items at one session
+
+pub with_more : (q : Queued) (qs : List Queued) (m : Sessions) (s : ℕ) → at_number (with_items qs) (at_number (with_item q) m s) s ≡ at_number (with_items (q ∷ qs)) m s
+with_more q qs m s = by (get m s) refl
+  where
+    by : (o : Option Kept) → get m s ≡ o → at_number (with_items qs) (at_number (with_item q) m s) s ≡ at_number (with_items (q ∷ qs)) m s
+    by None is =
+        ap (λ (n : Sessions). at_number (with_items qs) n s) (at_shut (with_item q) m s is) ∙ at_shut (with_items qs) m s is
+        ∙ sym (at_shut (with_items (q ∷ qs)) m s is)
+    by (Some x) is =
+        let y : Kept = with_item q x in
+        ap (λ (n : Sessions). at_number (with_items qs) n s) (at_open (with_item q) m s x is)
+        ∙ at_open (with_items qs) (insert m s y) s y (get-insert m s y s ∙ ap (λ b. cond b (Some y) (get m s)) (key-itself s))
+        ∙ inserted_twice m s (with_items qs y) y
+        ∙ ap (insert m s) (λ i. let z : Kept = record { queue = append_assoc x.queue (q ∷ []) qs i; monitors = x.monitors } in z)
+        ∙ sym (at_open (with_items (q ∷ qs)) m s x is)
+
+pub with_none : (m : Sessions) (s : ℕ) → at_number (with_items []) m s ≡ m
+with_none m s = by (get m s) refl
+  where
+    by : (o : Option Kept) → get m s ≡ o → at_number (with_items []) m s ≡ m
+    by None is = at_shut (with_items []) m s is
+    by (Some x) is =
+        at_open (with_items []) m s x is ∙ ap (insert m s) (λ i. let z : Kept = record { queue = append-nil x.queue i; monitors = x.monitors } in z)
+        ∙ reinserted m s x is

@@ -24,7 +24,7 @@ at_seen f g m s same = by (get m s) refl
     by None is = ap all_seen (at_shut f m s is) ∙ sym (at_shut g (all_seen m) s (get-seen m s ∙ ap (option_map seen) is))
     by (Some x) is = ap all_seen (at_open f m s x is) ∙ seen-insert m s (f x) ∙ ap (insert (all_seen m) s) (same x) ∙ sym (at_open g (all_seen m) s (seen x) (get-seen m s ∙ ap (option_map seen) is))
 
-at_tied : (k : Chains) (f : Kept → Kept) (m : Sessions) (s : ℕ) → ((x : Kept) → marks_of (f x) ≡ marks_of x) → IsTied k m → IsTied k (at_number f m s)
+pub at_tied : (k : Chains) (f : Kept → Kept) (m : Sessions) (s : ℕ) → ((x : Kept) → marks_of (f x) ≡ marks_of x) → IsTied k m → IsTied k (at_number f m s)
 at_tied k f m s same h = by (get m s) refl
   where
     by : (o : Option Kept) → get m s ≡ o → IsTied k (at_number f m s)

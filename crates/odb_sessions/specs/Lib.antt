@@ -1,3 +1,4 @@
+pub mod Asked
 pub mod Book
 pub mod Held
 pub mod Posts

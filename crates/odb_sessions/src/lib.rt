@@ -4,6 +4,7 @@
 //! unless its own page says otherwise. A call whose result has no such error takes no memory.
 #![tactic(auto)]
 
+mod asked;
 mod granted;
 mod id;
 mod item;

@@ -1,5 +1,6 @@
 //! Monitors: what is asked, and what the client was told. [P 9.1, 9.2]
 ghost use Rattle.std.specs.Prelude.{◌≡◌, ℕ, ◌+◌, ◌^◌, ◌<◌, [], ◌∷◌, length, map, IfOk, OnErr};
+ghost use Rattle.std.specs.Arc.{arc_value};
 ghost use Rattle.odb_chain.specs.Chains.{IsNow, count};
 ghost use Rattle.odb_sessions.specs.Held.{marks_in, table_marks};
 ghost use Rattle.odb_sessions.specs.Started.{AreOfTables};
@@ -70,6 +71,13 @@ impl Model for Monitor {
 }
 
 impl Monitor {
+    /// Its id, for whoever keeps it too. O(1).
+    pub(crate) fn id(&self) -> Result<Arc<Id>, AllocError>
+        ensures { IfOk result (λ id. arc_value id ≡ self.now.id) }
+    {
+        Ok(self.id.clone()?)
+    }
+
     /// Gives its marks back.
     pub(crate) fn release(self, past: &mut Past)
         requires { HasAll past.old (marks_in self) }

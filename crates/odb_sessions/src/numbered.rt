@@ -3,7 +3,7 @@ ghost use Rattle.std.specs.Prelude.{◌≡◌, true, map, is_some, option_map, I
 ghost use Rattle.std.specs.Option.{option_copied};
 ghost use Rattle.odb_atoms.specs.FinMap as finite;
 ghost use Rattle.odb_queue.specs.Represented.Post.{post_of};
-ghost use Rattle.odb_sessions.specs.Posts.{all_kept_posted, at_number, kept_unposted, newest_at, with_item, without_newest};
+ghost use Rattle.odb_sessions.specs.Posts.{all_kept_posted, at_number, kept_unposted, newest_at, with_item, with_items, without_newest};
 ghost use Rattle.odb_sessions.specs.Represented.Queued.{queued_of};
 
 use crate::item::Item;
@@ -93,6 +93,27 @@ impl Numbered {
         let mut posted_to = Vec::new(alloc);
         for post in posts {
             if let Err(refused) = self.post(&mut posted_to, post.session, Item::Say(post.item)) {
+                self.unpost(posted_to);
+                return Err(refused);
+            }
+        }
+        Ok(posted_to)
+    }
+
+    /// Posts the items to one session, and returns it once for each that was queued.
+    pub(crate) fn post_each(
+        &mut self,
+        alloc: Global,
+        session: SessionId,
+        items: Vec<Item>,
+    ) -> Result<Vec<SessionId>, AllocError>
+        ensures ok { IfOk result (λ posted_to. self.new ≡ at_number (with_items (map queued_of items.items)) self.old session) }
+        ensures back { IfOk result (λ posted_to. kept_unposted posted_to.items self.new ≡ self.old) }
+        ensures err { OnErr result (self.new ≡ self.old) }
+    {
+        let mut posted_to = Vec::new(alloc);
+        for item in items {
+            if let Err(refused) = self.post(&mut posted_to, session, item) {
                 self.unpost(posted_to);
                 return Err(refused);
             }

@@ -1,15 +1,20 @@
 //! A session's queue. [P 10.1]
 ghost use Rattle.std.specs.Prelude.{◌≡◌, ◌++◌, [], ◌∷◌, flat_map, map, IfErr, IfNone, OnErr, OnOk, option_map, option_to_list};
+ghost use Rattle.std.specs.Arc.{arc_value};
 ghost use Rattle.odb_service.specs.Session.{replies_in};
+ghost use Rattle.odb_sessions.specs.Asked.{ids_after};
 ghost use Rattle.odb_sessions.specs.Held.{item_seen, marks_due};
 ghost use Rattle.odb_sessions.specs.Represented.Queued.{queued_of};
 ghost use Rattle.odb_sessions.specs.Tied.{Frees, HasAll};
 
+use crate::asked::ask;
+use crate::id::Id;
 use crate::item::Item;
 use crate::past::Past;
-use std::alloc::{AllocFailed, Global};
+use std::alloc::{AllocError, AllocFailed, Global};
 use std::collections::VecDeque;
 use std::marker::Model;
+use std::sync::Arc;
 
 /// A session's items, the earliest first, with the count of replies among them.
 #[derive(Drop)]
@@ -89,6 +94,16 @@ impl Queue {
             self.replies -= 1;
         }
         Some(item)
+    }
+
+    /// What its items do to the ids as asked. Where memory is refused some of it may be done.
+    pub(crate) fn ask(&self, ids: &mut Vec<Arc<Id>>) -> Result<(), AllocError>
+        ensures { OnOk result (map arc_value ids.new.items ≡ ids_after (map item_seen self.now) (map arc_value ids.old.items)) }
+    {
+        for item in self.items.iter() {
+            ask(ids, item)?;
+        }
+        Ok(())
     }
 
     /// Gives the marks of its items back.

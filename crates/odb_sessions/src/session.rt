@@ -1,24 +1,29 @@
 //! A session: what is queued for it, and its monitors. [P 10.1]
-ghost use Rattle.std.specs.Prelude.{◌≡◌, ◌+◌, ◌&&◌, not, nat_lt, flat_map, map, option_map, IfErr, OnErr, OnOk};
+ghost use Rattle.std.specs.Prelude.{◌≡◌, ◌+◌, ◌&&◌, not, nat_lt, flat_map, map, option_map, IfErr, IfOk, OnErr, OnOk};
+ghost use Rattle.std.specs.Arc.{arc_value};
 ghost use Rattle.odb_queue.specs.Represented.Answer.{call_at};
 ghost use Rattle.odb_rpc.specs.Message.{has_reply};
 ghost use Rattle.odb_schema.specs.Schema.{Schema};
 ghost use Rattle.odb_service.specs.Run.{max_owed};
 ghost use Rattle.odb_service.specs.Session.{replies_in};
-ghost use Rattle.odb_sessions.specs.Held.{item_seen, marks_in, marks_of, nothing_kept};
+ghost use Rattle.odb_sessions.specs.Asked.{ids_asked};
+ghost use Rattle.odb_sessions.specs.Held.{item_seen, marks_in, marks_of, nothing_kept, seen};
 ghost use Rattle.odb_sessions.specs.Posts.{newest, with_item, without_newest};
 ghost use Rattle.odb_sessions.specs.Represented.Queued.{queued_of};
 ghost use Rattle.odb_sessions.specs.Tied.{Frees, HasAll};
 ghost use Rattle.odb_wire.specs.Shown.{request_data};
 
+use crate::asked::told;
+use crate::id::Id;
 use crate::item::Item;
 use crate::monitor::Monitor;
 use crate::past::Past;
 use crate::queue::Queue;
 use odb_rpc::has_reply;
 use odb_wire::Request;
-use std::alloc::{AllocFailed, Global};
+use std::alloc::{AllocError, AllocFailed, Global};
 use std::marker::Model;
+use std::sync::Arc;
 
 /// How many replies a session may be owed.
 const MAX_OWED: usize = 256;
@@ -75,6 +80,15 @@ impl Session {
         ensures item { option_map queued_of result ≡ newest self.old.queue }
     {
         self.queue.pop_newest()
+    }
+
+    /// The ids of its monitors as asked, in the order of their creation.
+    pub(crate) fn asked(&self, alloc: Global) -> Result<Vec<Arc<Id>>, AllocError>
+        ensures { IfOk result (λ ids. map arc_value ids.items ≡ ids_asked (seen self.now)) }
+    {
+        let mut ids = told(alloc, self.monitors.as_slice())?;
+        self.queue.ask(&mut ids)?;
+        Ok(ids)
     }
 
     /// Gives the marks of its monitors back, and those of items that are queued.

@@ -1,13 +1,17 @@
 //! The database with its past, and the open sessions. [P 10.1, 10.3]
-ghost use Rattle.std.specs.Prelude.{◌≡◌, ◌+◌, ◌&&◌, not, nat_lt, map, option_map, None, IfErr, IfOk, OnErr, OnOk};
+ghost use Rattle.std.specs.Prelude.{◌≡◌, ◌+◌, ◌&&◌, is_some, not, nat_lt, map, option_map, None, IfErr, IfOk, OnErr, OnOk};
 ghost use Rattle.odb_atoms.specs.FinMap as finite;
 ghost use Rattle.odb_queue.specs.Represented.Answer.{call_at};
+ghost use Rattle.odb_queue.specs.Represented.Item.{item_of};
 ghost use Rattle.odb_queue.specs.Represented.Newest.{without_last};
 ghost use Rattle.odb_queue.specs.Represented.Post.{post_of};
 ghost use Rattle.odb_rpc.specs.Message.{has_reply};
 ghost use Rattle.odb_schema.specs.Schema.{Schema};
 ghost use Rattle.odb_service.specs.Run.{max_owed};
+ghost use Rattle.odb_service.specs.Server.{served_by};
 ghost use Rattle.odb_service.specs.Session.{replies_in};
+ghost use Rattle.odb_service.specs.World.{asked_of, watched};
+ghost use Rattle.odb_sessions.specs.Asked.{ended_in};
 ghost use Rattle.odb_sessions.specs.Book.{book_of, fresh_session};
 ghost use Rattle.odb_sessions.specs.Posts.{all_posted, at_number, posted, unposted};
 ghost use Rattle.odb_sessions.specs.Started.{AreOfTables, started};
@@ -15,13 +19,15 @@ ghost use Rattle.odb_tables.specs.Change.{all_changed_by};
 ghost use Rattle.odb_tables.specs.Installing.{IsChangeOf};
 ghost use Rattle.odb_wire.specs.Shown.{request_data};
 
+use crate::asked::{ending, has};
+use crate::id::Id;
 use crate::item::Item;
 use crate::numbered::Numbered;
 use crate::past::Past;
 use crate::session::Session;
 use crate::starting::Starting;
 use odb_locks::SessionId;
-use odb_queue::Post;
+use odb_queue::{Finished, Post};
 use odb_tables::{ChangeSet, Db};
 use odb_wire::Request;
 use std::alloc::{AllocError, AllocFailed, Global};
@@ -151,6 +157,39 @@ impl Sessions {
                 Err(AllocError)
             }
         }
+    }
+
+    /// Whether the id is that of a monitor of the session as asked: of one that there will be once all that is
+    /// queued is taken [P 10.2]. No session that isn't open has one. Where memory is refused nothing is said.
+    /// O(log n) for n sessions, and O(monitors + items queued), each with its id.
+    pub fn asked(&self, session: SessionId, id: &Id) -> Result<bool, AllocError>
+        ensures { IfOk result (λ found. (schema : Schema) → found ≡ is_some (watched (served_by schema) id.now (asked_of (served_by schema) (finite.get self.now.sessions session)))) }
+    {
+        let Some(of) = self.sessions.get(session) else {
+            return Ok(false);
+        };
+        let ids = of.asked(self.alloc)?;
+        Ok(has(ids.as_slice(), id))
+    }
+
+    /// Posts the reply of a transaction that ended with a commit, after a sync for each of the session's
+    /// monitors as asked, if the session is open. It returns what `post_all` does. O(log n) for each, and what
+    /// `asked` costs.
+    pub fn post_end(
+        &mut self,
+        session: SessionId,
+        reply: Finished,
+    ) -> Result<Vec<SessionId>, AllocError>
+        ensures ok { IfOk result (λ posted_to. (schema : Schema) → self.new ≡ record (self.old) { sessions = at_number (ended_in schema (item_of reply)) self.old.sessions session }) }
+        ensures back { IfOk result (λ posted_to. unposted posted_to.items self.new.sessions ≡ self.old.sessions) }
+        ensures err { OnErr result (self.new ≡ self.old) }
+    {
+        let Some(of) = self.sessions.get(session) else {
+            return Ok(Vec::new(self.alloc));
+        };
+        let ids = of.asked(self.alloc)?;
+        let items = ending(self.alloc, ids, reply)?;
+        self.sessions.post_each(self.alloc, session, items)
     }
 
     /// Makes the whole change of the database, or none; what clients have stays. Where memory is refused

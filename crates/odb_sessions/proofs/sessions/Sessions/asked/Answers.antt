@@ -1,0 +1,33 @@
+use Rattle.std.proofs.Common.{rules, ◌≡◌, is_some, Some, None, option_map, sym, ap, ◌∙◌}
+use Rattle.std.specs.Arc.{arc_value}
+use Rattle.std.specs.List.{list_any}
+use Rattle.odb_atoms.specs.FinMap as finite
+use Rattle.odb_schema.specs.Json.{Data}
+use Rattle.odb_service.specs.Server.{served_by}
+use Rattle.odb_service.specs.Session.{asked}
+use Rattle.odb_service.specs.World.{asked_of, watched}
+use Rattle.odb_sessions.specs.Asked.{is_same}
+use Rattle.odb_sessions.specs.Book.{Book}
+use Rattle.odb_sessions.specs.Held.{Kept, Sessions, seen}
+use Rattle.odb_sessions.proofs.Replays.{any-mapped, any_watched, asked_ids}
+use Rattle.odb_sessions.proofs.Ties.{get-seen}
+use Rattle.odb_sessions.proofs.sessions.Sessions.asked.Goals as goal
+
+pub returns-in_default : goal.returns-in_default
+returns-in_default c = λ schema.
+    let m : Sessions = c.self.inside.sessions in
+    let none : finite.get m c.args.session ≡ None = search rules in
+    ap (λ o. is_some (watched (served_by schema) c.args.id.now (asked_of (served_by schema) o))) (sym (get-seen m c.args.session ∙ ap (option_map seen) none))
+    ∙ ap (λ (b : Book). is_some (watched (served_by schema) c.args.id.now (asked_of (served_by schema) (finite.get b.sessions c.args.session)))) c.self.view_is
+
+pub returns : goal.returns
+returns c = λ schema.
+    let m : Sessions = c.self.inside.sessions in
+    let i : Data = c.args.id.now in
+    let x : Kept = c.in-Some.of.now in
+    let there : finite.get m c.args.session ≡ Some x = search rules in
+    let any : c.has.result ≡ list_any (λ y. is_same i (arc_value y)) c.in_ok-ids.ids.items = search rules in
+    any ∙ any-mapped arc_value (is_same i) c.in_ok-ids.ids.items ∙ ap (list_any (is_same i)) (c.in_ok-ids.ensures ∙ sym (asked_ids schema (seen x)))
+    ∙ any_watched schema i (asked (served_by schema) (seen x))
+    ∙ ap (λ o. is_some (watched (served_by schema) i (asked_of (served_by schema) o))) (sym (get-seen m c.args.session ∙ ap (option_map seen) there))
+    ∙ ap (λ (b : Book). is_some (watched (served_by schema) i (asked_of (served_by schema) (finite.get b.sessions c.args.session)))) c.self.view_is

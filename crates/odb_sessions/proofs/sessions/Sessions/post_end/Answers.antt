@@ -1,0 +1,58 @@
+use Rattle.std.proofs.Common.{rules, ◌≡◌, List, Some, None, map, option_map, subst, sym, ap, ◌∙◌}
+use Rattle.std.proofs.lemmas.Result.{IfOk-weaker, on_err_weaker}
+use Rattle.std.specs.Arc.{arc_value}
+use Rattle.odb_atoms.specs.FinMap as finite
+use Rattle.odb_queue.specs.Represented.Item.{item_of}
+use Rattle.odb_sessions.specs.Asked.{ended_in}
+use Rattle.odb_sessions.specs.Book.{Book}
+use Rattle.odb_sessions.specs.Held.{Kept, Queued, Sessions, all_seen, seen}
+use Rattle.odb_sessions.specs.Posts.{at_number}
+use Rattle.odb_sessions.specs.Represented.Queued.{queued_of}
+use Rattle.odb_sessions.specs.Tied.{IsTied}
+use Rattle.odb_sessions.proofs.Endings.{ending_seen, ending_tied}
+use Rattle.odb_sessions.proofs.Posts.{at_shut}
+use Rattle.odb_sessions.proofs.Seen.{either_posted, unposts_seen}
+use Rattle.odb_sessions.proofs.Ties.{get-seen}
+use Rattle.odb_sessions.proofs.sessions.Sessions.post_end.Goals as goal
+
+pub returns-in_default-clause-ok : goal.returns-in_default-clause-ok
+returns-in_default-clause-ok c = λ schema.
+    let m : Sessions = c.self.inside.sessions in
+    let s = c.args.session in
+    let shut : finite.get m s ≡ None = search rules in
+    let none : finite.get (all_seen m) s ≡ None = get-seen m s ∙ ap (option_map seen) shut in
+    subst (λ (b : Book). b ≡ (let y : Book = record b { sessions = at_number (ended_in schema (item_of c.args.reply)) b.sessions s } in y)) c.self.view_is
+    (λ i. let x : Book = record { db = c.self.inside.past.db; sessions = sym (at_shut (ended_in schema (item_of c.args.reply)) (all_seen m) s none) i } in x)
+
+pub invariant_of-self : goal.invariant_of-self
+invariant_of-self c =
+    let k = c.self.inside.past in
+    let m : Sessions = c.self.inside.sessions in
+    let qs : List Queued = map queued_of c.in_ok-items.items.items in
+    either_posted c.post_each.result (IsTied k c.post_each.new.self)
+    (c.post_each.ensures.ok) (c.post_each.ensures.err)
+    (λ p is. subst (IsTied k) (sym is) (ending_tied arc_value (item_of c.args.reply) k m c.args.session qs c.in_ok-ids.ids.items c.in_ok-items.ensures c.self.invariant))
+    (λ is. subst (IsTied k) (sym is) c.self.invariant)
+
+pub returns-clause-ok : goal.returns-clause-ok
+returns-clause-ok c =
+    let m : Sessions = c.self.inside.sessions in
+    let s = c.args.session in
+    let x : Kept = c.in-Some.of.now in
+    let there : finite.get m s ≡ Some x = search rules in
+    let qs : List Queued = map queued_of c.in_ok-items.items.items in
+    IfOk-weaker c.post_each.result _ _
+    (λ p is schema. (λ i. let b : Book = record { db = c.self.inside.past.db; sessions = (ap all_seen is ∙ ending_seen arc_value (item_of c.args.reply) schema m s x qs c.in_ok-ids.ids.items there c.in_ok-items.ensures c.in_ok-ids.ensures) i } in b) ∙ ap (λ (b : Book). let y : Book = record b { sessions = at_number (ended_in schema (item_of c.args.reply)) b.sessions s } in y) c.self.view_is)
+    c.post_each.ensures.ok
+
+pub returns-clause-back : goal.returns-clause-back
+returns-clause-back c =
+    IfOk-weaker c.post_each.result _ _
+    (λ p is. sym (unposts_seen p.items c.post_each.new.self) ∙ ap all_seen is ∙ ap (λ (b : Book). b.sessions) c.self.view_is)
+    c.post_each.ensures.back
+
+pub returns-clause-err : goal.returns-clause-err
+returns-clause-err c =
+    on_err_weaker c.post_each.result
+    (λ is. (λ i. let x : Book = record { db = c.self.inside.past.db; sessions = all_seen (is i) } in x) ∙ c.self.view_is)
+    c.post_each.ensures.err
