@@ -1,4 +1,4 @@
-//! The database with its past, and the open sessions. [P 10.1, 10.3]
+//! The database with its past, and the open sessions. [P 9.1, 10.1, 10.2, 10.3]
 ghost use Rattle.std.specs.Prelude.{◌≡◌, ◌+◌, ◌&&◌, is_some, not, nat_lt, map, option_map, None, IfErr, IfOk, OnErr, OnOk};
 ghost use Rattle.odb_atoms.specs.FinMap as finite;
 ghost use Rattle.odb_queue.specs.Represented.Answer.{call_at};
