@@ -170,6 +170,14 @@ impl Chains {
         self.chains[place].since(&self.db.tables()[place], mark.place)
     }
 
+    /// The mark's table as it is now. O(1).
+    pub fn table(&self, mark: &Mark) -> &Table
+        requires { IsLive self.now mark.now }
+        ensures { result.now ≡ table_at self.now.db mark.now.table }
+    {
+        table_in(self.db.tables(), self.table_of(mark))
+    }
+
     /// Equal chains, whose rows are shared with these. Their marks are made by `Mark::again`.
     /// O(rows) and O(old rows).
     pub fn try_copy(&self) -> Result<Chains, AllocError>
@@ -197,6 +205,14 @@ impl Chains {
         prove!(is_inside);
         mark.table
     }
+}
+
+/// A table of the database.
+fn table_in(tables: &[Table], table: TableId) -> &Table
+    requires { table < length tables.now }
+    ensures { result.now ≡ table_at tables.now table }
+{
+    &tables[table.place()]
 }
 
 fn copies(alloc: Global, chains: &[Chain], hashing: RandomState) -> Result<Vec<Chain>, AllocError>
