@@ -4,6 +4,7 @@ mod Endings
 mod Moved
 mod Newest
 mod Numbers
+mod Plans
 mod Posts
 mod Releases
 mod Replays
