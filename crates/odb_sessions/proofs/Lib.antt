@@ -1,5 +1,6 @@
 mod Adds
 mod Books
+mod Composed
 mod Endings
 mod Moved
 mod Newest

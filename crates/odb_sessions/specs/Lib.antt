@@ -1,5 +1,6 @@
 pub mod Asked
 pub mod Book
+pub mod Composed
 pub mod Held
 pub mod Planned
 pub mod Posts

@@ -1,4 +1,5 @@
 pub mod Codes
+pub mod Composed
 pub mod Origin
 pub mod Queued
 pub mod Told

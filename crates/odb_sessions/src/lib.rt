@@ -5,12 +5,14 @@
 #![tactic(auto)]
 
 mod asked;
+mod composing;
 mod granted;
 mod id;
 mod item;
 mod monitor;
 mod numbered;
 mod origin;
+mod owed;
 mod past;
 mod queue;
 mod session;

@@ -1,0 +1,146 @@
+-- What is composed from marks is what the machine sends.
+use Rattle.std.proofs.Common.{◌≡◌, ℕ, Bool, true, false, cond, not, List, [], ◌∷◌, map, Option, Some, None, is_some, refl, sym, ap, ◌∙◌}
+use Rattle.std.proofs.lemmas.Option.{none-some, same_Some}
+use Rattle.serde_json.specs.Written.{compact_text}
+use Rattle.std.specs.Prelude.{option_map}
+use Rattle.odb_monitor.specs.Job.{Part, updates_of}
+use Rattle.odb_monitor.specs.Update.{table_updates}
+use Rattle.odb_monitor.specs.View.{View, delta, is_none, nothing, query, selected, shown}
+use Rattle.odb_request.specs.Request.{Notation, Request, update, update2}
+use Rattle.odb_rpc.specs.Message.{notification, reply}
+use Rattle.odb_rpc.specs.Represented.Shared.{update_method}
+use Rattle.odb_schema.specs.Json.{Data}
+use Rattle.odb_service.specs.Service.{Service}
+use Rattle.odb_service.specs.Session.{Out, first_out, method_of, no_request, shapes, told_of, update_to}
+use Rattle.odb_sessions.specs.Composed.{asked_of, first_job, first_part, part_to, told_so, update_job}
+use Rattle.odb_sessions.specs.Held.{Watched, view_of}
+use Rattle.odb_tables.specs.Database.{Db, table_at}
+use Rattle.odb_wire.specs.Message.{id_of}
+
+pub mapped_twice : {A B C : Type 0} (f : B → C) (g : A → B) (xs : List A) → map f (map g xs) ≡ map (λ x. f (g x)) xs
+mapped_twice f g [] = refl
+mapped_twice f g (x ∷ xs) = ap (λ ys. f (g x) ∷ ys) (mapped_twice f g xs)
+
+mapped_same : {A : Type 0} (xs : List A) → map (λ x. x) xs ≡ xs
+mapped_same [] = refl
+mapped_same (x ∷ xs) = ap (λ ys. x ∷ ys) (mapped_same xs)
+
+-- ---- updates
+
+parts_asked : (db : Db) (ws : List Watched) → map (λ (p : Part). p.request) (map (part_to db) ws) ≡ asked_of ws
+parts_asked db ws = mapped_twice (λ (p : Part). p.request) (part_to db) ws
+
+parts_told : (db : Db) (i : Data) (n : Notation) (ws : List Watched) → map (λ (p : Part). p.told) (map (part_to db) ws) ≡ view_of (record { id = i; notation = n; tables = ws })
+parts_told db i n ws = mapped_twice (λ (p : Part). p.told) (part_to db) ws
+
+parts_now : (db : Db) (ws : List Watched) → map (λ (p : Part). p.asked) (map (part_to db) ws) ≡ query db (asked_of ws)
+parts_now db ws =
+    mapped_twice (λ (p : Part). p.asked) (part_to db) ws
+    ∙ sym (mapped_twice (λ (q : Request). selected q (table_at db q.place)) (λ (w : Watched). w.request) ws)
+
+same_method : (h : Service) (n : Notation) → method_of h n ≡ update_method n
+same_method h update = refl
+same_method h update2 = refl
+
+-- the updates of these requests, from one view to another
+abbrev updates_between : Notation → List Request → View → View → Option Data
+updates_between n qs V W = cond (not (is_none (shown false qs (delta V W)))) (Some (table_updates n false (shapes qs) (shown false qs (delta V W)))) None
+
+abbrev in_notification : Notation → Data → Data → Data
+in_notification n i d = notification (update_method n) (i ∷ d ∷ [])
+
+either_way : (h : Service) (n : Notation) (i : Data) (qs : List Request) (V W : View)
+    → option_map (λ (o : Out). o.message) (told_of h n i qs (shown false qs (delta V W))) ≡ option_map (in_notification n i) (updates_between n qs V W)
+either_way h n i qs V W = by (is_none (shown false qs (delta V W)))
+  where
+    body : Data
+    body = table_updates n false (shapes qs) (shown false qs (delta V W))
+
+    by : (b : Bool)
+        → option_map (λ (o : Out). o.message) (cond b None (Some (record { answers = no_request; message = notification (method_of h n) (i ∷ body ∷ []) })))
+        ≡ option_map (in_notification n i) (cond (not b) (Some body) None)
+    by true = refl
+    by false = λ j. Some (notification (same_method h n j) (i ∷ body ∷ []))
+
+-- a notification is the updates of the job, with what stands around them
+pub update_composed : (h : Service) (db : Db) (i : Data) (n : Notation) (ws : List Watched)
+    → option_map (in_notification n i) (updates_of (update_job db n ws)) ≡ option_map (λ (o : Out). o.message) (update_to h db (asked_of ws) (told_so i n ws))
+update_composed h db i n ws =
+    (λ j. option_map (in_notification n i) (updates_between n (parts_asked db ws j) (parts_told db i n ws j) (parts_now db ws j)))
+    ∙ sym (either_way h n i (asked_of ws) (view_of (record { id = i; notation = n; tables = ws })) (query db (asked_of ws)))
+
+-- ---- first replies
+
+first_asked : (db : Db) (qs : List Request) → map (λ (p : Part). p.request) (map (first_part db) qs) ≡ qs
+first_asked db qs = mapped_twice (λ (p : Part). p.request) (first_part db) qs ∙ mapped_same qs
+
+first_told : (db : Db) (qs : List Request) → map (λ (p : Part). p.told) (map (first_part db) qs) ≡ nothing qs
+first_told db qs = mapped_twice (λ (p : Part). p.told) (first_part db) qs
+
+first_now : (db : Db) (qs : List Request) → map (λ (p : Part). p.asked) (map (first_part db) qs) ≡ query db qs
+first_now db qs = mapped_twice (λ (p : Part). p.asked) (first_part db) qs
+
+abbrev pub first_updates : Db → Notation → List Request → Data
+first_updates db n qs = table_updates n true (shapes qs) (shown true qs (delta (nothing qs) (query db qs)))
+
+-- something is always sent
+pub first_composed : (db : Db) (n : Notation) (qs : List Request) → updates_of (first_job db n qs) ≡ Some (first_updates db n qs)
+first_composed db n qs = λ j. Some (table_updates n true (shapes (first_asked db qs j)) (shown true (first_asked db qs j) (delta (first_told db qs j) (first_now db qs j))))
+
+pub first_sent : (h : Service) (db : Db) (d i : Data) (n : Notation) (qs : List Request)
+    → (first_out h db d (record { id = i; notation = n; requests = qs })).message ≡ reply (id_of d) (first_updates db n qs)
+first_sent h db d i n qs = refl
+
+-- ---- texts
+
+option_twice : {A B C : Type 0} (f : B → C) (g : A → B) (o : Option A) → option_map f (option_map g o) ≡ option_map (λ x. f (g x)) o
+option_twice f g None = refl
+option_twice f g (Some x) = refl
+
+abbrev out_text : Out → List ℕ
+out_text o = compact_text o.message
+
+abbrev pub notified_text : Notation → Data → Data → List ℕ
+notified_text n i d = compact_text (in_notification n i d)
+
+update_texts : (h : Service) (db : Db) (i : Data) (n : Notation) (ws : List Watched)
+    → option_map (notified_text n i) (updates_of (update_job db n ws)) ≡ option_map out_text (update_to h db (asked_of ws) (told_so i n ws))
+update_texts h db i n ws =
+    sym (option_twice compact_text (in_notification n i) (updates_of (update_job db n ws)))
+    ∙ ap (option_map compact_text) (update_composed h db i n ws)
+    ∙ option_twice compact_text (λ (o : Out). o.message) (update_to h db (asked_of ws) (told_so i n ws))
+
+-- nothing is sent
+pub update_unsent : (h : Service) (db : Db) (i : Data) (n : Notation) (ws : List Watched) → None ≡ option_map compact_text (updates_of (update_job db n ws)) → None ≡ option_map out_text (update_to h db (asked_of ws) (told_so i n ws))
+update_unsent h db i n ws none = by (updates_of (update_job db n ws)) none ∙ update_texts h db i n ws
+  where
+    by : (o : Option Data) → None ≡ option_map compact_text o → None ≡ option_map (notified_text n i) o
+    by None e = refl
+    by (Some d) e = absurd (none-some (compact_text d) e)
+
+-- this body is sent, with this text around it
+pub update_sent : (h : Service) (db : Db) (i : Data) (n : Notation) (ws : List Watched) (body text : List ℕ) → Some body ≡ option_map compact_text (updates_of (update_job db n ws))
+    → ((d : Data) → body ≡ compact_text d → text ≡ notified_text n i d) → Some text ≡ option_map out_text (update_to h db (asked_of ws) (told_so i n ws))
+update_sent h db i n ws body text is around = by (updates_of (update_job db n ws)) is ∙ update_texts h db i n ws
+  where
+    by : (o : Option Data) → Some body ≡ option_map compact_text o → Some text ≡ option_map (notified_text n i) o
+    by None e = absurd (none-some body (sym e))
+    by (Some d) e = ap Some (around d (same_Some body (compact_text d) e))
+
+is_sent : {A B : Type 0} (f : A → B) (o : Option A) → is_some (option_map f o) ≡ is_some o
+is_sent f None = refl
+is_sent f (Some x) = refl
+
+-- whether something is sent
+pub update_owed : (h : Service) (db : Db) (i : Data) (n : Notation) (ws : List Watched) → is_some (updates_of (update_job db n ws)) ≡ is_some (update_to h db (asked_of ws) (told_so i n ws))
+update_owed h db i n ws =
+    sym (is_sent (in_notification n i) (updates_of (update_job db n ws)))
+    ∙ ap is_some (update_composed h db i n ws)
+    ∙ is_sent (λ (o : Out). o.message) (update_to h db (asked_of ws) (told_so i n ws))
+
+-- a first reply has a body
+pub first_body : (db : Db) (n : Notation) (qs : List Request) (body : List ℕ) → Some body ≡ option_map compact_text (updates_of (first_job db n qs)) → body ≡ compact_text (first_updates db n qs)
+first_body db n qs body is = same_Some body (compact_text (first_updates db n qs)) (is ∙ ap (option_map compact_text) (first_composed db n qs))
+
+pub first_is : (db : Db) (n : Notation) (qs : List Request) → None ≡ option_map compact_text (updates_of (first_job db n qs)) → ⊥
+first_is db n qs none = none-some (compact_text (first_updates db n qs)) (none ∙ ap (option_map compact_text) (first_composed db n qs))

@@ -1,0 +1,52 @@
+-- What is composed for the client of a monitor, from the marks for what it was told. [P 9.2, 9.3, 10.1]
+use Rattle.std.specs.Prelude.{◌≡◌, true, false, List, [], ◌∷◌, map}
+use Rattle.odb_atoms.specs.FinMap.{empty}
+use Rattle.odb_chain.specs.Chains.{Chains, IsLive}
+use Rattle.odb_monitor.specs.Job.{Job, Part}
+use Rattle.odb_monitor.specs.View.{selected}
+use Rattle.odb_request.specs.Request.{Notation, Request}
+use Rattle.odb_schema.specs.Json.{Data}
+use Rattle.odb_service.specs.Session.{Monitor}
+use Rattle.odb_sessions.specs.Held.{Watched, monitor_of}
+use Rattle.odb_tables.specs.Database.{Db, table_at}
+
+-- what the client was told is kept, and it is a content of the table that is asked for
+abbrev pub IsKnown : Chains → Watched → Type 0
+IsKnown k w = IsLive k w.mark × (w.mark.table ≡ w.request.place)
+
+-- what is asked of these tables
+abbrev pub asked_of : List Watched → List Request
+asked_of ws = map (λ w. w.request) ws
+
+-- the monitor whose client was told so
+abbrev pub told_so : Data → Notation → List Watched → Monitor
+told_so i n ws = monitor_of (record { id = i; notation = n; tables = ws })
+
+-- of a table what the client has and what it is to have
+abbrev pub part_to : Db → Watched → Part
+part_to db w = record {
+  request = w.request;
+  told = selected (record (w.request) { filter = w.told }) w.mark.content;
+  asked = selected w.request (table_at db w.request.place);
+}
+
+-- of a table of which the client was told nothing
+abbrev pub first_part : Db → Request → Part
+first_part db q = record { request = q; told = empty; asked = selected q (table_at db q.place) }
+
+abbrev pub update_job : Db → Notation → List Watched → Job
+update_job db n ws = record { notation = n; first = false; parts = map (part_to db) ws }
+
+abbrev pub first_job : Db → Notation → List Request → Job
+first_job db n qs = record { notation = n; first = true; parts = map (first_part db) qs }
+
+-- ---- under other requests
+
+-- what the client was told stays
+abbrev pub asked_as : Watched → Request → Watched
+asked_as w q = record { request = q; told = w.told; mark = w.mark }
+
+abbrev pub all_asked_as : List Watched → List Request → List Watched
+all_asked_as [] qs = []
+all_asked_as (w ∷ ws) [] = []
+all_asked_as (w ∷ ws) (q ∷ qs) = asked_as w q ∷ all_asked_as ws qs

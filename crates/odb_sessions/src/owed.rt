@@ -1,0 +1,168 @@
+//! Tables of monitors of which something may be owed. [P 9.2, 9.3]
+ghost use Rattle.std.specs.Prelude.{◌≡◌, IfOk, length, map, option_map, zip};
+ghost use Rattle.std.specs.Arc.{arc_value};
+ghost use Rattle.odb_chain.specs.Chains.{IsLive};
+ghost use Rattle.odb_monitor.specs.Represented.Sides.{table_then, told_in};
+ghost use Rattle.odb_monitor.specs.View.{selected};
+ghost use Rattle.odb_request.specs.Request as model_request;
+ghost use Rattle.odb_sessions.specs.Composed as model;
+ghost use Rattle.odb_sessions.specs.Composed.{IsKnown, all_asked_as, asked_as, part_to};
+ghost use Rattle.odb_sessions.specs.Represented.Told.{told_under};
+ghost use Rattle.odb_tables.specs.Database as model_table;
+ghost use Rattle.odb_tables.specs.Database.{table_at};
+
+use crate::monitor::Watching;
+use odb_chain::{Chains, Mark};
+use odb_cond::Filter;
+use odb_monitor::{Part, Told};
+use odb_request::Request;
+use odb_tables::TableChange;
+use std::alloc::{AllocError, Global};
+use std::marker::Model;
+use std::sync::Arc;
+
+/// One table of a monitor: what is asked of it, under which filter the client was told of it (the request's
+/// where there is none), and the mark for what it was told.
+#[derive(Drop)]
+pub(crate) struct Owed<'a> {
+    pub(crate) request: &'a Request,
+    pub(crate) told: Option<&'a Filter>,
+    pub(crate) mark: &'a Mark,
+}
+
+impl<'a> Model for Owed<'a> {
+    ghost use Rattle.std.specs.Prelude.{option_map};
+    ghost use Rattle.odb_sessions.specs.Held as model;
+    ghost use Rattle.odb_sessions.specs.Represented.Codes.{watched_code};
+    ghost use Rattle.odb_sessions.specs.Represented.Told.{told_under};
+
+    ghost Value = { model.Watched };
+
+    ghost coded = { watched_code };
+
+    ghost view = { λ w. record { request = w.request.now; told = told_under w.request.now (option_map (λ f. f.now) w.told); mark = w.mark.now } };
+}
+
+impl<'a> Owed<'a> {
+    /// The part of a job that leads the client to what the table is now. The costs are those of
+    /// `odb_chain::Chains::since`.
+    pub(crate) fn part(&self, alloc: Global, chains: &'a Chains) -> Result<Part<'a>, AllocError>
+        requires { IsKnown chains.now self.now }
+        ensures { IfOk result (λ part. part ≡ part_to chains.now.db self.now) }
+    {
+        let changes = changes_since(alloc, chains, self.mark)?;
+        let table = chains.table(self.mark);
+        Ok(Part::new(self.request, told_by(self.told), table, changes))
+    }
+
+    /// The part of a first reply. O(1).
+    pub(crate) fn first_part(&self, chains: &'a Chains) -> Part<'a>
+        requires { IsKnown chains.now self.now }
+        ensures { result ≡ model.first_part chains.now.db self.now.request }
+    {
+        let table = chains.table(self.mark);
+        Part::new(self.request, Told::Nothing, table, None)
+    }
+}
+
+/// What the client was told, by the filter.
+fn told_by(filter: Option<&Filter>) -> Told<'_>
+    ensures { (q : model_request.Request) (t : model_table.Table)
+        → told_in result q t ≡ selected (record q { filter = told_under q (option_map (λ f. f.now) filter.entry) }) t }
+{
+    match filter {
+        None => Told::Asked,
+        Some(filter) => Told::Under(filter),
+    }
+}
+
+/// How the mark's table changed since the mark was made; `None` where it didn't.
+fn changes_since(
+    alloc: Global,
+    chains: &Chains,
+    mark: &Mark,
+) -> Result<Option<Arc<TableChange>>, AllocError>
+    requires { IsLive chains.now mark.now }
+    ensures { IfOk result (λ changes.
+        table_then (option_map arc_value changes) (table_at chains.now.db mark.now.table) ≡ mark.now.content) }
+{
+    if chains.is_now(mark) {
+        return Ok(None);
+    }
+    let changes = chains.since(mark)?;
+    Ok(Some(Arc::new(alloc, changes)?))
+}
+
+impl Watching {
+    /// It, under what is asked of it.
+    fn owed(&self) -> Owed<'_>
+        ensures { result ≡ self.now }
+    {
+        Owed {
+            request: &self.request,
+            told: other_filter(&self.told),
+            mark: &self.mark,
+        }
+    }
+
+    /// It, as if the request were this one.
+    fn owed_as<'a>(&'a self, request: &'a Request) -> Owed<'a>
+        ensures { result ≡ asked_as self.now request.now }
+    {
+        Owed {
+            request,
+            told: Some(self.told_filter()),
+            mark: &self.mark,
+        }
+    }
+
+    /// The filter under which the client was told.
+    fn told_filter(&self) -> &Filter
+        ensures { result.now ≡ self.now.told }
+    {
+        match &self.told {
+            Some(filter) => filter,
+            None => self.request.filter(),
+        }
+    }
+}
+
+/// A filter that isn't the request's.
+fn other_filter(told: &Option<Arc<Filter>>) -> Option<&Filter>
+    ensures { option_map (λ f. f.now) result ≡ option_map arc_value told.now }
+{
+    match told {
+        Some(filter) => Some(filter),
+        None => None,
+    }
+}
+
+/// The tables of a monitor, under what is asked of each. O(n) for n tables.
+pub(crate) fn all_owed<'a>(
+    alloc: Global,
+    tables: &'a [Watching],
+) -> Result<Vec<Owed<'a>>, AllocError>
+    ensures { IfOk result (λ owed. owed.items ≡ tables.now) }
+{
+    let mut owed = Vec::with_capacity(alloc, tables.len())?;
+    for table in tables {
+        owed.push_reserved(table.owed());
+    }
+    Ok(owed)
+}
+
+/// The tables of a monitor, as if these were its requests. O(n) for n tables.
+pub(crate) fn all_owed_as<'a>(
+    alloc: Global,
+    tables: &'a [Watching],
+    requests: &'a [Request],
+) -> Result<Vec<Owed<'a>>, AllocError>
+    requires { length requests.now ≡ length tables.now }
+    ensures { IfOk result (λ owed. owed.items ≡ all_asked_as tables.now requests.now) }
+{
+    let mut owed = Vec::with_capacity(alloc, tables.len())?;
+    for place in 0..tables.len() {
+        owed.push_reserved(tables[place].owed_as(&requests[place]));
+    }
+    Ok(owed)
+}
