@@ -1,8 +1,11 @@
 mod Adds
 mod Books
+mod Brought
 mod Composed
 mod Endings
 mod Moved
+mod MovedTies
+mod Moves
 mod Newest
 mod Numbers
 mod Plans

@@ -2,6 +2,7 @@ pub mod Asked
 pub mod Book
 pub mod Composed
 pub mod Held
+pub mod Moved
 pub mod Planned
 pub mod Posts
 pub mod Represented

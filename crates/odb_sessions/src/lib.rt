@@ -10,6 +10,7 @@ mod granted;
 mod id;
 mod item;
 mod monitor;
+mod moving;
 mod numbered;
 mod origin;
 mod owed;
