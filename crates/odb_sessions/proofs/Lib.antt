@@ -8,6 +8,7 @@ mod MovedTies
 mod Moves
 mod Newest
 mod Numbers
+mod OtherFilters
 mod Plans
 mod Posts
 mod Releases

@@ -1,8 +1,9 @@
 -- Marks that are moved to now, and what a client then has.
-use Rattle.std.specs.Prelude.{◌≡◌, ℕ, ◌+◌, ◌-◌, ◌^◌, ◌<◌, List, map}
+use Rattle.std.specs.Prelude.{◌≡◌, ℕ, ◌+◌, ◌-◌, ◌^◌, ◌<◌, List, [], ◌∷◌, Option, map}
 use Rattle.odb_chain.specs.Chains.{Chains, IsNow, Mark, count, mark_of, version}
 use Rattle.odb_cond.specs.Filter.{Filter}
 use Rattle.odb_sessions.specs.Held.{Watched}
+use Rattle.odb_sessions.specs.Represented.Told.{told_under}
 use Rattle.odb_sessions.specs.Tied.{KeepsContents, uses}
 
 -- the mark for what its table is now
@@ -27,3 +28,9 @@ told_now k f w = record { request = w.request; told = f; mark = now_of k w.mark 
 -- under the filter that is asked
 abbrev pub brought_to : Chains → Watched → Watched
 brought_to k w = told_now k w.request.filter w
+
+-- table by table under these filters, or under the one that is asked where there is none
+abbrev pub all_told_now : Chains → List Watched → List (Option Filter) → List Watched
+all_told_now k [] fs = []
+all_told_now k (w ∷ ws) [] = []
+all_told_now k (w ∷ ws) (f ∷ fs) = told_now k (told_under w.request f) w ∷ all_told_now k ws fs
