@@ -3,6 +3,7 @@ mod Books
 mod Brought
 mod Composed
 mod Endings
+mod MoveRoom
 mod Moved
 mod MovedTies
 mod Moves
