@@ -5,6 +5,10 @@ usage: bench/echoes.py [PROGRAM]
 
 PROGRAM is the built program, `crates/ovsdbd/out/ovsdbd` if none is named. Each figure is the difference of two runs:
 sessions and echoes, and the sessions alone. The echoes come from one session, and from all in turn.
+
+Last seen, 2026-11-24, on 4 cores, with nothing beside it: 2.8 us with 1 session; with 4,000 of them 3.2 where one sends
+(1.15), and 5.9 where all do (2.14): a name is looked up by a walk over the names. Two runs beside other work gave 0.65 and
+1.03 for one, and 1.48 and 1.85 for all. When every session was drained after each line it was 8 and 964.
 """
 import os
 import resource

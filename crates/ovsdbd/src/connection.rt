@@ -22,7 +22,7 @@ use uuid::Uuid;
 pub(crate) const STACK: usize = 131_072;
 
 /// How many bytes are read at once.
-const PIECE: usize = 16_384;
+const PIECE: usize = 8_192;
 
 /// Serves a connection as a session of its own, until it ends. It is closed where no session can be opened.
 pub(crate) fn serve_connection<R: Threads + Wait + Clock + RandomSource + Sync>(
