@@ -7,7 +7,7 @@ use Rattle.odb_schema.specs.Json.{Data}
 use Rattle.odb_service.specs.Service.{Service}
 use Rattle.odb_service.specs.Session.{brought}
 use Rattle.odb_tables.specs.Database.{table_at}
-use Rattle.odb_sessions.specs.Composed.{asked_of, told_so}
+use Rattle.odb_sessions.specs.Composed.{AreTheirs, asked_of, told_so}
 use Rattle.odb_sessions.specs.Held.{Held, Watched, table_marks, view_of}
 use Rattle.odb_sessions.specs.Moved.{all_now, all_told_now, brought_to, told_now}
 use Rattle.odb_sessions.specs.Represented.Told.{told_under}
@@ -46,11 +46,6 @@ brought_same a b w db versions = λ i. record {
 pub brought_marks : (k : Chains) (ws : List Watched) → table_marks (map (brought_to k) ws) ≡ all_now k (table_marks ws)
 brought_marks k [] = refl
 brought_marks k (w ∷ ws) = ap (λ ms. mark_of k w.mark.table ∷ ms) (brought_marks k ws)
-
--- each mark is one of the table that is asked for
-abbrev pub AreTheirs : List Watched → Type 0
-AreTheirs [] = Unit {0}
-AreTheirs (w ∷ ws) = (w.mark.table ≡ w.request.place) × AreTheirs ws
 
 abbrev held : Data → Notation → List Watched → Held
 held i n ws = record { id = i; notation = n; tables = ws }

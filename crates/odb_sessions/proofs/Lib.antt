@@ -17,5 +17,6 @@ mod Replays
 mod Room
 mod Seen
 mod Sums
+mod Theirs
 mod Ties
 mod Watches

@@ -14,6 +14,11 @@ use Rattle.odb_tables.specs.Database.{Db, table_at}
 abbrev pub IsKnown : Chains → Watched → Type 0
 IsKnown k w = IsLive k w.mark × (w.mark.table ≡ w.request.place)
 
+-- each mark is one of the table that is asked for
+abbrev pub AreTheirs : List Watched → Type 0
+AreTheirs [] = Unit {0}
+AreTheirs (w ∷ ws) = (w.mark.table ≡ w.request.place) × AreTheirs ws
+
 -- what is asked of these tables
 abbrev pub asked_of : List Watched → List Request
 asked_of ws = map (λ w. w.request) ws

@@ -5,6 +5,7 @@
 #![tactic(auto)]
 
 mod asked;
+mod carrying;
 mod composing;
 mod granted;
 mod id;
@@ -15,6 +16,7 @@ mod numbered;
 mod origin;
 mod owed;
 mod past;
+mod planning;
 mod queue;
 mod session;
 mod sessions;

@@ -2,6 +2,7 @@
 ghost use Rattle.std.specs.Prelude.{◌≡◌, ℕ, ◌+◌, ◌^◌, ◌<◌, [], ◌∷◌, length, map, IfOk, OnErr};
 ghost use Rattle.std.specs.Arc.{arc_value};
 ghost use Rattle.odb_chain.specs.Chains.{IsNow, count};
+ghost use Rattle.odb_sessions.specs.Composed.{AreTheirs};
 ghost use Rattle.odb_sessions.specs.Held.{marks_in, table_marks};
 ghost use Rattle.odb_sessions.specs.Started.{AreOfTables};
 ghost use Rattle.odb_sessions.specs.Tied.{Adds, Frees, HasAll};
@@ -60,6 +61,7 @@ pub(crate) struct Monitor {
 impl Model for Monitor {
     ghost use Rattle.std.specs.Arc.{arc_value};
     ghost use Rattle.odb_request.specs.Represented.Kind.{notation_of};
+    ghost use Rattle.odb_sessions.specs.Composed.{AreTheirs};
     ghost use Rattle.odb_sessions.specs.Held as model;
     ghost use Rattle.odb_sessions.specs.Represented.Codes.{held_code};
 
@@ -68,6 +70,8 @@ impl Model for Monitor {
     ghost coded = { held_code };
 
     ghost view = { λ m. record { id = arc_value m.id; notation = notation_of m.kind; tables = m.tables.items } };
+
+    ghost invariant = { λ m. AreTheirs m.tables.items };
 }
 
 impl Monitor {
@@ -110,6 +114,7 @@ pub(crate) fn watch_all(
     requires few { (t p : ℕ) → count chains.old t p + length requests.items < 2 ^ 64 }
     ensures ok { IfOk result (λ tables. Adds chains.old chains.new (table_marks tables.items)) }
     ensures asked { IfOk result (λ tables. map (λ w. w.request) tables.items ≡ requests.items) }
+    ensures theirs { IfOk result (λ tables. AreTheirs tables.items) }
     ensures err { OnErr result (chains.new ≡ chains.old) }
 {
     let mut tables = Vec::with_capacity(alloc, requests.len())?;

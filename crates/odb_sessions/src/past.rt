@@ -1,6 +1,7 @@
 //! The database with its past, in which there is room for each mark that is made. [P 10.3]
 ghost use Rattle.std.specs.Prelude.{◌≡◌, map, IfErr, IfOk, OnErr, OnOk};
 ghost use Rattle.odb_chain.specs.Chains.{IsLive, IsNow, absorbed, chains_of, released};
+ghost use Rattle.odb_sessions.specs.Composed.{AreTheirs};
 ghost use Rattle.odb_sessions.specs.Held.{table_marks};
 ghost use Rattle.odb_sessions.specs.Started.{AreOfTables};
 ghost use Rattle.odb_sessions.specs.Tied.{Adds};
@@ -82,6 +83,7 @@ impl Past {
         requires now { IsNow self.old }
         ensures ok { IfOk result (λ tables. Adds self.old self.new (table_marks tables.items)) }
         ensures asked { IfOk result (λ tables. map (λ w. w.request) tables.items ≡ requests.items) }
+        ensures theirs { IfOk result (λ tables. AreTheirs tables.items) }
         ensures err { OnErr result (self.new ≡ self.old) }
     {
         let Some(made) = self.made.checked_add(requests.len()) else {

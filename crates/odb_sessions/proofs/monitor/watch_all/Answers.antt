@@ -2,10 +2,12 @@ use Rattle.std.proofs.Common.{rules, ◌≡◌, ℕ, ◌+◌, ◌^◌, ◌<◌, 
 use Rattle.std.proofs.lemmas.List.{map-append}
 use Rattle.odb_chain.specs.Chains.{Chains, Mark, count}
 use Rattle.odb_request.specs.Request.{Request}
+use Rattle.odb_sessions.specs.Composed.{AreTheirs}
 use Rattle.odb_sessions.specs.Held.{Watched, table_marks}
 use Rattle.odb_sessions.specs.Started.{AreOfTables}
 use Rattle.odb_sessions.specs.Tied.{Adds}
 use Rattle.odb_sessions.proofs.Adds.{adds_none, adds_on, adds_one}
+use Rattle.odb_sessions.proofs.Theirs.{theirs_joined}
 use Rattle.odb_sessions.proofs.Watches.{few_left, first_few, first_inside, inside_left, lives_on}
 use Rattle.odb_sessions.proofs.monitor.watch_all.Goals as goal
 
@@ -19,6 +21,7 @@ loop-request-init c =
       lives = c.requires.lives;
       adds = subst (λ (ws : List Watched). Adds c.args.chains.now c.args.chains.now (table_marks ws)) (sym none) (adds_none c.args.chains.now c.requires.now);
       asked = ap (λ (ws : List Watched). map (λ w. w.request) ws ++ c.into_iter-request-iterator.result.rest.items) none;
+      theirs = subst AreTheirs (sym none) tt;
       room = search rules;
     }
 
@@ -58,5 +61,6 @@ loop-request-preserved c =
       lives = lives_on old.chains new (m ∷ []) one old.invariant.lives;
       adds = subst (Adds c.args.chains.now new) (sym marks) (adds_on c.args.chains.now old.chains new (table_marks old.tables.items) (m ∷ []) old.invariant.adds one);
       asked = ap (λ qs. qs ++ rest) requests ∙ append_assoc (map (λ w. w.request) old.tables.items) (q ∷ []) rest ∙ ap (λ qs. map (λ w. w.request) old.tables.items ++ qs) (sym step) ∙ old.invariant.asked;
+      theirs = subst AreTheirs (sym pushed) (theirs_joined old.tables.items w old.invariant.theirs (ap (λ (x : Mark). x.table) c.mark_now-mark.ensures.mark ∙ at));
       room = search rules;
     }

@@ -1,6 +1,7 @@
 use Rattle.std.proofs.Common.{◌≡◌, ℕ, ◌+◌, ◌^◌, ◌<◌, ◌≤◌, ◌++◌, length, map}
 use Rattle.std.specs.Prelude.{vec_len, vec_capacity}
 use Rattle.odb_chain.specs.Chains.{count}
+use Rattle.odb_sessions.specs.Composed.{AreTheirs}
 use Rattle.odb_sessions.specs.Held.{table_marks}
 use Rattle.odb_sessions.specs.Started.{AreOfTables}
 use Rattle.odb_sessions.specs.Tied.{Adds}
@@ -13,5 +14,6 @@ invariant-loop-request l = record {
   lives : length l.chains.live ≡ length l.chains.db;
   adds : Adds l.initial.chains l.chains (table_marks l.tables.items);
   asked : map (λ w. w.request) l.tables.items ++ l.request-iterator.rest.items ≡ l.initial.request-iterator.rest.items;
+  theirs : AreTheirs l.tables.items;
   room : vec_len l.tables + length l.request-iterator.rest.items ≤ vec_capacity l.tables;
 }
