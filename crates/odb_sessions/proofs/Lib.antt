@@ -14,6 +14,7 @@ mod Plans
 mod Posts
 mod Releases
 mod Replays
+mod Rests
 mod Room
 mod Seen
 mod Sums

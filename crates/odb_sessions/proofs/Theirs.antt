@@ -1,5 +1,5 @@
 -- Marks of the tables that are asked for: what a client has of each is known.
-use Rattle.std.proofs.Common.{◌≡◌, ℕ, zero, suc, ◌<◌, arith, List, [], ◌∷◌, ◌++◌, get_or, is_some, length, map, Option, Some, None, refl, sym, ap, ◌∙◌}
+use Rattle.std.proofs.Common.{◌≡◌, ℕ, zero, suc, ◌<◌, arith, List, [], ◌∷◌, ◌++◌, get_or, is_some, length, map, Option, Some, None, refl, ap, ◌∙◌}
 use Rattle.std.specs.Prelude.{option_map}
 use Rattle.odb_chain.specs.Chains.{Chains}
 use Rattle.odb_request.specs.Request.{Notation}

@@ -1,5 +1,6 @@
 pub mod Codes
 pub mod Composed
 pub mod Origin
+pub mod Planned
 pub mod Queued
 pub mod Told

@@ -1,0 +1,10 @@
+use Rattle.std.proofs.Common.{◌≡◌, ◌≤◌, drop, length}
+use Rattle.odb_service.specs.Service.{Service}
+use Rattle.odb_sessions.proofs.Rests.{after_none, rest_of}
+use Rattle.odb_sessions.proofs.planning.rest_due.Given as goal
+
+abbrev pub invariant-loop-place : goal.invariant-loop-place
+invariant-loop-place l = record {
+  within : l.place ≤ length l.monitors;
+  rest : (h : Service) → rest_of h l.chains.db l.monitors ≡ after_none l.place (rest_of h l.chains.db (drop l.place l.monitors));
+}
