@@ -17,6 +17,7 @@ mod Replays
 mod Rests
 mod Room
 mod Seen
+mod Stops
 mod Sums
 mod Theirs
 mod Ties

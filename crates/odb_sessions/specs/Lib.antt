@@ -7,4 +7,5 @@ pub mod Planned
 pub mod Posts
 pub mod Represented
 pub mod Started
+pub mod Stopped
 pub mod Tied

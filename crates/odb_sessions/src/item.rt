@@ -41,9 +41,11 @@ pub(crate) struct Start {
 
 /// New filters, by tables of the schema.
 #[derive(Drop)]
-pub(crate) struct Changes {
-    pub(crate) schema: Arc<Schema>,
-    pub(crate) changes: Vec<Change>,
+pub struct Changes {
+    /// The schema in which the tables have their places.
+    pub schema: Arc<Schema>,
+    /// The filters, each with its table's place.
+    pub changes: Vec<Change>,
 }
 
 /// New filters for the monitor with this id.

@@ -6,7 +6,9 @@
 
 mod asked;
 mod carrying;
+mod changing;
 mod composing;
+mod ending;
 mod granted;
 mod id;
 mod item;
@@ -22,6 +24,8 @@ mod session;
 mod sessions;
 mod starting;
 
+pub use changing::Changing;
 pub use id::Id;
+pub use item::Changes;
 pub use sessions::Sessions;
 pub use starting::Starting;

@@ -1,11 +1,12 @@
-//! The database with its past, and the open sessions. [P 9.1, 10.1, 10.2, 10.3]
-ghost use Rattle.std.specs.Prelude.{◌≡◌, ◌+◌, ◌&&◌, is_some, not, nat_lt, map, option_map, None, IfErr, IfOk, OnErr, OnOk};
+//! The database with its past, and the open sessions. [P 9.1, 9.5, 9.6, 10.1, 10.2, 10.3]
+ghost use Rattle.std.specs.Prelude.{◌≡◌, ◌+◌, ◌&&◌, false, is_some, not, nat_lt, map, option_map, None, IfErr, IfOk, OnErr, OnOk};
 ghost use Rattle.odb_atoms.specs.FinMap as finite;
 ghost use Rattle.odb_queue.specs.Represented.Answer.{call_at};
 ghost use Rattle.odb_queue.specs.Represented.Item.{item_of};
 ghost use Rattle.odb_queue.specs.Represented.Newest.{without_last};
 ghost use Rattle.odb_queue.specs.Represented.Post.{post_of};
 ghost use Rattle.odb_rpc.specs.Message.{has_reply};
+ghost use Rattle.odb_rpc.specs.Represented.Printable.{printable_data};
 ghost use Rattle.odb_schema.specs.Schema.{Schema};
 ghost use Rattle.odb_service.specs.Run.{max_owed};
 ghost use Rattle.odb_service.specs.Server.{served_by};
@@ -15,11 +16,15 @@ ghost use Rattle.odb_sessions.specs.Asked.{ended_in};
 ghost use Rattle.odb_sessions.specs.Book.{book_of, fresh_session};
 ghost use Rattle.odb_sessions.specs.Posts.{all_posted, at_number, posted, unposted};
 ghost use Rattle.odb_sessions.specs.Started.{AreOfTables, started};
+ghost use Rattle.odb_sessions.specs.Stopped.{changed_in, stopped_in};
 ghost use Rattle.odb_tables.specs.Change.{all_changed_by};
 ghost use Rattle.odb_tables.specs.Installing.{IsChangeOf};
+ghost use Rattle.odb_wire.specs.Message.{has_left_out, id_of};
 ghost use Rattle.odb_wire.specs.Shown.{request_data};
 
 use crate::asked::{ending, has};
+use crate::changing::Changing;
+use crate::ending::stopping;
 use crate::id::Id;
 use crate::item::Item;
 use crate::numbered::Numbered;
@@ -28,6 +33,7 @@ use crate::session::Session;
 use crate::starting::Starting;
 use odb_locks::SessionId;
 use odb_queue::{Finished, Post};
+use odb_rpc::Printable;
 use odb_tables::{ChangeSet, Db};
 use odb_wire::Request;
 use std::alloc::{AllocError, AllocFailed, Global};
@@ -190,6 +196,36 @@ impl Sessions {
         let ids = of.asked(self.alloc)?;
         let items = ending(self.alloc, ids, reply)?;
         self.sessions.post_each(self.alloc, session, items)
+    }
+
+    /// Queues for a session, if it is open, a sync of the monitor with this id, and then the reply to the request
+    /// for its cancel [P 9.6]; the monitor goes with the reply. It is for an id that `asked` says the session has.
+    /// Where memory is refused nothing was queued. O(log n) for n sessions, and O(n) for ids of n bytes.
+    pub fn stop(
+        &mut self,
+        session: SessionId,
+        request: &Request,
+        id: Printable<'_>,
+    ) -> Result<(), AllocError>
+        requires { has_left_out (id_of (request_data request.now)) ≡ false }
+        ensures ok { OnOk result (self.new ≡ record (self.old) { sessions = at_number (stopped_in (request_data request.now) (printable_data id.entry)) self.old.sessions session }) }
+        ensures err { OnErr result (self.new ≡ self.old) }
+    {
+        let items = stopping(self.alloc, request, id)?;
+        drop(self.sessions.post_each(self.alloc, session, items)?);
+        Ok(())
+    }
+
+    /// Queues for a session, if it is open, what the client lacks under the new filters, and then the reply to the
+    /// request for the change [P 9.5]; the id and the filters change with the reply. It is for an old id that
+    /// `asked` says the session has. Where memory is refused nothing was queued. O(log n) for n sessions.
+    pub fn change(&mut self, session: SessionId, changing: Changing) -> Result<(), AllocError>
+        ensures ok { OnOk result (self.new ≡ record (self.old) { sessions = at_number (changed_in changing) self.old.sessions session }) }
+        ensures err { OnErr result (self.new ≡ self.old) }
+    {
+        let items = changing.items(self.alloc)?;
+        drop(self.sessions.post_each(self.alloc, session, items)?);
+        Ok(())
     }
 
     /// Makes the whole change of the database, or none; what clients have stays. Where memory is refused

@@ -1,5 +1,5 @@
 -- The codes of what contracts see of the code's types.
-use Rattle.std.specs.Prelude.{◌≡◌, ◌⊎◌, List, refl}
+use Rattle.std.specs.Prelude.{◌≡◌, ◌⊎◌, ℕ, List, refl}
 use mathlib.Core.Logic.{inl, inr}
 use Rattle.std.specs.Ordering.{nat_cmp}
 use Rattle.std.specs.Coded.{Coded, code_by, coded×, coded⊎, coded_ℕ, coded_list}
@@ -17,6 +17,7 @@ use Rattle.odb_tables.specs.Database.{Db, db_code}
 use Rattle.odb_sessions.specs.Book.{Book}
 use Rattle.odb_sessions.specs.Held.{Held, Kept, Queued, Sessions, Watched, due, plain}
 use Rattle.odb_sessions.specs.Started.{Starting}
+use Rattle.odb_sessions.specs.Stopped.{Changing}
 
 abbrev pub watched_code : Coded Watched
 watched_code = code_by (Request × (Filter × Mark)) (coded× request_code (coded× filter_code mark_code)) (λ w. (w.request, (w.told, w.mark))) (λ p. record { request = p.0; told = p.1.0; mark = p.1.1 }) (λ w. refl)
@@ -50,3 +51,8 @@ book_code = code_by (Db × map.FinMap nat_cmp Session) (coded× db_code (map.cod
 
 abbrev pub starting_code : Coded Starting
 starting_code = code_by (Data × Watch) (coded× data_code watch_code) (λ s. (s.request, s.watch)) (λ p. record { request = p.0; watch = p.1 }) (λ s. refl)
+
+abbrev pub changing_code : Coded Changing
+changing_code =
+    code_by (Data × (Data × (Data × List (List ℕ × Filter)))) (coded× data_code (coded× data_code (coded× data_code (coded_list (coded× (coded_list coded_ℕ) filter_code)))))
+    (λ c. (c.request, (c.old, (c.new, c.filters)))) (λ p. record { request = p.0; old = p.1.0; new = p.1.1.0; filters = p.1.1.1 }) (λ c. refl)
