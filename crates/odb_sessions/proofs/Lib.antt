@@ -7,6 +7,7 @@ mod MoveRoom
 mod Moved
 mod MovedTies
 mod Moves
+mod NamedReplays
 mod Newest
 mod Numbers
 mod OtherFilters

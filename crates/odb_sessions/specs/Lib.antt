@@ -3,6 +3,7 @@ pub mod Book
 pub mod Composed
 pub mod Held
 pub mod Moved
+pub mod Named
 pub mod Planned
 pub mod Posts
 pub mod Represented

@@ -1,6 +1,7 @@
 //! Monitors: what is asked, and what the client was told. [P 9.1, 9.2]
-ghost use Rattle.std.specs.Prelude.{◌≡◌, ℕ, ◌+◌, ◌^◌, ◌<◌, [], ◌∷◌, length, map, IfOk, OnErr};
+ghost use Rattle.std.specs.Prelude.{◌≡◌, ℕ, ◌+◌, ◌^◌, ◌<◌, [], ◌∷◌, bytes_eq, length, map, IfOk, OnErr};
 ghost use Rattle.std.specs.Arc.{arc_value};
+ghost use Rattle.std.specs.List.{list_any};
 ghost use Rattle.odb_chain.specs.Chains.{IsNow, count};
 ghost use Rattle.odb_sessions.specs.Composed.{AreTheirs};
 ghost use Rattle.odb_sessions.specs.Held.{marks_in, table_marks};
@@ -40,6 +41,14 @@ impl Model for Watching {
 }
 
 impl Watching {
+    /// Whether it is of the table of this name.
+    fn is_of(&self, name: &str) -> bool
+        ensures { result ≡ bytes_eq name.now self.now.request.shape.name }
+    {
+        let shape = self.request.shape();
+        name == shape.table_schema().name()
+    }
+
     /// Gives its mark back.
     fn release(self, past: &mut Past)
         requires { HasAll past.old (self.mark ∷ []) }
@@ -80,6 +89,13 @@ impl Monitor {
         ensures { IfOk result (λ id. arc_value id ≡ self.now.id) }
     {
         Ok(self.id.clone()?)
+    }
+
+    /// Whether a table of this name is one of its tables.
+    pub(crate) fn has_table(&self, name: &str) -> bool
+        ensures { result ≡ list_any (λ w. bytes_eq name.now w.request.shape.name) self.now.tables }
+    {
+        self.tables.iter().any(|table| table.is_of(name))
     }
 
     /// Gives its marks back.

@@ -4,12 +4,14 @@ ghost use Rattle.std.specs.Arc.{arc_value};
 ghost use Rattle.odb_service.specs.Session.{replies_in};
 ghost use Rattle.odb_sessions.specs.Asked.{ids_after};
 ghost use Rattle.odb_sessions.specs.Held.{item_seen, marks_due};
+ghost use Rattle.odb_sessions.specs.Named.{named_after};
 ghost use Rattle.odb_sessions.specs.Represented.Queued.{queued_of};
 ghost use Rattle.odb_sessions.specs.Tied.{Frees, HasAll};
 
 use crate::asked::ask;
 use crate::id::Id;
 use crate::item::Item;
+use crate::named::{Named, ask_of};
 use crate::past::Past;
 use std::alloc::{AllocError, AllocFailed, Global};
 use std::collections::VecDeque;
@@ -102,6 +104,16 @@ impl Queue {
     {
         for item in self.items.iter() {
             ask(ids, item)?;
+        }
+        Ok(())
+    }
+
+    /// What its items do to the monitors as asked. Where memory is refused some of it may be done.
+    pub(crate) fn ask_of<'a>(&'a self, named: &mut Vec<Named<'a>>) -> Result<(), AllocError>
+        ensures { OnOk result (named.new.items ≡ named_after (map item_seen self.now) named.old.items) }
+    {
+        for item in self.items.iter() {
+            ask_of(named, item)?;
         }
         Ok(())
     }

@@ -8,6 +8,7 @@ ghost use Rattle.odb_service.specs.Run.{max_owed};
 ghost use Rattle.odb_service.specs.Session.{replies_in};
 ghost use Rattle.odb_sessions.specs.Asked.{ids_asked};
 ghost use Rattle.odb_sessions.specs.Held.{item_seen, marks_in, marks_of, nothing_kept, seen};
+ghost use Rattle.odb_sessions.specs.Named.{named_asked};
 ghost use Rattle.odb_sessions.specs.Posts.{newest, with_item, without_newest};
 ghost use Rattle.odb_sessions.specs.Represented.Queued.{queued_of};
 ghost use Rattle.odb_sessions.specs.Tied.{Frees, HasAll};
@@ -17,6 +18,7 @@ use crate::asked::told;
 use crate::id::Id;
 use crate::item::Item;
 use crate::monitor::Monitor;
+use crate::named::{Named, all_named};
 use crate::past::Past;
 use crate::queue::Queue;
 use odb_rpc::has_reply;
@@ -89,6 +91,15 @@ impl Session {
         let mut ids = told(alloc, self.monitors.as_slice())?;
         self.queue.ask(&mut ids)?;
         Ok(ids)
+    }
+
+    /// Its monitors as asked, without their filters, in the order of their creation.
+    pub(crate) fn named(&self, alloc: Global) -> Result<Vec<Named<'_>>, AllocError>
+        ensures { IfOk result (λ named. named.items ≡ named_asked (seen self.now)) }
+    {
+        let mut named = all_named(alloc, self.monitors.as_slice())?;
+        self.queue.ask_of(&mut named)?;
+        Ok(named)
     }
 
     /// Gives the marks of its monitors back, and those of items that are queued.

@@ -14,6 +14,7 @@ ghost use Rattle.odb_service.specs.Session.{replies_in};
 ghost use Rattle.odb_service.specs.World.{asked_of, watched};
 ghost use Rattle.odb_sessions.specs.Asked.{ended_in};
 ghost use Rattle.odb_sessions.specs.Book.{book_of, fresh_session};
+ghost use Rattle.odb_sessions.specs.Named.{named};
 ghost use Rattle.odb_sessions.specs.Posts.{all_posted, at_number, posted, unposted};
 ghost use Rattle.odb_sessions.specs.Started.{AreOfTables, started};
 ghost use Rattle.odb_sessions.specs.Stopped.{changed_in, stopped_in};
@@ -27,6 +28,7 @@ use crate::changing::Changing;
 use crate::ending::stopping;
 use crate::id::Id;
 use crate::item::Item;
+use crate::named::{Named, first_of};
 use crate::numbered::Numbered;
 use crate::past::Past;
 use crate::session::Session;
@@ -176,6 +178,18 @@ impl Sessions {
         };
         let ids = of.asked(self.alloc)?;
         Ok(has(ids.as_slice(), id))
+    }
+
+    /// The monitor of the session as asked that has this id, without its filters; `None` where there is none.
+    /// Where memory is refused nothing is said. It costs what `asked` does.
+    pub fn asked_watch(&self, session: SessionId, id: &Id) -> Result<Option<Named<'_>>, AllocError>
+        ensures { IfOk result (λ found. (schema : Schema) → found ≡ option_map named (watched (served_by schema) id.now (asked_of (served_by schema) (finite.get self.now.sessions session)))) }
+    {
+        let Some(of) = self.sessions.get(session) else {
+            return Ok(None);
+        };
+        let named = of.named(self.alloc)?;
+        Ok(first_of(named, id))
     }
 
     /// Posts the reply of a transaction that ended with a commit, after a sync for each of the session's

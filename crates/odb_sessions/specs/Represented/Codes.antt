@@ -7,8 +7,8 @@ use Rattle.odb_atoms.specs.FinMap as map
 use Rattle.odb_chain.specs.Chains.{Mark}
 use Rattle.odb_chain.specs.Represented.Codes.{mark_code}
 use Rattle.odb_cond.specs.Filter.{Filter}
-use Rattle.odb_request.specs.Request.{Notation, Request}
-use Rattle.odb_request.specs.Represented.Codes.{filter_code, notation_code, request_code}
+use Rattle.odb_request.specs.Request.{Notation, Request, Shape}
+use Rattle.odb_request.specs.Represented.Codes.{filter_code, notation_code, request_code, shape_code}
 use Rattle.odb_schema.specs.Json.{Data}
 use Rattle.odb_schema.specs.JsonCode.{data_code}
 use Rattle.odb_service.specs.Session.{Item, Session, Watch}
@@ -16,6 +16,7 @@ use Rattle.odb_service.specs.WorldCode.{item_code, session_code, watch_code}
 use Rattle.odb_tables.specs.Database.{Db, db_code}
 use Rattle.odb_sessions.specs.Book.{Book}
 use Rattle.odb_sessions.specs.Held.{Held, Kept, Queued, Sessions, Watched, due, plain}
+use Rattle.odb_sessions.specs.Named.{Named}
 use Rattle.odb_sessions.specs.Started.{Starting}
 use Rattle.odb_sessions.specs.Stopped.{Changing}
 
@@ -56,3 +57,6 @@ abbrev pub changing_code : Coded Changing
 changing_code =
     code_by (Data × (Data × (Data × List (List ℕ × Filter)))) (coded× data_code (coded× data_code (coded× data_code (coded_list (coded× (coded_list coded_ℕ) filter_code)))))
     (λ c. (c.request, (c.old, (c.new, c.filters)))) (λ p. record { request = p.0; old = p.1.0; new = p.1.1.0; filters = p.1.1.1 }) (λ c. refl)
+
+abbrev pub named_code : Coded Named
+named_code = code_by (Data × (Notation × List Shape)) (coded× data_code (coded× notation_code (coded_list shape_code))) (λ n. (n.id, (n.notation, n.shapes))) (λ p. record { id = p.0; notation = p.1.0; shapes = p.1.1 }) (λ n. refl)
