@@ -2,6 +2,7 @@ mod Adds
 mod Books
 mod Brought
 mod Composed
+mod Copies
 mod Endings
 mod MoveRoom
 mod Moved

@@ -40,4 +40,12 @@ impl Granted {
         let reply = replied(alloc, request, &Value::Object(Map::new(alloc)))?;
         Ok(Granted { reply })
     }
+
+    /// An equal one. O(bytes).
+    pub(crate) fn try_copy(&self) -> Result<Granted, AllocError>
+        ensures { IfOk result (λ copy. copy ≡ self.now) }
+    {
+        let reply = self.reply.clone()?;
+        Ok(Granted { reply })
+    }
 }

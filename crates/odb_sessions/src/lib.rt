@@ -8,6 +8,7 @@ mod asked;
 mod carrying;
 mod changing;
 mod composing;
+mod copying;
 mod ending;
 mod granted;
 mod id;

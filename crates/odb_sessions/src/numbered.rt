@@ -175,4 +175,12 @@ impl Numbered {
         };
         of.take_newest()
     }
+
+    /// Equal sessions.
+    pub(crate) fn try_copy(&self) -> Result<Numbered, AllocError>
+        ensures { IfOk result (λ copy. copy ≡ self.now) }
+    {
+        let sessions = self.sessions.clone()?;
+        Ok(Numbered { sessions })
+    }
 }

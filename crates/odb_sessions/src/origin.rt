@@ -40,4 +40,13 @@ impl Origin {
         let request = Granted::new(alloc, request)?;
         Ok(Origin { before, request })
     }
+
+    /// An equal one. O(bytes).
+    pub(crate) fn try_copy(&self) -> Result<Origin, AllocError>
+        ensures { IfOk result (λ copy. copy ≡ self.now) }
+    {
+        let request = self.request.try_copy()?;
+        let before = self.before.clone()?;
+        Ok(Origin { before, request })
+    }
 }

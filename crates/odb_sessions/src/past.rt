@@ -93,4 +93,15 @@ impl Past {
         self.made = made;
         Ok(tables)
     }
+
+    /// An equal database, with an equal past.
+    pub(crate) fn try_copy(&self) -> Result<Past, AllocError>
+        ensures { IfOk result (λ copy. copy ≡ self.now) }
+    {
+        let chains = self.chains.try_copy()?;
+        Ok(Past {
+            chains,
+            made: self.made,
+        })
+    }
 }

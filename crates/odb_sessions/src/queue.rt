@@ -129,3 +129,18 @@ impl Queue {
         }
     }
 }
+
+impl Clone for Queue {
+    ghost use Rattle.std.specs.Prelude.{◌≡◌};
+
+    ghost is_clone = { λ x y. y ≡ x };
+
+    /// An equal queue.
+    fn clone(&self) -> Result<Queue, AllocError> {
+        let items = self.items.clone()?;
+        Ok(Queue {
+            items,
+            replies: self.replies,
+        })
+    }
+}

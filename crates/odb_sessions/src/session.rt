@@ -122,3 +122,16 @@ fn release_all(monitors: Vec<Monitor>, past: &mut Past)
         monitor.release(past);
     }
 }
+
+impl Clone for Session {
+    ghost use Rattle.std.specs.Prelude.{◌≡◌};
+
+    ghost is_clone = { λ x y. y ≡ x };
+
+    /// An equal session.
+    fn clone(&self) -> Result<Session, AllocError> {
+        let queue = self.queue.clone()?;
+        let monitors = self.monitors.clone()?;
+        Ok(Session { queue, monitors })
+    }
+}

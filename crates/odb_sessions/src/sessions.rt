@@ -264,4 +264,17 @@ impl Sessions {
         };
         closed.release(&mut self.past);
     }
+
+    /// An equal book. O(rows), O(old rows) and O(bytes queued).
+    pub fn try_copy(&self) -> Result<Sessions, AllocError>
+        ensures { IfOk result (λ copy. copy ≡ self.now) }
+    {
+        let past = self.past.try_copy()?;
+        let sessions = self.sessions.try_copy()?;
+        Ok(Sessions {
+            alloc: self.alloc,
+            past,
+            sessions,
+        })
+    }
 }
