@@ -1,5 +1,5 @@
--- What is composed from marks is what the machine sends.
-use Rattle.std.proofs.Common.{◌≡◌, ℕ, Bool, true, false, cond, not, List, [], ◌∷◌, map, Option, Some, None, is_some, refl, sym, ap, ◌∙◌}
+-- What is composed from parts is what the machine sends.
+use Rattle.std.proofs.Common.{◌≡◌, ℕ, Bool, true, false, cond, not, List, [], ◌∷◌, map, Option, Some, None, refl, sym, ap, ◌∙◌}
 use Rattle.std.proofs.lemmas.Option.{none-some, same_Some}
 use Rattle.serde_json.specs.Written.{compact_text}
 use Rattle.std.specs.Prelude.{option_map}
@@ -7,15 +7,17 @@ use Rattle.odb_monitor.specs.Job.{Part, updates_of}
 use Rattle.odb_monitor.specs.Update.{table_updates}
 use Rattle.odb_monitor.specs.View.{View, delta, is_none, nothing, query, selected, shown}
 use Rattle.odb_request.specs.Request.{Notation, Request, update, update2}
-use Rattle.odb_rpc.specs.Message.{notification, reply}
+use Rattle.odb_rpc.specs.Message.{notification}
 use Rattle.odb_rpc.specs.Represented.Shared.{update_method}
 use Rattle.odb_schema.specs.Json.{Data}
 use Rattle.odb_service.specs.Service.{Service}
-use Rattle.odb_service.specs.Session.{Out, first_out, method_of, no_request, shapes, told_of, update_to}
-use Rattle.odb_sessions.specs.Composed.{asked_of, first_job, first_part, part_to, told_so, update_job}
+use Rattle.odb_service.specs.Session.{Monitor, Out, method_of, no_request, shapes, told_of}
+use Rattle.odb_sessions.specs.Composed.{asked_of, first_job, first_part, first_updates, later_job, notified_text, part_to}
+use Rattle.odb_sessions.specs.Foreseen.{due_text, update_text}
 use Rattle.odb_sessions.specs.Held.{Watched, view_of}
+use Rattle.odb_sessions.specs.Planned.{out_of, update_of}
+use Rattle.odb_sessions.proofs.Plans.{update_given}
 use Rattle.odb_tables.specs.Database.{Db, table_at}
-use Rattle.odb_wire.specs.Message.{id_of}
 
 pub mapped_twice : {A B C : Type 0} (f : B → C) (g : A → B) (xs : List A) → map f (map g xs) ≡ map (λ x. f (g x)) xs
 mapped_twice f g [] = refl
@@ -25,18 +27,20 @@ mapped_same : {A : Type 0} (xs : List A) → map (λ x. x) xs ≡ xs
 mapped_same [] = refl
 mapped_same (x ∷ xs) = ap (λ ys. x ∷ ys) (mapped_same xs)
 
--- ---- updates
+-- ---- parts of tables
 
-parts_asked : (db : Db) (ws : List Watched) → map (λ (p : Part). p.request) (map (part_to db) ws) ≡ asked_of ws
+pub parts_asked : (db : Db) (ws : List Watched) → map (λ (p : Part). p.request) (map (part_to db) ws) ≡ asked_of ws
 parts_asked db ws = mapped_twice (λ (p : Part). p.request) (part_to db) ws
 
-parts_told : (db : Db) (i : Data) (n : Notation) (ws : List Watched) → map (λ (p : Part). p.told) (map (part_to db) ws) ≡ view_of (record { id = i; notation = n; tables = ws })
+pub parts_told : (db : Db) (i : Data) (n : Notation) (ws : List Watched) → map (λ (p : Part). p.told) (map (part_to db) ws) ≡ view_of (record { id = i; notation = n; tables = ws })
 parts_told db i n ws = mapped_twice (λ (p : Part). p.told) (part_to db) ws
 
-parts_now : (db : Db) (ws : List Watched) → map (λ (p : Part). p.asked) (map (part_to db) ws) ≡ query db (asked_of ws)
+pub parts_now : (db : Db) (ws : List Watched) → map (λ (p : Part). p.asked) (map (part_to db) ws) ≡ query db (asked_of ws)
 parts_now db ws =
     mapped_twice (λ (p : Part). p.asked) (part_to db) ws
     ∙ sym (mapped_twice (λ (q : Request). selected q (table_at db q.place)) (λ (w : Watched). w.request) ws)
+
+-- ---- updates
 
 same_method : (h : Service) (n : Notation) → method_of h n ≡ update_method n
 same_method h update = refl
@@ -62,12 +66,38 @@ either_way h n i qs V W = by (is_none (shown false qs (delta V W)))
     by true = refl
     by false = λ j. Some (notification (same_method h n j) (i ∷ body ∷ []))
 
--- a notification is the updates of the job, with what stands around them
-pub update_composed : (h : Service) (db : Db) (i : Data) (n : Notation) (ws : List Watched)
-    → option_map (in_notification n i) (updates_of (update_job db n ws)) ≡ option_map (λ (o : Out). o.message) (update_to h db (asked_of ws) (told_so i n ws))
-update_composed h db i n ws =
-    (λ j. option_map (in_notification n i) (updates_between n (parts_asked db ws j) (parts_told db i n ws j) (parts_now db ws j)))
-    ∙ sym (either_way h n i (asked_of ws) (view_of (record { id = i; notation = n; tables = ws })) (query db (asked_of ws)))
+option_twice : {A B C : Type 0} (f : B → C) (g : A → B) (o : Option A) → option_map f (option_map g o) ≡ option_map (λ x. f (g x)) o
+option_twice f g None = refl
+option_twice f g (Some x) = refl
+
+abbrev out_text : Out → List ℕ
+out_text o = compact_text o.message
+
+abbrev monitor_so : Data → Notation → List Request → View → Monitor
+monitor_so i n rs V = record { watch = record { id = i; notation = n; requests = rs }; view = V }
+
+-- the text of parts that lead from what the client has to what these requests select
+pub parts_sent : (h : Service) (db : Db) (i : Data) (n : Notation) (rs qs : List Request) (V : View) (ps : List Part)
+    → map (λ (p : Part). p.request) ps ≡ qs → map (λ (p : Part). p.told) ps ≡ V → map (λ (p : Part). p.asked) ps ≡ query db qs
+    → option_map (notified_text n i) (updates_of (later_job n ps)) ≡ update_text h db qs (monitor_so i n rs V)
+parts_sent h db i n rs qs V ps asked told now =
+    (λ j. option_map (notified_text n i) (updates_between n (asked j) (told j) (now j)))
+    ∙ sym (option_twice compact_text (in_notification n i) (updates_between n qs V (query db qs)))
+    ∙ ap (option_map compact_text) (sym (either_way h n i qs V (query db qs)))
+    ∙ option_twice compact_text (λ (o : Out). o.message) (told_of h n i qs (shown false qs (delta V (query db qs))))
+    ∙ ap (option_map out_text) (update_given h db qs (monitor_so i n rs V))
+    ∙ option_twice out_text (out_of h db) (update_of h db qs (monitor_so i n rs V))
+
+-- nothing is sent
+pub none_sent : (n : Notation) (i : Data) (o : Option Data) → None ≡ option_map compact_text o → None ≡ option_map (notified_text n i) o
+none_sent n i None e = refl
+none_sent n i (Some d) e = absurd (none-some (compact_text d) e)
+
+-- this body is sent, with this text around it
+pub body_sent : (n : Notation) (i : Data) (body text : List ℕ) (o : Option Data) → Some body ≡ option_map compact_text o
+    → ((d : Data) → body ≡ compact_text d → text ≡ notified_text n i d) → Some text ≡ option_map (notified_text n i) o
+body_sent n i body text None e around = absurd (none-some body (sym e))
+body_sent n i body text (Some d) e around = ap Some (around d (same_Some body (compact_text d) e))
 
 -- ---- first replies
 
@@ -80,63 +110,9 @@ first_told db qs = mapped_twice (λ (p : Part). p.told) (first_part db) qs
 first_now : (db : Db) (qs : List Request) → map (λ (p : Part). p.asked) (map (first_part db) qs) ≡ query db qs
 first_now db qs = mapped_twice (λ (p : Part). p.asked) (first_part db) qs
 
-abbrev pub first_updates : Db → Notation → List Request → Data
-first_updates db n qs = table_updates n true (shapes qs) (shown true qs (delta (nothing qs) (query db qs)))
-
 -- something is always sent
 pub first_composed : (db : Db) (n : Notation) (qs : List Request) → updates_of (first_job db n qs) ≡ Some (first_updates db n qs)
 first_composed db n qs = λ j. Some (table_updates n true (shapes (first_asked db qs j)) (shown true (first_asked db qs j) (delta (first_told db qs j) (first_now db qs j))))
-
-pub first_sent : (h : Service) (db : Db) (d i : Data) (n : Notation) (qs : List Request)
-    → (first_out h db d (record { id = i; notation = n; requests = qs })).message ≡ reply (id_of d) (first_updates db n qs)
-first_sent h db d i n qs = refl
-
--- ---- texts
-
-option_twice : {A B C : Type 0} (f : B → C) (g : A → B) (o : Option A) → option_map f (option_map g o) ≡ option_map (λ x. f (g x)) o
-option_twice f g None = refl
-option_twice f g (Some x) = refl
-
-abbrev out_text : Out → List ℕ
-out_text o = compact_text o.message
-
-abbrev pub notified_text : Notation → Data → Data → List ℕ
-notified_text n i d = compact_text (in_notification n i d)
-
-update_texts : (h : Service) (db : Db) (i : Data) (n : Notation) (ws : List Watched)
-    → option_map (notified_text n i) (updates_of (update_job db n ws)) ≡ option_map out_text (update_to h db (asked_of ws) (told_so i n ws))
-update_texts h db i n ws =
-    sym (option_twice compact_text (in_notification n i) (updates_of (update_job db n ws)))
-    ∙ ap (option_map compact_text) (update_composed h db i n ws)
-    ∙ option_twice compact_text (λ (o : Out). o.message) (update_to h db (asked_of ws) (told_so i n ws))
-
--- nothing is sent
-pub update_unsent : (h : Service) (db : Db) (i : Data) (n : Notation) (ws : List Watched) → None ≡ option_map compact_text (updates_of (update_job db n ws)) → None ≡ option_map out_text (update_to h db (asked_of ws) (told_so i n ws))
-update_unsent h db i n ws none = by (updates_of (update_job db n ws)) none ∙ update_texts h db i n ws
-  where
-    by : (o : Option Data) → None ≡ option_map compact_text o → None ≡ option_map (notified_text n i) o
-    by None e = refl
-    by (Some d) e = absurd (none-some (compact_text d) e)
-
--- this body is sent, with this text around it
-pub update_sent : (h : Service) (db : Db) (i : Data) (n : Notation) (ws : List Watched) (body text : List ℕ) → Some body ≡ option_map compact_text (updates_of (update_job db n ws))
-    → ((d : Data) → body ≡ compact_text d → text ≡ notified_text n i d) → Some text ≡ option_map out_text (update_to h db (asked_of ws) (told_so i n ws))
-update_sent h db i n ws body text is around = by (updates_of (update_job db n ws)) is ∙ update_texts h db i n ws
-  where
-    by : (o : Option Data) → Some body ≡ option_map compact_text o → Some text ≡ option_map (notified_text n i) o
-    by None e = absurd (none-some body (sym e))
-    by (Some d) e = ap Some (around d (same_Some body (compact_text d) e))
-
-is_sent : {A B : Type 0} (f : A → B) (o : Option A) → is_some (option_map f o) ≡ is_some o
-is_sent f None = refl
-is_sent f (Some x) = refl
-
--- whether something is sent
-pub update_owed : (h : Service) (db : Db) (i : Data) (n : Notation) (ws : List Watched) → is_some (updates_of (update_job db n ws)) ≡ is_some (update_to h db (asked_of ws) (told_so i n ws))
-update_owed h db i n ws =
-    sym (is_sent (in_notification n i) (updates_of (update_job db n ws)))
-    ∙ ap is_some (update_composed h db i n ws)
-    ∙ is_sent (λ (o : Out). o.message) (update_to h db (asked_of ws) (told_so i n ws))
 
 -- a first reply has a body
 pub first_body : (db : Db) (n : Notation) (qs : List Request) (body : List ℕ) → Some body ≡ option_map compact_text (updates_of (first_job db n qs)) → body ≡ compact_text (first_updates db n qs)

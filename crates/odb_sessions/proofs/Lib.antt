@@ -1,9 +1,11 @@
 mod Adds
+mod Aheads
 mod Books
 mod Brought
 mod Composed
 mod Copies
 mod Endings
+mod Leading
 mod MoveRoom
 mod Moved
 mod MovedTies
@@ -23,4 +25,5 @@ mod Stops
 mod Sums
 mod Theirs
 mod Ties
+mod Updates
 mod Watches

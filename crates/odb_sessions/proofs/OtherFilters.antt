@@ -1,12 +1,12 @@
 -- A monitor under other filters, as the machine sees it: what it is told, what its client then has, and when it is renamed.
-use Rattle.std.proofs.Common.{◌≡◌, ℕ, false, List, [], ◌∷◌, map, refl, ap}
+use Rattle.std.proofs.Common.{◌≡◌, ℕ, List, [], ◌∷◌, map, refl, ap}
 use Rattle.odb_chain.specs.Chains.{Chains}
 use Rattle.odb_cond.specs.Filter.{Filter}
-use Rattle.odb_monitor.specs.View.{delta, query, selected, shown}
+use Rattle.odb_monitor.specs.View.{query, selected}
 use Rattle.odb_request.specs.Request.{Notation, Request}
 use Rattle.odb_schema.specs.Json.{Data}
 use Rattle.odb_service.specs.Service.{Service}
-use Rattle.odb_service.specs.Session.{Monitor, brought, changed, filter_of, refilter, told_of, update_to}
+use Rattle.odb_service.specs.Session.{Monitor, brought, changed, filter_of, refilter}
 use Rattle.odb_tables.specs.Database.{Db, table_at}
 use Rattle.odb_sessions.specs.Composed.{AreTheirs, all_asked_as, asked_of, told_so}
 use Rattle.odb_sessions.specs.Held.{Held, Watched, view_of}
@@ -22,19 +22,14 @@ held i n ws = record { id = i; notation = n; tables = ws }
 abbrev pub under : Filters → List Watched → List Watched
 under fs ws = all_asked_as ws (refilter fs (asked_of ws))
 
-same_asked : (fs : Filters) (ws : List Watched) → asked_of (under fs ws) ≡ refilter fs (asked_of ws)
+pub same_asked : (fs : Filters) (ws : List Watched) → asked_of (under fs ws) ≡ refilter fs (asked_of ws)
 same_asked fs [] = refl
 same_asked fs (w ∷ ws) = ap (λ (qs : List Request). record (w.request) { filter = filter_of fs w.request.shape.name w.request.filter } ∷ qs) (same_asked fs ws)
 
 -- what the client was told stays
-same_view : (i j : Data) (n : Notation) (fs : Filters) (ws : List Watched) → view_of (held j n (under fs ws)) ≡ view_of (held i n ws)
+pub same_view : (i j : Data) (n : Notation) (fs : Filters) (ws : List Watched) → view_of (held j n (under fs ws)) ≡ view_of (held i n ws)
 same_view i j n fs [] = refl
 same_view i j n fs (w ∷ ws) = ap (λ V. selected (record (w.request) { filter = w.told }) w.mark.content ∷ V) (same_view i j n fs ws)
-
--- the update that leads to other filters is that of the tables as they are asked then
-pub update_under : (h : Service) (db : Db) (i : Data) (n : Notation) (fs : Filters) (ws : List Watched)
-    → update_to h db (asked_of (under fs ws)) (told_so i n (under fs ws)) ≡ update_to h db (refilter fs (asked_of ws)) (told_so i n ws)
-update_under h db i n fs ws = λ j. told_of h n i (same_asked fs ws j) (shown false (same_asked fs ws j) (delta (same_view i i n fs ws j) (query db (same_asked fs ws j))))
 
 -- the client has what the tables are now, under the other filters
 abbrev pub told_under_all : Chains → Filters → List Watched → List Watched

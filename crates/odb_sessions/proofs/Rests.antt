@@ -1,21 +1,13 @@
 -- What monitors have due with an empty queue, one after the other.
-use Rattle.std.proofs.Common.{◌≡◌, ℕ, zero, suc, ◌+◌, ◌<◌, ◌≤◌, arith, Bool, true, false, cond, List, [], ◌∷◌, drop, get_or, is_some, length, map, Option, Some, None, refl, sym, ap, ◌∙◌, true≢false}
-use Rattle.std.specs.Prelude.{flat_map}
+use Rattle.std.proofs.Common.{◌≡◌, ℕ, zero, suc, ◌+◌, ◌<◌, ◌≤◌, arith, Bool, true, false, List, [], ◌∷◌, drop, get_or, is_some, length, map, Option, Some, None, refl, sym, ap, ◌∙◌, true≢false}
+use Rattle.std.specs.Prelude.{option_map}
 use Rattle.std.proofs.lemmas.List.{drop_all}
-use Rattle.odb_chain.specs.Chains.{Chains}
-use Rattle.odb_monitor.specs.View.{is_none}
 use Rattle.odb_service.specs.Service.{Service}
+use Rattle.odb_service.specs.Session.{Monitor}
 use Rattle.odb_tables.specs.Database.{Db}
-use Rattle.odb_sessions.specs.Held.{Held, marks_in, monitor_of, watch_of}
-use Rattle.odb_sessions.specs.Planned.{Due, Plan, change_to, from_monitor, plan_rest, update_of}
-use Rattle.odb_sessions.specs.Represented.Planned.{whole_update}
-use Rattle.odb_sessions.specs.Tied.{AreLive}
-use Rattle.odb_sessions.proofs.Releases.{live-left, live-right}
-
-pub live_within : (k : Chains) (xs : List Held) (i : ℕ) (d : Held) → i < length xs → AreLive k (flat_map marks_in xs) → AreLive k (marks_in (get_or xs i d))
-live_within k [] i d low live = absurd (omega (arith, low))
-live_within k (x ∷ xs) zero d low live = live-left k (marks_in x) (flat_map marks_in xs) live
-live_within k (x ∷ xs) (suc i) d low live = live_within k xs i d (omega (arith, low)) (live-right k (marks_in x) (flat_map marks_in xs) live)
+use Rattle.odb_sessions.specs.Foreseen.{Ahead, due_text, seen_ahead, update_text}
+use Rattle.odb_sessions.specs.Held.{watch_of}
+use Rattle.odb_sessions.specs.Planned.{Due, Plan, from_monitor, plan_rest, update_of}
 
 -- a plan of which these monitors were found to be owed nothing
 abbrev pub after_none : ℕ → Plan → Plan
@@ -24,47 +16,71 @@ after_none n p = record { items = p.items; monitors = n + p.monitors; out = p.ou
 pub none_yet : (p : Plan) → p ≡ after_none 0 p
 none_yet p = let zero : p.monitors ≡ 0 + p.monitors = omega arith in ap (λ n. let q : Plan = record { items = p.items; monitors = n; out = p.out } in q) zero
 
-abbrev pub rest_of : Service → Db → List Held → Plan
-rest_of h db xs = plan_rest h db (map monitor_of xs)
+abbrev pub rest_of : Service → Db → List Ahead → Plan
+rest_of h db xs = plan_rest h db (map (seen_ahead db) xs)
 
-abbrev owed_to : Service → Db → Held → Option Due
-owed_to h db x = update_of h db (watch_of x).requests (monitor_of x)
+-- what the client of a monitor is owed
+abbrev pub owed_to : Service → Db → Ahead → Option Due
+owed_to h db x = update_of h db (watch_of x.held).requests (seen_ahead db x)
 
-is_owed : (h : Service) (db : Db) (x : Held) → is_some (owed_to h db x) ≡ true → owed_to h db x ≡ Some (whole_update x)
-is_owed h db x = by (is_none (change_to h db (watch_of x).requests (monitor_of x)))
-  where
-    by : (b : Bool) → is_some (let o : Option Due = cond b None (Some (whole_update x)) in o) ≡ true → (let o : Option Due = cond b None (Some (whole_update x)) in o) ≡ Some (whole_update x)
-    by true e = absurd (true≢false (sym e))
-    by false e = refl
+abbrev pub text_to : Service → Db → Ahead → Option (List ℕ)
+text_to h db x = update_text h db (watch_of x.held).requests (seen_ahead db x)
 
-not_owed : (h : Service) (db : Db) (x : Held) → is_some (owed_to h db x) ≡ false → owed_to h db x ≡ None
-not_owed h db x = by (is_none (change_to h db (watch_of x).requests (monitor_of x)))
-  where
-    by : (b : Bool) → is_some (let o : Option Due = cond b None (Some (whole_update x)) in o) ≡ false → (let o : Option Due = cond b None (Some (whole_update x)) in o) ≡ None
-    by true e = refl
-    by false e = absurd (true≢false e)
+pub is_mapped : {A B : Type 0} (f : A → B) (o : Option A) → is_some (option_map f o) ≡ is_some o
+is_mapped f None = refl
+is_mapped f (Some x) = refl
 
-abbrev found : ℕ → Due → Plan
-found n d = record { items = 0; monitors = n; out = Some d }
+-- ---- what is due ends a plan
 
--- the monitor at this place is owed an update
-pub rest_found : (h : Service) (db : Db) (xs : List Held) (i : ℕ) (x : Held) → drop i xs ≡ x ∷ drop (i + 1) xs → is_some (owed_to h db x) ≡ true → after_none i (rest_of h db (drop i xs)) ≡ found (i + 1) (whole_update x)
-rest_found h db xs i x step owed =
-    ap (λ ys. after_none i (rest_of h db ys)) step
-    ∙ ap (λ o. after_none i (from_monitor o (rest_of h db (drop (i + 1) xs)))) (is_owed h db x owed)
+module _ (f : Due → List ℕ) (p : Plan) where
+  one_brought : (o : Option Due) → is_some (option_map f o) ≡ true → (from_monitor o p).monitors ≡ 1
+  one_brought None e = absurd (true≢false (sym e))
+  one_brought (Some d) e = refl
 
--- it is owed none
-pub rest_none : (h : Service) (db : Db) (xs : List Held) (i : ℕ) (x : Held) → drop i xs ≡ x ∷ drop (i + 1) xs → is_some (owed_to h db x) ≡ false → after_none i (rest_of h db (drop i xs)) ≡ after_none (i + 1) (rest_of h db (drop (i + 1) xs))
-rest_none h db xs i x step owed =
-    let p : Plan = rest_of h db (drop (i + 1) xs) in
-    let next : i + suc p.monitors ≡ i + 1 + p.monitors = omega arith in
-    ap (λ ys. after_none i (rest_of h db ys)) step
-    ∙ ap (λ o. after_none i (from_monitor o p)) (not_owed h db x owed)
-    ∙ ap (λ n. let q : Plan = record { items = p.items; monitors = n; out = p.out } in q) next
+  one_out : (o : Option Due) → is_some (option_map f o) ≡ true → (from_monitor o p).out ≡ o
+  one_out None e = absurd (true≢false (sym e))
+  one_out (Some d) e = refl
+
+  one_passed : (o : Option Due) → is_some (option_map f o) ≡ false → from_monitor o p ≡ record { items = p.items; monitors = suc p.monitors; out = p.out }
+  one_passed None e = refl
+  one_passed (Some d) e = absurd (true≢false e)
+
+module _ (h : Service) (db : Db) (xs : List Ahead) (i : ℕ) (x : Ahead) (step : drop i xs ≡ x ∷ drop (i + 1) xs) (text : Option (List ℕ)) (is : text ≡ text_to h db x) where
+  abbrev later : Plan
+  later = rest_of h db (drop (i + 1) xs)
+
+  -- the monitor at this place is owed an update
+  pub found_monitors : is_some text ≡ true → (after_none i (rest_of h db (drop i xs))).monitors ≡ i + 1
+  found_monitors some =
+      ap (λ ys. i + (rest_of h db ys).monitors) step
+      ∙ ap (λ n. i + n) (one_brought (due_text h db) later (owed_to h db x) (ap is_some (sym is) ∙ some))
+
+  pub found_out : is_some text ≡ true → option_map (due_text h db) (after_none i (rest_of h db (drop i xs))).out ≡ text
+  found_out some =
+      ap (λ ys. option_map (due_text h db) (rest_of h db ys).out) step
+      ∙ ap (option_map (due_text h db)) (one_out (due_text h db) later (owed_to h db x) (ap is_some (sym is) ∙ some))
+      ∙ sym is
+
+  -- it is owed none
+  pub rest_none : is_some text ≡ false → after_none i (rest_of h db (drop i xs)) ≡ after_none (i + 1) later
+  rest_none none =
+      let next : i + suc later.monitors ≡ i + 1 + later.monitors = omega arith in
+      ap (λ ys. after_none i (rest_of h db ys)) step
+      ∙ ap (after_none i) (one_passed (due_text h db) later (owed_to h db x) (ap is_some (sym is) ∙ none))
+      ∙ ap (λ n. let q : Plan = record { items = later.items; monitors = n; out = later.out } in q) next
 
 -- there is no other
-pub rest_done : (h : Service) (db : Db) (xs : List Held) (i n : ℕ) → length xs ≤ i → i ≤ length xs → n ≡ length xs → after_none i (rest_of h db (drop i xs)) ≡ record { items = 0; monitors = n; out = None }
+pub rest_done : (h : Service) (db : Db) (xs : List Ahead) (i n : ℕ) → length xs ≤ i → i ≤ length xs → n ≡ length xs → after_none i (rest_of h db (drop i xs)) ≡ record { items = 0; monitors = n; out = None }
 rest_done h db xs i n past within len =
     let none : i + 0 ≡ n = omega (arith, past, within, len) in
     ap (λ ys. after_none i (rest_of h db ys)) (drop_all i xs past)
     ∙ ap (λ n. let q : Plan = record { items = 0; monitors = n; out = None } in q) none
+
+-- no item is used up
+pub no_items : (h : Service) (db : Db) (ms : List Monitor) → (plan_rest h db ms).items ≡ 0
+no_items h db [] = refl
+no_items h db (m ∷ ms) = by (update_of h db m.watch.requests m) (no_items h db ms)
+  where
+    by : (o : Option Due) → (plan_rest h db ms).items ≡ 0 → (from_monitor o (plan_rest h db ms)).items ≡ 0
+    by None rest = rest
+    by (Some d) rest = refl

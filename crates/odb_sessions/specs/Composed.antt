@@ -1,12 +1,16 @@
 -- What is composed for the client of a monitor, from the marks for what it was told. [P 9.2, 9.3, 10.1]
-use Rattle.std.specs.Prelude.{◌≡◌, true, false, List, [], ◌∷◌, map}
+use Rattle.std.specs.Prelude.{◌≡◌, ℕ, true, false, List, [], ◌∷◌, map}
+use Rattle.serde_json.specs.Written.{compact_text}
 use Rattle.odb_atoms.specs.FinMap.{empty}
 use Rattle.odb_chain.specs.Chains.{Chains, IsLive}
 use Rattle.odb_monitor.specs.Job.{Job, Part}
-use Rattle.odb_monitor.specs.View.{selected}
+use Rattle.odb_monitor.specs.Update.{table_updates}
+use Rattle.odb_monitor.specs.View.{delta, nothing, query, selected, shown}
 use Rattle.odb_request.specs.Request.{Notation, Request}
+use Rattle.odb_rpc.specs.Message.{notification}
+use Rattle.odb_rpc.specs.Represented.Shared.{update_method}
 use Rattle.odb_schema.specs.Json.{Data}
-use Rattle.odb_service.specs.Session.{Monitor}
+use Rattle.odb_service.specs.Session.{Monitor, shapes}
 use Rattle.odb_sessions.specs.Held.{Watched, monitor_of}
 use Rattle.odb_tables.specs.Database.{Db, table_at}
 
@@ -39,11 +43,20 @@ part_to db w = record {
 abbrev pub first_part : Db → Request → Part
 first_part db q = record { request = q; told = empty; asked = selected q (table_at db q.place) }
 
-abbrev pub update_job : Db → Notation → List Watched → Job
-update_job db n ws = record { notation = n; first = false; parts = map (part_to db) ws }
+-- the job of these parts, of a client that had its first reply
+abbrev pub later_job : Notation → List Part → Job
+later_job n ps = record { notation = n; first = false; parts = ps }
 
 abbrev pub first_job : Db → Notation → List Request → Job
 first_job db n qs = record { notation = n; first = true; parts = map (first_part db) qs }
+
+-- what a first reply tells
+abbrev pub first_updates : Db → Notation → List Request → Data
+first_updates db n qs = table_updates n true (shapes qs) (shown true qs (delta (nothing qs) (query db qs)))
+
+-- the text of the notification with these table updates
+abbrev pub notified_text : Notation → Data → Data → List ℕ
+notified_text n i d = compact_text (notification (update_method n) (i ∷ d ∷ []))
 
 -- ---- under other requests
 

@@ -1,6 +1,7 @@
 pub mod Asked
 pub mod Book
 pub mod Composed
+pub mod Foreseen
 pub mod Held
 pub mod Moved
 pub mod Named

@@ -1,6 +1,7 @@
 pub mod Codes
 pub mod Composed
 pub mod Origin
-pub mod Planned
 pub mod Queued
+pub mod Taking
 pub mod Told
+pub mod Under

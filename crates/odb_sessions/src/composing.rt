@@ -1,29 +1,24 @@
 //! What is owed to the client of a monitor, composed from the marks for what it was told. [P 9.2, 9.3, 10.1]
-ghost use Rattle.std.specs.Prelude.{◌≡◌, ◌∷◌, [], IfOk, is_some, map, option_map};
+ghost use Rattle.std.specs.Prelude.{◌≡◌, IfOk, map, option_map};
 ghost use Rattle.std.specs.List.{All};
 ghost use Rattle.serde_json.specs.Data.{Data};
 ghost use Rattle.serde_json.specs.Written.{compact_text};
 ghost use Rattle.odb_monitor.specs.Job.{updates_of};
 ghost use Rattle.odb_request.specs.Represented.Kind.{notation_of};
-ghost use Rattle.odb_rpc.specs.Message.{notification, reply};
-ghost use Rattle.odb_rpc.specs.Represented.Printable.{printable_data};
-ghost use Rattle.odb_rpc.specs.Represented.Shared.{update_method};
-ghost use Rattle.odb_service.specs.Service.{Service};
-ghost use Rattle.odb_service.specs.Session.{first_out, update_to};
 ghost use Rattle.odb_sessions.specs.Composed as model;
-ghost use Rattle.odb_sessions.specs.Composed.{IsKnown, asked_of, first_job, part_to, told_so, update_job};
+ghost use Rattle.odb_sessions.specs.Composed.{IsKnown, asked_of, first_updates, later_job, notified_text, part_to};
 ghost use Rattle.odb_sessions.specs.Represented.Composed.{text_in};
-ghost use Rattle.odb_wire.specs.Message.{id_of};
 
+use crate::id::Id;
 use crate::owed::Owed;
 use odb_chain::Chains;
 use odb_monitor::{Job, Part, compose};
 use odb_request::Kind;
-use odb_rpc::{Printable, after_result, after_updates, before_result, before_updates};
+use odb_rpc::{after_updates, before_updates};
 use std::alloc::{AllocError, Global};
 
-/// The parts of these tables.
-fn parts_of<'a>(
+/// The parts of these tables. For each the costs are those of `odb_chain::Chains::since`.
+pub(crate) fn parts_of<'a>(
     alloc: Global,
     chains: &'a Chains,
     tables: &[Owed<'a>],
@@ -62,36 +57,16 @@ pub(crate) struct Message {
     pub(crate) after: Vec<u8>,
 }
 
-/// Whether something is sent to the client whose monitor has these tables. The costs are those of
-/// `odb_monitor::Job::has_updates` and, for each table, of `odb_chain::Chains::since`.
-pub(crate) fn owes_update<'a>(
+/// The table updates for a client of whose monitor these are the parts, without its id: monitors that are owed
+/// the same have the same. `None` where nothing is sent. The costs are those of `odb_monitor::compose`.
+pub(crate) fn compose_updates(
     alloc: Global,
-    chains: &'a Chains,
     kind: Kind,
-    tables: &[Owed<'a>],
-) -> Result<bool, AllocError>
-    requires { All (IsKnown chains.now) tables.now }
-    ensures { IfOk result (λ owes. (h : Service) (i : Data)
-        → owes ≡ is_some (update_to h chains.now.db (asked_of tables.now) (told_so i (notation_of kind) tables.now))) }
-{
-    let parts = parts_of(alloc, chains, tables)?;
-    Job::new(kind, false, parts).has_updates(alloc)
-}
-
-/// The table updates for the client whose monitor has these tables, without its id: monitors that are owed
-/// the same have the same. `None` where nothing is sent. The costs are those of `odb_monitor::compose` and, for
-/// each table, of `odb_chain::Chains::since`.
-pub(crate) fn compose_updates<'a>(
-    alloc: Global,
-    chains: &'a Chains,
-    kind: Kind,
-    tables: &[Owed<'a>],
+    parts: Vec<Part<'_>>,
 ) -> Result<Option<Vec<u8>>, AllocError>
-    requires { All (IsKnown chains.now) tables.now }
     ensures { IfOk result (λ text. option_map (λ t. t.items) text
-        ≡ option_map compact_text (updates_of (update_job chains.now.db (notation_of kind) tables.now))) }
+        ≡ option_map compact_text (updates_of (later_job (notation_of kind) parts.entry.items))) }
 {
-    let parts = parts_of(alloc, chains, tables)?;
     compose(alloc, &Job::new(kind, false, parts))
 }
 
@@ -99,70 +74,50 @@ pub(crate) fn compose_updates<'a>(
 pub(crate) fn around_updates(
     alloc: Global,
     kind: Kind,
-    monitor: Printable<'_>,
+    monitor: &Id,
     body: Vec<u8>,
 ) -> Result<Message, AllocError>
-    ensures { IfOk result (λ message. (d : Data) → body.items ≡ compact_text d → text_in message
-        ≡ compact_text (notification (update_method (notation_of kind)) (printable_data monitor.entry ∷ d ∷ []))) }
+    ensures { IfOk result (λ message. (d : Data) → body.items ≡ compact_text d
+        → text_in message ≡ notified_text (notation_of kind) monitor.now d) }
 {
     Ok(Message {
-        before: before_updates(alloc, kind, monitor)?,
+        before: before_updates(alloc, kind, monitor.printable())?,
         body,
         after: Vec::from_slice(alloc, after_updates())?,
     })
 }
 
-/// Table updates as the reply of a success. O(n) for an id of n bytes.
-pub(crate) fn around_result(
-    alloc: Global,
-    id: Printable<'_>,
-    body: Vec<u8>,
-) -> Result<Message, AllocError>
-    ensures { IfOk result (λ message. (d : Data) → body.items ≡ compact_text d
-        → text_in message ≡ compact_text (reply (printable_data id.entry) d)) }
-{
-    Ok(Message {
-        before: before_result(alloc, id)?,
-        body,
-        after: Vec::from_slice(alloc, after_result())?,
-    })
-}
-
-/// What brings the client of a monitor with this id and these tables to now; `None` where nothing is sent.
+/// What brings the client of the monitor with this id to now, by these parts; `None` where nothing is sent.
 /// The costs are those of `compose_updates`.
-pub(crate) fn compose_update<'a>(
+pub(crate) fn compose_update(
     alloc: Global,
-    chains: &'a Chains,
     kind: Kind,
-    monitor: Printable<'_>,
-    tables: &[Owed<'a>],
+    monitor: &Id,
+    parts: Vec<Part<'_>>,
 ) -> Result<Option<Message>, AllocError>
-    requires { All (IsKnown chains.now) tables.now }
-    ensures { IfOk result (λ message. (h : Service) → option_map text_in message ≡ option_map (λ o. compact_text o.message)
-        (update_to h chains.now.db (asked_of tables.now) (told_so (printable_data monitor.entry) (notation_of kind) tables.now))) }
+    ensures { IfOk result (λ message. option_map text_in message
+        ≡ option_map (notified_text (notation_of kind) monitor.now) (updates_of (later_job (notation_of kind) parts.entry.items))) }
 {
-    let Some(body) = compose_updates(alloc, chains, kind, tables)? else {
+    let Some(body) = compose_updates(alloc, kind, parts)? else {
         return Ok(None);
     };
     Ok(Some(around_updates(alloc, kind, monitor, body)?))
 }
 
-/// The first reply of a monitor with these tables, to a request with this id. The costs are those of
-/// `odb_monitor::compose`.
+/// The body of the first reply of a monitor with these tables. The costs are those of `odb_monitor::compose`.
 pub(crate) fn compose_first<'a>(
     alloc: Global,
     chains: &'a Chains,
     kind: Kind,
-    id: Printable<'_>,
     tables: &[Owed<'a>],
-) -> Result<Message, AllocError>
+) -> Result<Vec<u8>, AllocError>
     requires { All (IsKnown chains.now) tables.now }
-    ensures { IfOk result (λ message. (h : Service) (d i : Data) → id_of d ≡ printable_data id.entry → text_in message
-        ≡ compact_text (first_out h chains.now.db d (record { id = i; notation = notation_of kind; requests = asked_of tables.now })).message) }
+    ensures { IfOk result (λ body. body.items
+        ≡ compact_text (first_updates chains.now.db (notation_of kind) (asked_of tables.now))) }
 {
     let parts = first_parts_of(alloc, chains, tables)?;
     let Some(body) = compose(alloc, &Job::new(kind, true, parts))? else {
         unreachable!();
     };
-    around_result(alloc, id, body)
+    Ok(body)
 }

@@ -9,7 +9,7 @@ use serde_json::Value;
 use std::alloc::{AllocError, Global};
 use std::marker::Model;
 
-/// The id of a monitor, with its compact text, by which ids are compared.
+/// The id of a monitor, with its compact text, by which ids are compared. It has no unsupported number.
 #[derive(Drop)]
 pub struct Id {
     value: Value,
@@ -17,11 +17,12 @@ pub struct Id {
 }
 
 impl Model for Id {
-    ghost use Rattle.std.specs.Prelude.{◌≡◌};
+    ghost use Rattle.std.specs.Prelude.{◌≡◌, false};
     ghost use Rattle.serde_json.specs.View as json;
     ghost use Rattle.serde_json.specs.Written.{compact_text};
     ghost use Rattle.odb_schema.specs.Json.{Data};
     ghost use Rattle.odb_schema.specs.JsonCode.{data_code};
+    ghost use Rattle.odb_wire.specs.Message.{has_left_out};
 
     ghost Value = { Data };
 
@@ -29,7 +30,7 @@ impl Model for Id {
 
     ghost view = { λ i. json.view i.value };
 
-    ghost invariant = { λ i. i.text.items ≡ compact_text (json.view i.value) };
+    ghost invariant = { λ i. (i.text.items ≡ compact_text (json.view i.value)) × (has_left_out (json.view i.value) ≡ false) };
 }
 
 impl Id {
@@ -47,6 +48,16 @@ impl Id {
         ensures { result ≡ bytes_eq (compact_text self.now) (compact_text other.now) }
     {
         self.text.as_slice() == other.text.as_slice()
+    }
+
+    /// It, to be printed. O(n) for a text of n bytes.
+    pub(crate) fn printable(&self) -> Printable<'_>
+        ensures { printable_data result ≡ self.now }
+    {
+        let Some(id) = Printable::of(&self.value) else {
+            unreachable!();
+        };
+        id
     }
 }
 

@@ -4,12 +4,14 @@
 //! unless its own page says otherwise. A call whose result has no such error takes no memory.
 #![tactic(auto)]
 
+mod again;
 mod asked;
 mod carrying;
 mod changing;
 mod composing;
 mod copying;
 mod ending;
+mod foreseen;
 mod granted;
 mod id;
 mod item;
@@ -25,6 +27,8 @@ mod queue;
 mod session;
 mod sessions;
 mod starting;
+mod taking;
+mod under;
 
 pub use changing::Changing;
 pub use id::Id;

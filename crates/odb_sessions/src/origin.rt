@@ -1,10 +1,15 @@
 //! Replies that are begun, and wait for their results. [P 7.3, 10.1]
 ghost use Rattle.std.specs.Prelude.{◌≡◌, false, IfOk};
+ghost use Rattle.serde_json.specs.Data.{Data};
+ghost use Rattle.serde_json.specs.Written.{compact_text};
+ghost use Rattle.odb_rpc.specs.Message.{reply};
+ghost use Rattle.odb_sessions.specs.Represented.Composed.{text_in};
 ghost use Rattle.odb_wire.specs.Message.{has_left_out, id_of};
 ghost use Rattle.odb_wire.specs.Shown.{request_data};
 
+use crate::composing::Message;
 use crate::granted::Granted;
-use odb_rpc::{before_result, reply_id};
+use odb_rpc::{after_result, before_result, reply_id};
 use odb_wire::Request;
 use std::alloc::{AllocError, Global};
 use std::marker::Model;
@@ -39,6 +44,20 @@ impl Origin {
         let before = before_result(alloc, reply_id(request))?;
         let request = Granted::new(alloc, request)?;
         Ok(Origin { before, request })
+    }
+
+    /// The reply, with the result whose text this is. O(n) for an id of n bytes.
+    pub(crate) fn reply(&self, alloc: Global, body: Vec<u8>) -> Result<Message, AllocError>
+        ensures { IfOk result (λ message. (d : Data) → body.items ≡ compact_text d
+            → text_in message ≡ compact_text (reply (id_of self.now) d)) }
+    {
+        let before = self.before.clone()?;
+        let after = Vec::from_slice(alloc, after_result())?;
+        Ok(Message {
+            before,
+            body,
+            after,
+        })
     }
 
     /// An equal one. O(bytes).

@@ -1,18 +1,25 @@
-//! Whether something is due to the client of a monitor. [P 10.1]
-ghost use Rattle.std.specs.Prelude.{◌≡◌, IfOk, flat_map, is_some, map, option_map};
+//! What is due to the client of a monitor, composed. [P 9.5, 10.1]
+ghost use Rattle.std.specs.Prelude.{◌≡◌, IfOk, Some, length, map, option_map};
 ghost use Rattle.std.specs.List.{All};
+ghost use Rattle.serde_json.specs.Written.{compact_text};
 ghost use Rattle.odb_chain.specs.Chains as model;
 ghost use Rattle.odb_service.specs.Service.{Service};
-ghost use Rattle.odb_sessions.specs.Composed.{IsKnown};
+ghost use Rattle.odb_service.specs.Session.{refilter};
+ghost use Rattle.odb_sessions.specs.Composed.{IsKnown, all_asked_as, first_updates, part_to};
+ghost use Rattle.odb_sessions.specs.Foreseen.{as_told, seen_ahead, update_text};
 ghost use Rattle.odb_sessions.specs.Held.{marks_in, monitor_of, watch_of};
-ghost use Rattle.odb_sessions.specs.Planned.{plan_rest, update_of};
-ghost use Rattle.odb_sessions.specs.Represented.Planned.{whole_update};
+ghost use Rattle.odb_sessions.specs.Represented.Composed.{text_in};
+ghost use Rattle.odb_sessions.specs.Represented.Under.{filters_in};
 ghost use Rattle.odb_sessions.specs.Tied.{AreLive};
 
-use crate::composing::owes_update;
-use crate::monitor::Monitor;
-use crate::owed::{Owed, all_owed};
+use crate::again::parts_again;
+use crate::composing::{Message, compose_first, compose_update, parts_of};
+use crate::monitor::{Monitor, Watching};
+use crate::owed::{Owed, all_owed, all_owed_as};
+use crate::under::{Under, requests_under};
 use odb_chain::Chains;
+use odb_monitor::Part;
+use odb_request::Request;
 use std::alloc::{AllocError, Global};
 
 impl Monitor {
@@ -24,48 +31,111 @@ impl Monitor {
         all_owed(alloc, self.tables.as_slice())
     }
 
-    /// Whether its client is owed an update. The costs are those of `owes_update`.
-    pub(crate) fn owes<'a>(&'a self, alloc: Global, chains: &'a Chains) -> Result<bool, AllocError>
+    /// What its first reply tells. The costs are those of `compose_first`.
+    pub(crate) fn first_updates<'a>(
+        &'a self,
+        alloc: Global,
+        chains: &'a Chains,
+    ) -> Result<Vec<u8>, AllocError>
         requires { AreLive chains.now (marks_in self.now) }
-        ensures { IfOk result (λ owes. (h : Service)
-            → owes ≡ is_some (update_of h chains.now.db (watch_of self.now).requests (monitor_of self.now))) }
+        ensures { IfOk result (λ body. body.items
+            ≡ compact_text (first_updates chains.now.db self.now.notation (watch_of self.now).requests)) }
     {
         let tables = self.owed(alloc)?;
-        owes_update(alloc, chains, self.kind, tables.as_slice())
+        compose_first(alloc, chains, self.kind, tables.as_slice())
     }
-}
 
-/// What monitors have due once a session's queue is empty: how many are brought to now, and then to which of
-/// them an update is sent.
-#[derive(Drop)]
-pub(crate) struct Rest<'a> {
-    pub(crate) monitors: usize,
-    pub(crate) due: Option<&'a Monitor>,
-}
-
-/// What these monitors have due. The costs are those of `owes_update` for each monitor up to the first that is
-/// owed something.
-pub(crate) fn rest_due<'a>(
-    alloc: Global,
-    chains: &'a Chains,
-    monitors: &'a [Monitor],
-) -> Result<Rest<'a>, AllocError>
-    requires { AreLive chains.now (flat_map marks_in monitors.now) }
-    ensures { IfOk result (λ rest. (h : Service) → plan_rest h chains.now.db (map monitor_of monitors.now)
-        ≡ record { items = 0; monitors = rest.monitors; out = option_map (λ m. whole_update m.now) rest.due }) }
-{
-    for place in 0..monitors.len() {
-        let monitor = &monitors[place];
-        let owes = monitor.owes(alloc, chains)?;
-        if owes {
-            return Ok(Rest {
-                monitors: place + 1,
-                due: Some(monitor),
-            });
+    /// The update that its client is owed under these filters, where nothing of it was foreseen; `None` where it
+    /// is owed nothing. The costs are those of `compose_update` and, for each table, of
+    /// `odb_chain::Chains::since`.
+    pub(crate) fn update<'a>(
+        &'a self,
+        alloc: Global,
+        chains: &'a Chains,
+        under: Under<'a>,
+    ) -> Result<Option<Message>, AllocError>
+        requires { AreLive chains.now (marks_in self.now) }
+        ensures { IfOk result (λ message. (h : Service) → option_map text_in message
+            ≡ update_text h chains.now.db (refilter (filters_in under.entry) (watch_of self.now).requests) (seen_ahead chains.now.db (as_told self.now))) }
+    {
+        match under {
+            Under::Asked => self.update_asked(alloc, chains),
+            Under::Changed(_) => self.update_under(alloc, chains, under),
         }
     }
-    Ok(Rest {
-        monitors: monitors.len(),
-        due: None,
-    })
+
+    /// The update that its client is owed.
+    fn update_asked<'a>(
+        &'a self,
+        alloc: Global,
+        chains: &'a Chains,
+    ) -> Result<Option<Message>, AllocError>
+        requires { AreLive chains.now (marks_in self.now) }
+        ensures { IfOk result (λ message. (h : Service) → option_map text_in message
+            ≡ update_text h chains.now.db (watch_of self.now).requests (monitor_of self.now)) }
+    {
+        let tables = self.owed(alloc)?;
+        let parts = parts_of(alloc, chains, tables.as_slice())?;
+        compose_update(alloc, self.kind, &self.id, parts)
+    }
+
+    /// The update that its client is owed under these filters.
+    fn update_under<'a>(
+        &'a self,
+        alloc: Global,
+        chains: &'a Chains,
+        under: Under<'a>,
+    ) -> Result<Option<Message>, AllocError>
+        requires { AreLive chains.now (marks_in self.now) }
+        ensures { IfOk result (λ message. (h : Service) → option_map text_in message
+            ≡ update_text h chains.now.db (refilter (filters_in under.entry) (watch_of self.now).requests) (monitor_of self.now)) }
+    {
+        let requests = requests_under(alloc, self.tables.as_slice(), under)?;
+        let parts = parts_under(
+            alloc,
+            chains,
+            self.tables.as_slice(),
+            requests.as_slice(),
+        )?;
+        compose_update(alloc, self.kind, &self.id, parts)
+    }
+
+    /// The update that its client is owed under these filters, where it was told of its tables as they are now
+    /// under the filters told. The costs are those of `compose_update`.
+    pub(crate) fn update_again<'a>(
+        &'a self,
+        alloc: Global,
+        chains: &'a Chains,
+        told: Under<'a>,
+        under: Under<'a>,
+    ) -> Result<Option<Message>, AllocError>
+        requires { AreLive chains.now (marks_in self.now) }
+        ensures { IfOk result (λ message. (h : Service) → option_map text_in message
+            ≡ update_text h chains.now.db (refilter (filters_in under.entry) (watch_of self.now).requests) (seen_ahead chains.now.db (record { held = self.now; told = Some (filters_in told.entry) }))) }
+    {
+        let requests = requests_under(alloc, self.tables.as_slice(), under)?;
+        let parts = parts_again(
+            alloc,
+            chains,
+            self.tables.as_slice(),
+            told,
+            requests.as_slice(),
+        )?;
+        compose_update(alloc, self.kind, &self.id, parts)
+    }
+}
+
+/// The parts for these tables, as if these were the requests.
+fn parts_under<'a>(
+    alloc: Global,
+    chains: &'a Chains,
+    tables: &'a [Watching],
+    requests: &'a [Request],
+) -> Result<Vec<Part<'a>>, AllocError>
+    requires many { length requests.now ≡ length tables.now }
+    requires known { All (IsKnown chains.now) (all_asked_as tables.now requests.now) }
+    ensures { IfOk result (λ parts. parts.items ≡ map (part_to chains.now.db) (all_asked_as tables.now requests.now)) }
+{
+    let owed = all_owed_as(alloc, tables, requests)?;
+    parts_of(alloc, chains, owed.as_slice())
 }

@@ -21,7 +21,7 @@ use std::sync::Arc;
 /// A session's items, the earliest first, with the count of replies among them.
 #[derive(Drop)]
 pub(crate) struct Queue {
-    items: VecDeque<Item>,
+    pub(crate) items: VecDeque<Item>,
     replies: usize,
 }
 

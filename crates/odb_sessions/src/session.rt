@@ -33,8 +33,8 @@ const MAX_OWED: usize = 256;
 /// A session: what is queued for it, and the monitors whose first reply was taken, the earliest first.
 #[derive(Drop)]
 pub(crate) struct Session {
-    queue: Queue,
-    monitors: Vec<Monitor>,
+    pub(crate) queue: Queue,
+    pub(crate) monitors: Vec<Monitor>,
 }
 
 impl Model for Session {

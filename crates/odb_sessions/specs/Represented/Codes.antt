@@ -1,20 +1,21 @@
 -- The codes of what contracts see of the code's types.
-use Rattle.std.specs.Prelude.{◌≡◌, ◌⊎◌, ℕ, List, refl}
+use Rattle.std.specs.Prelude.{◌≡◌, ◌⊎◌, ℕ, List, Option, refl}
 use mathlib.Core.Logic.{inl, inr}
 use Rattle.std.specs.Ordering.{nat_cmp}
-use Rattle.std.specs.Coded.{Coded, code_by, coded×, coded⊎, coded_ℕ, coded_list}
+use Rattle.std.specs.Coded.{Coded, code_by, coded×, coded⊎, coded_ℕ, coded_list, coded_option}
 use Rattle.odb_atoms.specs.FinMap as map
-use Rattle.odb_chain.specs.Chains.{Mark}
-use Rattle.odb_chain.specs.Represented.Codes.{mark_code}
+use Rattle.odb_chain.specs.Chains.{Chains, Mark}
+use Rattle.odb_chain.specs.Represented.Codes.{chains_code, mark_code}
 use Rattle.odb_cond.specs.Filter.{Filter}
 use Rattle.odb_request.specs.Request.{Notation, Request, Shape}
 use Rattle.odb_request.specs.Represented.Codes.{filter_code, notation_code, request_code, shape_code}
 use Rattle.odb_schema.specs.Json.{Data}
 use Rattle.odb_schema.specs.JsonCode.{data_code}
-use Rattle.odb_service.specs.Session.{Item, Session, Watch}
-use Rattle.odb_service.specs.WorldCode.{item_code, session_code, watch_code}
+use Rattle.odb_service.specs.Session.{Item, Monitor, Session, Watch}
+use Rattle.odb_service.specs.WorldCode.{item_code, monitor_code, session_code, watch_code}
 use Rattle.odb_tables.specs.Database.{Db, db_code}
 use Rattle.odb_sessions.specs.Book.{Book}
+use Rattle.odb_sessions.specs.Foreseen.{Ahead, Filters, Foreseen}
 use Rattle.odb_sessions.specs.Held.{Held, Kept, Queued, Sessions, Watched, due, plain}
 use Rattle.odb_sessions.specs.Named.{Named}
 use Rattle.odb_sessions.specs.Started.{Starting}
@@ -60,3 +61,12 @@ changing_code =
 
 abbrev pub named_code : Coded Named
 named_code = code_by (Data × (Notation × List Shape)) (coded× data_code (coded× notation_code (coded_list shape_code))) (λ n. (n.id, (n.notation, n.shapes))) (λ p. record { id = p.0; notation = p.1.0; shapes = p.1.1 }) (λ n. refl)
+
+abbrev pub foreseen_code : Coded Foreseen
+foreseen_code = code_by (Chains × List Monitor) (coded× chains_code (coded_list monitor_code)) (λ f. (f.chains, f.monitors)) (λ p. record { chains = p.0; monitors = p.1 }) (λ f. refl)
+
+abbrev pub filters_code : Coded Filters
+filters_code = coded_list (coded× (coded_list coded_ℕ) filter_code)
+
+abbrev pub ahead_code : Coded Ahead
+ahead_code = code_by (Held × Option Filters) (coded× held_code (coded_option filters_code)) (λ a. (a.held, a.told)) (λ p. record { held = p.0; told = p.1 }) (λ a. refl)

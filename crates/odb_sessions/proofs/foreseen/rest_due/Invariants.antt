@@ -1,7 +1,7 @@
 use Rattle.std.proofs.Common.{◌≡◌, ◌≤◌, drop, length}
 use Rattle.odb_service.specs.Service.{Service}
 use Rattle.odb_sessions.proofs.Rests.{after_none, rest_of}
-use Rattle.odb_sessions.proofs.planning.rest_due.Given as goal
+use Rattle.odb_sessions.proofs.foreseen.rest_due.Given as goal
 
 abbrev pub invariant-loop-place : goal.invariant-loop-place
 invariant-loop-place l = record {

@@ -1,0 +1,145 @@
+-- Monitors that are foreseen: their marks, the first that has an id, and what becomes of it.
+use Rattle.std.proofs.Common.{◌≡◌, ℕ, zero, suc, ◌+◌, ◌<◌, arith, Bool, true, false, cond, not, nat_lt, List, [], ◌∷◌, ◌++◌, find, get_or, length, map, position, slice_index_or, slice_set, Option, Some, None, refl, subst, sym, ap, ◌∙◌}
+use Rattle.std.specs.Prelude.{flat_map, option_and_then}
+use Rattle.std.specs.List.{position_or_len}
+use Rattle.std.proofs.lemmas.Bool.Decides.{nat_tests}
+use Rattle.std.proofs.lemmas.Option.{none-some, same_Some}
+use Rattle.odb_chain.specs.Chains.{Chains}
+use Rattle.odb_monitor.specs.View.{query}
+use Rattle.odb_request.specs.Request.{update}
+use Rattle.odb_schema.specs.Json.{Data, null}
+use Rattle.odb_schema.specs.Schema.{Schema}
+use Rattle.odb_service.specs.Server.{served_by}
+use Rattle.odb_service.specs.Session.{Monitor, at_first, leaves, refilter}
+use Rattle.odb_sessions.specs.Asked.{is_same}
+use Rattle.odb_sessions.specs.Foreseen.{Ahead, Filters, as_told, marks_ahead, seen_ahead}
+use Rattle.odb_sessions.specs.Held.{Held, marks_in, monitor_of}
+use Rattle.odb_sessions.specs.Planned.{Due, due, update_of}
+use Rattle.odb_sessions.specs.Represented.Under.{filters_in, item_in}
+use Rattle.odb_sessions.specs.Tied.{AreLive}
+use Rattle.odb_sessions.specs.declared.under.Under.{Under}
+use Rattle.odb_sessions.specs.declared.under.Under.TheVariants.{Asked, Changed}
+use Rattle.odb_sessions.proofs.NamedReplays.{made_found, made_nowhere}
+use Rattle.odb_sessions.proofs.Releases.{live-left, live-right}
+use Rattle.odb_sessions.proofs.Updates.{refilter_none, told_as}
+use Rattle.odb_tables.specs.Database.{Db}
+
+-- ---- marks
+
+pub marks_told : (xs : List Held) → marks_ahead (map as_told xs) ≡ flat_map marks_in xs
+marks_told [] = refl
+marks_told (x ∷ xs) = ap (λ ms. marks_in x ++ ms) (marks_told xs)
+
+pub seen_told : (db : Db) (xs : List Held) → map (seen_ahead db) (map as_told xs) ≡ map monitor_of xs
+seen_told db [] = refl
+seen_told db (x ∷ xs) = ap (λ ms. monitor_of x ∷ ms) (seen_told db xs)
+
+pub live_ahead : (k : Chains) (xs : List Ahead) (i : ℕ) (d : Ahead) → i < length xs → AreLive k (marks_ahead xs) → AreLive k (marks_in (get_or xs i d).held)
+live_ahead k [] i d low live = absurd (omega (arith, low))
+live_ahead k (x ∷ xs) zero d low live = live-left k (marks_in x.held) (marks_ahead xs) live
+live_ahead k (x ∷ xs) (suc i) d low live = live_ahead k xs i d (omega (arith, low)) (live-right k (marks_in x.held) (marks_ahead xs) live)
+
+pub same_marks : (xs : List Ahead) (i : ℕ) (d y : Ahead) → i < length xs → y.held ≡ (get_or xs i d).held → marks_ahead (slice_set xs i y) ≡ marks_ahead xs
+same_marks [] i d y low is = absurd (omega (arith, low))
+same_marks (x ∷ xs) zero d y low is = ap (λ z. marks_in z ++ marks_ahead xs) is
+same_marks (x ∷ xs) (suc i) d y low is = ap (λ ms. marks_in x.held ++ ms) (same_marks xs i d y (omega (arith, low)) is)
+
+abbrev nobody : Ahead
+nobody = as_told (record { id = null; notation = update; tables = [] })
+
+-- ---- positions
+
+module _ {A B : Type 0} (g : A → B) (p : B → Bool) where
+  abbrev at : List A → ℕ
+  at xs = position_or_len (λ x. p (g x)) xs
+
+  found_at : (d : A) (xs : List A) → find p (map g xs) ≡ cond (nat_lt (at xs) (length xs)) (Some (g (slice_index_or xs (at xs) d))) None
+  found_at d [] = refl
+  found_at d (x ∷ xs) =
+      let n : ℕ = at xs in
+      let one_more : 1 + n ≡ suc n = omega arith in
+      let below : nat_lt (suc n) (suc (length xs)) ≡ nat_lt n (length xs) = grind (arith, nat_tests) in
+      let some : nat_lt 0 (suc (length xs)) ≡ true = grind (arith, nat_tests) in
+      elim (p (g x)) as (λ b. cond b (Some (g x)) (find p (map g xs)) ≡ cond (nat_lt (cond (not b) (1 + n) 0) (suc (length xs))) (Some (g (slice_index_or (x ∷ xs) (cond (not b) (1 + n) 0) d))) None) [
+        | true ↦ ap (λ b. cond b (Some (g x)) None) (sym some)
+        | false ↦
+            found_at d xs ∙ ap (λ b. cond b (Some (g (slice_index_or xs n d))) None) (sym below)
+            ∙ ap (λ m. cond (nat_lt m (suc (length xs))) (Some (g (slice_index_or (x ∷ xs) m d))) None) (sym one_more)
+      ]
+
+  found_place : (d : A) (xs : List A) (k : ℕ) → position (λ x. p (g x)) xs ≡ Some k → find p (map g xs) ≡ Some (g (slice_index_or xs k d))
+  found_place d xs k e = found_at d xs ∙ by (nat_lt (at xs) (length xs)) e
+    where
+      by : (b : Bool) → cond b (Some (at xs)) None ≡ Some k → cond b (Some (g (slice_index_or xs (at xs) d))) None ≡ Some (g (slice_index_or xs k d))
+      by true e = ap (λ n. Some (g (slice_index_or xs n d))) (same_Some (at xs) k e)
+      by false e = absurd (none-some k e)
+
+  found_nowhere : (d : A) (xs : List A) → position (λ x. p (g x)) xs ≡ None → find p (map g xs) ≡ None
+  found_nowhere d xs e = found_at d xs ∙ by (nat_lt (at xs) (length xs)) e
+    where
+      by : (b : Bool) → cond b (Some (at xs)) None ≡ None → cond b (Some (g (slice_index_or xs (at xs) d))) None ≡ None
+      by true e = absurd (none-some (at xs) (sym e))
+      by false e = refl
+
+  module _ (f : B → B) (F : A → A) (same : (x : A) → g (F x) ≡ f (g x)) where
+    mapped_first : (xs : List A) → at_first p f (map g xs) ≡ map g (at_first (λ x. p (g x)) F xs)
+    mapped_first [] = refl
+    mapped_first (x ∷ xs) = by (p (g x)) (mapped_first xs)
+      where
+        by : (b : Bool) → at_first p f (map g xs) ≡ map g (at_first (λ x. p (g x)) F xs)
+            → cond b (f (g x) ∷ map g xs) (g x ∷ at_first p f (map g xs)) ≡ map g (cond b (F x ∷ xs) (x ∷ at_first (λ x. p (g x)) F xs))
+        by true rest = ap (λ b. b ∷ map g xs) (sym (same x))
+        by false rest = ap (λ bs. g x ∷ bs) rest
+
+-- ---- the first monitor that has an id
+
+abbrev has : Data → Monitor → Bool
+has i m = is_same i m.watch.id
+
+abbrev brought_under : Db → Filters → Monitor → Monitor
+brought_under db fs m = record m { view = query db (refilter fs m.watch.requests) }
+
+abbrev due_under : Schema → Db → Filters → Monitor → Option Due
+due_under s db fs m = update_of (served_by s) db (refilter fs m.watch.requests) m
+
+due_is : (s : Schema) (db : Db) (i : Data) (u : Under) (ms : List Monitor) → option_and_then (due_under s db (filters_in u)) (find (has i) ms) ≡ due (served_by s) db (item_in i u) ms
+due_is s db i Asked ms = λ j. option_and_then (λ (m : Monitor). update_of (served_by s) db (refilter_none m.watch.requests j) m) (find (has i) ms)
+due_is s db i (Changed c) ms = refl
+
+leaves_is : (s : Schema) (db : Db) (i : Data) (u : Under) (ms : List Monitor) → at_first (has i) (brought_under db (filters_in u)) ms ≡ leaves (served_by s) db (item_in i u) ms
+leaves_is s db i Asked ms = λ j. at_first (has i) (λ (m : Monitor). record m { view = query db (refilter_none m.watch.requests j) }) ms
+leaves_is s db i (Changed c) ms = refl
+
+module _ (s : Schema) (db : Db) (i : Data) (u : Under) (xs : List Ahead) where
+  abbrev ms : List Monitor
+  ms = map (seen_ahead db) xs
+
+  abbrev is_it : Ahead → Bool
+  is_it x = is_same i x.held.id
+
+  abbrev bring : Ahead → Ahead
+  bring x = told_as x.held (filters_in u)
+
+  -- there is none
+  pub due_nowhere : position is_it xs ≡ None → due (served_by s) db (item_in i u) ms ≡ None
+  due_nowhere none = sym (due_is s db i u ms) ∙ ap (option_and_then (due_under s db (filters_in u))) (found_nowhere (seen_ahead db) (has i) nobody xs none)
+
+  pub leaves_nowhere : position is_it xs ≡ None → leaves (served_by s) db (item_in i u) ms ≡ ms
+  leaves_nowhere none =
+      sym (leaves_is s db i u ms)
+      ∙ mapped_first (seen_ahead db) (has i) (brought_under db (filters_in u)) bring (λ x. refl) xs
+      ∙ ap (map (seen_ahead db)) (made_nowhere is_it bring nobody xs none)
+
+  -- it stands at this place
+  pub due_found : (x : Ahead) (k : ℕ) → position is_it xs ≡ Some k → x ≡ slice_index_or xs k x → due (served_by s) db (item_in i u) ms ≡ due_under s db (filters_in u) (seen_ahead db x)
+  due_found x k some at =
+      sym (due_is s db i u ms)
+      ∙ ap (option_and_then (due_under s db (filters_in u))) (found_place (seen_ahead db) (has i) x xs k some)
+      ∙ ap (λ y. due_under s db (filters_in u) (seen_ahead db y)) (sym at)
+
+  pub leaves_found : (x y : Ahead) (k : ℕ) → position is_it xs ≡ Some k → x ≡ slice_index_or xs k x → y ≡ bring x → leaves (served_by s) db (item_in i u) ms ≡ map (seen_ahead db) (slice_set xs k y)
+  leaves_found x y k some at is =
+      sym (leaves_is s db i u ms)
+      ∙ mapped_first (seen_ahead db) (has i) (brought_under db (filters_in u)) bring (λ x. refl) xs
+      ∙ ap (map (seen_ahead db)) (made_found is_it bring x xs k some)
+      ∙ ap (λ z. map (seen_ahead db) (slice_set xs k z)) (ap bring (sym at) ∙ sym is)

@@ -1,0 +1,54 @@
+use Rattle.std.proofs.Common.{rules, ◌≡◌, Some, is_some, option_map, sym, ap, ◌∙◌}
+use Rattle.std.proofs.lemmas.Result.{IfOk-weaker}
+use Rattle.std.specs.Arc.{arc_value}
+use Rattle.odb_service.specs.Server.{served_by}
+use Rattle.odb_service.specs.Session as machine
+use Rattle.odb_service.specs.Session.{leaves, shift}
+use Rattle.odb_sessions.specs.Foreseen.{due_text}
+use Rattle.odb_sessions.specs.Planned.{due}
+use Rattle.odb_sessions.specs.Represented.Queued.{filters_of}
+use Rattle.odb_sessions.specs.declared.item.Item.{Item}
+use Rattle.odb_sessions.specs.declared.item.Item.TheVariants as item
+use Rattle.odb_sessions.proofs.Leading.{seen_item}
+use Rattle.odb_sessions.proofs.foreseen.Planner.give.Goals as goal
+
+pub returns-in-Start-clause-text : goal.returns-in-Start-clause-text
+returns-in-Start-clause-text c =
+    let db = c.args.self.now.chains.db in
+    let ms = c.args.self.now.monitors in
+    let is : c.args.item.now ≡ item.Start c.in-Start.start = search rules in
+    IfOk-weaker c.begin.result _ _
+    (λ coming e. λ s. e (served_by s) (Some (seen_item c.args.item.now)) ∙ ap (λ (x : Item). option_map (due_text (served_by s) db) (due (served_by s) db (seen_item x) ms)) (sym is))
+    c.begin.ensures.text
+
+pub returns-in-Shift-clause-comes : goal.returns-in-Shift-clause-comes
+returns-in-Shift-clause-comes c =
+    let db = c.args.self.now.chains.db in
+    let ms = c.args.self.now.monitors in
+    let is : c.args.item.now ≡ item.Shift c.in-Shift.shift = search rules in
+    let id : c.deref-in-Shift.result.now ≡ arc_value c.in-Shift.shift.id = search rules in
+    let changes : c.deref-in-Shift-2.result.now ≡ arc_value c.in-Shift.shift.changes = search rules in
+    let same : shift c.deref-in-Shift.result.now (filters_of c.deref-in-Shift-2.result.now) ≡ seen_item c.args.item.now = (λ i. shift (id i) (filters_of (changes i))) ∙ ap seen_item (sym is) in
+    IfOk-weaker c.bring-in-Shift.result _ _ (λ coming e. λ s. e s ∙ ap (λ (j : machine.Item). is_some (due (served_by s) db j ms)) same) c.bring-in-Shift.ensures.comes
+
+pub returns-in-Shift-clause-text : goal.returns-in-Shift-clause-text
+returns-in-Shift-clause-text c =
+    let db = c.args.self.now.chains.db in
+    let ms = c.args.self.now.monitors in
+    let is : c.args.item.now ≡ item.Shift c.in-Shift.shift = search rules in
+    let id : c.deref-in-Shift.result.now ≡ arc_value c.in-Shift.shift.id = search rules in
+    let changes : c.deref-in-Shift-2.result.now ≡ arc_value c.in-Shift.shift.changes = search rules in
+    let same : shift c.deref-in-Shift.result.now (filters_of c.deref-in-Shift-2.result.now) ≡ seen_item c.args.item.now = (λ i. shift (id i) (filters_of (changes i))) ∙ ap seen_item (sym is) in
+    IfOk-weaker c.bring-in-Shift.result _ _
+    (λ coming e. λ s. e s (Some (seen_item c.args.item.now)) ∙ ap (λ (j : machine.Item). option_map (due_text (served_by s) db) (due (served_by s) db j ms)) same)
+    c.bring-in-Shift.ensures.text
+
+pub returns-in-Shift-clause-passed : goal.returns-in-Shift-clause-passed
+returns-in-Shift-clause-passed c =
+    let db = c.args.self.now.chains.db in
+    let ms = c.args.self.now.monitors in
+    let is : c.args.item.now ≡ item.Shift c.in-Shift.shift = search rules in
+    let id : c.deref-in-Shift.result.now ≡ arc_value c.in-Shift.shift.id = search rules in
+    let changes : c.deref-in-Shift-2.result.now ≡ arc_value c.in-Shift.shift.changes = search rules in
+    let same : shift c.deref-in-Shift.result.now (filters_of c.deref-in-Shift-2.result.now) ≡ seen_item c.args.item.now = (λ i. shift (id i) (filters_of (changes i))) ∙ ap seen_item (sym is) in
+    IfOk-weaker c.bring-in-Shift.result _ _ (λ coming e. λ none s. e s ∙ ap (λ (j : machine.Item). leaves (served_by s) db j ms) same) c.bring-in-Shift.ensures.passed

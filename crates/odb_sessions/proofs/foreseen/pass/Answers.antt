@@ -1,0 +1,55 @@
+use Rattle.std.proofs.Common.{rules, ◌≡◌, ◌<◌, List, length, map, option_map, position, slice_index_or, Some, None, subst, sym, ap, ◌∙◌}
+use Rattle.odb_service.specs.Server.{served_by}
+use Rattle.odb_sessions.specs.Asked.{is_same}
+use Rattle.odb_sessions.specs.Foreseen.{Ahead, due_text}
+use Rattle.odb_sessions.specs.Held.{marks_in}
+use Rattle.odb_sessions.specs.Tied.{AreLive}
+use Rattle.odb_sessions.proofs.Aheads.{due_found, due_nowhere, leaves_found, leaves_nowhere, live_ahead, same_marks}
+use Rattle.odb_sessions.proofs.foreseen.pass.Goals as goal
+
+pub returns-in_default-clause-text : goal.returns-in_default-clause-text
+returns-in_default-clause-text c = λ s.
+    let none : position (λ (a : Ahead). is_same c.args.id.now a.held.id) c.args.monitors.now.items ≡ None = search rules in
+    sym (ap (option_map (due_text (served_by s) c.args.chains.now.db)) (due_nowhere s c.args.chains.now.db c.args.id.now c.args.under c.args.monitors.now.items none))
+
+pub returns-in_default-clause-passed : goal.returns-in_default-clause-passed
+returns-in_default-clause-passed c = λ s.
+    let none : position (λ (a : Ahead). is_same c.args.id.now a.held.id) c.args.monitors.now.items ≡ None = search rules in
+    sym (leaves_nowhere s c.args.chains.now.db c.args.id.now c.args.under c.args.monitors.now.items none)
+
+pub update-requires : goal.update-requires
+update-requires c =
+    let xs : List Ahead = c.args.monitors.now.items in
+    let k = c.in-Some.place in
+    let x : Ahead = c.index.result.now in
+    let low : k < length xs = search rules in
+    let at : x ≡ slice_index_or xs k x = search rules in
+    subst (λ (y : Ahead). AreLive c.args.chains.now (marks_in y.held)) (sym at) (live_ahead c.args.chains.now xs k x low c.requires)
+
+pub returns-clause-text : goal.returns-clause-text
+returns-clause-text c = λ s.
+    let db = c.args.chains.now.db in
+    let xs : List Ahead = c.args.monitors.now.items in
+    let k = c.in-Some.place in
+    let x : Ahead = c.index.result.now in
+    let some : position (λ (a : Ahead). is_same c.args.id.now a.held.id) xs ≡ Some k = search rules in
+    let at : x ≡ slice_index_or xs k x = search rules in
+    c.in_ok-message.ensures (served_by s) ∙ sym (ap (option_map (due_text (served_by s) db)) (due_found s db c.args.id.now c.args.under xs x k some at))
+
+pub returns-clause-passed : goal.returns-clause-passed
+returns-clause-passed c = λ s.
+    let xs : List Ahead = c.args.monitors.now.items in
+    let k = c.in-Some.place in
+    let x : Ahead = c.index-2.result.now in
+    let some : position (λ (a : Ahead). is_same c.args.id.now a.held.id) xs ≡ Some k = search rules in
+    let at : x ≡ slice_index_or xs k x = search rules in
+    sym (leaves_found s c.args.chains.now.db c.args.id.now c.args.under xs x c.brought.result k some at c.brought.ensures)
+
+pub returns-clause-live : goal.returns-clause-live
+returns-clause-live c =
+    let xs : List Ahead = c.args.monitors.now.items in
+    let k = c.in-Some.place in
+    let x : Ahead = c.index-2.result.now in
+    let low : k < length xs = search rules in
+    let at : x ≡ slice_index_or xs k x = search rules in
+    subst (AreLive c.args.chains.now) (sym (same_marks xs k x c.brought.result low (ap (λ (a : Ahead). a.held) c.brought.ensures ∙ ap (λ (a : Ahead). a.held) at))) c.requires

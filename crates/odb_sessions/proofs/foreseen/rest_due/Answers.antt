@@ -1,0 +1,87 @@
+use Rattle.std.proofs.Common.{rules, ◌≡◌, ◌+◌, ◌<◌, ◌≤◌, arith, true, false, List, ◌∷◌, drop, is_some, length, option_map, slice_index_or, subst, sym, ap, ◌∙◌}
+use Rattle.std.proofs.lemmas.List.{drop_more}
+use Rattle.odb_chain.specs.Chains.{Chains}
+use Rattle.odb_request.specs.Request.{Request}
+use Rattle.odb_sessions.specs.Foreseen.{Ahead, due_text, seen_ahead, update_text}
+use Rattle.odb_sessions.specs.Held.{marks_in, watch_of}
+use Rattle.odb_sessions.specs.Planned.{Plan}
+use Rattle.odb_sessions.specs.Represented.Composed.{text_in}
+use Rattle.odb_sessions.specs.Tied.{AreLive}
+use Rattle.odb_sessions.proofs.Aheads.{live_ahead}
+use Rattle.odb_sessions.proofs.Rests.{found_monitors, found_out, is_mapped, none_yet, rest_done, rest_none, rest_of}
+use Rattle.odb_sessions.proofs.Updates.{refilter_none}
+use Rattle.odb_sessions.proofs.foreseen.rest_due.Goals as goal
+
+pub loop-place-init : goal.loop-place-init
+loop-place-init c = record {
+  within = omega arith;
+  rest = λ h. none_yet (rest_of h c.args.chains.now.db c.args.monitors.now);
+}
+
+pub update-requires : goal.update-requires
+update-requires c =
+    let k : Chains = c.args.chains.now in
+    let xs : List Ahead = c.args.monitors.now in
+    let i = c.loop-place.place in
+    let x : Ahead = c.index-monitors-place.result in
+    let low : i < length xs = search rules in
+    let at : x ≡ slice_index_or xs i x = search rules in
+    subst (λ (y : Ahead). AreLive k (marks_in y.held)) (sym at) (live_ahead k xs i x low c.requires)
+
+pub loop-place-preserved : goal.loop-place-preserved
+loop-place-preserved c =
+    let db = c.args.chains.now.db in
+    let xs : List Ahead = c.args.monitors.now in
+    let i = c.loop-place.place in
+    let x : Ahead = c.index-monitors-place.result in
+    let low : i < length xs = search rules in
+    let at : x ≡ slice_index_or xs i x = search rules in
+    let step : drop i xs ≡ x ∷ drop (i + 1) xs = drop_more xs i x low ∙ ap (λ (y : Ahead). y ∷ drop (i + 1) xs) (sym at) in
+    let text = option_map text_in c.in_ok-message.message in
+    let none : is_some c.in_ok-message.message ≡ false = search rules in
+    record {
+      within = omega (arith, low);
+      rest = λ h. c.loop-place.invariant.rest h
+          ∙ rest_none h db xs i x step text (c.in_ok-message.ensures h ∙ ap (λ (qs : List Request). update_text h db qs (seen_ahead db x)) (refilter_none (watch_of x.held).requests)) (is_mapped text_in c.in_ok-message.message ∙ none);
+    }
+
+pub returns-then-is_some-clause-monitors : goal.returns-then-is_some-clause-monitors
+returns-then-is_some-clause-monitors c = λ h.
+    let db = c.args.chains.now.db in
+    let xs : List Ahead = c.args.monitors.now in
+    let i = c.loop-place.place in
+    let x : Ahead = c.index-monitors-place.result in
+    let low : i < length xs = search rules in
+    let at : x ≡ slice_index_or xs i x = search rules in
+    let step : drop i xs ≡ x ∷ drop (i + 1) xs = drop_more xs i x low ∙ ap (λ (y : Ahead). y ∷ drop (i + 1) xs) (sym at) in
+    let text = option_map text_in c.in_ok-message.message in
+    let some : is_some c.in_ok-message.message ≡ true = search rules in
+    sym (ap (λ (p : Plan). p.monitors) (c.loop-place.invariant.rest h)
+    ∙ found_monitors h db xs i x step text (c.in_ok-message.ensures h ∙ ap (λ (qs : List Request). update_text h db qs (seen_ahead db x)) (refilter_none (watch_of x.held).requests)) (is_mapped text_in c.in_ok-message.message ∙ some))
+
+pub returns-then-is_some-clause-text : goal.returns-then-is_some-clause-text
+returns-then-is_some-clause-text c = λ h.
+    let db = c.args.chains.now.db in
+    let xs : List Ahead = c.args.monitors.now in
+    let i = c.loop-place.place in
+    let x : Ahead = c.index-monitors-place.result in
+    let low : i < length xs = search rules in
+    let at : x ≡ slice_index_or xs i x = search rules in
+    let step : drop i xs ≡ x ∷ drop (i + 1) xs = drop_more xs i x low ∙ ap (λ (y : Ahead). y ∷ drop (i + 1) xs) (sym at) in
+    let text = option_map text_in c.in_ok-message.message in
+    let some : is_some c.in_ok-message.message ≡ true = search rules in
+    sym (ap (λ (p : Plan). option_map (due_text h db) p.out) (c.loop-place.invariant.rest h)
+    ∙ found_out h db xs i x step text (c.in_ok-message.ensures h ∙ ap (λ (qs : List Request). update_text h db qs (seen_ahead db x)) (refilter_none (watch_of x.held).requests)) (is_mapped text_in c.in_ok-message.message ∙ some))
+
+pub returns-clause-monitors : goal.returns-clause-monitors
+returns-clause-monitors c = λ h.
+    let xs : List Ahead = c.args.monitors.now in
+    let past : length xs ≤ c.loop-place.place = search rules in
+    sym (ap (λ (p : Plan). p.monitors) (c.loop-place.invariant.rest h ∙ rest_done h c.args.chains.now.db xs c.loop-place.place _ past c.loop-place.invariant.within (search rules)))
+
+pub returns-clause-text : goal.returns-clause-text
+returns-clause-text c = λ h.
+    let xs : List Ahead = c.args.monitors.now in
+    let past : length xs ≤ c.loop-place.place = search rules in
+    let within : c.loop-place.place ≤ length xs = c.loop-place.invariant.within in
+    sym (ap (λ (p : Plan). option_map (due_text h c.args.chains.now.db) p.out) (c.loop-place.invariant.rest h ∙ rest_done h c.args.chains.now.db xs c.loop-place.place c.loop-place.place past within (omega (arith, past, within))))

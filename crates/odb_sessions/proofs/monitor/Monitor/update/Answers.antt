@@ -1,0 +1,20 @@
+use Rattle.std.proofs.Common.{rules, ◌≡◌, List, sym, ap, ◌∙◌}
+use Rattle.std.proofs.lemmas.Result.{IfOk-weaker}
+use Rattle.odb_request.specs.Request.{Request}
+use Rattle.odb_service.specs.Session.{refilter}
+use Rattle.odb_sessions.specs.Foreseen.{update_text}
+use Rattle.odb_sessions.specs.Held.{Held, monitor_of, watch_of}
+use Rattle.odb_sessions.specs.Represented.Under.{filters_in}
+use Rattle.odb_sessions.specs.declared.under.Under.{Under}
+use Rattle.odb_sessions.specs.declared.under.Under.TheVariants as under
+use Rattle.odb_sessions.proofs.Updates.{refilter_none}
+use Rattle.odb_sessions.proofs.monitor.Monitor.update.Goals as goal
+
+pub returns-in-Asked : goal.returns-in-Asked
+returns-in-Asked c =
+    let x : Held = c.args.self.now in
+    let qs : List Request = (watch_of x).requests in
+    let is : c.args.under ≡ under.Asked = search rules in
+    IfOk-weaker c.update_asked.result _ _
+    (λ message e. λ h. e h ∙ ap (λ (rs : List Request). update_text h c.args.chains.now.db rs (monitor_of x)) (sym (refilter_none qs) ∙ ap (λ (u : Under). refilter (filters_in u) qs) (sym is)))
+    c.update_asked.ensures

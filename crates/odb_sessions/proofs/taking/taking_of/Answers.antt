@@ -1,0 +1,137 @@
+use Rattle.std.proofs.Common.{rules, ◌≡◌, ◌+◌, ◌<◌, ◌≤◌, arith, true, false, List, ◌∷◌, drop, flat_map, is_some, length, map, option_map, slice_index_or, refl, subst, sym, ap, ◌∙◌}
+use Rattle.std.proofs.lemmas.List.{drop_more}
+use Rattle.odb_chain.specs.Chains.{Chains}
+use Rattle.odb_schema.specs.Schema.{Schema}
+use Rattle.odb_service.specs.Server.{served_by}
+use Rattle.odb_service.specs.Session.{Monitor, leaves}
+use Rattle.odb_sessions.specs.Foreseen.{due_text, last_used}
+use Rattle.odb_sessions.specs.Held.{marks_due}
+use Rattle.odb_sessions.specs.Planned.{Plan, due, plan_rest}
+use Rattle.odb_sessions.specs.Represented.Queued.{queued_of}
+use Rattle.odb_sessions.specs.Represented.Taking.{coming_text}
+use Rattle.odb_sessions.specs.Tied.{AreLive}
+use Rattle.odb_sessions.specs.declared.item.Item.{Item}
+use Rattle.odb_sessions.proofs.Leading.{all_seen, at_end, ended, goes_on, last_at, live_due, none_used, plan_at, seen_item}
+use Rattle.odb_sessions.proofs.taking.taking_of.Goals as goal
+use Rattle.odb_tables.specs.Database.{Db}
+
+pub loop-place-init : goal.loop-place-init
+loop-place-init c = record {
+  within = omega arith;
+  chains = refl;
+  rest = λ s. none_used (plan_at s c.args.planner.now.chains.db c.args.items.now.items c.args.planner.now.monitors);
+}
+
+pub give-requires : goal.give-requires
+give-requires c =
+    let k : Chains = c.loop-place.planner.chains in
+    let xs : List Item = c.args.items.now.items in
+    let i = c.loop-place.place in
+    let x : Item = c.index.result.now in
+    let low : i < length xs = search rules in
+    let at : x ≡ slice_index_or xs i x = search rules in
+    let live : AreLive k (flat_map marks_due (map queued_of xs)) = subst (λ (n : Chains). AreLive n (flat_map marks_due (map queued_of xs))) (sym c.loop-place.invariant.chains) c.requires in
+    subst (λ (y : Item). AreLive k (marks_due (queued_of y))) (sym at) (live_due k xs i x low live)
+
+pub loop-place-preserved : goal.loop-place-preserved
+loop-place-preserved c =
+    let db : Db = c.args.planner.now.chains.db in
+    let ms : List Monitor = c.loop-place.planner.monitors in
+    let xs : List Item = c.args.items.now.items in
+    let i = c.loop-place.place in
+    let x : Item = c.index.result.now in
+    let low : i < length xs = search rules in
+    let at : x ≡ slice_index_or xs i x = search rules in
+    let step : drop i xs ≡ x ∷ drop (i + 1) xs = drop_more xs i x low ∙ ap (λ (y : Item). y ∷ drop (i + 1) xs) (sym at) in
+    let same : c.loop-place.planner.chains.db ≡ db = ap (λ (k : Chains). k.db) c.loop-place.invariant.chains in
+    let none : is_some c.in_ok-coming.coming ≡ false = search rules in
+    record {
+      within = omega (arith, low);
+      chains = c.give.ensures.chains ∙ c.loop-place.invariant.chains;
+      rest = λ s. c.loop-place.invariant.rest s
+          ∙ goes_on s db xs i x step ms c.give.new.self.monitors
+          (ap (λ (d : Db). is_some (due (served_by s) d (seen_item x) ms)) (sym same) ∙ sym (c.in_ok-coming.ensures.comes s) ∙ none)
+          (c.in_ok-coming.ensures.passed none s ∙ ap (λ (d : Db). leaves (served_by s) d (seen_item x) ms) same);
+    }
+
+pub returns-then-is_some-clause-items : goal.returns-then-is_some-clause-items
+returns-then-is_some-clause-items c = λ s.
+    let db : Db = c.args.planner.now.chains.db in
+    let ms : List Monitor = c.loop-place.planner.monitors in
+    let xs : List Item = c.args.items.now.items in
+    let i = c.loop-place.place in
+    let x : Item = c.index.result.now in
+    let low : i < length xs = search rules in
+    let at : x ≡ slice_index_or xs i x = search rules in
+    let step : drop i xs ≡ x ∷ drop (i + 1) xs = drop_more xs i x low ∙ ap (λ (y : Item). y ∷ drop (i + 1) xs) (sym at) in
+    let same : c.loop-place.planner.chains.db ≡ db = ap (λ (k : Chains). k.db) c.loop-place.invariant.chains in
+    let some : is_some c.in_ok-coming.coming ≡ true = search rules in
+    sym (ap (λ (p : Plan). p.items) (c.loop-place.invariant.rest s
+    ∙ ended s db xs i x step ms (ap (λ (d : Db). is_some (due (served_by s) d (seen_item x) ms)) (sym same) ∙ sym (c.in_ok-coming.ensures.comes s) ∙ some)))
+
+pub returns-then-is_some-clause-monitors : goal.returns-then-is_some-clause-monitors
+returns-then-is_some-clause-monitors c = λ s.
+    let db : Db = c.args.planner.now.chains.db in
+    let ms : List Monitor = c.loop-place.planner.monitors in
+    let xs : List Item = c.args.items.now.items in
+    let i = c.loop-place.place in
+    let x : Item = c.index.result.now in
+    let low : i < length xs = search rules in
+    let at : x ≡ slice_index_or xs i x = search rules in
+    let step : drop i xs ≡ x ∷ drop (i + 1) xs = drop_more xs i x low ∙ ap (λ (y : Item). y ∷ drop (i + 1) xs) (sym at) in
+    let same : c.loop-place.planner.chains.db ≡ db = ap (λ (k : Chains). k.db) c.loop-place.invariant.chains in
+    let some : is_some c.in_ok-coming.coming ≡ true = search rules in
+    sym (ap (λ (p : Plan). p.monitors) (c.loop-place.invariant.rest s
+    ∙ ended s db xs i x step ms (ap (λ (d : Db). is_some (due (served_by s) d (seen_item x) ms)) (sym same) ∙ sym (c.in_ok-coming.ensures.comes s) ∙ some)))
+
+pub returns-then-is_some-clause-text : goal.returns-then-is_some-clause-text
+returns-then-is_some-clause-text c = λ s.
+    let db : Db = c.args.planner.now.chains.db in
+    let ms : List Monitor = c.loop-place.planner.monitors in
+    let xs : List Item = c.args.items.now.items in
+    let i = c.loop-place.place in
+    let x : Item = c.index.result.now in
+    let low : i < length xs = search rules in
+    let at : x ≡ slice_index_or xs i x = search rules in
+    let step : drop i xs ≡ x ∷ drop (i + 1) xs = drop_more xs i x low ∙ ap (λ (y : Item). y ∷ drop (i + 1) xs) (sym at) in
+    let same : c.loop-place.planner.chains.db ≡ db = ap (λ (k : Chains). k.db) c.loop-place.invariant.chains in
+    let some : is_some c.in_ok-coming.coming ≡ true = search rules in
+    ap (coming_text c.in_ok-coming.coming) (last_at xs i x low at)
+    ∙ c.in_ok-coming.ensures.text s
+    ∙ ap (λ (d : Db). option_map (due_text (served_by s) d) (due (served_by s) d (seen_item x) ms)) same
+    ∙ sym (ap (λ (p : Plan). option_map (due_text (served_by s) db) p.out) (c.loop-place.invariant.rest s
+    ∙ ended s db xs i x step ms (ap (λ (d : Db). is_some (due (served_by s) d (seen_item x) ms)) (sym same) ∙ sym (c.in_ok-coming.ensures.comes s) ∙ some)))
+
+pub returns-clause-items : goal.returns-clause-items
+returns-clause-items c = λ s.
+    let db : Db = c.args.planner.now.chains.db in
+    let xs : List Item = c.args.items.now.items in
+    let past : length xs ≤ c.loop-place.place = search rules in
+    sym (ap (λ (p : Plan). p.items) (c.loop-place.invariant.rest s ∙ at_end s db xs c.loop-place.place _ c.loop-place.planner.monitors past c.loop-place.invariant.within (search rules)))
+
+pub returns-clause-monitors : goal.returns-clause-monitors
+returns-clause-monitors c = λ s.
+    let db : Db = c.args.planner.now.chains.db in
+    let ms : List Monitor = c.loop-place.planner.monitors in
+    let xs : List Item = c.args.items.now.items in
+    let i = c.loop-place.place in
+    let past : length xs ≤ i = search rules in
+    let within : i ≤ length xs = c.loop-place.invariant.within in
+    let same : c.loop-place.planner.chains.db ≡ db = ap (λ (k : Chains). k.db) c.loop-place.invariant.chains in
+    c.in_ok-rest.ensures.monitors (served_by s)
+    ∙ ap (λ (d : Db). (plan_rest (served_by s) d ms).monitors) same
+    ∙ sym (ap (λ (p : Plan). p.monitors) (c.loop-place.invariant.rest s ∙ at_end s db xs i i ms past within (omega (arith, past, within))))
+
+pub returns-clause-text : goal.returns-clause-text
+returns-clause-text c = λ s.
+    let db : Db = c.args.planner.now.chains.db in
+    let ms : List Monitor = c.loop-place.planner.monitors in
+    let xs : List Item = c.args.items.now.items in
+    let i = c.loop-place.place in
+    let past : length xs ≤ i = search rules in
+    let within : i ≤ length xs = c.loop-place.invariant.within in
+    let same : c.loop-place.planner.chains.db ≡ db = ap (λ (k : Chains). k.db) c.loop-place.invariant.chains in
+    c.composed.ensures.text _
+    ∙ c.in_ok-rest.ensures.text (served_by s)
+    ∙ ap (λ (d : Db). option_map (due_text (served_by s) d) (plan_rest (served_by s) d ms).out) same
+    ∙ sym (ap (λ (p : Plan). option_map (due_text (served_by s) db) p.out) (c.loop-place.invariant.rest s ∙ at_end s db xs i i ms past within (omega (arith, past, within))))

@@ -1,0 +1,233 @@
+//! What a plan foresees of a session's monitors. It changes nothing of them. [P 10.1]
+ghost use Rattle.std.specs.Prelude.{◌≡◌, IfOk, OnOk, Some, flat_map, map, option_map, position};
+ghost use Rattle.odb_schema.specs.Schema.{Schema};
+ghost use Rattle.odb_service.specs.Server.{served_by};
+ghost use Rattle.odb_service.specs.Service.{Service};
+ghost use Rattle.odb_service.specs.Session.{leaves, refilter};
+ghost use Rattle.odb_sessions.specs.Asked.{is_same};
+ghost use Rattle.odb_sessions.specs.Foreseen.{as_told, due_text, marks_ahead, seen_ahead, update_text};
+ghost use Rattle.odb_sessions.specs.Held.{marks_in, monitor_of, watch_of};
+ghost use Rattle.odb_sessions.specs.Planned.{due, plan_rest};
+ghost use Rattle.odb_sessions.specs.Represented.Composed.{text_in};
+ghost use Rattle.odb_sessions.specs.Represented.Under.{filters_in, item_in};
+ghost use Rattle.odb_sessions.specs.Tied.{AreLive};
+
+use crate::composing::Message;
+use crate::id::Id;
+use crate::monitor::Monitor;
+use crate::under::Under;
+use odb_chain::Chains;
+use std::alloc::{AllocError, Global};
+use std::marker::Model;
+
+/// A monitor as a plan foresees it: its client has what it was told, or what its tables are now under these
+/// filters.
+#[derive(Drop)]
+pub(crate) struct Ahead<'a> {
+    monitor: &'a Monitor,
+    told: Option<Under<'a>>,
+}
+
+impl<'a> Model for Ahead<'a> {
+    ghost use Rattle.std.specs.Prelude.{option_map};
+    ghost use Rattle.odb_sessions.specs.Foreseen as model;
+    ghost use Rattle.odb_sessions.specs.Represented.Codes.{ahead_code};
+    ghost use Rattle.odb_sessions.specs.Represented.Under.{filters_in};
+
+    ghost Value = { model.Ahead };
+
+    ghost coded = { ahead_code };
+
+    ghost view = { λ a. record { held = a.monitor.now; told = option_map filters_in a.told } };
+}
+
+impl<'a> Ahead<'a> {
+    /// Nothing is foreseen of it.
+    fn new(monitor: &'a Monitor) -> Ahead<'a>
+        ensures { result ≡ as_told monitor.now }
+    {
+        Ahead {
+            monitor,
+            told: None,
+        }
+    }
+
+    /// The update that its client is owed under these filters; `None` where it is owed nothing. The costs are
+    /// those of `Monitor::update`.
+    fn update(
+        &self,
+        alloc: Global,
+        chains: &'a Chains,
+        under: Under<'a>,
+    ) -> Result<Option<Message>, AllocError>
+        requires { AreLive chains.now (marks_in self.now.held) }
+        ensures { IfOk result (λ message. (h : Service) → option_map text_in message
+            ≡ update_text h chains.now.db (refilter (filters_in under.entry) (watch_of self.now.held).requests) (seen_ahead chains.now.db self.now)) }
+    {
+        let monitor = self.monitor;
+        match self.told {
+            None => monitor.update(alloc, chains, under),
+            Some(told) => monitor.update_again(alloc, chains, told, under),
+        }
+    }
+
+    /// It, where its client has what its tables are now under these filters.
+    fn brought(&self, under: Under<'a>) -> Ahead<'a>
+        ensures { result ≡ record { held = self.now.held; told = Some (filters_in under.entry) } }
+    {
+        Ahead {
+            monitor: self.monitor,
+            told: Some(under),
+        }
+    }
+
+    /// Whether the monitor has this id.
+    fn is_of(&self, id: &Id) -> bool
+        ensures { result ≡ is_same id.now self.now.held.id }
+    {
+        let monitor = self.monitor;
+        id.same(&monitor.id)
+    }
+}
+
+/// These monitors, of which nothing is foreseen.
+fn all_ahead<'a>(alloc: Global, monitors: &'a [Monitor]) -> Result<Vec<Ahead<'a>>, AllocError>
+    ensures { IfOk result (λ ahead. ahead.items ≡ map as_told monitors.now) }
+{
+    let mut ahead = Vec::with_capacity(alloc, monitors.len())?;
+    for monitor in monitors {
+        ahead.push_reserved(Ahead::new(monitor));
+    }
+    Ok(ahead)
+}
+
+fn place_of(monitors: &[Ahead<'_>], id: &Id) -> Option<usize>
+    ensures { result ≡ position (λ a. is_same id.now a.held.id) monitors.now }
+{
+    monitors.iter().position(|known| known.is_of(id))
+}
+
+/// The first of these that has the id, once it is brought to now under these filters, and what its client is sent.
+fn pass<'a>(
+    alloc: Global,
+    chains: &'a Chains,
+    monitors: &mut Vec<Ahead<'a>>,
+    id: &Id,
+    under: Under<'a>,
+) -> Result<Option<Message>, AllocError>
+    requires { AreLive chains.now (marks_ahead monitors.old.items) }
+    ensures text { IfOk result (λ message. (s : Schema) → option_map text_in message
+        ≡ option_map (due_text (served_by s) chains.now.db) (due (served_by s) chains.now.db (item_in id.now under.entry) (map (seen_ahead chains.now.db) monitors.old.items))) }
+    ensures passed { OnOk result ((s : Schema) → map (seen_ahead chains.now.db) monitors.new.items
+        ≡ leaves (served_by s) chains.now.db (item_in id.now under.entry) (map (seen_ahead chains.now.db) monitors.old.items)) }
+    ensures live { AreLive chains.now (marks_ahead monitors.new.items) }
+{
+    let Some(place) = place_of(monitors.as_slice(), id) else {
+        return Ok(None);
+    };
+    let message = monitors[place].update(alloc, chains, under)?;
+    monitors[place] = monitors[place].brought(under);
+    Ok(message)
+}
+
+/// What monitors have due once a session's queue is empty: how many are brought to now, and then what the client
+/// of the last of them is sent.
+#[derive(Drop)]
+pub(crate) struct Rest {
+    pub(crate) monitors: usize,
+    pub(crate) message: Option<Message>,
+}
+
+/// What these monitors have due. The costs are those of `Ahead::update` for each monitor up to the first that is
+/// owed something.
+fn rest_due<'a>(
+    alloc: Global,
+    chains: &'a Chains,
+    monitors: &[Ahead<'a>],
+) -> Result<Rest, AllocError>
+    requires { AreLive chains.now (marks_ahead monitors.now) }
+    ensures monitors { IfOk result (λ rest. (h : Service)
+        → rest.monitors ≡ (plan_rest h chains.now.db (map (seen_ahead chains.now.db) monitors.now)).monitors) }
+    ensures text { IfOk result (λ rest. (h : Service) → option_map text_in rest.message
+        ≡ option_map (due_text h chains.now.db) (plan_rest h chains.now.db (map (seen_ahead chains.now.db) monitors.now)).out) }
+{
+    for place in 0..monitors.len() {
+        let message = monitors[place].update(alloc, chains, Under::Asked)?;
+        if message.is_some() {
+            return Ok(Rest {
+                monitors: place + 1,
+                message,
+            });
+        }
+    }
+    Ok(Rest {
+        monitors: monitors.len(),
+        message: None,
+    })
+}
+
+/// The database with its past, and what a plan foresees of a session's monitors.
+#[derive(Drop)]
+pub(crate) struct Planner<'a> {
+    pub(crate) alloc: Global,
+    pub(crate) chains: &'a Chains,
+    monitors: Vec<Ahead<'a>>,
+}
+
+impl<'a> Model for Planner<'a> {
+    ghost use Rattle.std.specs.Prelude.{map};
+    ghost use Rattle.odb_sessions.specs.Foreseen as model;
+    ghost use Rattle.odb_sessions.specs.Foreseen.{marks_ahead, seen_ahead};
+    ghost use Rattle.odb_sessions.specs.Represented.Codes.{foreseen_code};
+    ghost use Rattle.odb_sessions.specs.Tied.{AreLive};
+
+    ghost Value = { model.Foreseen };
+
+    ghost coded = { foreseen_code };
+
+    ghost view = { λ p. record { chains = p.chains.now; monitors = map (seen_ahead p.chains.now.db) p.monitors.items } };
+
+    ghost invariant = { λ p. AreLive p.chains.now (marks_ahead p.monitors.items) };
+}
+
+impl<'a> Planner<'a> {
+    /// These monitors, of which nothing is foreseen. O(n) for n monitors.
+    pub(crate) fn new(
+        alloc: Global,
+        chains: &'a Chains,
+        monitors: &'a [Monitor],
+    ) -> Result<Planner<'a>, AllocError>
+        requires { AreLive chains.now (flat_map marks_in monitors.now) }
+        ensures { IfOk result (λ planner. planner ≡ record { chains = chains.now; monitors = map monitor_of monitors.now }) }
+    {
+        let ahead = all_ahead(alloc, monitors)?;
+        Ok(Planner {
+            alloc,
+            chains,
+            monitors: ahead,
+        })
+    }
+
+    /// What the client of the monitor with this id is sent to be brought to now under these filters; `None` where
+    /// that is nothing. From then on it is foreseen so. The costs are those of `Monitor::update`.
+    pub(crate) fn pass(&mut self, id: &Id, under: Under<'a>) -> Result<Option<Message>, AllocError>
+        ensures text { IfOk result (λ message. (s : Schema) → option_map text_in message
+            ≡ option_map (due_text (served_by s) self.old.chains.db) (due (served_by s) self.old.chains.db (item_in id.now under.entry) self.old.monitors)) }
+        ensures passed { OnOk result ((s : Schema) → self.new.monitors
+            ≡ leaves (served_by s) self.old.chains.db (item_in id.now under.entry) self.old.monitors) }
+        ensures chains { self.new.chains ≡ self.old.chains }
+    {
+        pass(self.alloc, self.chains, &mut self.monitors, id, under)
+    }
+
+    /// What its monitors have due once the queue is empty. The costs are those of `Monitor::update` for each
+    /// monitor up to the first that is owed something.
+    pub(crate) fn rest(&self) -> Result<Rest, AllocError>
+        ensures monitors { IfOk result (λ rest. (h : Service)
+            → rest.monitors ≡ (plan_rest h self.now.chains.db self.now.monitors).monitors) }
+        ensures text { IfOk result (λ rest. (h : Service) → option_map text_in rest.message
+            ≡ option_map (due_text h self.now.chains.db) (plan_rest h self.now.chains.db self.now.monitors).out) }
+    {
+        rest_due(self.alloc, self.chains, self.monitors.as_slice())
+    }
+}

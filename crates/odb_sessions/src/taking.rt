@@ -1,0 +1,182 @@
+//! Takings as they are planned: what they use up, and the text that comes. Nothing changes by them. [P 10.1]
+ghost use Rattle.std.specs.Prelude.{◌≡◌, true, false, IfOk, OnOk, Option, Some, flat_map, is_some, map, option_map};
+ghost use Rattle.serde_json.specs.Written.{compact_text};
+ghost use Rattle.odb_schema.specs.Schema.{Schema};
+ghost use Rattle.odb_service.specs.Server.{served_by};
+ghost use Rattle.odb_service.specs.Service.{Service};
+ghost use Rattle.odb_service.specs.Session as machine;
+ghost use Rattle.odb_service.specs.Session.{first_out, leaves};
+ghost use Rattle.odb_sessions.specs.Foreseen.{due_text};
+ghost use Rattle.odb_sessions.specs.Held.{item_seen, marks_due, marks_in, marks_of, seen, watch_of};
+ghost use Rattle.odb_sessions.specs.Planned.{due, first_due, plan, plan_from};
+ghost use Rattle.odb_sessions.specs.Represented.Composed.{text_in};
+ghost use Rattle.odb_sessions.specs.Represented.Queued.{queued_of};
+ghost use Rattle.odb_sessions.specs.Represented.Taking.{coming_text, taking_text};
+ghost use Rattle.odb_sessions.specs.Represented.Under.{item_in};
+ghost use Rattle.odb_sessions.specs.Tied.{AreLive};
+
+use crate::composing::Message;
+use crate::foreseen::Planner;
+use crate::id::Id;
+use crate::item::{Item, Start};
+use crate::queue::Queue;
+use crate::session::Session;
+use crate::under::Under;
+use odb_chain::Chains;
+use std::alloc::{AllocError, Global};
+use std::collections::VecDeque;
+
+/// What comes of a taking.
+#[derive(Drop)]
+pub(crate) enum Coming {
+    /// The text of the last item that is used up. It is moved out of the queue when the taking is carried out.
+    Queued,
+    /// A text that was composed.
+    Composed(Message),
+}
+
+/// A taking as it is planned: how many items of the queue it uses up, how many monitors it then brings to now, and
+/// what comes, if something does.
+#[derive(Drop)]
+pub(crate) struct Taking {
+    pub(crate) items: usize,
+    pub(crate) monitors: usize,
+    pub(crate) coming: Option<Coming>,
+}
+
+/// A message comes, if there is one.
+fn composed(message: Option<Message>) -> Option<Coming>
+    ensures comes { is_some result ≡ is_some message }
+    ensures text { (last : Option machine.Item) → coming_text result last ≡ option_map text_in message }
+{
+    match message {
+        Some(message) => Some(Coming::Composed(message)),
+        None => None,
+    }
+}
+
+impl Start {
+    /// The first reply. The costs are those of `Monitor::first_updates`.
+    fn first_reply(&self, alloc: Global, chains: &Chains) -> Result<Message, AllocError>
+        requires { AreLive chains.now (marks_in self.now.monitor) }
+        ensures { IfOk result (λ message. (h : Service)
+            → text_in message ≡ compact_text (first_out h chains.now.db self.now.origin (watch_of self.now.monitor)).message) }
+    {
+        let body = self.monitor.first_updates(alloc, chains)?;
+        self.origin.reply(alloc, body)
+    }
+}
+
+impl<'a> Planner<'a> {
+    /// The first reply, which comes.
+    fn begin(&self, start: &Start) -> Result<Option<Coming>, AllocError>
+        requires { AreLive self.now.chains (marks_in start.now.monitor) }
+        ensures comes { IfOk result (λ coming. is_some coming ≡ true) }
+        ensures text { IfOk result (λ coming. (h : Service) (last : Option machine.Item) → coming_text coming last
+            ≡ Some (due_text h self.now.chains.db (first_due start.now.origin (watch_of start.now.monitor)))) }
+    {
+        let message = start.first_reply(self.alloc, self.chains)?;
+        Ok(composed(Some(message)))
+    }
+
+    /// What the client of the monitor with this id lacks under these filters comes, if it lacks something.
+    fn bring(&mut self, id: &Id, under: Under<'a>) -> Result<Option<Coming>, AllocError>
+        ensures comes { IfOk result (λ coming. (s : Schema) → is_some coming
+            ≡ is_some (due (served_by s) self.old.chains.db (item_in id.now under.entry) self.old.monitors)) }
+        ensures text { IfOk result (λ coming. (s : Schema) (last : Option machine.Item) → coming_text coming last
+            ≡ option_map (due_text (served_by s) self.old.chains.db) (due (served_by s) self.old.chains.db (item_in id.now under.entry) self.old.monitors)) }
+        ensures passed { OnOk result ((s : Schema)
+            → self.new.monitors ≡ leaves (served_by s) self.old.chains.db (item_in id.now under.entry) self.old.monitors) }
+        ensures chains { self.new.chains ≡ self.old.chains }
+    {
+        let message = self.pass(id, under)?;
+        Ok(composed(message))
+    }
+
+    /// What the item gives the client. Where that is nothing the monitors are foreseen as they are after it. The
+    /// costs are those of `Planner::pass` and of `Start::first_reply`.
+    fn give(&mut self, item: &'a Item) -> Result<Option<Coming>, AllocError>
+        requires { AreLive self.old.chains (marks_due (queued_of item.now)) }
+        ensures comes { IfOk result (λ coming. (s : Schema) → is_some coming
+            ≡ is_some (due (served_by s) self.old.chains.db (item_seen (queued_of item.now)) self.old.monitors)) }
+        ensures text { IfOk result (λ coming. (s : Schema) → coming_text coming (Some (item_seen (queued_of item.now)))
+            ≡ option_map (due_text (served_by s) self.old.chains.db) (due (served_by s) self.old.chains.db (item_seen (queued_of item.now)) self.old.monitors)) }
+        ensures passed { IfOk result (λ coming. is_some coming ≡ false → (s : Schema)
+            → self.new.monitors ≡ leaves (served_by s) self.old.chains.db (item_seen (queued_of item.now)) self.old.monitors) }
+        ensures chains { self.new.chains ≡ self.old.chains }
+    {
+        match item {
+            Item::Say(_) => Ok(Some(Coming::Queued)),
+            Item::Start(start) => self.begin(start),
+            Item::Sync(id) => self.bring(id, Under::Asked),
+            Item::Shift(shift) => self.bring(&shift.id, Under::Changed(&shift.changes)),
+            Item::Renamed(_) => Ok(Some(Coming::Queued)),
+            Item::Stopped(_) => Ok(Some(Coming::Queued)),
+        }
+    }
+}
+
+/// What a taking of these items uses up, and what comes. The costs are those of `Planner::give` for each item up to
+/// the first that gives something and, where none does, of `Planner::rest`.
+fn taking_of<'a>(
+    items: &'a VecDeque<Item>,
+    planner: &mut Planner<'a>,
+) -> Result<Taking, AllocError>
+    requires { AreLive planner.old.chains (flat_map marks_due (map queued_of items.now.items)) }
+    ensures items { IfOk result (λ taking. (s : Schema) → taking.items
+        ≡ (plan_from (served_by s) planner.old.chains.db (map item_seen (map queued_of items.now.items)) planner.old.monitors).items) }
+    ensures monitors { IfOk result (λ taking. (s : Schema) → taking.monitors
+        ≡ (plan_from (served_by s) planner.old.chains.db (map item_seen (map queued_of items.now.items)) planner.old.monitors).monitors) }
+    ensures text { IfOk result (λ taking. (s : Schema) → taking_text taking (map item_seen (map queued_of items.now.items))
+        ≡ option_map (due_text (served_by s) planner.old.chains.db)
+        (plan_from (served_by s) planner.old.chains.db (map item_seen (map queued_of items.now.items)) planner.old.monitors).out) }
+{
+    for place in 0..items.len() {
+        let coming = planner.give(&items[place])?;
+        if coming.is_some() {
+            return Ok(Taking {
+                items: place + 1,
+                monitors: 0,
+                coming,
+            });
+        }
+    }
+    let rest = planner.rest()?;
+    Ok(Taking {
+        items: items.len(),
+        monitors: rest.monitors,
+        coming: composed(rest.message),
+    })
+}
+
+impl Session {
+    /// What a taking of the session uses up, and what comes. The costs are those of `Planner::new` and `taking_of`.
+    pub(crate) fn taking(&self, alloc: Global, chains: &Chains) -> Result<Taking, AllocError>
+        requires { AreLive chains.now (marks_of self.now) }
+        ensures items { IfOk result (λ taking. (s : Schema)
+            → taking.items ≡ (plan (served_by s) chains.now.db (seen self.now)).items) }
+        ensures monitors { IfOk result (λ taking. (s : Schema)
+            → taking.monitors ≡ (plan (served_by s) chains.now.db (seen self.now)).monitors) }
+        ensures text { IfOk result (λ taking. (s : Schema) → taking_text taking (seen self.now).queue
+            ≡ option_map (due_text (served_by s) chains.now.db) (plan (served_by s) chains.now.db (seen self.now)).out) }
+    {
+        let mut planner = Planner::new(alloc, chains, self.monitors.as_slice())?;
+        self.queue.taking(&mut planner)
+    }
+}
+
+impl Queue {
+    /// What a taking of a session with this queue uses up, and what comes. The costs are those of `taking_of`.
+    fn taking<'a>(&'a self, planner: &mut Planner<'a>) -> Result<Taking, AllocError>
+        requires { AreLive planner.old.chains (flat_map marks_due self.now) }
+        ensures items { IfOk result (λ taking. (s : Schema)
+            → taking.items ≡ (plan_from (served_by s) planner.old.chains.db (map item_seen self.now) planner.old.monitors).items) }
+        ensures monitors { IfOk result (λ taking. (s : Schema)
+            → taking.monitors ≡ (plan_from (served_by s) planner.old.chains.db (map item_seen self.now) planner.old.monitors).monitors) }
+        ensures text { IfOk result (λ taking. (s : Schema) → taking_text taking (map item_seen self.now)
+            ≡ option_map (due_text (served_by s) planner.old.chains.db)
+            (plan_from (served_by s) planner.old.chains.db (map item_seen self.now) planner.old.monitors).out) }
+    {
+        taking_of(&self.items, planner)
+    }
+}
