@@ -1,5 +1,5 @@
 -- Monitors that are foreseen: their marks, the first that has an id, and what becomes of it.
-use Rattle.std.proofs.Common.{◌≡◌, ℕ, zero, suc, ◌+◌, ◌<◌, arith, Bool, true, false, cond, not, nat_lt, List, [], ◌∷◌, ◌++◌, find, get_or, length, map, position, slice_index_or, slice_set, Option, Some, None, refl, subst, sym, ap, ◌∙◌}
+use Rattle.std.proofs.Common.{◌≡◌, ℕ, zero, suc, ◌+◌, ◌<◌, arith, Bool, true, false, cond, not, nat_lt, List, [], ◌∷◌, ◌++◌, find, get_or, length, map, position, slice_index_or, slice_set, Option, Some, None, refl, sym, ap, ◌∙◌}
 use Rattle.std.specs.Prelude.{flat_map, option_and_then}
 use Rattle.std.specs.List.{position_or_len}
 use Rattle.std.proofs.lemmas.Bool.Decides.{nat_tests}

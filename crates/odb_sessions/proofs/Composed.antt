@@ -13,7 +13,7 @@ use Rattle.odb_schema.specs.Json.{Data}
 use Rattle.odb_service.specs.Service.{Service}
 use Rattle.odb_service.specs.Session.{Monitor, Out, method_of, no_request, shapes, told_of}
 use Rattle.odb_sessions.specs.Composed.{asked_of, first_job, first_part, first_updates, later_job, notified_text, part_to}
-use Rattle.odb_sessions.specs.Foreseen.{due_text, update_text}
+use Rattle.odb_sessions.specs.Foreseen.{update_text}
 use Rattle.odb_sessions.specs.Held.{Watched, view_of}
 use Rattle.odb_sessions.specs.Planned.{out_of, update_of}
 use Rattle.odb_sessions.proofs.Plans.{update_given}

@@ -7,7 +7,7 @@ use Rattle.odb_request.specs.Request.{Notation, Request}
 use Rattle.odb_schema.specs.Json.{Data}
 use Rattle.odb_service.specs.Service.{Service}
 use Rattle.odb_service.specs.Session.{Monitor, brought, changed, filter_of, refilter}
-use Rattle.odb_tables.specs.Database.{Db, table_at}
+use Rattle.odb_tables.specs.Database.{table_at}
 use Rattle.odb_sessions.specs.Composed.{AreTheirs, all_asked_as, asked_of, told_so}
 use Rattle.odb_sessions.specs.Held.{Held, Watched, view_of}
 use Rattle.odb_sessions.specs.Moved.{told_now}

@@ -1,5 +1,5 @@
 -- What is composed for a monitor is what the machine sends, whatever was foreseen of it and under whichever filters.
-use Rattle.std.proofs.Common.{◌≡◌, ℕ, List, [], ◌∷◌, map, Some, refl, ap, ◌∙◌}
+use Rattle.std.proofs.Common.{◌≡◌, List, [], ◌∷◌, map, Some, refl, ap, ◌∙◌}
 use Rattle.std.specs.Prelude.{option_map}
 use Rattle.odb_monitor.specs.Job.{Part, updates_of}
 use Rattle.odb_monitor.specs.View.{query, selected}

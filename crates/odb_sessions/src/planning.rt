@@ -91,12 +91,7 @@ impl Monitor {
             ≡ update_text h chains.now.db (refilter (filters_in under.entry) (watch_of self.now).requests) (monitor_of self.now)) }
     {
         let requests = requests_under(alloc, self.tables.as_slice(), under)?;
-        let parts = parts_under(
-            alloc,
-            chains,
-            self.tables.as_slice(),
-            requests.as_slice(),
-        )?;
+        let parts = parts_under(alloc, chains, self.tables.as_slice(), requests.as_slice())?;
         compose_update(alloc, self.kind, &self.id, parts)
     }
 

@@ -118,10 +118,7 @@ impl<'a> Planner<'a> {
 
 /// What a taking of these items uses up, and what comes. The costs are those of `Planner::give` for each item up to
 /// the first that gives something and, where none does, of `Planner::rest`.
-fn taking_of<'a>(
-    items: &'a VecDeque<Item>,
-    planner: &mut Planner<'a>,
-) -> Result<Taking, AllocError>
+fn taking_of<'a>(items: &'a VecDeque<Item>, planner: &mut Planner<'a>) -> Result<Taking, AllocError>
     requires { AreLive planner.old.chains (flat_map marks_due (map queued_of items.now.items)) }
     ensures items { IfOk result (λ taking. (s : Schema) → taking.items
         ≡ (plan_from (served_by s) planner.old.chains.db (map item_seen (map queued_of items.now.items)) planner.old.monitors).items) }

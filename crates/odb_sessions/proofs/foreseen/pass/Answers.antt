@@ -1,4 +1,4 @@
-use Rattle.std.proofs.Common.{rules, ◌≡◌, ◌<◌, List, length, map, option_map, position, slice_index_or, Some, None, subst, sym, ap, ◌∙◌}
+use Rattle.std.proofs.Common.{rules, ◌≡◌, ◌<◌, List, length, option_map, position, slice_index_or, Some, None, subst, sym, ap, ◌∙◌}
 use Rattle.odb_service.specs.Server.{served_by}
 use Rattle.odb_sessions.specs.Asked.{is_same}
 use Rattle.odb_sessions.specs.Foreseen.{Ahead, due_text}

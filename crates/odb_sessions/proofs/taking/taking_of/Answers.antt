@@ -1,17 +1,16 @@
 use Rattle.std.proofs.Common.{rules, ◌≡◌, ◌+◌, ◌<◌, ◌≤◌, arith, true, false, List, ◌∷◌, drop, flat_map, is_some, length, map, option_map, slice_index_or, refl, subst, sym, ap, ◌∙◌}
 use Rattle.std.proofs.lemmas.List.{drop_more}
 use Rattle.odb_chain.specs.Chains.{Chains}
-use Rattle.odb_schema.specs.Schema.{Schema}
 use Rattle.odb_service.specs.Server.{served_by}
 use Rattle.odb_service.specs.Session.{Monitor, leaves}
-use Rattle.odb_sessions.specs.Foreseen.{due_text, last_used}
+use Rattle.odb_sessions.specs.Foreseen.{due_text}
 use Rattle.odb_sessions.specs.Held.{marks_due}
 use Rattle.odb_sessions.specs.Planned.{Plan, due, plan_rest}
 use Rattle.odb_sessions.specs.Represented.Queued.{queued_of}
 use Rattle.odb_sessions.specs.Represented.Taking.{coming_text}
 use Rattle.odb_sessions.specs.Tied.{AreLive}
 use Rattle.odb_sessions.specs.declared.item.Item.{Item}
-use Rattle.odb_sessions.proofs.Leading.{all_seen, at_end, ended, goes_on, last_at, live_due, none_used, plan_at, seen_item}
+use Rattle.odb_sessions.proofs.Leading.{at_end, ended, goes_on, last_at, live_due, none_used, plan_at, seen_item}
 use Rattle.odb_sessions.proofs.taking.taking_of.Goals as goal
 use Rattle.odb_tables.specs.Database.{Db}
 

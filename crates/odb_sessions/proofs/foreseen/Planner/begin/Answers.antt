@@ -1,4 +1,4 @@
-use Rattle.std.proofs.Common.{rules, ◌≡◌, Some, ap, sym, ◌∙◌}
+use Rattle.std.proofs.Common.{Some, ap, ◌∙◌}
 use Rattle.odb_sessions.specs.Foreseen.{Foreseen, due_text}
 use Rattle.odb_sessions.specs.Held.{watch_of}
 use Rattle.odb_sessions.specs.Planned.{first_due}

@@ -1,6 +1,4 @@
-use Rattle.std.proofs.Common.{◌≡◌, List, map, subst, sym, ap, ◌∙◌}
-use Rattle.odb_chain.specs.Chains.{Mark}
-use Rattle.odb_service.specs.Session.{Monitor}
+use Rattle.std.proofs.Common.{List, map, subst, sym, ap, ◌∙◌}
 use Rattle.odb_sessions.specs.Foreseen.{Ahead, Foreseen, marks_ahead, seen_ahead}
 use Rattle.odb_sessions.specs.Tied.{AreLive}
 use Rattle.odb_sessions.proofs.Aheads.{marks_told, seen_told}

@@ -11,12 +11,12 @@ use Rattle.odb_sessions.proofs.foreseen.Planner.pass.Goals as goal
 pub returns-clause-text : goal.returns-clause-text
 returns-clause-text c =
     subst (λ (f : Foreseen). IfOk c.pass.result (λ message. (s : Schema) → option_map text_in message
-        ≡ option_map (due_text (served_by s) f.chains.db) (due (served_by s) f.chains.db (item_in c.args.id.now c.args.under) f.monitors)))
+    ≡ option_map (due_text (served_by s) f.chains.db) (due (served_by s) f.chains.db (item_in c.args.id.now c.args.under) f.monitors)))
     c.self.view_is c.pass.ensures.text
 
 pub returns-clause-passed : goal.returns-clause-passed
 returns-clause-passed c =
     let db = c.self.inside.chains.now.db in
     subst (λ (f : Foreseen). OnOk c.pass.result ((s : Schema) → map (seen_ahead db) c.pass.new.monitors.items
-        ≡ leaves (served_by s) f.chains.db (item_in c.args.id.now c.args.under) f.monitors))
+    ≡ leaves (served_by s) f.chains.db (item_in c.args.id.now c.args.under) f.monitors))
     c.self.view_is c.pass.ensures.passed

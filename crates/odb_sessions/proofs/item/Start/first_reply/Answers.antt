@@ -1,4 +1,3 @@
-use Rattle.std.proofs.Common.{rules, ◌≡◌}
 use Rattle.std.proofs.lemmas.Result.{IfOk-weaker}
 use Rattle.odb_sessions.specs.Composed.{first_updates}
 use Rattle.odb_sessions.specs.Held.{Held, watch_of}

@@ -4,7 +4,7 @@ use Rattle.std.specs.List.{All}
 use Rattle.odb_chain.specs.Chains.{Chains}
 use Rattle.odb_request.specs.Represented.Kind.{notation_of}
 use Rattle.odb_service.specs.Session.{refilter}
-use Rattle.odb_sessions.specs.Composed.{AreTheirs, IsKnown, asked_of}
+use Rattle.odb_sessions.specs.Composed.{IsKnown, asked_of}
 use Rattle.odb_sessions.specs.Foreseen.{all_parts_again}
 use Rattle.odb_sessions.specs.Held.{Held, Watched, marks_in}
 use Rattle.odb_sessions.specs.Represented.Under.{filters_in}

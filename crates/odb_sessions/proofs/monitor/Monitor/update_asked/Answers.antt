@@ -2,7 +2,6 @@ use Rattle.std.proofs.Common.{rules, ◌≡◌, List, map, subst, sym, ap, ◌�
 use Rattle.std.proofs.lemmas.Result.{IfOk-weaker}
 use Rattle.std.specs.List.{All}
 use Rattle.odb_request.specs.Represented.Kind.{notation_of}
-use Rattle.odb_schema.specs.Json.{Data}
 use Rattle.odb_sessions.specs.Composed.{IsKnown, part_to}
 use Rattle.odb_sessions.specs.Held.{Held, Watched}
 use Rattle.odb_sessions.proofs.Updates.{asked_is}

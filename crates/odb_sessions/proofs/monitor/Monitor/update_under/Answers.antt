@@ -3,9 +3,8 @@ use Rattle.std.proofs.lemmas.Result.{IfOk-weaker}
 use Rattle.std.specs.List.{All}
 use Rattle.odb_chain.specs.Chains.{Chains}
 use Rattle.odb_request.specs.Represented.Kind.{notation_of}
-use Rattle.odb_request.specs.Request.{Request}
 use Rattle.odb_service.specs.Session.{refilter}
-use Rattle.odb_sessions.specs.Composed.{AreTheirs, IsKnown, all_asked_as, asked_of, part_to}
+use Rattle.odb_sessions.specs.Composed.{IsKnown, all_asked_as, asked_of, part_to}
 use Rattle.odb_sessions.specs.Held.{Held, Watched, marks_in}
 use Rattle.odb_sessions.specs.Represented.Under.{filters_in}
 use Rattle.odb_sessions.specs.Tied.{AreLive}
