@@ -16,6 +16,7 @@ mod Numbers
 mod OtherFilters
 mod Plans
 mod Posts
+mod Quiet
 mod Releases
 mod Replays
 mod Rests

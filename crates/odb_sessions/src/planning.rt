@@ -1,5 +1,5 @@
 //! What is due to the client of a monitor, composed. [P 9.5, 10.1]
-ghost use Rattle.std.specs.Prelude.{◌≡◌, IfOk, Some, length, map, option_map};
+ghost use Rattle.std.specs.Prelude.{◌≡◌, true, IfOk, Some, length, map, option_map};
 ghost use Rattle.std.specs.List.{All};
 ghost use Rattle.serde_json.specs.Written.{compact_text};
 ghost use Rattle.odb_chain.specs.Chains as model;
@@ -74,6 +74,9 @@ impl Monitor {
         ensures { IfOk result (λ message. (h : Service) → option_map text_in message
             ≡ update_text h chains.now.db (watch_of self.now).requests (monitor_of self.now)) }
     {
+        if are_now(self.tables.as_slice(), chains) {
+            return Ok(None);
+        }
         let tables = self.owed(alloc)?;
         let parts = parts_of(alloc, chains, tables.as_slice())?;
         compose_update(alloc, self.kind, &self.id, parts)
@@ -118,6 +121,32 @@ impl Monitor {
         )?;
         compose_update(alloc, self.kind, &self.id, parts)
     }
+}
+
+impl Watching {
+    /// Whether the client has what the table is now, under what is asked. `false` says nothing. O(1).
+    fn is_now(&self, chains: &Chains) -> bool
+        requires { IsKnown chains.now self.now }
+        ensures { result ≡ true → (part_to chains.now.db self.now).told ≡ (part_to chains.now.db self.now).asked }
+    {
+        if self.told.is_some() {
+            return false;
+        }
+        chains.is_now(&self.mark)
+    }
+}
+
+/// Whether the client has what these tables are now, under what is asked. `false` says nothing. O(n) for n tables.
+fn are_now(tables: &[Watching], chains: &Chains) -> bool
+    requires { All (IsKnown chains.now) tables.now }
+    ensures { result ≡ true → map (λ w. (part_to chains.now.db w).told) tables.now ≡ map (λ w. (part_to chains.now.db w).asked) tables.now }
+{
+    for table in tables {
+        if !table.is_now(chains) {
+            return false;
+        }
+    }
+    true
 }
 
 /// The parts for these tables, as if these were the requests.

@@ -1,0 +1,47 @@
+-- A client that has what its tables are now is owed nothing.
+use Rattle.std.proofs.Common.{◌≡◌, arith, List, [], ◌∷◌, length, map, Option, Some, None, refl, sym, ap, ◌∙◌}
+use Rattle.std.specs.List.{cons_option}
+use Rattle.std.specs.Prelude.{option_map}
+use Rattle.std.proofs.lemmas.Option.{none-some}
+use Rattle.odb_chain.specs.Chains.{Mark}
+use Rattle.odb_cond.specs.Filter.{Filter}
+use Rattle.odb_monitor.specs.View.{View, query, selected}
+use Rattle.odb_request.specs.Request.{Request}
+use Rattle.odb_service.specs.Service.{Service}
+use Rattle.odb_service.specs.Session.{Monitor, Out, brought, update_to}
+use Rattle.odb_service.proofs.WhatIsOwed.{all_owe_nothing}
+use Rattle.odb_sessions.specs.Composed.{asked_of, part_to}
+use Rattle.odb_sessions.specs.Foreseen.{due_text, update_text}
+use Rattle.odb_sessions.specs.Held.{Held, Watched, monitor_of, view_of, watch_of}
+use Rattle.odb_sessions.specs.Planned.{Due, out_of, update_of}
+use Rattle.odb_sessions.specs.Represented.Told.{told_under}
+use Rattle.odb_sessions.proofs.Composed.{mapped_twice}
+use Rattle.odb_sessions.proofs.Plans.{update_given}
+use Rattle.odb_tables.specs.Database.{Db, table_at}
+
+-- a mark of now, under the filter that is asked
+pub now_same : (db : Db) (q : Request) (t : Option Filter) (m : Mark) → t ≡ None → m.table ≡ q.place → m.content ≡ table_at db m.table
+    → selected (record q { filter = told_under q t }) m.content ≡ selected q (table_at db q.place)
+now_same db q t m none table content = λ j. selected (record q { filter = told_under q (none j) }) ((content ∙ ap (table_at db) table) j)
+
+abbrev pub AreNow : Db → List Watched → Type 0
+AreNow db ws = map (λ (w : Watched). (part_to db w).told) ws ≡ map (λ (w : Watched). (part_to db w).asked) ws
+
+view_now : (db : Db) (x : Held) → AreNow db x.tables → view_of x ≡ query db (watch_of x).requests
+view_now db x same = same ∙ sym (mapped_twice (λ (q : Request). selected q (table_at db q.place)) (λ (w : Watched). w.request) x.tables)
+
+no_more : (o : Option Out) → cons_option o [] ≡ [] → o ≡ None
+no_more None e = refl
+no_more (Some x) e = let long : length (x ∷ []) ≡ 0 = ap length e in absurd (omega (arith, long))
+
+nothing_due : (f : Due → Out) (o : Option Due) → option_map f o ≡ None → o ≡ None
+nothing_due f None e = refl
+nothing_due f (Some d) e = absurd (none-some (f d) (sym e))
+
+pub quiet : (h : Service) (db : Db) (x : Held) → AreNow db x.tables → None ≡ update_text h db (watch_of x).requests (monitor_of x)
+quiet h db x same =
+    let m : Monitor = monitor_of x in
+    let qs : List Request = (watch_of x).requests in
+    let now : m ≡ brought h db qs m = (λ i. let n : Monitor = record { watch = watch_of x; view = view_now db x same i } in n) in
+    let sent : update_to h db qs m ≡ None = ap (λ (n : Monitor). update_to h db qs n) now ∙ no_more (update_to h db qs (brought h db qs m)) (all_owe_nothing h db (m ∷ [])) in
+    sym (ap (option_map (due_text h db)) (nothing_due (out_of h db) (update_of h db qs m) (sym (update_given h db qs m) ∙ sent)))
