@@ -1,13 +1,13 @@
 -- A plan item by item: what ends it, and what is left of it.
 use Rattle.std.proofs.Common.{◌≡◌, ℕ, zero, suc, ◌+◌, ◌<◌, ◌≤◌, arith, true, false, List, [], ◌∷◌, drop, get_or, is_some, length, map, slice_get, slice_index_or, Option, Some, None, refl, sym, ap, ◌∙◌, true≢false}
-use Rattle.std.specs.Prelude.{flat_map}
+use Rattle.std.specs.Prelude.{flat_map, option_and_then, option_map}
 use Rattle.std.proofs.lemmas.List.{drop_all}
 use Rattle.odb_chain.specs.Chains.{Chains}
 use Rattle.odb_schema.specs.Schema.{Schema}
 use Rattle.odb_service.specs.Server.{served_by}
 use Rattle.odb_service.specs.Session as machine
 use Rattle.odb_service.specs.Session.{Monitor, leaves}
-use Rattle.odb_sessions.specs.Foreseen.{last_used}
+use Rattle.odb_sessions.specs.Foreseen.{due_text, finished_text, last_used}
 use Rattle.odb_sessions.specs.Held.{item_seen, marks_due}
 use Rattle.odb_sessions.specs.Planned.{Due, Plan, due, from_item, plan_from, plan_rest}
 use Rattle.odb_sessions.specs.Represented.Queued.{queued_of}
@@ -72,6 +72,44 @@ at_end s db xs i n ms past within len =
     ap (λ ys. after_items i (plan_at s db ys ms)) (drop_all i xs past)
     ∙ ap (λ k. let q : Plan = record { items = i + k; monitors = p.monitors; out = p.out } in q) (no_items (served_by s) db ms)
     ∙ ap (λ k. let q : Plan = record { items = k; monitors = p.monitors; out = p.out } in q) none
+
+-- ---- a first item that was finished when it was queued
+
+finished_due : (s : Schema) (db : Db) (i : machine.Item) (ms : List Monitor) → is_some (finished_text i) ≡ true → is_some (due (served_by s) db i ms) ≡ true
+finished_due s db (machine.say a d) ms e = refl
+finished_due s db (machine.start d k) ms e = absurd (true≢false (sym e))
+finished_due s db (machine.sync i) ms e = absurd (true≢false (sym e))
+finished_due s db (machine.shift i fs) ms e = absurd (true≢false (sym e))
+finished_due s db (machine.renamed d old new fs) ms e = refl
+finished_due s db (machine.stopped d i) ms e = refl
+
+finished_says : (s : Schema) (db : Db) (i : machine.Item) (ms : List Monitor) → is_some (finished_text i) ≡ true → finished_text i ≡ option_map (due_text (served_by s) db) (due (served_by s) db i ms)
+finished_says s db (machine.say a d) ms e = refl
+finished_says s db (machine.start d k) ms e = absurd (true≢false (sym e))
+finished_says s db (machine.sync i) ms e = absurd (true≢false (sym e))
+finished_says s db (machine.shift i fs) ms e = absurd (true≢false (sym e))
+finished_says s db (machine.renamed d old new fs) ms e = refl
+finished_says s db (machine.stopped d i) ms e = refl
+
+module _ (s : Schema) (db : Db) (ms : List Monitor) where
+  first_plan : (xs : List Item) (x : Item) → 0 < length xs → x ≡ slice_index_or xs 0 x → is_some (finished_text (seen_item x)) ≡ true → plan_at s db xs ms ≡ record { items = 1; monitors = 0; out = due (served_by s) db (seen_item x) ms }
+  first_plan [] x low at e = absurd (omega (arith, low))
+  first_plan (y ∷ ys) x low at e =
+      ap (λ z. plan_at s db (z ∷ ys) ms) (sym at)
+      ∙ one_used (plan_at s db ys (leaves (served_by s) db (seen_item x) ms)) (due (served_by s) db (seen_item x) ms) (finished_due s db (seen_item x) ms e)
+
+  pub first_items : (xs : List Item) (x : Item) → 0 < length xs → x ≡ slice_index_or xs 0 x → is_some (finished_text (seen_item x)) ≡ true → 1 ≡ (plan_at s db xs ms).items
+  first_items xs x low at e = sym (ap (λ (p : Plan). p.items) (first_plan xs x low at e))
+
+  pub first_monitors : (xs : List Item) (x : Item) → 0 < length xs → x ≡ slice_index_or xs 0 x → is_some (finished_text (seen_item x)) ≡ true → 0 ≡ (plan_at s db xs ms).monitors
+  first_monitors xs x low at e = sym (ap (λ (p : Plan). p.monitors) (first_plan xs x low at e))
+
+  pub first_text : (xs : List Item) (x : Item) → 0 < length xs → x ≡ slice_index_or xs 0 x → is_some (finished_text (seen_item x)) ≡ true
+      → option_and_then finished_text (last_used 1 (all_seen xs)) ≡ option_map (due_text (served_by s) db) (plan_at s db xs ms).out
+  first_text [] x low at e = absurd (omega (arith, low))
+  first_text (y ∷ ys) x low at e =
+      ap (λ z. finished_text (seen_item z)) (sym at) ∙ finished_says s db (seen_item x) ms e
+      ∙ sym (ap (λ (p : Plan). option_map (due_text (served_by s) db) p.out) (first_plan (y ∷ ys) x low at e))
 
 -- ---- items by their places
 

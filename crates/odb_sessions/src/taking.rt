@@ -1,12 +1,12 @@
 //! Takings as they are planned: what they use up, and the text that comes. Nothing changes by them. [P 10.1]
-ghost use Rattle.std.specs.Prelude.{◌≡◌, true, false, IfOk, OnOk, Option, Some, flat_map, is_some, map, option_map};
+ghost use Rattle.std.specs.Prelude.{◌≡◌, true, false, IfOk, IfSome, List, OnOk, Option, Some, flat_map, is_some, map, option_map};
 ghost use Rattle.serde_json.specs.Written.{compact_text};
 ghost use Rattle.odb_schema.specs.Schema.{Schema};
 ghost use Rattle.odb_service.specs.Server.{served_by};
 ghost use Rattle.odb_service.specs.Service.{Service};
 ghost use Rattle.odb_service.specs.Session as machine;
 ghost use Rattle.odb_service.specs.Session.{first_out, leaves};
-ghost use Rattle.odb_sessions.specs.Foreseen.{due_text};
+ghost use Rattle.odb_sessions.specs.Foreseen.{due_text, finished_text};
 ghost use Rattle.odb_sessions.specs.Held.{item_seen, marks_due, marks_in, marks_of, seen, watch_of};
 ghost use Rattle.odb_sessions.specs.Planned.{due, first_due, plan, plan_from};
 ghost use Rattle.odb_sessions.specs.Represented.Composed.{text_in};
@@ -14,6 +14,7 @@ ghost use Rattle.odb_sessions.specs.Represented.Queued.{queued_of};
 ghost use Rattle.odb_sessions.specs.Represented.Taking.{coming_text, taking_text};
 ghost use Rattle.odb_sessions.specs.Represented.Under.{item_in};
 ghost use Rattle.odb_sessions.specs.Tied.{AreLive};
+ghost use Rattle.odb_tables.specs.Database as model_db;
 
 use crate::composing::Message;
 use crate::foreseen::Planner;
@@ -67,6 +68,22 @@ impl Start {
     }
 }
 
+impl Item {
+    /// Whether its text was finished when it was queued.
+    fn is_finished(&self) -> bool
+        ensures { result ≡ is_some (finished_text (item_seen (queued_of self.now))) }
+    {
+        match self {
+            Item::Say(_) => true,
+            Item::Start(_) => false,
+            Item::Sync(_) => false,
+            Item::Shift(_) => false,
+            Item::Renamed(_) => true,
+            Item::Stopped(_) => true,
+        }
+    }
+}
+
 impl<'a> Planner<'a> {
     /// The first reply, which comes.
     fn begin(&self, start: &Start) -> Result<Option<Coming>, AllocError>
@@ -116,6 +133,27 @@ impl<'a> Planner<'a> {
     }
 }
 
+/// What a taking of these items uses up, and what comes, where the first was finished when it was queued. O(1).
+fn at_once(items: &VecDeque<Item>) -> Option<Taking>
+    ensures items { IfSome result (λ taking. (s : Schema) (db : model_db.Db) (ms : List machine.Monitor) → taking.items
+        ≡ (plan_from (served_by s) db (map item_seen (map queued_of items.now.items)) ms).items) }
+    ensures monitors { IfSome result (λ taking. (s : Schema) (db : model_db.Db) (ms : List machine.Monitor) → taking.monitors
+        ≡ (plan_from (served_by s) db (map item_seen (map queued_of items.now.items)) ms).monitors) }
+    ensures text { IfSome result (λ taking. (s : Schema) (db : model_db.Db) (ms : List machine.Monitor)
+        → taking_text taking (map item_seen (map queued_of items.now.items))
+        ≡ option_map (due_text (served_by s) db) (plan_from (served_by s) db (map item_seen (map queued_of items.now.items)) ms).out) }
+{
+    let first = items.front()?;
+    if !first.is_finished() {
+        return None;
+    }
+    Some(Taking {
+        items: 1,
+        monitors: 0,
+        coming: Some(Coming::Queued),
+    })
+}
+
 /// What a taking of these items uses up, and what comes. The costs are those of `Planner::give` for each item up to
 /// the first that gives something and, where none does, of `Planner::rest`.
 fn taking_of<'a>(items: &'a VecDeque<Item>, planner: &mut Planner<'a>) -> Result<Taking, AllocError>
@@ -157,12 +195,29 @@ impl Session {
         ensures text { IfOk result (λ taking. (s : Schema) → taking_text taking (seen self.now).queue
             ≡ option_map (due_text (served_by s) chains.now.db) (plan (served_by s) chains.now.db (seen self.now)).out) }
     {
+        if let Some(taking) = self.queue.at_once() {
+            return Ok(taking);
+        }
         let mut planner = Planner::new(alloc, chains, self.monitors.as_slice())?;
         self.queue.taking(&mut planner)
     }
 }
 
 impl Queue {
+    /// What a taking of a session with this queue uses up, and what comes, where the first item was finished when
+    /// it was queued. O(1).
+    fn at_once(&self) -> Option<Taking>
+        ensures items { IfSome result (λ taking. (s : Schema) (db : model_db.Db) (ms : List machine.Monitor)
+            → taking.items ≡ (plan_from (served_by s) db (map item_seen self.now) ms).items) }
+        ensures monitors { IfSome result (λ taking. (s : Schema) (db : model_db.Db) (ms : List machine.Monitor)
+            → taking.monitors ≡ (plan_from (served_by s) db (map item_seen self.now) ms).monitors) }
+        ensures text { IfSome result (λ taking. (s : Schema) (db : model_db.Db) (ms : List machine.Monitor)
+            → taking_text taking (map item_seen self.now)
+            ≡ option_map (due_text (served_by s) db) (plan_from (served_by s) db (map item_seen self.now) ms).out) }
+    {
+        at_once(&self.items)
+    }
+
     /// What a taking of a session with this queue uses up, and what comes. The costs are those of `taking_of`.
     fn taking<'a>(&'a self, planner: &mut Planner<'a>) -> Result<Taking, AllocError>
         requires { AreLive planner.old.chains (flat_map marks_due self.now) }
