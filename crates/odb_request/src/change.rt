@@ -2,6 +2,7 @@
 
 use odb_cond::Filter;
 use odb_schema::TableId;
+use std::alloc::AllocError;
 use std::sync::Arc;
 
 /// What `monitor_cond_change` asks of one table (ovsdb-server(7), 4.1.13): its new filter.
@@ -11,4 +12,19 @@ pub struct Change {
     pub table: TableId,
     /// The filter, for whoever keeps it too.
     pub filter: Arc<Filter>,
+}
+
+impl Clone for Change {
+    ghost use Rattle.std.specs.Prelude.{◌≡◌};
+    ghost use Rattle.std.specs.Arc.{arc_value};
+
+    ghost is_clone = { λ x y. (y.table ≡ x.table) × (arc_value y.filter ≡ arc_value x.filter) };
+
+    /// The same filter for the same table. O(1). An error says that the filter can't be shared once more.
+    fn clone(&self) -> Result<Change, AllocError> {
+        Ok(Change {
+            table: self.table,
+            filter: self.filter.clone()?,
+        })
+    }
 }

@@ -103,6 +103,14 @@ impl Request {
         })
     }
 
+    /// Puts another filter in the place of this one, which comes back. O(1).
+    pub fn replace_filter(&mut self, filter: Arc<Filter>) -> Arc<Filter>
+        ensures request { self.new ≡ record (self.old) { filter = arc_value filter } }
+        ensures filter { arc_value result ≡ self.old.filter }
+    {
+        std::mem::replace(&mut self.filter, filter)
+    }
+
     /// An equal request, which shares both halves. O(1). An error says that they can't be shared once more.
     pub fn try_copy(&self) -> Result<Request, AllocError>
         ensures { IfOk result (λ copy. copy ≡ self.now) }

@@ -1,16 +1,13 @@
 -- Marks that are made: what stands stays, and the marks are live.
-use Rattle.std.proofs.Common.{◌≡◌, ℕ, ◌+◌, ◌<◌, ◌≤◌, arith, Bool, true, false, cond, ◌&&◌, nat_eq, List, [], ◌∷◌, ◌++◌, length, map, slice_set, zero, suc, Option, Some, None, refl, sym, ap, subst, ◌∙◌, true≢false}
+use Rattle.std.proofs.Common.{◌≡◌, ℕ, ◌+◌, ◌<◌, arith, Bool, true, false, cond, ◌&&◌, nat_eq, List, [], ◌∷◌, ◌++◌, length, slice_set, zero, suc, Option, Some, None, refl, sym, ap, subst, ◌∙◌, true≢false}
 use Rattle.std.proofs.lemmas.Bool.Decides.{nat_tests}
-use Rattle.std.proofs.lemmas.List.{length-map}
 use Rattle.std.proofs.lemmas.Option.{none-some, same_Some}
 use Rattle.std.specs.Cmp.{unsigned_tied}
 use Rattle.odb_atoms.specs.FinMap as finite
 use Rattle.odb_chain.specs.Chains.{Chains, IsLive, IsNow, Live, Mark, Standing, count, live_at, mark_of, marked, marks_of, standing, version}
-use Rattle.odb_request.specs.Request.{Request}
 use Rattle.odb_service.proofs.SessionMaps.{get-insert}
 use Rattle.odb_tables.specs.Database.{table_at}
-use Rattle.odb_sessions.specs.Held.{Watched, table_marks}
-use Rattle.odb_sessions.specs.Tied.{Adds, AreLive, HasAll, HasRoom, HoldsContents, KeepsContents, bit, is_at, uses}
+use Rattle.odb_sessions.specs.Tied.{Adds, AreLive, HasAll, HoldsContents, KeepsContents, bit, is_at, uses}
 use Rattle.odb_sessions.proofs.Releases.{got_here, got_other, itself_at, uses-++}
 
 pub stands_itself : (o : Option Standing) (x : Standing) → o ≡ Some x → o ≡ Some (record { content = x.content; marks = marks_of o })
@@ -132,26 +129,3 @@ has_made old new ms f = (f.5, λ t p. let sum : count new t p ≡ count old t p 
 
 pub keeps_made : (old new : Chains) → HoldsContents old new → KeepsContents old new
 keeps_made old new holds t p x there h = holds t p x there
-
--- ---- room
-
-uses_within : (t p : ℕ) (ms : List Mark) → uses t p ms ≤ length ms
-uses_within t p [] = omega arith
-uses_within t p (m ∷ ms) = by (is_at t p m) (uses_within t p ms)
-  where
-    by : (b : Bool) → uses t p ms ≤ length ms → bit b + uses t p ms ≤ suc (length ms)
-    by true low = omega (arith, low)
-    by false low = omega (arith, low)
-
-pub room_more : (k new : Chains) (n : ℕ) (ws : List Watched) (qs : List Request) → HasRoom k n → Adds k new (table_marks ws) → map (λ w. w.request) ws ≡ qs → HasRoom new (n + length qs)
-room_more k new n ws qs room f asked = (
-  f.2 ∙ room.0 ∙ ap length (sym f.0),
-  λ t p.
-      let sum : count new t p ≡ count k t p + uses t p (table_marks ws) = f.3 t p in
-      let low : count k t p ≤ n = room.1 t p in
-      let few : uses t p (table_marks ws) ≤ length (table_marks ws) = uses_within t p (table_marks ws) in
-      let marks : length (table_marks ws) ≡ length ws = length-map ws (λ w. w.mark) in
-      let requests : length (map (λ w. w.request) ws) ≡ length ws = length-map ws (λ w. w.request) in
-      let all : length (map (λ w. w.request) ws) ≡ length qs = ap length asked in
-      omega (arith, sum, low, few, marks, requests, all),
-)

@@ -1,5 +1,5 @@
 -- What a client has once it was brought to now, and a list whose elements are changed from the front on.
-use Rattle.std.proofs.Common.{◌≡◌, ℕ, zero, suc, ◌+◌, ◌<◌, ◌≤◌, arith, List, [], ◌∷◌, ◌++◌, Option, drop, get_or, length, map, slice_get, slice_set, take, unwrap_or, refl, ap, ◌∙◌}
+use Rattle.std.proofs.Common.{◌≡◌, ℕ, zero, suc, ◌+◌, ◌<◌, ◌≤◌, arith, List, [], ◌∷◌, get_or, length, map, slice_get, slice_set, unwrap_or, refl, ap, ◌∙◌}
 use Rattle.odb_chain.specs.Chains.{Chains, Mark, mark_of}
 use Rattle.odb_monitor.specs.View.{query, selected}
 use Rattle.odb_request.specs.Request.{Notation}
@@ -9,8 +9,7 @@ use Rattle.odb_service.specs.Session.{brought}
 use Rattle.odb_tables.specs.Database.{table_at}
 use Rattle.odb_sessions.specs.Composed.{AreTheirs, asked_of, told_so}
 use Rattle.odb_sessions.specs.Held.{Held, Watched, table_marks, view_of}
-use Rattle.odb_sessions.specs.Moved.{all_now, all_told_now, brought_to, told_now}
-use Rattle.odb_sessions.specs.Represented.Told.{told_under}
+use Rattle.odb_sessions.specs.Moved.{all_now, brought_to, told_now}
 use Rattle.odb_cond.specs.Filter.{Filter}
 use Rattle.odb_sessions.proofs.Composed.{mapped_twice}
 
@@ -50,7 +49,7 @@ brought_marks k (w ∷ ws) = ap (λ ms. mark_of k w.mark.table ∷ ms) (brought_
 abbrev held : Data → Notation → List Watched → Held
 held i n ws = record { id = i; notation = n; tables = ws }
 
-brought_asked : (k : Chains) (ws : List Watched) → asked_of (map (brought_to k) ws) ≡ asked_of ws
+pub brought_asked : (k : Chains) (ws : List Watched) → asked_of (map (brought_to k) ws) ≡ asked_of ws
 brought_asked k ws = mapped_twice (λ (w : Watched). w.request) (brought_to k) ws
 
 brought_view : (k : Chains) (i : Data) (n : Notation) (ws : List Watched) → AreTheirs ws → view_of (held i n (map (brought_to k) ws)) ≡ query k.db (asked_of ws)
@@ -73,19 +72,3 @@ told_same a b f w db versions = λ i. record {
   told = f;
   mark = (let m : Mark = record { table = w.mark.table; place = unwrap_or (slice_get (versions i) w.mark.table) 0; content = table_at (db i) w.mark.table } in m);
 }
-
--- what was done is one more
-pub one_told : (k : Chains) (ws : List Watched) (i : ℕ) (d y : Watched) (f : Option Filter) (fs : List (Option Filter)) → i < length ws → y ≡ told_now k (told_under (get_or ws i d).request f) (get_or ws i d)
-    → take (i + 1) (slice_set ws i y) ++ all_told_now k (drop (i + 1) (slice_set ws i y)) fs ≡ take i ws ++ all_told_now k (drop i ws) (f ∷ fs)
-one_told k [] i d y f fs low is = absurd (omega (arith, low))
-one_told k (w ∷ ws) zero d y f fs low is = ap (λ z. z ∷ all_told_now k ws fs) is
-one_told k (w ∷ ws) (suc i) d y f fs low is =
-    let next : suc i + 1 ≡ suc (i + 1) = omega arith in
-    ap (λ n. take n (w ∷ slice_set ws i y) ++ all_told_now k (drop n (w ∷ slice_set ws i y)) fs) next
-    ∙ ap (λ ys. w ∷ ys) (one_told k ws i d y f fs (omega (arith, low)) is)
-
-pub all_told : (k : Chains) (ws : List Watched) (i : ℕ) (fs : List (Option Filter)) → length ws ≤ i → take i ws ++ all_told_now k (drop i ws) fs ≡ ws
-all_told k [] zero fs long = refl
-all_told k [] (suc i) fs long = refl
-all_told k (w ∷ ws) zero fs long = absurd (omega (arith, long))
-all_told k (w ∷ ws) (suc i) fs long = ap (λ ys. w ∷ ys) (all_told k ws i fs (omega (arith, long)))

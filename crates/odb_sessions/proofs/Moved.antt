@@ -33,7 +33,7 @@ module _ (k new : Chains) (m : Sessions) (s : ℕ) (x y : Kept) (h : IsTied k m)
       still_live k new (marks_of z) keeps live
       (λ t p. let within : weight t p z ≤ used t p (finite.insert m s y) = used_within t p (finite.insert m s y) q z at in let sum : count new t p ≡ used t p (finite.insert m s y) = counted t p in omega (arith, within, sum))
 
-  tied_moved : AreLive new (marks_of y) → IsTied new (finite.insert m s y)
+  pub tied_moved : AreLive new (marks_of y) → IsTied new (finite.insert m s y)
   tied_moved own = (now, counted, λ q z at. by q z (eq_by_cmp nat_cmp q s) refl (sym (get-insert m s y q) ∙ at) at)
     where
       by : (q : ℕ) (z : Kept) (b : Bool) → eq_by_cmp nat_cmp q s ≡ b → cond b (Some y) (finite.get m q) ≡ Some z → finite.get (finite.insert m s y) q ≡ Some z → AreLive new (marks_of z)

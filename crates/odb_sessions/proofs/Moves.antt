@@ -1,5 +1,5 @@
 -- Marks that are moved to now, one after the other: what stays.
-use Rattle.std.proofs.Common.{◌≡◌, ℕ, zero, suc, ◌+◌, ◌-◌, ◌^◌, ◌<◌, ◌≤◌, arith, Bool, true, false, cond, ◌&&◌, nat_eq, List, [], ◌∷◌, ◌++◌, length, map, slice_get, slice_set, unwrap_or, Option, Some, None, refl, sym, ap, subst, ◌∙◌, true≢false}
+use Rattle.std.proofs.Common.{◌≡◌, ℕ, zero, suc, ◌+◌, ◌<◌, ◌≤◌, arith, Bool, true, false, cond, ◌&&◌, nat_eq, List, [], ◌∷◌, ◌++◌, length, map, slice_get, slice_set, unwrap_or, Option, Some, None, refl, sym, ap, subst, ◌∙◌, true≢false}
 use Rattle.std.proofs.lemmas.Bool.Decides.{nat_tests}
 use Rattle.std.proofs.lemmas.Option.{none-some, same_Some}
 use Rattle.std.specs.Cmp.{unsigned_tied}
@@ -9,13 +9,13 @@ use Rattle.odb_atoms.proofs.FinMaps.{get-empty}
 use Rattle.odb_chain.specs.Chains.{Chains, IsNow, Live, Mark, Standing, count, live_at, mark_of, marked, marks_of, released, standing, version}
 use Rattle.odb_service.proofs.SessionMaps.{get-insert}
 use Rattle.odb_tables.specs.Database.{Table, table_at}
-use Rattle.odb_sessions.specs.Moved.{HasRoomFor, Moves, all_now, now_of}
+use Rattle.odb_sessions.specs.Moved.{Moves, all_now, now_of}
 use Rattle.odb_sessions.specs.Tied.{AreLive, Frees, HasAll, KeepsContents, bit, is_at, uses}
 use Rattle.odb_sessions.proofs.Releases.{frees_one, live-right, still_live, uses-++}
 
 -- ---- where somebody stands
 
-stood : (o : Option Standing) (content : Table) → 0 < marks_of o → ((y : Standing) → o ≡ Some y → y.content ≡ content)
+pub stood : (o : Option Standing) (content : Table) → 0 < marks_of o → ((y : Standing) → o ≡ Some y → y.content ≡ content)
     → o ≡ Some (record { content = content; marks = marks_of o })
 stood None content low same = absurd (omega (arith, low))
 stood (Some y) content low same = λ i. let s : Option Standing = Some (record { content = same y refl i; marks = y.marks }) in s
@@ -68,7 +68,7 @@ module _ (k : Chains) (table : ℕ) (low : table < length k.live) where
           ∙ ap (λ q. cond (nat_eq p place) (Some more) (standing k q p)) (sym own)
       by false is = ap (λ (l : Live). finite.get l p) (got_other k.live table t new is)
 
-  counted : (t p : ℕ) → count k t p + bit (is_at t p (mark_of k table)) ≡ count (marked table k) t p
+  pub counted : (t p : ℕ) → count k t p + bit (is_at t p (mark_of k table)) ≡ count (marked table k) t p
   counted t p = by (is_at t p (mark_of k table)) refl
     where
       by : (b : Bool) → is_at t p (mark_of k table) ≡ b → count k t p + bit b ≡ count (marked table k) t p
@@ -124,7 +124,7 @@ moves_one k new m has now is last =
 pub same_now : (a b : Chains) (ms : List Mark) → b.db ≡ a.db → b.versions ≡ a.versions → all_now b ms ≡ all_now a ms
 same_now a b ms db versions = λ i. map (λ m. let x : Mark = record { table = m.table; place = unwrap_or (slice_get (versions i) m.table) 0; content = table_at (db i) m.table } in x) ms
 
-same_version : (a b : Chains) (t : ℕ) → b.versions ≡ a.versions → version b t ≡ version a t
+pub same_version : (a b : Chains) (t : ℕ) → b.versions ≡ a.versions → version b t ≡ version a t
 same_version a b t versions = ap (λ vs. unwrap_or (slice_get vs t) 0) versions
 
 now-++ : (k : Chains) (xs ys : List Mark) → all_now k (xs ++ ys) ≡ all_now k xs ++ all_now k ys
@@ -132,7 +132,7 @@ now-++ k [] ys = refl
 now-++ k (x ∷ xs) ys = ap (λ zs. now_of k x ∷ zs) (now-++ k xs ys)
 
 -- a mark that was moved stands at its table's version
-came_late : (k : Chains) (ms : List Mark) (t p : ℕ) → 0 < uses t p (all_now k ms) → p ≡ version k t
+pub came_late : (k : Chains) (ms : List Mark) (t p : ℕ) → 0 < uses t p (all_now k ms) → p ≡ version k t
 came_late k [] t p h = absurd (omega (arith, h))
 came_late k (m ∷ ms) t p h = by (is_at t p (now_of k m)) refl h (came_late k ms t p)
   where
@@ -213,61 +213,3 @@ moved_live old new ms h now f =
     let moved : count old t p + uses t p (all_now old ms) ≡ count new t p + uses t p ms = f.2 t p in
     omega (arith, had, moved) in
     (live_now old new f.0 f.1 (f.4 now) ms low, low)
-
--- ---- room
-
--- a mark that stands for now stays where it is
-no_fewer : (k : Chains) (t : ℕ) (ms : List Mark) → uses t (version k t) ms ≤ uses t (version k t) (all_now k ms)
-no_fewer k t [] = omega arith
-no_fewer k t (m ∷ ms) =
-    let rest : uses t (version k t) ms ≤ uses t (version k t) (all_now k ms) = no_fewer k t ms in
-    let own : bit (is_at t (version k t) m) ≤ bit (is_at t (version k t) (now_of k m)) = by (nat_eq t m.table) refl in
-    omega (arith, rest, own)
-  where
-    at_most : (b : Bool) → bit b ≤ 1
-    at_most true = omega arith
-    at_most false = omega arith
-
-    by : (b : Bool) → nat_eq t m.table ≡ b → bit (b && nat_eq (version k t) m.place) ≤ bit (b && nat_eq (version k t) (version k m.table))
-    by true is =
-        let own : t ≡ m.table = grind (arith, nat_tests) in
-        let itself : nat_eq (version k m.table) (version k m.table) ≡ true = grind (arith, nat_tests) in
-        let same : bit (nat_eq (version k t) (version k m.table)) ≡ 1 = ap bit (ap (λ q. nat_eq (version k q) (version k m.table)) own ∙ itself) in
-        let low : bit (nat_eq (version k t) m.place) ≤ 1 = at_most (nat_eq (version k t) m.place) in
-        omega (arith, same, low)
-    by false is = omega arith
-
-module _ (most : ℕ) where
-  abbrev Room : Chains → List Mark → Type 0
-  Room k ms = (t : ℕ) → count k t (version k t) + uses t (version k t) (all_now k ms) < most + uses t (version k t) ms
-
-  few_at : (k : Chains) (m : Mark) (ms : List Mark) → Room k (m ∷ ms) → count k m.table (version k m.table) < most
-  few_at k m ms room =
-      let t = m.table in
-      let p = version k t in
-      let a : nat_eq t t ≡ true = grind (arith, nat_tests) in
-      let b : nat_eq p p ≡ true = grind (arith, nat_tests) in
-      let one : bit (is_at t p (now_of k m)) ≡ 1 = λ i. bit (a i && b i) in
-      let own : bit (is_at t p m) ≤ 1 = at_most (is_at t p m) in
-      let rest : uses t p ms ≤ uses t p (all_now k ms) = no_fewer k t ms in
-      let all : count k t p + (bit (is_at t p (now_of k m)) + uses t p (all_now k ms)) < most + (bit (is_at t p m) + uses t p ms) = room t in
-      omega (arith, one, own, rest, all)
-    where
-      at_most : (b : Bool) → bit b ≤ 1
-      at_most true = omega arith
-      at_most false = omega arith
-
-  room_left : (k new : Chains) (m : Mark) (ms : List Mark) → Room k (m ∷ ms) → Moves k new (m ∷ []) → Room new ms
-  room_left k new m ms room f t =
-      let p = version k t in
-      let all : count k t p + (bit (is_at t p (now_of k m)) + uses t p (all_now k ms)) < most + (bit (is_at t p m) + uses t p ms) = room t in
-      let moved : count k t p + (bit (is_at t p (now_of k m)) + 0) ≡ count new t p + (bit (is_at t p m) + 0) = f.2 t p in
-      let left : count new t p + uses t p (all_now k ms) < most + uses t p ms = omega (arith, all, moved) in
-      subst (λ q. count new t q + uses t q (all_now new ms) < most + uses t q ms) (sym (same_version k new t f.1))
-      (subst (λ (cs : List Mark). count new t p + uses t p cs < most + uses t p ms) (sym (same_now k new ms f.0 f.1)) left)
-
-pub few : (k : Chains) (m : Mark) (ms : List Mark) → HasRoomFor k (m ∷ ms) → count k m.table (version k m.table) < 2 ^ 64 - 1
-few k m ms room = few_at (2 ^ 64 - 1) k m ms room
-
-pub room-rest : (k new : Chains) (m : Mark) (ms : List Mark) → HasRoomFor k (m ∷ ms) → Moves k new (m ∷ []) → HasRoomFor new ms
-room-rest k new m ms room f = room_left (2 ^ 64 - 1) k new m ms room f

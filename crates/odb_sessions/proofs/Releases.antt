@@ -126,7 +126,7 @@ has-left k xs ys h = (live-left k xs ys h.0, λ t p. let sum : uses t p (xs ++ y
 pub itself_at : (m : Mark) → is_at m.table m.place m ≡ true
 itself_at m = let a : nat_eq m.table m.table ≡ true = grind (arith, nat_tests) in let b : nat_eq m.place m.place ≡ true = grind (arith, nat_tests) in λ i. a i && b i
 
-used_once : (m : Mark) (ms : List Mark) → 1 ≤ uses m.table m.place (m ∷ ms)
+pub used_once : (m : Mark) (ms : List Mark) → 1 ≤ uses m.table m.place (m ∷ ms)
 used_once m ms = let one : bit (is_at m.table m.place m) ≡ 1 = ap bit (itself_at m) in omega (arith, one)
 
 -- marks that are counted still are live still

@@ -1,26 +1,20 @@
--- Room for marks: changes and releases keep it.
-use Rattle.std.proofs.Common.{◌≡◌, ℕ, zero, suc, ◌-◌, ◌≤◌, arith, Bool, true, false, cond, nat_le, List, [], ◌∷◌, length, Option, Some, None, option_and_then, refl, sym, ap, subst, ◌∙◌}
+-- Room for marks: changes, releases and moves keep it.
+use Rattle.std.proofs.Common.{◌≡◌, ℕ, ◌+◌, ◌<◌, ◌≤◌, arith, List, [], ◌∷◌, length, map, refl, sym, ap, subst, suc, ◌∙◌}
 use Rattle.std.proofs.lemmas.List.{length-map}
 use Rattle.odb_atoms.specs.FinMap as finite
-use Rattle.odb_chain.specs.Chains.{Chains, IsLive, Live, Mark, Standing, absorbed, chains_of, count, live_at, marks_of, one_less, released, standing}
-use Rattle.odb_service.proofs.SessionMaps.{get-empty}
+use Rattle.odb_chain.specs.Chains.{Chains, IsLive, Mark, absorbed, chains_of, released}
+use Rattle.odb_request.specs.Request.{Request}
 use Rattle.odb_tables.specs.Change.{Changes, all_changed_by}
 use Rattle.odb_tables.specs.Database.{Db}
-use Rattle.odb_sessions.specs.Tied.{HasRoom, is_at}
+use Rattle.odb_sessions.specs.Held.{Watched}
+use Rattle.odb_sessions.specs.Moved.{Moves}
+use Rattle.odb_sessions.specs.Tied.{Adds, HasRoom, KeepsRoom, counted_in}
 use Rattle.odb_sessions.proofs.Adds.{length-set}
-use Rattle.odb_sessions.proofs.Releases.{stands_after}
+use Rattle.odb_sessions.proofs.Counted.{none_counted, none_more, stands_inside}
 
-none_live : (db : Db) (t : ℕ) → live_at (chains_of db) t ≡ finite.empty
-none_live [] t = refl
-none_live (d ∷ db) zero = refl
-none_live (d ∷ db) (suc t) = none_live db t
-
-pub room_none : (k : Chains) (db : Db) → k ≡ chains_of db → HasRoom k 0
+pub room_none : (k : Chains) (db : Db) → k ≡ chains_of db → HasRoom k 1
 room_none k db is =
-    subst (λ (c : Chains). HasRoom c 0) (sym is) (
-      length-map db (λ t. finite.empty),
-      λ t p. let none : count (chains_of db) t p ≡ 0 = ap marks_of (ap (λ (l : Live). finite.get l p) (none_live db t) ∙ get-empty p) in omega (arith, none),
-    )
+    subst (λ (c : Chains). HasRoom c 1) (sym is) (length-map db (λ t. finite.empty), (let none : counted_in (chains_of db).live ≡ 0 = none_counted db in omega (arith, none)))
 
 length-changed : (db : Db) (cs : List Changes) → length cs ≡ length db → length (all_changed_by db cs) ≡ length db
 length-changed [] [] as_many = refl
@@ -31,26 +25,28 @@ length-changed (d ∷ db) (c ∷ cs) as_many = ap suc (length-changed db cs (ome
 pub room_absorbed : (k new : Chains) (cs : List Changes) (n : ℕ) → HasRoom k n → length cs ≡ length k.db → new ≡ absorbed cs k → HasRoom new n
 room_absorbed k new cs n room as_many is = subst (λ (c : Chains). HasRoom c n) (sym is) (room.0 ∙ sym (length-changed k.db cs as_many), room.1)
 
-fewer : (o : Option Standing) → marks_of (option_and_then one_less o) ≤ marks_of o
-fewer None = omega arith
-fewer (Some x) = by (nat_le x.marks 1)
-  where
-    by : (b : Bool) → marks_of (cond b None (Some (record x { marks = x.marks - 1 }))) ≤ x.marks
-    by true = omega arith
-    by false = omega arith
-
 pub room_released : (k new : Chains) (m : Mark) (n : ℕ) → HasRoom k n → IsLive k m → new ≡ released m.table m.place k → HasRoom new n
 room_released k new m n room live is =
-    subst (λ (c : Chains). HasRoom c n) (sym is)
-    (length-set k.live m.table _ ∙ room.0, λ t p. by t p (is_at t p m) refl)
-  where
-    by : (t p : ℕ) (b : Bool) → is_at t p m ≡ b → count (released m.table m.place k) t p ≤ n
-    by t p true at =
-        let left : count (released m.table m.place k) t p ≡ marks_of (option_and_then one_less (standing k t p)) = ap marks_of (stands_after k m live t p ∙ ap (λ b. cond b (option_and_then one_less (standing k t p)) (standing k t p)) at) in
-        let low : count k t p ≤ n = room.1 t p in
-        let less : marks_of (option_and_then one_less (standing k t p)) ≤ count k t p = fewer (standing k t p) in
-        omega (arith, left, low, less)
-    by t p false at =
-        let left : count (released m.table m.place k) t p ≡ count k t p = ap marks_of (stands_after k m live t p ∙ ap (λ b. cond b (option_and_then one_less (standing k t p)) (standing k t p)) at) in
-        let low : count k t p ≤ n = room.1 t p in
-        omega (arith, left, low)
+    let low : m.table < length k.live = stands_inside k.live m.table m.place _ live.1 in
+    let few : counted_in (released m.table m.place k).live ≤ counted_in k.live = none_more k m.table m.place low in
+    let all : counted_in k.live < n = room.1 in
+    subst (λ (c : Chains). HasRoom c n) (sym is) (length-set k.live m.table _ ∙ room.0, omega (arith, few, all))
+
+-- marks are made, one for each of these requests
+pub room_more : (k new : Chains) (n : ℕ) (ms : List Mark) (ws : List Watched) (qs : List Request) → HasRoom k n → Adds k new ms → counted_in new.live ≡ counted_in k.live + length ws → map (λ w. w.request) ws ≡ qs → HasRoom new (n + length qs)
+room_more k new n ms ws qs room f more asked = (
+  f.2 ∙ room.0 ∙ ap length (sym f.0),
+  let low : counted_in k.live < n = room.1 in
+      let requests : length (map (λ w. w.request) ws) ≡ length ws = length-map ws (λ w. w.request) in
+      let all : length (map (λ w. w.request) ws) ≡ length qs = ap length asked in
+      omega (arith, more, low, requests, all),
+)
+
+-- marks move
+pub room_moved : (k new : Chains) (n : ℕ) (ms : List Mark) → HasRoom k n → Moves k new ms → KeepsRoom k new → HasRoom new n
+room_moved k new n ms room f keeps = (
+  keeps.0 ∙ room.0 ∙ ap length (sym f.0),
+  let low : counted_in k.live < n = room.1 in
+      let same : counted_in new.live ≡ counted_in k.live = keeps.1 in
+      omega (arith, low, same),
+)

@@ -1,5 +1,6 @@
 pub mod Asked
 pub mod Book
+pub mod Carried
 pub mod Composed
 pub mod Foreseen
 pub mod Held

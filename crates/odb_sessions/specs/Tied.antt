@@ -1,7 +1,7 @@
 -- How the marks of sessions hang together with the chains: each is live, and the chains count these marks and no others.
 use Rattle.std.specs.Prelude.{◌≡◌, ℕ, ◌+◌, ◌<◌, ◌≤◌, Bool, true, false, ◌&&◌, nat_eq, List, [], ◌∷◌, length, Some}
 use Rattle.odb_atoms.specs.FinMap.{entries_of, get}
-use Rattle.odb_chain.specs.Chains.{Chains, IsLive, IsNow, Mark, Standing, count, standing}
+use Rattle.odb_chain.specs.Chains.{Chains, IsLive, IsNow, Live, Mark, Standing, count, standing}
 use Rattle.odb_sessions.specs.Held.{Kept, Sessions, marks_of}
 
 abbrev pub is_at : ℕ → ℕ → Mark → Bool
@@ -56,6 +56,18 @@ HoldsContents old new = (t p : ℕ) (x : Standing) → standing old t p ≡ Some
 abbrev pub Adds : Chains → Chains → List Mark → Type 0
 Adds old new ms = (new.db ≡ old.db) × (new.versions ≡ old.versions) × (length new.live ≡ length old.live) × ((t p : ℕ) → count new t p ≡ count old t p + uses t p ms) × HoldsContents old new × AreLive new ms × IsNow new
 
--- a list of places for each table, and no more than n marks at one of them
+-- how many marks are counted at all places of a table, and of these tables
+abbrev pub counted_at : Live → ℕ
+counted_at l = total (λ x. x.marks) (entries_of l)
+
+abbrev pub counted_in : List Live → ℕ
+counted_in [] = 0
+counted_in (l ∷ ls) = counted_at l + counted_in ls
+
+-- a list of places for each table, and fewer than n marks at all of them together
 abbrev pub HasRoom : Chains → ℕ → Type 0
-HasRoom k n = (length k.live ≡ length k.db) × ((t p : ℕ) → count k t p ≤ n)
+HasRoom k n = (length k.live ≡ length k.db) × (counted_in k.live < n)
+
+-- as many lists of places, and as many marks at all of them together
+abbrev pub KeepsRoom : Chains → Chains → Type 0
+KeepsRoom old new = (length new.live ≡ length old.live) × (counted_in new.live ≡ counted_in old.live)

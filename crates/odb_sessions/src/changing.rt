@@ -22,7 +22,7 @@ pub struct Changing {
     reply: Granted,
     old_id: Arc<Id>,
     new_id: Arc<Id>,
-    changes: Arc<Changes>,
+    changes: Changes,
 }
 
 impl Model for Changing {
@@ -39,7 +39,7 @@ impl Model for Changing {
       request = c.reply;
       old = arc_value c.old_id;
       new = arc_value c.new_id;
-      filters = filters_of (arc_value c.changes);
+      filters = filters_of c.changes;
     } };
 }
 
@@ -61,7 +61,6 @@ impl Changing {
           filters = filters_of changes;
         }) }
     {
-        let changes = Arc::new(alloc, changes)?;
         let reply = Granted::new(alloc, request)?;
         let old_id = Arc::new(alloc, Id::new(alloc, old)?)?;
         let new_id = Arc::new(alloc, Id::new(alloc, new)?)?;

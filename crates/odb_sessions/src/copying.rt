@@ -5,7 +5,7 @@ ghost use Rattle.odb_service.specs.Session as model;
 ghost use Rattle.odb_sessions.specs.Held.{plain};
 ghost use Rattle.odb_sessions.specs.Represented.Queued.{filters_of, queued_of};
 
-use crate::item::{Item, Renamed, Shift, Start, Stopped};
+use crate::item::{Changes, Item, Renamed, Shift, Start, Stopped};
 use crate::monitor::{Monitor, Watching};
 use odb_cond::Filter;
 use std::alloc::AllocError;
@@ -67,6 +67,20 @@ impl Clone for Start {
     }
 }
 
+impl Clone for Changes {
+    ghost use Rattle.std.specs.Prelude.{◌≡◌};
+    ghost use Rattle.odb_sessions.specs.Represented.Queued.{filters_of};
+
+    ghost is_clone = { λ x y. filters_of y ≡ filters_of x };
+
+    /// Equal filters.
+    fn clone(&self) -> Result<Changes, AllocError> {
+        let changes = self.changes.clone()?;
+        let schema = self.schema.clone()?;
+        Ok(Changes { schema, changes })
+    }
+}
+
 impl Clone for Item {
     ghost use Rattle.std.specs.Prelude.{◌≡◌};
     ghost use Rattle.odb_sessions.specs.Represented.Queued.{queued_of};
@@ -87,7 +101,7 @@ impl Clone for Item {
 }
 
 fn shift_again(shift: &Shift) -> Result<Item, AllocError>
-    ensures { IfOk result (λ again. queued_of again ≡ plain (model.shift (arc_value shift.now.id) (filters_of (arc_value shift.now.changes)))) }
+    ensures { IfOk result (λ again. queued_of again ≡ plain (model.shift (arc_value shift.now.id) (filters_of shift.now.changes))) }
 {
     let id = shift.id.clone()?;
     let changes = shift.changes.clone()?;
@@ -95,7 +109,7 @@ fn shift_again(shift: &Shift) -> Result<Item, AllocError>
 }
 
 fn renamed_again(renamed: &Renamed) -> Result<Item, AllocError>
-    ensures { IfOk result (λ again. queued_of again ≡ plain (model.renamed renamed.now.reply (arc_value renamed.now.old_id) (arc_value renamed.now.new_id) (filters_of (arc_value renamed.now.changes)))) }
+    ensures { IfOk result (λ again. queued_of again ≡ plain (model.renamed renamed.now.reply (arc_value renamed.now.old_id) (arc_value renamed.now.new_id) (filters_of renamed.now.changes))) }
 {
     let reply = renamed.reply.try_copy()?;
     let old_id = renamed.old_id.clone()?;

@@ -1,5 +1,7 @@
 //! Replies to requests about monitors that are granted. [P 9.5, 9.6]
 ghost use Rattle.std.specs.Prelude.{◌≡◌, false, IfOk};
+ghost use Rattle.odb_queue.specs.Represented.Item.{item_of};
+ghost use Rattle.odb_sessions.specs.Represented.Origin.{granted};
 ghost use Rattle.odb_wire.specs.Message.{has_left_out, id_of};
 ghost use Rattle.odb_wire.specs.Shown.{request_data};
 
@@ -39,6 +41,14 @@ impl Granted {
     {
         let reply = replied(alloc, request, &Value::Object(Map::new(alloc)))?;
         Ok(Granted { reply })
+    }
+
+    /// The reply, finished. O(1).
+    pub(crate) fn finished(self) -> Finished
+        ensures { item_of result ≡ granted self }
+    {
+        let Granted { reply } = self;
+        reply
     }
 
     /// An equal one. O(bytes).

@@ -52,7 +52,7 @@ pub struct Changes {
 #[derive(Drop)]
 pub(crate) struct Shift {
     pub(crate) id: Arc<Id>,
-    pub(crate) changes: Arc<Changes>,
+    pub(crate) changes: Changes,
 }
 
 /// The reply to a change of the monitor with the old id: of its id and of its filters.
@@ -61,7 +61,7 @@ pub(crate) struct Renamed {
     pub(crate) reply: Granted,
     pub(crate) old_id: Arc<Id>,
     pub(crate) new_id: Arc<Id>,
-    pub(crate) changes: Arc<Changes>,
+    pub(crate) changes: Changes,
 }
 
 /// The reply to a cancel of the monitor with this id.

@@ -5,6 +5,7 @@
 #![tactic(auto)]
 
 mod again;
+mod applying;
 mod asked;
 mod carrying;
 mod changing;
@@ -12,6 +13,7 @@ mod composing;
 mod copying;
 mod ending;
 mod foreseen;
+mod filters;
 mod granted;
 mod id;
 mod item;

@@ -1,12 +1,12 @@
 //! Monitors: what is asked, and what the client was told. [P 9.1, 9.2]
-ghost use Rattle.std.specs.Prelude.{◌≡◌, ℕ, ◌+◌, ◌^◌, ◌<◌, [], ◌∷◌, bytes_eq, length, map, IfOk, OnErr};
+ghost use Rattle.std.specs.Prelude.{◌≡◌, ◌+◌, ◌^◌, ◌<◌, [], ◌∷◌, bytes_eq, length, map, IfOk, OnErr};
 ghost use Rattle.std.specs.Arc.{arc_value};
 ghost use Rattle.std.specs.List.{list_any};
-ghost use Rattle.odb_chain.specs.Chains.{IsNow, count};
+ghost use Rattle.odb_chain.specs.Chains.{IsNow};
 ghost use Rattle.odb_sessions.specs.Composed.{AreTheirs};
 ghost use Rattle.odb_sessions.specs.Held.{marks_in, table_marks};
 ghost use Rattle.odb_sessions.specs.Started.{AreOfTables};
-ghost use Rattle.odb_sessions.specs.Tied.{Adds, Frees, HasAll};
+ghost use Rattle.odb_sessions.specs.Tied.{Adds, Frees, HasAll, counted_in};
 
 use crate::id::Id;
 use crate::past::Past;
@@ -41,12 +41,19 @@ impl Model for Watching {
 }
 
 impl Watching {
+    /// The name of its table.
+    pub(crate) fn name(&self) -> &str
+        ensures { result.now ≡ self.now.request.shape.name }
+    {
+        let shape = self.request.shape();
+        shape.table_schema().name()
+    }
+
     /// Whether it is of the table of this name.
     fn is_of(&self, name: &str) -> bool
         ensures { result ≡ bytes_eq name.now self.now.request.shape.name }
     {
-        let shape = self.request.shape();
-        name == shape.table_schema().name()
+        name == self.name()
     }
 
     /// Gives its mark back.
@@ -70,9 +77,10 @@ pub(crate) struct Monitor {
 impl Model for Monitor {
     ghost use Rattle.std.specs.Arc.{arc_value};
     ghost use Rattle.odb_request.specs.Represented.Kind.{notation_of};
-    ghost use Rattle.odb_sessions.specs.Composed.{AreTheirs};
+    ghost use Rattle.odb_sessions.specs.Composed.{AreTheirs, asked_of};
     ghost use Rattle.odb_sessions.specs.Held as model;
     ghost use Rattle.odb_sessions.specs.Represented.Codes.{held_code};
+    ghost use Rattle.odb_sessions.specs.Started.{AreApart};
 
     ghost Value = { model.Held };
 
@@ -80,7 +88,7 @@ impl Model for Monitor {
 
     ghost view = { λ m. record { id = arc_value m.id; notation = notation_of m.kind; tables = m.tables.items } };
 
-    ghost invariant = { λ m. AreTheirs m.tables.items };
+    ghost invariant = { λ m. AreTheirs m.tables.items × AreApart (asked_of m.tables.items) };
 }
 
 impl Monitor {
@@ -127,8 +135,9 @@ pub(crate) fn watch_all(
     requires tables { AreOfTables chains.old.db requests.items }
     requires now { IsNow chains.old }
     requires lives { length chains.old.live ≡ length chains.old.db }
-    requires few { (t p : ℕ) → count chains.old t p + length requests.items < 2 ^ 64 }
+    requires few { counted_in chains.old.live + length requests.items < 2 ^ 64 }
     ensures ok { IfOk result (λ tables. Adds chains.old chains.new (table_marks tables.items)) }
+    ensures counted { IfOk result (λ tables. counted_in chains.new.live ≡ counted_in chains.old.live + length tables.items) }
     ensures asked { IfOk result (λ tables. map (λ w. w.request) tables.items ≡ requests.items) }
     ensures theirs { IfOk result (λ tables. AreTheirs tables.items) }
     ensures err { OnErr result (chains.new ≡ chains.old) }

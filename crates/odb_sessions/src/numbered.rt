@@ -1,15 +1,19 @@
 //! The open sessions by their numbers.
-ghost use Rattle.std.specs.Prelude.{◌≡◌, true, map, is_some, option_map, IfErr, IfOk, OnErr, OnOk};
+ghost use Rattle.std.specs.Prelude.{◌≡◌, true, map, is_some, option_and_then, option_map, Some, IfErr, IfOk, OnErr, OnOk};
 ghost use Rattle.std.specs.Option.{option_copied};
 ghost use Rattle.odb_atoms.specs.FinMap as finite;
+ghost use Rattle.odb_queue.specs.Represented.Item.{item_of};
 ghost use Rattle.odb_queue.specs.Represented.Post.{post_of};
+ghost use Rattle.odb_sessions.specs.Carried.{IsCarriedOut, IsReady, last_finished};
+ghost use Rattle.odb_sessions.specs.Held.{Kept, marks_of, seen};
 ghost use Rattle.odb_sessions.specs.Posts.{all_kept_posted, at_number, kept_unposted, newest_at, with_item, with_items, without_newest};
 ghost use Rattle.odb_sessions.specs.Represented.Queued.{queued_of};
 
 use crate::item::Item;
+use crate::past::Past;
 use crate::session::Session;
 use odb_locks::SessionId;
-use odb_queue::Post;
+use odb_queue::{Finished, Post};
 use std::alloc::{AllocError, AllocFailed, Global};
 use std::collections::BTreeMap;
 use std::marker::Model;
@@ -174,6 +178,24 @@ impl Numbered {
             return None;
         };
         of.take_newest()
+    }
+
+    /// Carries a taking of a session out, if that is open, as `Session::carry_out` does.
+    pub(crate) fn carry_out(
+        &mut self,
+        session: SessionId,
+        items: usize,
+        monitors: usize,
+        past: &mut Past,
+    ) -> Option<Finished>
+        requires { (x : Kept) → finite.get self.old session ≡ Some x → IsReady past.old (marks_of x) }
+        ensures carried { IsCarriedOut past.old past.new self.old self.new session items monitors }
+        ensures text { option_map item_of result ≡ option_and_then (λ x. last_finished items (seen x).queue) (finite.get self.old session) }
+    {
+        let Some(of) = self.sessions.get_mut(&session) else {
+            return None;
+        };
+        of.carry_out(items, monitors, past)
     }
 
     /// Equal sessions.

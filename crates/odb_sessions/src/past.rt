@@ -2,12 +2,17 @@
 ghost use Rattle.std.specs.Prelude.{◌≡◌, map, IfErr, IfOk, OnErr, OnOk};
 ghost use Rattle.odb_chain.specs.Chains.{IsLive, IsNow, absorbed, chains_of, released};
 ghost use Rattle.odb_sessions.specs.Composed.{AreTheirs};
-ghost use Rattle.odb_sessions.specs.Held.{table_marks};
+ghost use Rattle.odb_service.specs.Service.{Service};
+ghost use Rattle.odb_service.specs.Session.{brought, refilter};
+ghost use Rattle.odb_sessions.specs.Held.{marks_in, monitor_of, table_marks, watch_of};
+ghost use Rattle.odb_sessions.specs.Moved.{Moves, all_now};
+ghost use Rattle.odb_sessions.specs.Represented.Queued.{filters_of};
 ghost use Rattle.odb_sessions.specs.Started.{AreOfTables};
-ghost use Rattle.odb_sessions.specs.Tied.{Adds};
+ghost use Rattle.odb_sessions.specs.Tied.{Adds, HasAll};
 ghost use Rattle.odb_tables.specs.Installing.{IsChangeOf};
 
-use crate::monitor::{Watching, watch_all};
+use crate::item::Changes;
+use crate::monitor::{Monitor, Watching, watch_all};
 use odb_chain::{Chains, Mark};
 use odb_request::Request;
 use odb_tables::{ChangeSet, Db};
@@ -15,7 +20,7 @@ use std::alloc::{AllocError, AllocFailed, Global};
 use std::hash::RandomState;
 use std::marker::Model;
 
-/// The database with its past, and how many marks were made so far. Contracts see the chains.
+/// The database with its past, and one more than marks were made so far. Contracts see the chains.
 #[derive(Drop)]
 pub(crate) struct Past {
     chains: Chains,
@@ -43,7 +48,7 @@ impl Past {
         ensures now { IfOk result (λ past. IsNow past) }
     {
         let chains = Chains::new(alloc, db, hashing)?;
-        Ok(Past { chains, made: 0 })
+        Ok(Past { chains, made: 1 })
     }
 
     /// The database as it is now.
@@ -92,6 +97,28 @@ impl Past {
         let tables = watch_all(alloc, &mut self.chains, requests)?;
         self.made = made;
         Ok(tables)
+    }
+
+    /// The client of the monitor has what its tables are now.
+    pub(crate) fn bring(&mut self, monitor: &mut Monitor)
+        requires has { HasAll self.old (marks_in monitor.old) }
+        requires now { IsNow self.old }
+        ensures monitor { (h : Service) → monitor_of monitor.new ≡ brought h self.old.db (watch_of monitor.old).requests (monitor_of monitor.old) }
+        ensures marks { marks_in monitor.new ≡ all_now self.old (marks_in monitor.old) }
+        ensures moved { Moves self.old self.new (marks_in monitor.old) }
+    {
+        monitor.bring(&mut self.chains);
+    }
+
+    /// The same under the filters that are named.
+    pub(crate) fn bring_under(&mut self, monitor: &mut Monitor, changes: Changes)
+        requires has { HasAll self.old (marks_in monitor.old) }
+        requires now { IsNow self.old }
+        ensures monitor { (h : Service) → monitor_of monitor.new ≡ brought h self.old.db (refilter (filters_of changes) (watch_of monitor.old).requests) (monitor_of monitor.old) }
+        ensures marks { marks_in monitor.new ≡ all_now self.old (marks_in monitor.old) }
+        ensures moved { Moves self.old self.new (marks_in monitor.old) }
+    {
+        monitor.bring_under(changes, &mut self.chains);
     }
 
     /// An equal database, with an equal past.

@@ -1,12 +1,15 @@
 //! A session: what is queued for it, and its monitors. [P 10.1]
-ghost use Rattle.std.specs.Prelude.{◌≡◌, ◌+◌, ◌&&◌, not, nat_lt, flat_map, map, option_map, IfErr, IfOk, OnErr, OnOk};
+ghost use Rattle.std.specs.Prelude.{◌≡◌, ◌+◌, ◌≤◌, ◌&&◌, not, nat_lt, flat_map, map, option_map, IfErr, IfOk, OnErr, OnOk, vec_capacity, vec_len};
 ghost use Rattle.std.specs.Arc.{arc_value};
 ghost use Rattle.odb_queue.specs.Represented.Answer.{call_at};
 ghost use Rattle.odb_rpc.specs.Message.{has_reply};
 ghost use Rattle.odb_schema.specs.Schema.{Schema};
+ghost use Rattle.odb_queue.specs.Represented.Item.{item_of};
 ghost use Rattle.odb_service.specs.Run.{max_owed};
+ghost use Rattle.odb_service.specs.Server.{served_by};
 ghost use Rattle.odb_service.specs.Session.{replies_in};
 ghost use Rattle.odb_sessions.specs.Asked.{ids_asked};
+ghost use Rattle.odb_sessions.specs.Carried.{Carries, IsReady, all_begin, begins, last_finished, used_by};
 ghost use Rattle.odb_sessions.specs.Held.{item_seen, marks_in, marks_of, nothing_kept, seen};
 ghost use Rattle.odb_sessions.specs.Named.{named_asked};
 ghost use Rattle.odb_sessions.specs.Posts.{newest, with_item, without_newest};
@@ -14,6 +17,7 @@ ghost use Rattle.odb_sessions.specs.Represented.Queued.{queued_of};
 ghost use Rattle.odb_sessions.specs.Tied.{Frees, HasAll};
 ghost use Rattle.odb_wire.specs.Shown.{request_data};
 
+use crate::applying::bring_first;
 use crate::asked::told;
 use crate::id::Id;
 use crate::item::Item;
@@ -21,6 +25,7 @@ use crate::monitor::Monitor;
 use crate::named::{Named, all_named};
 use crate::past::Past;
 use crate::queue::Queue;
+use odb_queue::Finished;
 use odb_rpc::has_reply;
 use odb_wire::Request;
 use std::alloc::{AllocError, AllocFailed, Global};
@@ -38,6 +43,8 @@ pub(crate) struct Session {
 }
 
 impl Model for Session {
+    ghost use Rattle.std.specs.Prelude.{◌+◌, ◌≤◌, vec_capacity, vec_len};
+    ghost use Rattle.odb_sessions.specs.Carried.{all_begin};
     ghost use Rattle.odb_sessions.specs.Held as model;
     ghost use Rattle.odb_sessions.specs.Represented.Codes.{kept_code};
 
@@ -46,6 +53,8 @@ impl Model for Session {
     ghost coded = { kept_code };
 
     ghost view = { λ s. record { queue = s.queue; monitors = s.monitors.items } };
+
+    ghost invariant = { λ s. vec_len s.monitors + all_begin s.queue ≤ vec_capacity s.monitors };
 }
 
 impl Session {
@@ -73,6 +82,9 @@ impl Session {
         ensures err { OnErr result (self.new ≡ self.old) }
         ensures handed_back { IfErr result (λ refused. refused.value ≡ item) }
     {
+        if make_room_for(&item, &self.queue, &mut self.monitors).is_err() {
+            return Err(AllocFailed { value: item });
+        }
         self.queue.push(item)
     }
 
@@ -102,6 +114,62 @@ impl Session {
         Ok(named)
     }
 
+    /// Carries the earliest item of the queue out, if there is one, and returns the text that stands in it, if
+    /// one does.
+    fn use_one(&mut self, past: &mut Past) -> Option<Finished>
+        requires { IsReady past.old (marks_of self.old) }
+        ensures session { (s : Schema) → seen self.new ≡ used_by (served_by s) past.old.db 1 0 (seen self.old) }
+        ensures carried { Carries past.old past.new (marks_of self.old) (marks_of self.new) }
+        ensures text { option_map item_of result ≡ last_finished 1 (seen self.old).queue }
+    {
+        let Some(item) = self.queue.pop() else {
+            return None;
+        };
+        item.carry_out(&mut self.monitors, past)
+    }
+
+    /// Carries this many items of the queue out, and returns the text that stands in the last of them, if one
+    /// does.
+    fn use_up(&mut self, items: usize, past: &mut Past) -> Option<Finished>
+        requires { IsReady past.old (marks_of self.old) }
+        ensures session { (s : Schema) → seen self.new ≡ used_by (served_by s) past.old.db items 0 (seen self.old) }
+        ensures carried { Carries past.old past.new (marks_of self.old) (marks_of self.new) }
+        ensures text { option_map item_of result ≡ last_finished items (seen self.old).queue }
+    {
+        let mut text = None;
+        for used in 0..items {
+            text = self.use_one(past);
+        }
+        text
+    }
+
+    /// The clients of the first n monitors have what their tables are now.
+    fn bring(&mut self, n: usize, past: &mut Past)
+        requires { IsReady past.old (marks_of self.old) }
+        ensures session { (s : Schema) → seen self.new ≡ used_by (served_by s) past.old.db 0 n (seen self.old) }
+        ensures carried { Carries past.old past.new (marks_of self.old) (marks_of self.new) }
+    {
+        bring_first(&mut self.monitors, n, past);
+    }
+
+    /// Carries a taking out: this many items of the queue, and then the clients of this many monitors have what
+    /// their tables are now. It returns the text that stands in the last of the items, if one does.
+    pub(crate) fn carry_out(
+        &mut self,
+        items: usize,
+        monitors: usize,
+        past: &mut Past,
+    ) -> Option<Finished>
+        requires { IsReady past.old (marks_of self.old) }
+        ensures session { (s : Schema) → seen self.new ≡ used_by (served_by s) past.old.db items monitors (seen self.old) }
+        ensures carried { Carries past.old past.new (marks_of self.old) (marks_of self.new) }
+        ensures text { option_map item_of result ≡ last_finished items (seen self.old).queue }
+    {
+        let text = self.use_up(items, past);
+        self.bring(monitors, past);
+        text
+    }
+
     /// Gives the marks of its monitors back, and those of items that are queued.
     pub(crate) fn release(self, past: &mut Past)
         requires { HasAll past.old (marks_of self) }
@@ -111,6 +179,36 @@ impl Session {
         release_all(monitors, past);
         queue.release(past);
     }
+}
+
+/// Makes room for the monitor that begins with the item, if one does, beside those that begin with what is queued.
+fn make_room_for(item: &Item, queue: &Queue, monitors: &mut Vec<Monitor>) -> Result<(), AllocError>
+    requires { vec_len monitors.old + all_begin queue.now ≤ vec_capacity monitors.old }
+    ensures items { monitors.new.items ≡ monitors.old.items }
+    ensures kept { vec_len monitors.new + all_begin queue.now ≤ vec_capacity monitors.new }
+    ensures room { OnOk result (vec_len monitors.new + (all_begin queue.now + begins (queued_of item.now)) ≤ vec_capacity monitors.new) }
+{
+    match item {
+        Item::Say(_) => Ok(()),
+        Item::Start(_) => make_room(queue, monitors),
+        Item::Sync(_) => Ok(()),
+        Item::Shift(_) => Ok(()),
+        Item::Renamed(_) => Ok(()),
+        Item::Stopped(_) => Ok(()),
+    }
+}
+
+/// Makes room for one monitor more than begin with what is queued.
+fn make_room(queue: &Queue, monitors: &mut Vec<Monitor>) -> Result<(), AllocError>
+    ensures items { monitors.new.items ≡ monitors.old.items }
+    ensures len { vec_len monitors.new ≡ vec_len monitors.old }
+    ensures grown { vec_capacity monitors.old ≤ vec_capacity monitors.new }
+    ensures room { OnOk result (vec_len monitors.new + (all_begin queue.now + 1) ≤ vec_capacity monitors.new) }
+{
+    let Some(more) = queue.replies().checked_add(1) else {
+        return Err(AllocError);
+    };
+    monitors.reserve(more)
 }
 
 /// Gives the marks of these monitors back.
@@ -131,7 +229,8 @@ impl Clone for Session {
     /// An equal session.
     fn clone(&self) -> Result<Session, AllocError> {
         let queue = self.queue.clone()?;
-        let monitors = self.monitors.clone()?;
+        let mut monitors = self.monitors.clone()?;
+        make_room(&queue, &mut monitors)?;
         Ok(Session { queue, monitors })
     }
 }

@@ -1,5 +1,5 @@
 //! The database with its past, and the open sessions. [P 9.1, 9.5, 9.6, 10.1, 10.2, 10.3]
-ghost use Rattle.std.specs.Prelude.{◌≡◌, ◌+◌, ◌&&◌, false, is_some, not, nat_lt, map, option_map, None, IfErr, IfOk, OnErr, OnOk};
+ghost use Rattle.std.specs.Prelude.{◌≡◌, ◌+◌, ◌&&◌, false, is_some, not, nat_lt, map, option_and_then, option_map, None, IfErr, IfOk, OnErr, OnOk};
 ghost use Rattle.odb_atoms.specs.FinMap as finite;
 ghost use Rattle.odb_queue.specs.Represented.Answer.{call_at};
 ghost use Rattle.odb_queue.specs.Represented.Item.{item_of};
@@ -14,9 +14,10 @@ ghost use Rattle.odb_service.specs.Session.{replies_in};
 ghost use Rattle.odb_service.specs.World.{asked_of, watched};
 ghost use Rattle.odb_sessions.specs.Asked.{ended_in};
 ghost use Rattle.odb_sessions.specs.Book.{book_of, fresh_session};
+ghost use Rattle.odb_sessions.specs.Carried.{last_finished, used_by};
 ghost use Rattle.odb_sessions.specs.Named.{named};
 ghost use Rattle.odb_sessions.specs.Posts.{all_posted, at_number, posted, unposted};
-ghost use Rattle.odb_sessions.specs.Started.{AreOfTables, started};
+ghost use Rattle.odb_sessions.specs.Started.{AreApart, AreOfTables, started};
 ghost use Rattle.odb_sessions.specs.Stopped.{changed_in, stopped_in};
 ghost use Rattle.odb_tables.specs.Change.{all_changed_by};
 ghost use Rattle.odb_tables.specs.Installing.{IsChangeOf};
@@ -147,10 +148,11 @@ impl Sessions {
     }
 
     /// Queues the first reply of a monitor for a session, if it is open; what the client will lack after it is
-    /// kept from now on. Where memory is refused nothing changed; so it is after 2^64 - 1 tables were watched.
+    /// kept from now on. Where memory is refused nothing changed; so it is after 2^64 - 2 tables were watched.
     /// O(tables asked + log n) for n sessions.
     pub fn start(&mut self, session: SessionId, starting: Starting) -> Result<(), AllocError>
-        requires { AreOfTables self.old.db starting.watch.requests }
+        requires tables { AreOfTables self.old.db starting.watch.requests }
+        requires apart { AreApart starting.watch.requests }
         ensures ok { OnOk result (self.new ≡ record (self.old) { sessions = posted self.old.sessions (session, started starting) }) }
         ensures err { OnErr result (self.new ≡ self.old) }
     {
@@ -263,6 +265,23 @@ impl Sessions {
             return;
         };
         closed.release(&mut self.past);
+    }
+
+    /// Carries a taking of a session out, if that is open: this many items of its queue are used up, and then the
+    /// clients of this many of its monitors have what their tables are now. It returns the text that stands in
+    /// the last of the items, if one does. It can't be refused. O(log n) for n sessions, and for each table of
+    /// a monitor that is reached what `odb_chain::Chains::advance` costs.
+    pub(crate) fn carry_out(
+        &mut self,
+        session: SessionId,
+        items: usize,
+        monitors: usize,
+    ) -> Option<Finished>
+        ensures book { (s : Schema) → self.new ≡ record (self.old) { sessions = at_number (used_by (served_by s) self.old.db items monitors) self.old.sessions session } }
+        ensures text { option_map item_of result ≡ option_and_then (λ x. last_finished items x.queue) (finite.get self.old.sessions session) }
+    {
+        self.sessions
+            .carry_out(session, items, monitors, &mut self.past)
     }
 
     /// An equal book. O(rows), O(old rows) and O(bytes queued).

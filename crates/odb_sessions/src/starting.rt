@@ -4,7 +4,7 @@ ghost use Rattle.odb_chain.specs.Chains.{IsNow};
 ghost use Rattle.odb_request.specs.Represented.Kind.{notation_of};
 ghost use Rattle.odb_rpc.specs.Represented.Printable.{printable_data};
 ghost use Rattle.odb_sessions.specs.Held.{item_seen, due, marks_in};
-ghost use Rattle.odb_sessions.specs.Started.{AreOfTables, started};
+ghost use Rattle.odb_sessions.specs.Started.{AreApart, AreOfTables, started};
 ghost use Rattle.odb_sessions.specs.Tied.{Adds};
 ghost use Rattle.odb_wire.specs.Message.{has_left_out, id_of};
 ghost use Rattle.odb_wire.specs.Shown.{request_data};
@@ -75,6 +75,7 @@ impl Starting {
     /// The item of its first reply, with a mark for each of its tables. Where memory is refused no mark is made.
     pub(crate) fn begin(self, alloc: Global, past: &mut Past) -> Result<Start, AllocError>
         requires tables { AreOfTables past.old.db self.watch.requests }
+        requires apart { AreApart self.watch.requests }
         requires now { IsNow past.old }
         ensures ok { IfOk result (λ start. Adds past.old past.new (marks_in start.monitor)) }
         ensures item { IfOk result (λ start. item_seen (due start.origin start.monitor) ≡ started self) }

@@ -18,6 +18,6 @@ abbrev pub queued_of : Item → Queued
 queued_of (item.Say said) = plain (item_of said)
 queued_of (item.Start s) = due s.origin s.monitor
 queued_of (item.Sync id) = plain (sync (arc_value id))
-queued_of (item.Shift s) = plain (shift (arc_value s.id) (filters_of (arc_value s.changes)))
-queued_of (item.Renamed r) = plain (renamed r.reply (arc_value r.old_id) (arc_value r.new_id) (filters_of (arc_value r.changes)))
+queued_of (item.Shift s) = plain (shift (arc_value s.id) (filters_of s.changes))
+queued_of (item.Renamed r) = plain (renamed r.reply (arc_value r.old_id) (arc_value r.new_id) (filters_of r.changes))
 queued_of (item.Stopped s) = plain (stopped s.reply (arc_value s.id))

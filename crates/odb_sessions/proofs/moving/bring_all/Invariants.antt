@@ -1,15 +1,15 @@
 use Rattle.std.proofs.Common.{◌≡◌, drop, map}
 use Rattle.odb_chain.specs.Chains.{Chains, IsNow}
 use Rattle.odb_sessions.specs.Held.{table_marks}
-use Rattle.odb_sessions.specs.Moved.{HasRoomFor, Moves, brought_to}
-use Rattle.odb_sessions.specs.Tied.{HasAll}
+use Rattle.odb_sessions.specs.Moved.{Moves, brought_to}
+use Rattle.odb_sessions.specs.Tied.{HasAll, KeepsRoom}
 use Rattle.odb_sessions.proofs.Brought.{from_place}
 use Rattle.odb_sessions.proofs.moving.bring_all.Given as goal
 
 abbrev pub invariant-loop-place : goal.invariant-loop-place
 invariant-loop-place l = record {
   has : HasAll l.chains (table_marks (drop l.place l.tables.items));
-  room : HasRoomFor l.chains (table_marks (drop l.place l.tables.items));
+  room : KeepsRoom l.initial.chains l.chains;
   now : IsNow l.chains;
   db : l.chains.db ≡ l.initial.chains.db;
   versions : l.chains.versions ≡ l.initial.chains.versions;

@@ -1,112 +1,98 @@
-use Rattle.std.proofs.Common.{rules, ◌≡◌, ◌+◌, ◌<◌, ◌≤◌, arith, List, [], ◌∷◌, ◌++◌, Option, drop, length, map, option_map, slice_index_or, slice_set, take, refl, suc, subst, sym, ap, ◌∙◌}
-use Rattle.std.proofs.lemmas.List.{drop-set-lt, drop_all, drop_more, length-set}
-use Rattle.std.specs.Arc.{arc_value}
+use Rattle.std.proofs.Common.{rules, ◌≡◌, ◌+◌, ◌-◌, ◌^◌, ◌<◌, ◌≤◌, arith, List, [], ◌∷◌, ◌++◌, drop, length, slice_index_or, slice_set, refl, subst, sym, ap, ◌∙◌}
+use Rattle.std.proofs.lemmas.List.{drop-set-lt, drop_all, drop_more}
 use Rattle.odb_chain.specs.Chains.{Chains, Mark}
 use Rattle.odb_cond.specs.Filter.{Filter}
+use Rattle.odb_service.specs.Session.{filter_of}
+use Rattle.odb_sessions.specs.Composed.{asked_of}
 use Rattle.odb_sessions.specs.Held.{Watched, table_marks}
-use Rattle.odb_sessions.specs.Moved.{HasRoomFor, Moves, all_told_now, told_now}
-use Rattle.odb_sessions.specs.Represented.Told.{told_under}
-use Rattle.odb_sessions.specs.Tied.{HasAll}
-use Rattle.odb_sessions.proofs.Brought.{all_told, one_told, told_same}
-use Rattle.odb_sessions.proofs.Moves.{few, moved-rest, moves_none, moves_on, room-rest}
+use Rattle.odb_sessions.specs.Moved.{Moves, brought_under, told_now}
+use Rattle.odb_sessions.specs.Represented.Queued.{filters_of}
+use Rattle.odb_sessions.specs.Started.{AreApart}
+use Rattle.odb_sessions.specs.Tied.{HasAll, counted_in}
+use Rattle.odb_sessions.proofs.Brought.{all_done, one_more, told_same}
+use Rattle.odb_sessions.proofs.Counted.{room_on}
+use Rattle.odb_sessions.proofs.Moves.{moved-rest, moves_none, moves_on}
 use Rattle.odb_sessions.proofs.Releases.{has-left}
+use Rattle.odb_sessions.proofs.TakenFilters.{Filters, SameFor, apart_rest, same_first, same_rest}
 use Rattle.odb_sessions.proofs.moving.bring_all_under.Goals as goal
 
-pub loop-filter-init : goal.loop-filter-init
-loop-filter-init c =
-    let all : c.into_iter-filter-iterator.result.rest.items ≡ c.args.filters.items = search rules in
-    record {
-      many = (let none : 0 + length c.into_iter-filter-iterator.result.rest.items ≡ length c.into_iter-filter-iterator.result.rest.items = omega arith in none) ∙ ap length all ∙ c.requires.as_many;
-      has = c.requires.has;
-      room = c.requires.room;
-      now = c.requires.now;
-      db = refl;
-      versions = refl;
-      made = refl;
-      moves = λ k f. f;
-    }
+pub loop-place-init : goal.loop-place-init
+loop-place-init c = record {
+  has = c.requires.has;
+  room = (refl, refl);
+  apart = c.requires.apart;
+  named = same_first (filters_of c.args.changes) c.args.tables.now.items;
+  now = c.requires.now;
+  db = refl;
+  versions = refl;
+  made = refl;
+  moves = λ k f. f;
+}
 
-pub bring-requires-clause-has : goal.bring-requires-clause-has
-bring-requires-clause-has c =
-    let ws : List Watched = c.loop-filter.tables.items in
-    let i = c.loop-filter.place in
+pub bring_under-requires-clause-has : goal.bring_under-requires-clause-has
+bring_under-requires-clause-has c =
+    let ws : List Watched = c.loop-place.tables.items in
+    let i = c.loop-place.place in
     let x : Watched = c.index_mut.result.now in
     let low : i < length ws = search rules in
     let at : x ≡ slice_index_or ws i x = search rules in
     let step : drop i ws ≡ x ∷ drop (i + 1) ws = drop_more ws i x low ∙ ap (λ (y : Watched). y ∷ drop (i + 1) ws) (sym at) in
-    let has : HasAll c.loop-filter.chains ((x.mark ∷ []) ++ table_marks (drop (i + 1) ws)) = subst (λ (vs : List Watched). HasAll c.loop-filter.chains (table_marks vs)) step c.loop-filter.invariant.has in
-    has-left c.loop-filter.chains (x.mark ∷ []) (table_marks (drop (i + 1) ws)) has
+    let has : HasAll c.loop-place.chains ((x.mark ∷ []) ++ table_marks (drop (i + 1) ws)) = subst (λ (vs : List Watched). HasAll c.loop-place.chains (table_marks vs)) step c.loop-place.invariant.has in
+    has-left c.loop-place.chains (x.mark ∷ []) (table_marks (drop (i + 1) ws)) has
 
-pub bring-requires-clause-few : goal.bring-requires-clause-few
-bring-requires-clause-few c =
-    let ws : List Watched = c.loop-filter.tables.items in
-    let i = c.loop-filter.place in
+pub bring_under-requires-clause-few : goal.bring_under-requires-clause-few
+bring_under-requires-clause-few c =
+    let few : counted_in c.args.chains.now.live < 2 ^ 64 - 1 = c.requires.few in
+    let same : counted_in c.loop-place.chains.live ≡ counted_in c.args.chains.now.live = c.loop-place.invariant.room.1 in
+    omega (arith, few, same)
+
+pub loop-place-preserved : goal.loop-place-preserved
+loop-place-preserved c =
+    let k : Chains = c.loop-place.chains in
+    let new : Chains = c.bring_under.new.chains in
+    let ws : List Watched = c.loop-place.tables.items in
+    let i = c.loop-place.place in
     let x : Watched = c.index_mut.result.now in
+    let y : Watched = c.bring_under.new.self in
     let low : i < length ws = search rules in
-    let at : x ≡ slice_index_or ws i x = search rules in
-    let step : drop i ws ≡ x ∷ drop (i + 1) ws = drop_more ws i x low ∙ ap (λ (y : Watched). y ∷ drop (i + 1) ws) (sym at) in
-    few c.loop-filter.chains x.mark (table_marks (drop (i + 1) ws)) (subst (λ (vs : List Watched). HasRoomFor c.loop-filter.chains (table_marks vs)) step c.loop-filter.invariant.room)
-
-pub loop-filter-preserved : goal.loop-filter-preserved
-loop-filter-preserved c =
-    let k : Chains = c.loop-filter.chains in
-    let new : Chains = c.bring.new.chains in
-    let ws : List Watched = c.loop-filter.tables.items in
-    let i = c.loop-filter.place in
-    let x : Watched = c.index_mut.result.now in
-    let y : Watched = c.bring.new.self in
-    let f : Option Filter = option_map arc_value c.in-Some.filter in
-    let fs : List (Option Filter) = map (option_map arc_value) c.next.new.self.rest.items in
-    let next : c.loop-filter.filter-iterator.rest.items ≡ c.in-Some.filter ∷ c.next.new.self.rest.items = search rules in
-    let long : length c.loop-filter.filter-iterator.rest.items ≡ suc (length c.next.new.self.rest.items) = ap length next in
-    let many : i + length c.loop-filter.filter-iterator.rest.items ≡ length ws = c.loop-filter.invariant.many in
-    let low : i < length ws = omega (arith, long, many) in
-    let same : length (slice_set ws i y) ≡ length ws = length-set ws i y in
     let at : x ≡ slice_index_or ws i x = search rules in
     let rest : List Mark = table_marks (drop (i + 1) ws) in
     let step : drop i ws ≡ x ∷ drop (i + 1) ws = drop_more ws i x low ∙ ap (λ (z : Watched). z ∷ drop (i + 1) ws) (sym at) in
     let left : drop (i + 1) (slice_set ws i y) ≡ drop (i + 1) ws = drop-set-lt (i + 1) ws i y (omega arith) in
-    let has : HasAll k ((x.mark ∷ []) ++ rest) = subst (λ (vs : List Watched). HasAll k (table_marks vs)) step c.loop-filter.invariant.has in
-    let room : HasRoomFor k (x.mark ∷ rest) = subst (λ (vs : List Watched). HasRoomFor k (table_marks vs)) step c.loop-filter.invariant.room in
-    let moved : Moves k new (x.mark ∷ []) = c.bring.ensures.moved in
+    let has : HasAll k ((x.mark ∷ []) ++ rest) = subst (λ (vs : List Watched). HasAll k (table_marks vs)) step c.loop-place.invariant.has in
+    let moved : Moves k new (x.mark ∷ []) = c.bring_under.ensures.moved in
     let first : Chains = c.args.chains.now in
-    let made : y ≡ told_now first (told_under (slice_index_or ws i x).request f) (slice_index_or ws i x) =
-    c.bring.ensures.table ∙ told_same first k (told_under x.request f) x c.loop-filter.invariant.db c.loop-filter.invariant.versions ∙ ap (λ (w : Watched). told_now first (told_under w.request f) w) at in
+    let fs : Filters = filters_of c.args.changes in
+    let gs : Filters = filters_of c.loop-place.changes in
+    let hs : Filters = filters_of c.bring_under.new.changes in
+    let apart : AreApart (asked_of (x ∷ drop (i + 1) ws)) = subst (λ (vs : List Watched). AreApart (asked_of vs)) step c.loop-place.invariant.apart in
+    let named : SameFor fs gs (x ∷ drop (i + 1) ws) = subst (SameFor fs gs) step c.loop-place.invariant.named in
+    let made : y ≡ brought_under first fs (slice_index_or ws i x) =
+    c.bring_under.ensures.table ∙ ap (λ (f : Filter). told_now k f x) (named.0 x.request.filter)
+    ∙ told_same first k (filter_of fs x.request.shape.name x.request.filter) x c.loop-place.invariant.db c.loop-place.invariant.versions ∙ ap (brought_under first fs) at in
     record {
-      many = omega (arith, long, many, same);
       has = subst (λ (vs : List Watched). HasAll new (table_marks vs)) (sym left) (moved-rest k new (x.mark ∷ []) rest has moved);
-      room = subst (λ (vs : List Watched). HasRoomFor new (table_marks vs)) (sym left) (room-rest k new x.mark rest room moved);
-      now = moved.4 c.loop-filter.invariant.now;
-      db = moved.0 ∙ c.loop-filter.invariant.db;
-      versions = moved.1 ∙ c.loop-filter.invariant.versions;
-      made = one_told first ws i x y f fs low made ∙ ap (λ es. take i ws ++ all_told_now first (drop i ws) (map (option_map arc_value) es)) (sym next) ∙ c.loop-filter.invariant.made;
-      moves = λ z g. c.loop-filter.invariant.moves z
+      apart = subst (λ (vs : List Watched). AreApart (asked_of vs)) (sym left) (apart_rest x (drop (i + 1) ws) apart);
+      named = subst (SameFor fs hs) (sym left) (same_rest fs gs hs x (drop (i + 1) ws) apart named c.bring_under.ensures.others);
+      room = room_on c.args.chains.now k new c.loop-place.invariant.room c.bring_under.ensures.room;
+      now = moved.4 c.loop-place.invariant.now;
+      db = moved.0 ∙ c.loop-place.invariant.db;
+      versions = moved.1 ∙ c.loop-place.invariant.versions;
+      made = one_more (brought_under first fs) ws i x y low made ∙ c.loop-place.invariant.made;
+      moves = λ z f. c.loop-place.invariant.moves z
           (subst (λ (vs : List Watched). Moves k z (table_marks vs)) (sym step)
-          (moves_on k new z (x.mark ∷ []) rest c.loop-filter.invariant.now moved (subst (λ (vs : List Watched). Moves new z (table_marks vs)) left g)));
+          (moves_on k new z (x.mark ∷ []) rest c.loop-place.invariant.now moved (subst (λ (vs : List Watched). Moves new z (table_marks vs)) left f)));
     }
 
 pub returns-clause-tables : goal.returns-clause-tables
 returns-clause-tables c =
-    let ws : List Watched = c.loop-filter.tables.items in
-    let i = c.loop-filter.place in
-    let es = c.loop-filter.filter-iterator.rest.items in
-    let first : Chains = c.args.chains.now in
-    let all : c.into_iter-filter-iterator.result.rest.items ≡ c.args.filters.items = search rules in
-    let long : length es ≡ c.loop-filter.filter-iterator.rest.len = search rules in
-    let none : length es ≡ 0 = long ∙ c.in-None.ensures.steps.0 in
-    let many : i + length es ≡ length ws = c.loop-filter.invariant.many in
-    let past : length ws ≤ i = omega (arith, none, many) in
-    sym (all_told first ws i (map (option_map arc_value) es) past) ∙ c.loop-filter.invariant.made
-    ∙ ap (λ gs. all_told_now first c.args.tables.now.items (map (option_map arc_value) gs)) all
+    let ws : List Watched = c.loop-place.tables.items in
+    let past : length ws ≤ c.loop-place.place = search rules in
+    sym (all_done (brought_under c.args.chains.now (filters_of c.args.changes)) ws c.loop-place.place past) ∙ c.loop-place.invariant.made
 
 pub returns-clause-moved : goal.returns-clause-moved
 returns-clause-moved c =
-    let ws : List Watched = c.loop-filter.tables.items in
-    let i = c.loop-filter.place in
-    let es = c.loop-filter.filter-iterator.rest.items in
-    let long : length es ≡ c.loop-filter.filter-iterator.rest.len = search rules in
-    let none : length es ≡ 0 = long ∙ c.in-None.ensures.steps.0 in
-    let many : i + length es ≡ length ws = c.loop-filter.invariant.many in
-    let past : length ws ≤ i = omega (arith, none, many) in
-    let nothing : drop i ws ≡ [] = drop_all i ws past in
-    c.loop-filter.invariant.moves c.loop-filter.chains (subst (λ (vs : List Watched). Moves c.loop-filter.chains c.loop-filter.chains (table_marks vs)) (sym nothing) (moves_none c.loop-filter.chains))
+    let ws : List Watched = c.loop-place.tables.items in
+    let past : length ws ≤ c.loop-place.place = search rules in
+    let none : drop c.loop-place.place ws ≡ [] = drop_all c.loop-place.place ws past in
+    c.loop-place.invariant.moves c.loop-place.chains (subst (λ (vs : List Watched). Moves c.loop-place.chains c.loop-place.chains (table_marks vs)) (sym none) (moves_none c.loop-place.chains))

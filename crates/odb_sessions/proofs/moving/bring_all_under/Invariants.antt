@@ -1,20 +1,24 @@
-use Rattle.std.proofs.Common.{◌≡◌, ◌+◌, ◌++◌, drop, length, map, option_map, take}
-use Rattle.std.specs.Arc.{arc_value}
+use Rattle.std.proofs.Common.{◌≡◌, drop, map}
 use Rattle.odb_chain.specs.Chains.{Chains, IsNow}
+use Rattle.odb_sessions.specs.Composed.{asked_of}
 use Rattle.odb_sessions.specs.Held.{table_marks}
-use Rattle.odb_sessions.specs.Moved.{HasRoomFor, Moves, all_told_now}
-use Rattle.odb_sessions.specs.Tied.{HasAll}
+use Rattle.odb_sessions.specs.Moved.{Moves, brought_under}
+use Rattle.odb_sessions.specs.Tied.{HasAll, KeepsRoom}
+use Rattle.odb_sessions.specs.Represented.Queued.{filters_of}
+use Rattle.odb_sessions.specs.Started.{AreApart}
+use Rattle.odb_sessions.proofs.Brought.{from_place}
+use Rattle.odb_sessions.proofs.TakenFilters.{SameFor}
 use Rattle.odb_sessions.proofs.moving.bring_all_under.Given as goal
 
-abbrev pub invariant-loop-filter : goal.invariant-loop-filter
-invariant-loop-filter l = record {
-  many : l.place + length l.filter-iterator.rest.items ≡ length l.tables.items;
+abbrev pub invariant-loop-place : goal.invariant-loop-place
+invariant-loop-place l = record {
   has : HasAll l.chains (table_marks (drop l.place l.tables.items));
-  room : HasRoomFor l.chains (table_marks (drop l.place l.tables.items));
+  room : KeepsRoom l.initial.chains l.chains;
   now : IsNow l.chains;
+  apart : AreApart (asked_of (drop l.place l.tables.items));
+  named : SameFor (filters_of l.initial.changes) (filters_of l.changes) (drop l.place l.tables.items);
   db : l.chains.db ≡ l.initial.chains.db;
   versions : l.chains.versions ≡ l.initial.chains.versions;
-  made : take l.place l.tables.items ++ all_told_now l.initial.chains (drop l.place l.tables.items) (map (option_map arc_value) l.filter-iterator.rest.items)
-      ≡ all_told_now l.initial.chains l.initial.tables.items (map (option_map arc_value) l.initial.filter-iterator.rest.items);
+  made : from_place (brought_under l.initial.chains (filters_of l.initial.changes)) l.place l.tables.items ≡ map (brought_under l.initial.chains (filters_of l.initial.changes)) l.initial.tables.items;
   moves : (k : Chains) → Moves l.chains k (table_marks (drop l.place l.tables.items)) → Moves l.initial.chains k (table_marks l.initial.tables.items);
 }

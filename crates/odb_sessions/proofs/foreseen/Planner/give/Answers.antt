@@ -27,8 +27,7 @@ returns-in-Shift-clause-comes c =
     let ms = c.args.self.now.monitors in
     let is : c.args.item.now ≡ item.Shift c.in-Shift.shift = search rules in
     let id : c.deref-in-Shift.result.now ≡ arc_value c.in-Shift.shift.id = search rules in
-    let changes : c.deref-in-Shift-2.result.now ≡ arc_value c.in-Shift.shift.changes = search rules in
-    let same : shift c.deref-in-Shift.result.now (filters_of c.deref-in-Shift-2.result.now) ≡ seen_item c.args.item.now = (λ i. shift (id i) (filters_of (changes i))) ∙ ap seen_item (sym is) in
+    let same : shift c.deref-in-Shift.result.now (filters_of c.in-Shift.shift.changes) ≡ seen_item c.args.item.now = (λ i. shift (id i) (filters_of c.in-Shift.shift.changes)) ∙ ap seen_item (sym is) in
     IfOk-weaker c.bring-in-Shift.result _ _ (λ coming e. λ s. e s ∙ ap (λ (j : machine.Item). is_some (due (served_by s) db j ms)) same) c.bring-in-Shift.ensures.comes
 
 pub returns-in-Shift-clause-text : goal.returns-in-Shift-clause-text
@@ -37,8 +36,7 @@ returns-in-Shift-clause-text c =
     let ms = c.args.self.now.monitors in
     let is : c.args.item.now ≡ item.Shift c.in-Shift.shift = search rules in
     let id : c.deref-in-Shift.result.now ≡ arc_value c.in-Shift.shift.id = search rules in
-    let changes : c.deref-in-Shift-2.result.now ≡ arc_value c.in-Shift.shift.changes = search rules in
-    let same : shift c.deref-in-Shift.result.now (filters_of c.deref-in-Shift-2.result.now) ≡ seen_item c.args.item.now = (λ i. shift (id i) (filters_of (changes i))) ∙ ap seen_item (sym is) in
+    let same : shift c.deref-in-Shift.result.now (filters_of c.in-Shift.shift.changes) ≡ seen_item c.args.item.now = (λ i. shift (id i) (filters_of c.in-Shift.shift.changes)) ∙ ap seen_item (sym is) in
     IfOk-weaker c.bring-in-Shift.result _ _
     (λ coming e. λ s. e s (Some (seen_item c.args.item.now)) ∙ ap (λ (j : machine.Item). option_map (due_text (served_by s) db) (due (served_by s) db j ms)) same)
     c.bring-in-Shift.ensures.text
@@ -49,6 +47,5 @@ returns-in-Shift-clause-passed c =
     let ms = c.args.self.now.monitors in
     let is : c.args.item.now ≡ item.Shift c.in-Shift.shift = search rules in
     let id : c.deref-in-Shift.result.now ≡ arc_value c.in-Shift.shift.id = search rules in
-    let changes : c.deref-in-Shift-2.result.now ≡ arc_value c.in-Shift.shift.changes = search rules in
-    let same : shift c.deref-in-Shift.result.now (filters_of c.deref-in-Shift-2.result.now) ≡ seen_item c.args.item.now = (λ i. shift (id i) (filters_of (changes i))) ∙ ap seen_item (sym is) in
+    let same : shift c.deref-in-Shift.result.now (filters_of c.in-Shift.shift.changes) ≡ seen_item c.args.item.now = (λ i. shift (id i) (filters_of c.in-Shift.shift.changes)) ∙ ap seen_item (sym is) in
     IfOk-weaker c.bring-in-Shift.result _ _ (λ coming e. λ none s. e s ∙ ap (λ (j : machine.Item). leaves (served_by s) db j ms) same) c.bring-in-Shift.ensures.passed

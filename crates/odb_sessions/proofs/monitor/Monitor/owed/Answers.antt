@@ -16,5 +16,5 @@ pub returns-clause-known : goal.returns-clause-known
 returns-clause-known c =
     let slice : c.as_slice.result.now ≡ c.self.inside.tables.items = search rules in
     IfOk-weaker c.all_owed.result _ _
-    (λ owed e. λ k live. subst (λ (ws : List Watched). All (IsKnown k) ws) (sym (e ∙ slice)) (known_all k c.self.inside.tables.items (subst (λ (x : Held). AreLive k (marks_in x)) (sym c.self.view_is) live) c.self.invariant))
+    (λ owed e. λ k live. subst (λ (ws : List Watched). All (IsKnown k) ws) (sym (e ∙ slice)) (known_all k c.self.inside.tables.items (subst (λ (x : Held). AreLive k (marks_in x)) (sym c.self.view_is) live) c.self.invariant.0))
     c.all_owed.ensures

@@ -19,7 +19,7 @@ parts_again-requires-clause-known c =
     let ws : List Watched = c.self.inside.tables.items in
     let tables : c.as_slice-2.result.now ≡ ws = search rules in
     subst (λ (vs : List Watched). All (IsKnown k) vs) (sym tables)
-    (known_all k ws (subst (λ (x : Held). AreLive k (marks_in x)) (sym c.self.view_is) c.requires) c.self.invariant)
+    (known_all k ws (subst (λ (x : Held). AreLive k (marks_in x)) (sym c.self.view_is) c.requires) c.self.invariant.0)
 
 pub returns : goal.returns
 returns c =

@@ -17,7 +17,7 @@ are_now-requires c =
     let ws : List Watched = c.self.inside.tables.items in
     let slice : c.as_slice.result.now ≡ ws = search rules in
     subst (λ (vs : List Watched). All (IsKnown k) vs) (sym slice)
-    (known_all k ws (subst (λ (x : Held). AreLive k (marks_in x)) (sym c.self.view_is) c.requires) c.self.invariant)
+    (known_all k ws (subst (λ (x : Held). AreLive k (marks_in x)) (sym c.self.view_is) c.requires) c.self.invariant.0)
 
 pub returns-then-are_now : goal.returns-then-are_now
 returns-then-are_now c = λ h.

@@ -23,7 +23,7 @@ parts_under-requires-clause-known c =
     let requests : c.as_slice-3.result.now ≡ refilter fs (asked_of ws) = slice ∙ c.in_ok-requests.ensures ∙ ap (λ (vs : List Watched). refilter fs (asked_of vs)) first in
     let both : all_asked_as c.as_slice-2.result.now c.as_slice-3.result.now ≡ all_asked_as ws (refilter fs (asked_of ws)) = λ i. all_asked_as (tables i) (requests i) in
     subst (λ (vs : List Watched). All (IsKnown k) vs) (sym both)
-    (known_under k fs ws (subst (λ (x : Held). AreLive k (marks_in x)) (sym c.self.view_is) c.requires) c.self.invariant)
+    (known_under k fs ws (subst (λ (x : Held). AreLive k (marks_in x)) (sym c.self.view_is) c.requires) c.self.invariant.0)
 
 pub returns : goal.returns
 returns c =

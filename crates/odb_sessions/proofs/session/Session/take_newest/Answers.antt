@@ -1,7 +1,11 @@
-use Rattle.std.proofs.Common.{ap, ◌∙◌}
-use Rattle.odb_sessions.specs.Held.{Kept}
+use Rattle.std.proofs.Common.{◌≡◌, ◌+◌, ◌≤◌, arith, List, ap, ◌∙◌}
+use Rattle.std.specs.Prelude.{option_map, option_to_list, vec_capacity, vec_len}
+use Rattle.odb_sessions.specs.Carried.{all_begin}
+use Rattle.odb_sessions.specs.Held.{Kept, Queued}
 use Rattle.odb_sessions.specs.Posts.{newest, without_newest}
+use Rattle.odb_sessions.specs.Represented.Queued.{queued_of}
 use Rattle.odb_sessions.proofs.Newest.{newest_found, newest_out}
+use Rattle.odb_sessions.proofs.Used.{begin-++}
 use Rattle.odb_sessions.proofs.session.Session.take_newest.Goals as goal
 
 pub returns-clause-session : goal.returns-clause-session
@@ -13,3 +17,10 @@ pub returns-clause-item : goal.returns-clause-item
 returns-clause-item c =
     newest_found c.self.inside.queue c.pop_newest.new.self c.pop_newest.result c.pop_newest.ensures.last c.pop_newest.ensures.none
     ∙ ap (λ (x : Kept). newest x.queue) c.self.view_is
+
+pub invariant_of-self : goal.invariant_of-self
+invariant_of-self c =
+    let last : List Queued = option_to_list (option_map queued_of c.pop_newest.result) in
+    let all : all_begin c.self.inside.queue ≡ all_begin c.pop_newest.new.self + all_begin last = ap all_begin c.pop_newest.ensures.last ∙ begin-++ c.pop_newest.new.self last in
+    let room : vec_len c.self.inside.monitors + all_begin c.self.inside.queue ≤ vec_capacity c.self.inside.monitors = c.self.invariant in
+    omega (arith, all, room)

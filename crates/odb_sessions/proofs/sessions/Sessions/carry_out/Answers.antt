@@ -1,0 +1,27 @@
+use Rattle.std.proofs.Common.{ap, ◌∙◌}
+use Rattle.std.specs.Prelude.{option_and_then}
+use Rattle.odb_atoms.specs.FinMap as finite
+use Rattle.odb_service.specs.Server.{served_by}
+use Rattle.odb_service.specs.Session.{Session}
+use Rattle.odb_sessions.specs.Book.{Book}
+use Rattle.odb_sessions.specs.Carried.{last_finished, used_by}
+use Rattle.odb_sessions.specs.Posts.{at_number}
+use Rattle.odb_sessions.proofs.Carried.{ready_at}
+use Rattle.odb_sessions.proofs.CarriedOut.{seen_after, text_seen, tied_after}
+use Rattle.odb_sessions.proofs.sessions.Sessions.carry_out.Goals as goal
+
+pub carry_out-requires : goal.carry_out-requires
+carry_out-requires c = λ x there. ready_at c.self.inside.past c.self.inside.sessions c.args.session x c.self.invariant there
+
+pub invariant_of-self : goal.invariant_of-self
+invariant_of-self c = tied_after c.self.inside.past c.carry_out.new.past c.self.inside.sessions c.carry_out.new.self c.args.session c.args.items c.args.monitors c.carry_out.ensures.carried c.self.invariant
+
+pub returns-clause-book : goal.returns-clause-book
+returns-clause-book c = λ s.
+    seen_after c.self.inside.past c.carry_out.new.past c.self.inside.sessions c.carry_out.new.self c.args.session c.args.items c.args.monitors c.carry_out.ensures.carried s
+    ∙ ap (λ (b : Book). let y : Book = record b { sessions = at_number (used_by (served_by s) b.db c.args.items c.args.monitors) b.sessions c.args.session } in y) c.self.view_is
+
+pub returns-clause-text : goal.returns-clause-text
+returns-clause-text c =
+    c.carry_out.ensures.text ∙ text_seen c.args.items c.args.session c.self.inside.sessions
+    ∙ ap (λ (b : Book). option_and_then (λ (x : Session). last_finished c.args.items x.queue) (finite.get b.sessions c.args.session)) c.self.view_is

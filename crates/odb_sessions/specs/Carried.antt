@@ -1,0 +1,61 @@
+-- A taking that is carried out: what becomes of marks, and which text comes. [P 10.1]
+use Rattle.std.specs.Prelude.{◌≡◌, ℕ, zero, suc, ◌+◌, ◌<◌, List, [], ◌∷◌, Option, Some, None, option_and_then, slice_get}
+use Rattle.odb_chain.specs.Chains.{Chains, IsNow, Mark, count, version}
+use Rattle.odb_atoms.specs.FinMap.{get, insert}
+use Rattle.odb_schema.specs.Schema.{Schema}
+use Rattle.odb_service.specs.Server.{served_by}
+use Rattle.odb_service.specs.Service.{Service}
+use Rattle.odb_service.specs.Session.{Item, Session, renamed, say, shift, start, stopped, sync}
+use Rattle.odb_sessions.specs.Held.{Kept, Queued, Sessions, due, marks_of, plain, seen}
+use Rattle.odb_sessions.specs.Planned.{Due, first_due, grant_due, text_due, update_due, used_up}
+use Rattle.odb_sessions.specs.Represented.Origin.{granted}
+use Rattle.odb_sessions.specs.Tied.{AreLive, HasAll, KeepsContents, uses}
+use Rattle.odb_tables.specs.Database.{Db}
+
+-- the marks are live and counted, and no place is later than now
+abbrev pub IsReady : Chains → List Mark → Type 0
+IsReady k ms = IsNow k × HasAll k ms
+
+-- these marks have others in their place, which are live; what came stands for now, and all other marks stay
+abbrev pub Carries : Chains → Chains → List Mark → List Mark → Type 0
+Carries old new xs ys = (new.db ≡ old.db) × (new.versions ≡ old.versions) × ((t p : ℕ) → count old t p + uses t p ys ≡ count new t p + uses t p xs) × ((t p : ℕ) → count old t p < count new t p → p ≡ version old t) × KeepsContents old new × IsNow new × AreLive new ys
+
+-- n items of the queue are used up, and then k monitors brought to now
+abbrev pub used_by : Service → Db → ℕ → ℕ → Session → Session
+used_by h db n k x = used_up h db n k x.queue x.monitors
+
+-- the text that stands in an item, finished
+abbrev pub finished_in : Item → Option Item
+finished_in (say a d) = Some (say a d)
+finished_in (start d k) = None
+finished_in (sync i) = None
+finished_in (shift i fs) = None
+finished_in (renamed d old new fs) = Some (granted d)
+finished_in (stopped d i) = Some (granted d)
+
+-- that of the last of the first n items
+abbrev pub last_finished : ℕ → List Item → Option Item
+last_finished zero is = None
+last_finished (suc n) is = option_and_then finished_in (slice_get is n)
+
+-- what is due is such a text
+abbrev pub finished_due : Due → Option Item
+finished_due (text_due a d) = Some (say a d)
+finished_due (first_due d k) = None
+finished_due (update_due m qs) = None
+finished_due (grant_due d) = Some (granted d)
+
+-- how many monitors begin with an item, and with these
+abbrev pub begins : Queued → ℕ
+begins (plain i) = 0
+begins (due d x) = 1
+
+abbrev pub all_begin : List Queued → ℕ
+all_begin [] = 0
+all_begin (q ∷ qs) = begins q + all_begin qs
+
+-- the session is carried so far, and its marks and the chains with it; where it isn't open nothing changes
+abbrev pub IsCarriedOut : Chains → Chains → Sessions → Sessions → ℕ → ℕ → ℕ → Type 0
+IsCarriedOut old new m then s n k =
+    ((x : Kept) → get m s ≡ Some x → (y : Kept) × (then ≡ insert m s y) × Carries old new (marks_of x) (marks_of y) × ((schema : Schema) → seen y ≡ used_by (served_by schema) old.db n k (seen x)))
+    × (get m s ≡ None → (then ≡ m) × (new ≡ old))
