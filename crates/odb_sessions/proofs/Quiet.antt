@@ -5,12 +5,12 @@ use Rattle.std.specs.Prelude.{option_map}
 use Rattle.std.proofs.lemmas.Option.{none-some}
 use Rattle.odb_chain.specs.Chains.{Mark}
 use Rattle.odb_cond.specs.Filter.{Filter}
-use Rattle.odb_monitor.specs.View.{View, query, selected}
+use Rattle.odb_monitor.specs.View.{query, selected}
 use Rattle.odb_request.specs.Request.{Request}
 use Rattle.odb_service.specs.Service.{Service}
 use Rattle.odb_service.specs.Session.{Monitor, Out, brought, update_to}
 use Rattle.odb_service.proofs.WhatIsOwed.{all_owe_nothing}
-use Rattle.odb_sessions.specs.Composed.{asked_of, part_to}
+use Rattle.odb_sessions.specs.Composed.{part_to}
 use Rattle.odb_sessions.specs.Foreseen.{due_text, update_text}
 use Rattle.odb_sessions.specs.Held.{Held, Watched, monitor_of, view_of, watch_of}
 use Rattle.odb_sessions.specs.Planned.{Due, out_of, update_of}

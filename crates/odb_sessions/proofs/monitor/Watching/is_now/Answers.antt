@@ -1,4 +1,4 @@
-use Rattle.std.proofs.Common.{rules, ◌≡◌, Option, None, option_map, subst, sym, ap, ◌∙◌}
+use Rattle.std.proofs.Common.{rules, ◌≡◌, Option, None, option_map, subst, sym}
 use Rattle.std.specs.Arc.{arc_value}
 use Rattle.odb_cond.specs.Filter.{Filter}
 use Rattle.odb_sessions.specs.Composed.{IsKnown, part_to}
