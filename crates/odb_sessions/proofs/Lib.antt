@@ -1,5 +1,6 @@
 mod Adds
 mod Aheads
+pub mod AsRead
 mod Books
 mod Brought
 mod Carried

@@ -160,15 +160,15 @@ fn place_of(monitors: &[Monitor], id: &Id) -> Option<usize>
     monitors.iter().position(|monitor| id.same(&monitor.id))
 }
 
-/// The clients of the first n monitors have what their tables are now.
-pub(crate) fn bring_first(monitors: &mut Vec<Monitor>, n: usize, past: &mut Past)
+/// The clients of this many monitors, from the first on, have what their tables are now.
+pub(crate) fn bring_first(monitors: &mut Vec<Monitor>, count: usize, past: &mut Past)
     requires { IsReady past.old (flat_map marks_in monitors.old.items) }
-    ensures monitors { (s : Schema) → map monitor_of monitors.new.items ≡ first_brought (served_by s) past.old.db n (map monitor_of monitors.old.items) }
+    ensures monitors { (s : Schema) → map monitor_of monitors.new.items ≡ first_brought (served_by s) past.old.db count (map monitor_of monitors.old.items) }
     ensures carried { Carries past.old past.new (flat_map marks_in monitors.old.items) (flat_map marks_in monitors.new.items) }
     ensures few { vec_len monitors.new ≡ vec_len monitors.old }
     ensures capacity { vec_capacity monitors.new ≡ vec_capacity monitors.old }
 {
-    let all = n.min(monitors.len());
+    let all = count.min(monitors.len());
     for place in 0..all {
         past.bring(&mut monitors[place]);
     }

@@ -143,13 +143,13 @@ impl Session {
         text
     }
 
-    /// The clients of the first n monitors have what their tables are now.
-    fn bring(&mut self, n: usize, past: &mut Past)
+    /// The clients of this many monitors, from the first on, have what their tables are now.
+    fn bring(&mut self, count: usize, past: &mut Past)
         requires { IsReady past.old (marks_of self.old) }
-        ensures session { (s : Schema) → seen self.new ≡ used_by (served_by s) past.old.db 0 n (seen self.old) }
+        ensures session { (s : Schema) → seen self.new ≡ used_by (served_by s) past.old.db 0 count (seen self.old) }
         ensures carried { Carries past.old past.new (marks_of self.old) (marks_of self.new) }
     {
-        bring_first(&mut self.monitors, n, past);
+        bring_first(&mut self.monitors, count, past);
     }
 
     /// Carries a taking out: this many items of the queue, and then the clients of this many monitors have what

@@ -13,7 +13,7 @@ bring_first-requires c = monitors_ready c.args.past.now c.self.inside.queue c.se
 pub returns-clause-session : goal.returns-clause-session
 returns-clause-session c = λ s.
     (λ i. let y : Session = record { queue = map item_seen c.self.inside.queue; monitors = c.bring_first.ensures.monitors s i } in y)
-    ∙ ap (λ (x : Kept). used_by (served_by s) c.args.past.now.db 0 c.args.n (seen x)) c.self.view_is
+    ∙ ap (λ (x : Kept). used_by (served_by s) c.args.past.now.db 0 c.args.count (seen x)) c.self.view_is
 
 pub returns-clause-carried : goal.returns-clause-carried
 returns-clause-carried c =
