@@ -8,7 +8,7 @@ use Rattle.odb_hub.specs.Rings.{HandsOver, HasRoom, IsFlushed, IsFlushedAt, IsPu
 -- nothing is put
 pub nothing_more : (o : Option Ring) → HandsOver o [] o
 nothing_more None = (refl, refl)
-nothing_more (Some a) = (a, refl, ([], sym (append-nil a.sent), sym (append-nil (option_to_list a.held))), λ _. refl)
+nothing_more (Some a) = (a, refl, ([], sym (append-nil a.sent), sym (append-nil (option_to_list a.held))), λ _. refl, refl)
 
 pub free_is : (r : Ring) → 1 ≤ room_of (Some r) → r.held ≡ None
 free_is r h = by r.held refl
@@ -34,6 +34,14 @@ sent_on text a b c ys free (inr is) m = (
   m.2 ∙ ap (λ (r : Ring). option_to_list r.held ++ ys) is ∙ ap (λ (o : Option Text). option_to_list o ++ text ∷ ys) (sym free),
 )
 
+put_name : (text : Text) (a b : Ring) → IsPut text a b → b.name ≡ a.name
+put_name text a b (inl is) = ap (λ (r : Ring). r.name) is
+put_name text a b (inr is) = ap (λ (r : Ring). r.name) is
+
+flushed_name : (a b : Ring) → IsFlushed a b → b.name ≡ a.name
+flushed_name a b (inl is) = ap (λ (r : Ring). r.name) is
+flushed_name a b (inr is) = ap (λ (r : Ring). r.name) is
+
 -- what is put first, and then the rest
 pub put_first : (b : Bool) (text : Text) (ys : List Text) (o p q : Option Ring) → HasRoom o (cond b (text ∷ ys) ys) → IsPutAt b text o p → HandsOver p ys q → HandsOver o (cond b (text ∷ ys) ys) q
 put_first false text ys o p q room put rest = subst (λ (x : Option Ring). HandsOver x ys q) put rest
@@ -41,7 +49,7 @@ put_first true text ys None p q room put rest = absurd (omega (arith, room))
 put_first true text ys (Some a) p q room put rest =
     let free : a.held ≡ None = free_is a (omega (arith, room)) in
     let on : HandsOver (Some put.0) ys q = subst (λ (x : Option Ring). HandsOver x ys q) put.1 rest in
-    (on.0, on.1, sent_on text a put.0 on.0 ys free put.2 on.2, λ none. not_nil text ys none (on.0 ≡ a))
+    (on.0, on.1, sent_on text a put.0 on.0 ys free put.2 on.2, λ none. not_nil text ys none (on.0 ≡ a), on.4 ∙ put_name text a put.0 put.2)
 
 -- and there is room for the rest
 pub room_on : (b : Bool) (text : Text) (ys : List Text) (o p : Option Ring) → HasRoom o (cond b (text ∷ ys) ys) → IsPutAt b text o p → HasRoom p ys
@@ -96,7 +104,7 @@ served listed outs (Some a) p q flushed is room over =
   where
     by : (l f : Bool) → is_free flushed.0 ≡ f → l ≡ f → HandsOver (Some flushed.0) outs q → IsServed l outs (Some a) q
     by true true free same on =
-        (on.0, on.1, on.2.0, on.2.1 ∙ ap (λ ts. ts ++ on.2.0) (flushed_free a flushed.0 flushed.2 free), on.2.2 ∙ ap (λ (x : Option Text). option_to_list x ++ outs) (held_none flushed.0 free))
+        (on.0, on.1, on.2.0, on.2.1 ∙ ap (λ ts. ts ++ on.2.0) (flushed_free a flushed.0 flushed.2 free), on.2.2 ∙ ap (λ (x : Option Text). option_to_list x ++ outs) (held_none flushed.0 free), on.4 ∙ flushed_name a flushed.0 flushed.2)
     by false false holds same on =
         let h : (is_some a.held ≡ true) × (flushed.0 ≡ a) = flushed_holds a flushed.0 flushed.2 holds in
         let none : outs ≡ [] = nothing_in (Some flushed.0) outs (subst (λ (x : Option Ring). HasRoom x outs) flushed.1 room) holds in
@@ -112,9 +120,9 @@ flushed_itself (Some a) = (a, refl, inl refl)
 
 flushed_again : (a b c : Ring) → IsFlushed a b → IsFlushed b c → IsFlushed a c
 flushed_again a b c (inl e) (inl f) = inl (f ∙ e)
-flushed_again a b c (inl e) (inr f) = inr (f ∙ ap (λ (r : Ring). let x : Ring = record { sent = texts r; held = None } in x) e)
+flushed_again a b c (inl e) (inr f) = inr (f ∙ ap (λ (r : Ring). let x : Ring = record { name = r.name; sent = texts r; held = None } in x) e)
 flushed_again a b c (inr e) (inl f) = inr (f ∙ e)
-flushed_again a b c (inr e) (inr f) = inr (f ∙ ap (λ (r : Ring). let x : Ring = record { sent = texts r; held = None } in x) e ∙ ap (λ ts. let x : Ring = record { sent = ts; held = None } in x) (append-nil (texts a)))
+flushed_again a b c (inr e) (inr f) = inr (f ∙ ap (λ (r : Ring). let x : Ring = record { name = r.name; sent = texts r; held = None } in x) e ∙ ap (λ ts. let x : Ring = record { name = a.name; sent = ts; held = None } in x) (append-nil (texts a)))
 
 pub flushed_twice : (o p q : Option Ring) → IsFlushedAt o p → IsFlushedAt p q → IsFlushedAt o q
 flushed_twice None p q e f = subst (λ (x : Option Ring). IsFlushedAt x q) e f

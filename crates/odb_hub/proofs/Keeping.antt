@@ -9,7 +9,7 @@ use Rattle.serde_json.specs.Data.{Data}
 use Rattle.odb_atoms.specs.FinMap.{empty, get, insert, remove}
 use Rattle.odb_atoms.specs.Uuid.{Uuid}
 use Rattle.odb_hub.specs.Kept.{AreOpen, AreTold, AreUnused, EndsWith, IsKept, counted, Kept, Takes, TakesRound, is_in, text_of}
-use Rattle.odb_hub.specs.Rings.{HandsOver, HasRoom, IsFlushed, IsFlushedAt, IsServed, Ring, Rings, Text, free_of, fresh_ring, is_free_at, room_of, texts, texts_to}
+use Rattle.odb_hub.specs.Rings.{HandsOver, HasRoom, IsFlushed, IsFlushedAt, IsServed, Ring, Rings, Text, free_of, is_free_at, room_of, texts, texts_to}
 use Rattle.odb_hub.proofs.Free.{listed, rising}
 use Rattle.odb_hub.proofs.HandingOver.{served}
 use Rattle.odb_hub.proofs.Stepping.{IsTold, history_begins, history_on, ends_nothing, open_closed, open_opened, open_round, open_submitted, open_ticked, ok_is, served_with, step_of, told_on}
@@ -75,19 +75,19 @@ module _ (old new : Kept) (kept : IsKept old) where
       told : Tellings (closed s) old.rings (remove old.rings s) []
       told t r is = (r, there t r (eq_by_cmp nat_cmp t s) (sym (get-remove old.rings s t) ∙ is), sym (append-nil (texts r)))
 
-  pub opened_kept : (s : ℕ) → Takes (opened s) old new [] → new.rings ≡ insert old.rings s fresh_ring → IsKept new
-  opened_kept s takes same =
+  pub opened_kept : (s : ℕ) (x : Ring) → Takes (opened s) old new [] → new.rings ≡ insert old.rings s x → IsKept new
+  opened_kept s x takes same =
       let e : Event = opened s in
       kept_on e old new [] kept takes (subst (λ (m : Rings). Tellings e old.rings m []) (sym same) told)
-      (subst (λ (m : Rings). Openings e old m) (sym same) (λ r went opens_so. open_opened (served_by old.server.schema) old.rings old.server.world s r went opens_so))
+      (subst (λ (m : Rings). Openings e old m) (sym same) (λ r went opens_so. open_opened (served_by old.server.schema) old.rings x old.server.world s r went opens_so))
     where
-      by : (t : ℕ) (r : Ring) (b c : Bool) → (s == t) ≡ b → eq_by_cmp nat_cmp t s ≡ c → cond c (Some fresh_ring) (get old.rings t) ≡ Some r → IsTold b [] (get old.rings t) r
+      by : (t : ℕ) (r : Ring) (b c : Bool) → (s == t) ≡ b → eq_by_cmp nat_cmp t s ≡ c → cond c (Some x) (get old.rings t) ≡ Some r → IsTold b [] (get old.rings t) r
       by t r true c e f is = tt
       by t r false true e f is = absurd (true≢false (sym (eq-eqb s t (sym (same_key t s f))) ∙ e))
       by t r false false e f is = (r, is, sym (append-nil (texts r)))
 
-      told : Tellings (opened s) old.rings (insert old.rings s fresh_ring) []
-      told t r is = by t r (s == t) (eq_by_cmp nat_cmp t s) refl refl (sym (get-insert old.rings s fresh_ring t) ∙ is)
+      told : Tellings (opened s) old.rings (insert old.rings s x) []
+      told t r is = by t r (s == t) (eq_by_cmp nat_cmp t s) refl refl (sym (get-insert old.rings s x t) ∙ is)
 
   round_kept : (ss : List ℕ) (outs : List (ℕ × Text)) → Takes (round ss) old new outs → ((s : ℕ) → IsServed (is_in s ss) (texts_to s outs) (get old.rings s) (get new.rings s)) → IsKept new
   round_kept ss outs takes serves =
@@ -156,10 +156,10 @@ settles k kept = ((λ t. [], history_begins (served_by k.server.schema) k.server
 
 -- ---- numbers that are still to be given
 
-pub unused_opened : (m : Rings) (n : ℕ) → AreUnused m n → AreUnused (insert m n fresh_ring) (n + 1)
-unused_opened m n unused q above = get-insert m n fresh_ring q ∙ by (eq_by_cmp nat_cmp q n) refl
+pub unused_opened : (m : Rings) (n : ℕ) (x : Ring) → AreUnused m n → AreUnused (insert m n x) (n + 1)
+unused_opened m n x unused q above = get-insert m n x q ∙ by (eq_by_cmp nat_cmp q n) refl
   where
-    by : (b : Bool) → eq_by_cmp nat_cmp q n ≡ b → cond b (Some fresh_ring) (get m q) ≡ None
+    by : (b : Bool) → eq_by_cmp nat_cmp q n ≡ b → cond b (Some x) (get m q) ≡ None
     by true e = absurd (let is : q ≡ n = same_key q n e in omega (arith, above, is))
     by false e = unused q (omega (arith, above))
 
@@ -185,10 +185,10 @@ pub unused_flushed : (m k : Rings) (n : ℕ) → ((s : ℕ) → IsFlushedAt (get
 unused_flushed m k n flushed unused q above = subst (λ (o : Option Ring). IsFlushedAt o (get k q)) (unused q above) (flushed q)
 
 -- one that was put in under a number that isn't used, and taken out again
-pub taken_out : (m : Rings) (n : ℕ) → get m n ≡ None → remove (insert m n fresh_ring) n ≡ m
-taken_out m n none = same_map _ _ (λ q. get-remove (insert m n fresh_ring) n q ∙ ap (cond (eq_by_cmp nat_cmp q n) None) (get-insert m n fresh_ring q) ∙ by q (eq_by_cmp nat_cmp q n) refl)
+pub taken_out : (m : Rings) (n : ℕ) (x : Ring) → get m n ≡ None → remove (insert m n x) n ≡ m
+taken_out m n x none = same_map _ _ (λ q. get-remove (insert m n x) n q ∙ ap (cond (eq_by_cmp nat_cmp q n) None) (get-insert m n x q) ∙ by q (eq_by_cmp nat_cmp q n) refl)
   where
-    by : (q : ℕ) (b : Bool) → eq_by_cmp nat_cmp q n ≡ b → cond b None (cond b (Some fresh_ring) (get m q)) ≡ get m q
+    by : (q : ℕ) (b : Bool) → eq_by_cmp nat_cmp q n ≡ b → cond b None (cond b (Some x) (get m q)) ≡ get m q
     by q true e = sym (ap (get m) (same_key q n e) ∙ none)
     by q false e = refl
 

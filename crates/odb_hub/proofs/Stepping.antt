@@ -9,7 +9,7 @@ use Rattle.odb_atoms.specs.FinMap.{get, insert, len, remove}
 use Rattle.odb_atoms.specs.Uuid.{Uuid}
 use Rattle.odb_rpc.specs.Message.{call_of, has_reply}
 use Rattle.odb_hub.specs.Kept.{AreOpen, AreTold, EndsWith, text_of}
-use Rattle.odb_hub.specs.Rings.{Ring, Rings, Text, fresh_ring, texts, texts_to}
+use Rattle.odb_hub.specs.Rings.{Ring, Rings, Text, texts, texts_to}
 use Rattle.odb_hub.proofs.Takings.{texts_printed}
 use Rattle.odb_service.proofs.OnlyPosts.{Rest, takes_each}
 use Rattle.odb_service.proofs.Results.{err_ok}
@@ -147,11 +147,11 @@ module _ (h : Service) where
   pub open_round : (rings : Rings) (w : World) (ss : List ℕ) (r : World × List Sent) → step h (round ss) w ≡ Ok r → AreOpen rings w → AreOpen rings r.0
   open_round rings w ss r is opens_so = subst (λ (p : World × List Sent). AreOpen rings p.0) (ok_is (take_each h (once ss) w) r is) (open_on rings w (take_each h (once ss) w).0 opens_so (λ t. ap (λ (q : Rest). q.3 t) (takes_each h (once ss) w)))
 
-  pub open_opened : (rings : Rings) (w : World) (s : ℕ) (r : World × List Sent) → step h (opened s) w ≡ Ok r → AreOpen rings w → AreOpen (insert rings s fresh_ring) r.0
-  open_opened rings w s r is opens_so = subst (λ (p : World × List Sent). AreOpen (insert rings s fresh_ring) p.0) (opened_is s w r is) (λ t.
-      ap is_some (get-insert rings s fresh_ring t) ∙ by t (eq_by_cmp nat_cmp t s) ∙ sym (ap is_some (get-insert w.sessions s (record { queue = []; monitors = [] }) t)))
+  pub open_opened : (rings : Rings) (x : Ring) (w : World) (s : ℕ) (r : World × List Sent) → step h (opened s) w ≡ Ok r → AreOpen rings w → AreOpen (insert rings s x) r.0
+  open_opened rings x w s r is opens_so = subst (λ (p : World × List Sent). AreOpen (insert rings s x) p.0) (opened_is s w r is) (λ t.
+      ap is_some (get-insert rings s x t) ∙ by t (eq_by_cmp nat_cmp t s) ∙ sym (ap is_some (get-insert w.sessions s (record { queue = []; monitors = [] }) t)))
     where
-      by : (t : ℕ) (b : Bool) → is_some (cond b (Some fresh_ring) (get rings t)) ≡ is_some (cond b (Some (let x : Session = record { queue = []; monitors = [] } in x)) (get w.sessions t))
+      by : (t : ℕ) (b : Bool) → is_some (cond b (Some x) (get rings t)) ≡ is_some (cond b (Some (let x : Session = record { queue = []; monitors = [] } in x)) (get w.sessions t))
       by t true = refl
       by t false = opens_so t
 

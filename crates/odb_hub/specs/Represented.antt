@@ -1,3 +1,4 @@
+pub mod Ends
 pub mod Happened
 pub mod Mailbox
 pub mod Rings

@@ -2,19 +2,30 @@
 use Rattle.std.specs.Prelude.{◌≡◌, ◌⊎◌, ℕ, ◌==◌, ◌≤◌, length, Bool, true, false, List, [], ◌∷◌, ◌++◌, Option, Some, None, is_some, not, filter, map, option_to_list, refl, if◌then◌else◌}
 use Rattle.std.specs.Coded.{Coded, code_by, coded×, coded_ℕ, coded_list, coded_option}
 use Rattle.std.specs.Ordering.{nat_cmp}
+use denote.RawPtr.{Ptr, coded_ptr}
 use Rattle.odb_atoms.specs.FinMap as map
 use Rattle.odb_atoms.specs.FinMap.{FinMap, get, entries_of}
 
 abbrev pub Text : Type 0
 Text = List ℕ
 
+-- which ring it is: where it lies in memory, and what its two ends are called in proofs. Ends that have one name are the two of one ring
+abbrev pub Name : Type 0
+Name = Ptr × (Ptr × (ℕ × (ℕ × ℕ)))
+
+abbrev pub name_code : Coded Name
+name_code = coded× coded_ptr (coded× coded_ptr (coded× coded_ℕ (coded× coded_ℕ coded_ℕ)))
+
 -- the messages of a session that were sent into its ring, and the one that is held back, where the ring was full
 pub record Ring : Type 0 where
+  pub name : Name
   pub sent : List Text
   pub held : Option Text
 
 abbrev pub ring_code : Coded Ring
-ring_code = code_by (List Text × Option Text) (coded× (coded_list (coded_list coded_ℕ)) (coded_option (coded_list coded_ℕ))) (λ r. (r.sent, r.held)) (λ p. record { sent = p.0; held = p.1 }) (λ _. refl)
+ring_code =
+    code_by (Name × (List Text × Option Text)) (coded× name_code (coded× (coded_list (coded_list coded_ℕ)) (coded_option (coded_list coded_ℕ))))
+    (λ r. (r.name, (r.sent, r.held))) (λ p. record { name = p.0; sent = p.1.0; held = p.1.1 }) (λ _. refl)
 
 -- by sessions
 abbrev pub Rings : Type 0
@@ -23,8 +34,9 @@ Rings = FinMap nat_cmp Ring
 abbrev pub rings_code : Coded Rings
 rings_code = map.code coded_ℕ ring_code
 
-abbrev pub fresh_ring : Ring
-fresh_ring = record { sent = []; held = None }
+-- that nothing was sent into
+abbrev pub fresh_ring : Name → Ring
+fresh_ring name = record { name = name; sent = []; held = None }
 
 -- all that the session is sent, in order
 abbrev pub texts : Ring → List Text
@@ -32,11 +44,11 @@ texts r = r.sent ++ option_to_list r.held
 
 -- what is held back was sent, or is held back still
 abbrev pub IsFlushed : Ring → Ring → Type 0
-IsFlushed old new = (new ≡ old) ⊎ (new ≡ record { sent = texts old; held = None })
+IsFlushed old new = (new ≡ old) ⊎ (new ≡ record { name = old.name; sent = texts old; held = None })
 
 -- the text comes after what was sent: it was sent too, or is held back
 abbrev pub IsPut : Text → Ring → Ring → Type 0
-IsPut text old new = (new ≡ record { sent = old.sent ++ text ∷ []; held = None }) ⊎ (new ≡ record { sent = old.sent; held = Some text })
+IsPut text old new = (new ≡ record { name = old.name; sent = old.sent ++ text ∷ []; held = None }) ⊎ (new ≡ record { name = old.name; sent = old.sent; held = Some text })
 
 abbrev pub IsFlushedAt : Option Ring → Option Ring → Type 0
 IsFlushedAt None o = o ≡ None
@@ -62,13 +74,13 @@ texts_to s (o ∷ os) = if o.0 == s then o.1 ∷ texts_to s os else texts_to s o
 -- what a ring becomes by these messages, of which one is held back at most
 abbrev pub HandsOver : Option Ring → List Text → Option Ring → Type 0
 HandsOver None outs o = (outs ≡ []) × (o ≡ None)
-HandsOver (Some a) outs o = (b : Ring) × (o ≡ Some b) × ((more : List Text) × (b.sent ≡ a.sent ++ more) × (more ++ option_to_list b.held ≡ option_to_list a.held ++ outs)) × (outs ≡ [] → b ≡ a)
+HandsOver (Some a) outs o = (b : Ring) × (o ≡ Some b) × ((more : List Text) × (b.sent ≡ a.sent ++ more) × (more ++ option_to_list b.held ≡ option_to_list a.held ++ outs)) × (outs ≡ [] → b ≡ a) × (b.name ≡ a.name)
 
 -- what a round makes of a session's ring, where it has one. What is held back goes first; where it is still held back the session isn't listed, and nothing changes. A session that is listed is sent what the round gives it, or it is held back
 abbrev pub IsServed : Bool → List Text → Option Ring → Option Ring → Type 0
 IsServed listed outs None o = (listed ≡ false) × (outs ≡ []) × (o ≡ None)
 IsServed false outs (Some a) o = (is_some a.held ≡ true) × (outs ≡ []) × (o ≡ Some a)
-IsServed true outs (Some a) o = (b : Ring) × (o ≡ Some b) × (more : List Text) × (b.sent ≡ texts a ++ more) × (more ++ option_to_list b.held ≡ outs)
+IsServed true outs (Some a) o = (b : Ring) × (o ≡ Some b) × (more : List Text) × (b.sent ≡ texts a ++ more) × (more ++ option_to_list b.held ≡ outs) × (b.name ≡ a.name)
 
 -- how many messages a session may be given while at most one is held back
 abbrev pub room_of : Option Ring → ℕ

@@ -1,5 +1,5 @@
 //! The lock, and what each thread does with it.
-ghost use Rattle.std.specs.Prelude.{◌≡◌};
+ghost use Rattle.std.specs.Prelude.{◌≡◌, [], IfOk};
 
 use crate::bell::Bell;
 use crate::mailbox::Mailbox;
@@ -33,6 +33,7 @@ impl Seat {
 
 impl Hub {
     ghost use Rattle.odb_atoms.specs.FinMap.{empty};
+    ghost use Rattle.odb_hub.specs.Represented.Mailbox.{taken};
 
     /// A hub over a core without sessions.
     pub fn new(alloc: Global, core: Core) -> Hub
@@ -43,8 +44,10 @@ impl Hub {
         }
     }
 
-    /// Opens a session. It is refused as [`HubState::open`] is.
-    pub fn open<R: Wait>(&self, rt: &R) -> Result<(Seat, Mailbox), Refused> {
+    /// Opens a session, with a mailbox that nothing was taken out of. It is refused as [`HubState::open`] is.
+    pub fn open<R: Wait>(&self, rt: &R) -> Result<(Seat, Mailbox), Refused>
+        ensures mailbox { IfOk result (λ ends. taken ends.1 ≡ []) }
+    {
         let (session, mailbox, bell) = self.state.lock(rt).open()?;
         Ok((Seat { session, bell }, mailbox))
     }

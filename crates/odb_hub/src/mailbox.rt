@@ -2,7 +2,7 @@
 ghost use Rattle.std.specs.Prelude.{◌≡◌, [], ◌∷◌, ◌++◌, IfSome, IfNone, IfOk, OnOk};
 ghost use Rattle.std.specs.Io.KnownBytes.{Appends};
 ghost use Rattle.odb_core.specs.Represented.Out.{text_of_out};
-ghost use Rattle.odb_hub.specs.Represented.Mailbox.{taken, IsWritten};
+ghost use Rattle.odb_hub.specs.Represented.Mailbox.{taken, name_of, IsWritten};
 
 use crate::bell::Bell;
 use odb_core::Out;
@@ -24,6 +24,7 @@ impl Mailbox {
     pub fn next(&mut self) -> Option<Out>
         ensures some { IfSome result (λ out. taken self.new ≡ taken self.old ++ out ∷ []) }
         ensures none { IfNone result (taken self.new ≡ taken self.old) }
+        ensures ring { name_of self.new ≡ name_of self.old }
     {
         self.consumer.pop().ok()
     }

@@ -1,6 +1,6 @@
 //! The ring of a session.
 ghost use Rattle.std.specs.Prelude.{◌≡◌, [], ◌++◌, ◌∷◌, Some, None, IfOk, is_some, option_to_list};
-ghost use Rattle.rtrb.specs.Ring.{IsPair, received};
+ghost use Rattle.rtrb.specs.Ring.{IsPair};
 
 use crate::bell::Bell;
 use crate::mailbox::Mailbox;
@@ -25,23 +25,25 @@ impl Model for Ring {
     ghost use Rattle.std.specs.Prelude.{map, option_map};
     ghost use Rattle.rtrb.specs.Ring.{sent};
     ghost use Rattle.odb_core.specs.Represented.Out.{text_of_out};
+    ghost use Rattle.odb_hub.specs.Represented.Ends.{producer_name};
     ghost use Rattle.odb_hub.specs.Rings as model;
 
     ghost Value = { model.Ring };
 
     ghost coded = { model.ring_code };
 
-    ghost view = { λ r. record { sent = map text_of_out (sent r.producer); held = option_map text_of_out r.held } };
+    ghost view = { λ r. record { name = producer_name r.producer; sent = map text_of_out (sent r.producer); held = option_map text_of_out r.held } };
 }
 
 impl Ring {
     ghost use Rattle.odb_core.specs.Represented.Out.{text_of_out};
+    ghost use Rattle.odb_hub.specs.Represented.Mailbox.{name_of, taken};
     ghost use Rattle.odb_hub.specs.Rings.{IsFlushed, IsPut, fresh_ring};
 
     /// A ring that nothing was sent into, the mailbox where it comes out, and the bell that both ring.
     pub(crate) fn new(alloc: Global) -> Result<(Ring, Mailbox, Arc<Bell>), AllocError>
-        ensures ring { IfOk result (λ ends. ends.0 ≡ fresh_ring) }
-        ensures mailbox { IfOk result (λ ends. received ends.1.consumer ≡ []) }
+        ensures ring { IfOk result (λ ends. ends.0 ≡ fresh_ring (name_of ends.1)) }
+        ensures mailbox { IfOk result (λ ends. taken ends.1 ≡ []) }
     {
         let (producer, consumer) = RingBuffer::new(alloc, ROOM)?;
         let bell = Arc::new(alloc, Bell::new())?;

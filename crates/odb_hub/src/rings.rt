@@ -35,6 +35,7 @@ impl Model for Rings {
 
 impl Rings {
     ghost use Rattle.odb_atoms.specs.FinMap.{empty, get, insert, remove};
+    ghost use Rattle.odb_hub.specs.Represented.Mailbox.{name_of, taken};
     ghost use Rattle.odb_hub.specs.Rings.{HandsOver, IsFlushedAt, HasRoom, IsPutAt, fresh_ring, free_of, is_free_at, texts_to};
 
     /// No session has a ring.
@@ -50,7 +51,8 @@ impl Rings {
 
     /// A ring for a session, and the mailbox where it comes out. O(log n).
     pub(crate) fn add(&mut self, session: SessionId) -> Result<(Mailbox, Arc<Bell>), AllocError>
-        ensures ok { OnOk result (self.new ≡ insert self.old session fresh_ring) }
+        ensures ok { IfOk result (λ ends. self.new ≡ insert self.old session (fresh_ring (name_of ends.0))) }
+        ensures mailbox { IfOk result (λ ends. taken ends.0 ≡ []) }
         ensures err { OnErr result (self.new ≡ self.old) }
     {
         let (ring, mailbox, bell) = Ring::new(self.alloc)?;

@@ -53,6 +53,7 @@ impl HubState {
     ghost use Rattle.odb_hub.specs.Batch.{RefusesFirst, TakesUpTo};
     ghost use Rattle.odb_hub.specs.Kept.{IsKept, Takes, TakesRound, counted};
     ghost use Rattle.odb_hub.specs.Represented.Submission.{events_of};
+    ghost use Rattle.odb_hub.specs.Represented.Mailbox.{name_of, taken};
     ghost use Rattle.odb_hub.specs.Rings.{fresh_ring, IsFlushedAt};
 
     /// A core without sessions, with the state that it is in for base, and no event.
@@ -77,11 +78,13 @@ impl HubState {
         self.since_base
     }
 
-    /// Opens a session, with a ring of its own, the mailbox where that comes out, and the bell of both. It is refused with `TooMany` where
+    /// Opens a session, with a ring of its own, the mailbox where that comes out, and the bell of both. Ring and mailbox
+    /// are the two ends of one ring, so the mailbox gives just what is sent into it. It is refused with `TooMany` where
     /// 4,096 sessions are open, and with `Memory`, also where no number is left. O(log n).
     pub fn open(&mut self) -> Result<(SessionId, Mailbox, Arc<Bell>), Refused>
         ensures ok { IfOk result (λ ends. Takes (opened ends.0) self.old self.new []) }
-        ensures ring { IfOk result (λ ends. self.new.rings ≡ insert self.old.rings ends.0 fresh_ring) }
+        ensures ring { IfOk result (λ ends. self.new.rings ≡ insert self.old.rings ends.0 (fresh_ring (name_of ends.1))) }
+        ensures mailbox { IfOk result (λ ends. taken ends.1 ≡ []) }
         ensures why { IfErr result (λ why. (why ≡ refused.Memory) ⊎ IsReason why (serve (opened self.old.server.opened) self.old.server)) }
         ensures err { OnErr result (self.new ≡ self.old) }
     {

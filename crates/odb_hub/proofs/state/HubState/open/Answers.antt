@@ -3,7 +3,8 @@ use Rattle.odb_atoms.specs.FinMap.{insert, remove}
 use Rattle.odb_service.specs.Run.{Event, opened}
 use Rattle.odb_service.specs.Server.{Server, serve}
 use Rattle.odb_hub.specs.Kept.{AreUnused, IsKept, Kept, Takes}
-use Rattle.odb_hub.specs.Rings.{Rings, fresh_ring}
+use Rattle.odb_hub.specs.Represented.Mailbox.{name_of}
+use Rattle.odb_hub.specs.Rings.{Ring, Rings, fresh_ring}
 use Rattle.odb_hub.proofs.Keeping.{counted_more, opened_kept, same_opened, taken_out, unused_opened}
 use Rattle.odb_hub.proofs.state.HubState.open.Goals as goal
 
@@ -13,28 +14,30 @@ invariant_of-self-in-Ok c =
     let s : ℕ = c.in-Ok.session in
     let e : Event = opened s in
     let rings : Rings = c.add.new.self in
+    let ring : Ring = fresh_ring (name_of c.in_ok-mailbox.mailbox) in
     let k : Kept = record { server = i.core; base = i.journal.base; events = i.journal.events; rings = i.rings } in
     let n : Kept = record { server = c.open.new.self; base = c.with-self-inside.result.base; events = c.with-self-inside.result.events; rings = rings } in
     let went : serve e i.core ≡ Ok (c.open.new.self, []) = search rules in
     let number : s ≡ i.core.opened = search rules in
     let events : n.events ≡ k.events ++ e ∷ [] = search rules in
     let base : n.base ≡ k.base = search rules in
-    let added : rings ≡ insert i.rings i.opened fresh_ring = search rules in
+    let added : rings ≡ insert i.rings i.opened ring = search rules in
     let same : i.opened ≡ s = c.self.invariant.1 ∙ sym number in
     let takes : Takes e k n [] = (went, events, base) in (
-      opened_kept k n c.self.invariant.0 s takes (added ∙ ap (λ m. insert i.rings m fresh_ring) same),
+      opened_kept k n c.self.invariant.0 s ring takes (added ∙ ap (λ m. insert i.rings m ring) same),
       ap (λ m. m + 1) c.self.invariant.1 ∙ sym (same_opened e i.core c.open.new.self [] went),
-      subst (λ (m : Rings). AreUnused m (i.opened + 1)) (sym added) (unused_opened i.rings i.opened c.self.invariant.2),
+      subst (λ (m : Rings). AreUnused m (i.opened + 1)) (sym added) (unused_opened i.rings i.opened ring c.self.invariant.2),
       c.saturating_add-self-inside.ensures ∙ counted_more i.since_base k.events n.events e c.self.invariant.3 events,
     )
 
 pub invariant_of-self-in-Err-1 : goal.invariant_of-self-in-Err-1
 invariant_of-self-in-Err-1 c =
     let i = c.self.inside in
+    let ring : Ring = fresh_ring (name_of c.in_ok-mailbox.mailbox) in
     let same : c.open.new.self ≡ i.core = search rules in
-    let added : c.add.new.self ≡ insert i.rings i.opened fresh_ring = search rules in
+    let added : c.add.new.self ≡ insert i.rings i.opened ring = search rules in
     let gone : c.remove.new.self ≡ remove c.add.new.self i.opened = search rules in
-    let back : c.remove.new.self ≡ i.rings = gone ∙ ap (λ m. remove m i.opened) added ∙ taken_out i.rings i.opened (c.self.invariant.2 i.opened (omega arith)) in (
+    let back : c.remove.new.self ≡ i.rings = gone ∙ ap (λ m. remove m i.opened) added ∙ taken_out i.rings i.opened ring (c.self.invariant.2 i.opened (omega arith)) in (
       subst IsKept (λ j. let n : Kept = record { server = sym same j; base = i.journal.base; events = i.journal.events; rings = sym back j } in n) c.self.invariant.0,
       c.self.invariant.1 ∙ sym (ap (λ (t : Server). t.opened) same),
       subst (λ (m : Rings). AreUnused m i.opened) (sym back) c.self.invariant.2,
@@ -44,8 +47,9 @@ invariant_of-self-in-Err-1 c =
 pub returns-in-Err-clause-err : goal.returns-in-Err-clause-err
 returns-in-Err-clause-err c =
     let i = c.self.inside in
+    let ring : Ring = fresh_ring (name_of c.in_ok-mailbox.mailbox) in
     let same : c.open.new.self ≡ i.core = search rules in
-    let added : c.add.new.self ≡ insert i.rings i.opened fresh_ring = search rules in
+    let added : c.add.new.self ≡ insert i.rings i.opened ring = search rules in
     let gone : c.remove.new.self ≡ remove c.add.new.self i.opened = search rules in
-    let back : c.remove.new.self ≡ i.rings = gone ∙ ap (λ m. remove m i.opened) added ∙ taken_out i.rings i.opened (c.self.invariant.2 i.opened (omega arith)) in
+    let back : c.remove.new.self ≡ i.rings = gone ∙ ap (λ m. remove m i.opened) added ∙ taken_out i.rings i.opened ring (c.self.invariant.2 i.opened (omega arith)) in
     (λ j. let n : Kept = record { server = same j; base = i.journal.base; events = i.journal.events; rings = back j } in n) ∙ c.self.view_is
