@@ -8,3 +8,4 @@ pub mod Putting
 pub mod RingsIn
 pub mod Stepping
 pub mod Takings
+pub mod Writing
