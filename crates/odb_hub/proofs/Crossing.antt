@@ -1,9 +1,16 @@
 -- A hub may be used by several threads at once.
+use denote.RattleType.{RattleType}
 use denote.Param.Send.{IsSend, IsSync, sendable}
 use Rattle.std.proofs.Crossing as heap
+use Rattle.std.proofs.sync.ledger.Book.TheSendSync as book
+use Rattle.std.proofs.sync.ledger.Share.TheSendSync as share
+use Rattle.std.specs.contracts.sync.ledger.Book as Book
+use Rattle.std.specs.contracts.sync.ledger.Share as Share
+use Rattle.std.specs.declared.sync.ledger.Ledger.{Ghosts}
 use Rattle.odb_core.proofs.Crossing.{Core-send}
 use Rattle.odb_hub.proofs.journal.Journal.TheSendSync as journal
 use Rattle.odb_hub.proofs.rings.Rings.TheSendSync as rings
+use Rattle.odb_hub.specs.contracts.counted.Counted as Counted
 use Rattle.odb_hub.specs.contracts.hub.Hub as Hub
 use Rattle.odb_hub.specs.contracts.journal.Journal as Journal
 use Rattle.odb_hub.specs.contracts.rings.Rings as Rings
@@ -18,5 +25,14 @@ Rings-send = rings.the_send
 HubState-send : IsSend (HubState.the_field).row
 HubState-send = search (Core-send, Journal-send, Rings-send, sendable, heap.crosses) depth 20
 
-pub Hub-sync : IsSync (Hub.the_field).row
-Hub-sync = search (HubState-send, sendable, heap.crosses) depth 20
+Book-send : (L : RattleType) (g : Ghosts L.Denot) → IsSend L → IsSend (Book.the_row L g)
+Book-send L g s = search (book.the_send, sendable)
+
+Share-send : (L : RattleType) (g : Ghosts L.Denot) → IsSend L → IsSend (Share.the_row L g)
+Share-send L g s = search (share.the_send, sendable)
+
+Counted-send : (L : RattleType) (g : Ghosts L.Denot) → IsSend L → IsSend (Counted.the_field L g).row
+Counted-send L g s = search (HubState-send, Book-send, Share-send, sendable, heap.crosses) depth 20
+
+pub Hub-sync : (L : RattleType) (g : Ghosts L.Denot) → IsSend L → IsSync (Hub.the_field L g).row
+Hub-sync L g s = search (Counted-send, sendable, heap.crosses) depth 20

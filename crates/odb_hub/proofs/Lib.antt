@@ -1,4 +1,5 @@
 pub mod Batches
+pub mod Counting
 pub mod Crossing
 pub mod Free
 pub mod FreeAmong

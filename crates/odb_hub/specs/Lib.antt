@@ -1,4 +1,5 @@
 pub mod Batch
+pub mod Counted
 pub mod EventCode
 pub mod Kept
 pub mod Represented

@@ -1,67 +1,61 @@
 //! The lock, and what each thread does with it.
-ghost use Rattle.std.specs.Prelude.{◌≡◌, [], IfOk};
+ghost use Rattle.std.specs.Prelude.{◌≡◌, ◌+◌, ◌-◌, [], length, IfErr, IfOk, OnOk};
 
-use crate::bell::Bell;
+use crate::counted::Counted;
 use crate::mailbox::Mailbox;
-use crate::state::HubState;
+use crate::seat::Seat;
 use crate::submission::Submission;
-use odb_core::{Core, Refused, SessionId};
+use odb_core::{Core, Refused};
 use std::alloc::{AllocError, Global};
-use std::sync::{Arc, Mutex, Wait};
+use std::sync::ledger::{Blank, Ledger};
+use std::sync::{Mutex, Wait};
 
-/// A server that many threads share. Each call takes the lock and makes one call of the [`HubState`] under it, whose
+/// A server that many threads share. Each call takes the lock and makes one call of [`Counted`] under it, whose
 /// contracts say what it does: of a value under a lock only the facts of its type are known, here that the journal is
-/// a legal history and that the rings were sent what it gives. Messages are taken out of a [`Mailbox`] without the
-/// lock.
+/// a legal history, that the rings were sent what it gives, and that its submits are those that the seats were
+/// answered. Messages are taken out of a [`Mailbox`] without the lock.
 #[derive(Drop)]
-pub struct Hub {
-    state: Mutex<HubState>,
+pub struct Hub<L: Ledger> {
+    state: Mutex<Counted<L>>,
 }
 
-/// The right to submit for a session. It can't be copied or dropped: `Hub::part` takes it.
-pub struct Seat {
-    session: SessionId,
-    bell: Arc<Bell>,
-}
-
-impl Seat {
-    /// What wakes the threads of the session.
-    pub fn bell(&self) -> &Bell {
-        &*self.bell
-    }
-}
-
-impl Hub {
+impl<L: Ledger> Hub<L> {
     ghost use Rattle.odb_atoms.specs.FinMap.{empty};
     ghost use Rattle.odb_hub.specs.Represented.Mailbox.{taken};
 
-    /// A hub over a core without sessions.
-    pub fn new(alloc: Global, core: Core) -> Hub
-        requires { (core.world.sessions ≡ empty) × (core.opened ≡ 0) }
+    /// A hub over a core without sessions, of which so many seats may be given at once.
+    pub fn new(alloc: Global, core: Core, blank: Blank, seats: u64) -> Hub<L>
+        requires core { (core.world.sessions ≡ empty) × (core.opened ≡ 0) }
+        requires ledger { (blank.name ≡ L.name) × (blank.parts ≡ L.parts) }
+        requires parts { blank.parts ≡ seats + 1 }
     {
         Hub {
-            state: Mutex::new(HubState::new(alloc, core)),
+            state: Mutex::new(Counted::new(alloc, core, blank, seats)),
         }
     }
 
-    /// Opens a session, with a mailbox that nothing was taken out of. It is refused as [`HubState::open`] is.
-    pub fn open<R: Wait>(&self, rt: &R) -> Result<(Seat, Mailbox), Refused>
+    /// Opens a session, with a seat that was answered nothing and a mailbox that nothing was taken out of. It is refused
+    /// as [`Counted::open`] is.
+    pub fn open<R: Wait>(&self, rt: &R) -> Result<(Seat<L>, Mailbox), Refused>
+        ensures seat { IfOk result (λ ends. ends.0.answered ≡ 0) }
         ensures mailbox { IfOk result (λ ends. taken ends.1 ≡ []) }
     {
-        let (session, mailbox, bell) = self.state.lock(rt).open()?;
-        Ok((Seat { session, bell }, mailbox))
+        self.state.lock(rt).open()
     }
 
     /// Submits what stands in the batch, from its last to its first, under one lock. At a refusal it stops, and the
-    /// submission that was refused is the last of the batch again.
+    /// submission that was refused is the last of the batch again. The seat is answered each submission that was taken.
     pub fn submit_all<R: Wait>(
         &self,
         rt: &R,
-        seat: &Seat,
+        seat: &mut Seat<L>,
         batch: &mut Vec<Submission>,
         now: u64,
-    ) -> Result<(), Refused> {
-        self.state.lock(rt).submit_all(seat.session, batch, now)
+    ) -> Result<(), Refused>
+        ensures all { OnOk result (batch.new.items ≡ []) }
+        ensures seat { seat.new ≡ record { session = seat.old.session; answered = seat.old.answered + (length batch.old.items - length batch.new.items) } }
+    {
+        self.state.lock(rt).submit_all(seat, batch, now)
     }
 
     /// The moment is `now`.
@@ -81,14 +75,9 @@ impl Hub {
 
     /// Ends a session. What its ring was sent by then can still be taken out of the mailbox; what is held back for it is
     /// gone. Where memory is refused nothing changes and the seat comes back.
-    pub fn part<R: Wait>(&self, rt: &R, seat: Seat) -> Result<(), Seat> {
-        match self.state.lock(rt).close(seat.session) {
-            Err(Refused::Memory) => Err(seat),
-            _ => {
-                let Seat { session: _, bell } = seat;
-                drop(bell);
-                Ok(())
-            }
-        }
+    pub fn part<R: Wait>(&self, rt: &R, seat: Seat<L>) -> Result<(), Seat<L>>
+        ensures seat { IfErr result (λ back. back ≡ seat) }
+    {
+        self.state.lock(rt).part(seat)
     }
 }

@@ -5,16 +5,20 @@
 #![tactic(auto)]
 
 mod bell;
+mod counted;
 mod hub;
 mod journal;
 mod mailbox;
 mod ring;
 mod rings;
+mod seat;
 mod state;
 mod submission;
 
 pub use bell::Bell;
-pub use hub::{Hub, Seat};
+pub use counted::Counted;
+pub use hub::Hub;
 pub use mailbox::{Mailbox, write_outs};
+pub use seat::Seat;
 pub use state::HubState;
 pub use submission::Submission;

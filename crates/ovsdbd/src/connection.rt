@@ -13,6 +13,7 @@ use std::io::{self, BufWriter, Read, Write};
 use std::net::{Shutdown, TcpStream};
 use std::random::RandomSource;
 use std::sync::Wait;
+use std::sync::ledger::Ledger;
 use std::thread;
 use std::thread::{Builder, Scope, Threads};
 use std::time::{Clock, Duration};
@@ -25,11 +26,10 @@ pub(crate) const STACK: usize = 131_072;
 const PIECE: usize = 8_192;
 
 /// Serves a connection as a session of its own, until it ends. It is closed where no session can be opened.
-pub(crate) fn serve_connection<R: Threads + Wait + Clock + RandomSource + Sync>(
-    rt: &R,
-    daemon: &Daemon,
-    stream: TcpStream,
-) {
+pub(crate) fn serve_connection<
+    L: Ledger + Send + Sync,
+    R: Threads + Wait + Clock + RandomSource + Sync,
+>(rt: &R, daemon: &Daemon<L>, stream: TcpStream) {
     drop(stream.set_nodelay(true));
     let stream = &stream;
     thread::scope(thread::scope_env(), rt, |scope| {
@@ -39,14 +39,14 @@ pub(crate) fn serve_connection<R: Threads + Wait + Clock + RandomSource + Sync>(
 }
 
 /// Opens a session, starts the thread that writes, and reads until the session ends.
-fn run_session<'s, E, R: Threads + Wait + Clock + RandomSource + Sync>(
+fn run_session<'s, E, L: Ledger + Send + Sync, R: Threads + Wait + Clock + RandomSource + Sync>(
     rt: &'s R,
     scope: &'s Scope<'s, E>,
-    daemon: &'s Daemon,
+    daemon: &'s Daemon<L>,
     stream: &'s TcpStream,
 ) -> io::Result<()> {
     let mut rng: StdRng = make_rng(rt)?;
-    let Ok((seat, mailbox)) = daemon.hub.open(rt) else {
+    let Ok((mut seat, mailbox)) = daemon.hub.open(rt) else {
         return Ok(());
     };
     let writer = Builder::new().stack_size(STACK).spawn_scoped(
@@ -57,7 +57,7 @@ fn run_session<'s, E, R: Threads + Wait + Clock + RandomSource + Sync>(
         part(rt, daemon, seat);
         return Ok(());
     };
-    drop(read_for_session(rt, daemon, &seat, stream, &mut rng));
+    drop(read_for_session(rt, daemon, &mut seat, stream, &mut rng));
     seat.bell().end();
     let mailbox = writer.join(rt);
     part(rt, daemon, seat);
@@ -65,7 +65,7 @@ fn run_session<'s, E, R: Threads + Wait + Clock + RandomSource + Sync>(
 }
 
 /// Ends the session. Where memory is refused it tries again, since a session that stayed would keep its locks.
-fn part<R: Wait + Clock>(rt: &R, daemon: &Daemon, seat: Seat) {
+fn part<L: Ledger, R: Wait + Clock>(rt: &R, daemon: &Daemon<L>, seat: Seat<L>) {
     let mut seat = seat;
     for _ in rt.forever() {
         match daemon.hub.part(rt, seat) {
@@ -82,7 +82,11 @@ fn part<R: Wait + Clock>(rt: &R, daemon: &Daemon, seat: Seat) {
 }
 
 /// What the ring still has when the session has ended.
-fn write_the_rest(daemon: &Daemon, mailbox: Mailbox, stream: &TcpStream) -> io::Result<()> {
+fn write_the_rest<L: Ledger>(
+    daemon: &Daemon<L>,
+    mailbox: Mailbox,
+    stream: &TcpStream,
+) -> io::Result<()> {
     let mut mailbox = mailbox;
     if mailbox.bell().has_failed() {
         return Ok(());
@@ -93,9 +97,9 @@ fn write_the_rest(daemon: &Daemon, mailbox: Mailbox, stream: &TcpStream) -> io::
 }
 
 /// Writes what the session is given, and sleeps in between, until the session ends or writing fails.
-fn write_for_session<R: Wait>(
+fn write_for_session<L: Ledger, R: Wait>(
     rt: &R,
-    daemon: &Daemon,
+    daemon: &Daemon<L>,
     mailbox: Mailbox,
     stream: &TcpStream,
 ) -> Mailbox {
@@ -107,9 +111,9 @@ fn write_for_session<R: Wait>(
     mailbox
 }
 
-fn write_until_end<R: Wait>(
+fn write_until_end<L: Ledger, R: Wait>(
     rt: &R,
-    daemon: &Daemon,
+    daemon: &Daemon<L>,
     mailbox: &mut Mailbox,
     stream: &TcpStream,
 ) -> io::Result<()> {
@@ -139,10 +143,10 @@ fn while_there_are_outs<W: Write>(mailbox: &mut Mailbox, writer: &mut W) -> io::
 }
 
 /// Reads requests and submits them, until the stream ends or is at a fault, memory is refused, or writing fails.
-fn read_for_session<R: Wait + Clock>(
+fn read_for_session<L: Ledger, R: Wait + Clock>(
     rt: &R,
-    daemon: &Daemon,
-    seat: &Seat,
+    daemon: &Daemon<L>,
+    seat: &mut Seat<L>,
     stream: &TcpStream,
     rng: &mut StdRng,
 ) -> io::Result<()> {
@@ -180,10 +184,10 @@ impl From<AllocError> for Stopped {
 }
 
 /// Submits the messages, and what that gives goes into the rings.
-fn submit_messages<R: Wait + Clock>(
+fn submit_messages<L: Ledger, R: Wait + Clock>(
     rt: &R,
-    daemon: &Daemon,
-    seat: &Seat,
+    daemon: &Daemon<L>,
+    seat: &mut Seat<L>,
     messages: Vec<Message>,
     rng: &mut StdRng,
 ) -> Result<(), Stopped> {
@@ -225,10 +229,10 @@ fn submission_of(
 }
 
 /// Submits them all, and runs the rounds that this asks for. On Busy it sleeps until the session was given something.
-fn submit_all<R: Wait + Clock>(
+fn submit_all<L: Ledger, R: Wait + Clock>(
     rt: &R,
-    daemon: &Daemon,
-    seat: &Seat,
+    daemon: &Daemon<L>,
+    seat: &mut Seat<L>,
     submissions: Vec<Submission>,
 ) -> Result<(), Stopped> {
     let mut submissions = submissions;
@@ -261,9 +265,9 @@ fn waits_of(alloc: Global, submissions: &[Submission]) -> Result<Vec<u64>, Alloc
 }
 
 /// The pump wakes when one of these waits ends. They began before now.
-fn keep_deadlines<R: Wait + Clock>(
+fn keep_deadlines<L: Ledger, R: Wait + Clock>(
     rt: &R,
-    daemon: &Daemon,
+    daemon: &Daemon<L>,
     waits: &[u64],
 ) -> Result<(), AllocError> {
     if waits.is_empty() {

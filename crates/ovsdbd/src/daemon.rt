@@ -6,6 +6,7 @@ use odb_hub::Hub;
 use std::alloc::{AllocError, Global};
 use std::sync::Wait;
 use std::sync::atomic::{AtomicU64, Ordering};
+use std::sync::ledger::{Blank, Ledger};
 use std::thread::Parker;
 use std::time::{Clock, Duration, Instant};
 
@@ -17,26 +18,34 @@ const ROUNDS: usize = 64;
 
 /// The server, the clock, and what the pump sleeps by.
 #[derive(Drop)]
-pub(crate) struct Daemon {
+pub(crate) struct Daemon<L: Ledger> {
     pub(crate) alloc: Global,
-    pub(crate) hub: Hub,
+    pub(crate) hub: Hub<L>,
     pub(crate) deadlines: Deadlines,
     start: Instant,
     pump: Parker,
     ended: AtomicU64,
 }
 
-impl Daemon {
-    ghost use Rattle.std.specs.Prelude.{◌≡◌};
+impl<L: Ledger> Daemon<L> {
+    ghost use Rattle.std.specs.Prelude.{◌≡◌, ◌+◌};
     ghost use Rattle.odb_atoms.specs.FinMap.{empty};
 
     /// A daemon over a core without sessions.
-    pub(crate) fn new(alloc: Global, core: Core, start: Instant) -> Daemon
-        requires { (core.world.sessions ≡ empty) × (core.opened ≡ 0) }
+    pub(crate) fn new(
+        alloc: Global,
+        core: Core,
+        start: Instant,
+        blank: Blank,
+        seats: u64,
+    ) -> Daemon<L>
+        requires core { (core.world.sessions ≡ empty) × (core.opened ≡ 0) }
+        requires ledger { (blank.name ≡ L.name) × (blank.parts ≡ L.parts) }
+        requires parts { blank.parts ≡ seats + 1 }
     {
         Daemon {
             alloc,
-            hub: Hub::new(alloc, core),
+            hub: Hub::new(alloc, core, blank, seats),
             deadlines: Deadlines::new(alloc),
             start,
             pump: Parker::new(),

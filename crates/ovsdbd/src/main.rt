@@ -12,7 +12,7 @@ mod daemon;
 mod deadlines;
 mod serve;
 
-use crate::serve::{new_daemon, serve_all};
+use crate::serve::{begin, serve_all};
 use clap::builder::ValueParser;
 use clap::{Arg, ArgAction, ArgMatches, Command, Error};
 use odb_schema::{Schema, SchemaFault};
@@ -215,8 +215,10 @@ fn listen<
     println!(rt; "listening {local}").map_err(|_| Failure::Run(RunFault::Write))?;
     let hashing = RandomState::new(rt).map_err(|_| Failure::Run(RunFault::Memory))?;
     let sessions: Option<u64> = words.get_one("sessions");
-    let daemon = new_daemon(rt, alloc, schema, hashing).map_err(Failure::Run)?;
-    serve_all(rt, &daemon, &listener, sessions).map_err(Failure::Run)
+    match begin(rt, alloc, schema, hashing) {
+        Ok(begun) => serve_all(rt, begun, &listener, sessions).map_err(Failure::Run),
+        Err(fault) => Err(Failure::Run(fault)),
+    }
 }
 
 /// The schema in a file.

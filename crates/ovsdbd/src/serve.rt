@@ -1,5 +1,8 @@
 //! The daemon: it listens, and serves each connection by two threads of its own. [P 15.2]
 
+ghost use Rattle.std.specs.Prelude.{◌≡◌, IfOk};
+ghost use Rattle.odb_atoms.specs.FinMap.{empty};
+
 use crate::connection::{STACK, serve_connection};
 use crate::daemon::Daemon;
 use odb_core::Core;
@@ -7,37 +10,80 @@ use odb_schema::Schema;
 use odb_script::RunFault;
 use std::alloc::Global;
 use std::hash::RandomState;
+use std::marker::Brand;
 use std::net::{TcpListener, TcpStream};
 use std::random::RandomSource;
 use std::sync::Wait;
+use std::sync::ledger::{Blank, Ledger};
 use std::thread;
 use std::thread::{Builder, Scope, Threads};
 use std::time::{Clock, Duration, Instant};
 
+/// How many seats may be given at once. No core has so many sessions open.
+const SEATS: u64 = 4_096;
+
 /// For how many milliseconds the daemon waits after a connection couldn't be accepted, as where no file descriptor is left.
 const PAUSE: u64 = 100;
 
-/// A daemon for the schema, with empty tables, whose moments are counted from now.
-pub(crate) fn new_daemon<R: Clock>(
+/// A core for the schema, with empty tables, and the moment from which moments are counted.
+#[derive(Drop)]
+pub(crate) struct Begun {
+    alloc: Global,
+    core: Core,
+    start: Instant,
+}
+
+/// A core for the schema, with empty tables. Moments are counted from now.
+pub(crate) fn begin<R: Clock>(
     rt: &R,
     alloc: Global,
     schema: Schema,
     hashing: RandomState,
-) -> Result<Daemon, RunFault> {
+) -> Result<Begun, RunFault>
+    ensures { IfOk result (λ begun. (begun.core.world.sessions ≡ empty) × (begun.core.opened ≡ 0)) }
+{
     let Ok(core) = Core::new(alloc, schema, hashing) else {
         return Err(RunFault::Memory);
     };
     let Ok(start) = Instant::now(rt) else {
         return Err(RunFault::Read);
     };
-    Ok(Daemon::new(alloc, core, start))
+    Ok(Begun { alloc, core, start })
 }
 
-/// Serves all that connect. With `sessions` it accepts so many connections and returns when they have ended. The pump
-/// runs meanwhile.
+/// Serves all that connect. With `sessions` it accepts so many connections and returns when they have ended.
 pub(crate) fn serve_all<R: Threads + Wait + Clock + RandomSource + Sync>(
     rt: &R,
-    daemon: &Daemon,
+    begun: Begun,
+    listener: &TcpListener,
+    sessions: Option<u64>,
+) -> Result<(), RunFault>
+    requires { (begun.core.world.sessions ≡ empty) × (begun.core.opened ≡ 0) }
+{
+    serve_under::<Brand, R>(rt, begun, Blank::new(SEATS + 1), listener, sessions)
+}
+
+/// Serves all that connect, under the ledger that the blank names.
+fn serve_under<L: Ledger + Send + Sync, R: Threads + Wait + Clock + RandomSource + Sync>(
+    rt: &R,
+    begun: Begun,
+    blank: Blank,
+    listener: &TcpListener,
+    sessions: Option<u64>,
+) -> Result<(), RunFault>
+    requires core { (begun.core.world.sessions ≡ empty) × (begun.core.opened ≡ 0) }
+    requires ledger { (blank.name ≡ L.name) × (blank.parts ≡ L.parts) }
+    requires parts { blank.parts ≡ 4097 }
+{
+    let Begun { alloc, core, start } = begun;
+    let daemon: Daemon<L> = Daemon::new(alloc, core, start, blank, SEATS);
+    serve_with(rt, &daemon, listener, sessions)
+}
+
+/// Serves all that connect, while the pump runs.
+fn serve_with<L: Ledger + Send + Sync, R: Threads + Wait + Clock + RandomSource + Sync>(
+    rt: &R,
+    daemon: &Daemon<L>,
     listener: &TcpListener,
     sessions: Option<u64>,
 ) -> Result<(), RunFault> {
@@ -55,9 +101,9 @@ pub(crate) fn serve_all<R: Threads + Wait + Clock + RandomSource + Sync>(
 }
 
 /// Accepts connections, and returns when all that were accepted have ended.
-fn serve_connections<R: Threads + Wait + Clock + RandomSource + Sync>(
+fn serve_connections<L: Ledger + Send + Sync, R: Threads + Wait + Clock + RandomSource + Sync>(
     rt: &R,
-    daemon: &Daemon,
+    daemon: &Daemon<L>,
     listener: &TcpListener,
     sessions: Option<u64>,
 ) {
@@ -66,10 +112,10 @@ fn serve_connections<R: Threads + Wait + Clock + RandomSource + Sync>(
     });
 }
 
-fn accept_all<'s, E, R: Threads + Wait + Clock + RandomSource + Sync>(
+fn accept_all<'s, E, L: Ledger + Send + Sync, R: Threads + Wait + Clock + RandomSource + Sync>(
     rt: &'s R,
     scope: &'s Scope<'s, E>,
-    daemon: &'s Daemon,
+    daemon: &'s Daemon<L>,
     listener: &TcpListener,
     sessions: Option<u64>,
 ) {
@@ -92,12 +138,12 @@ fn accept_all<'s, E, R: Threads + Wait + Clock + RandomSource + Sync>(
 }
 
 /// Starts the thread of a connection, which is closed where there is none to be had.
-fn start_connection<'s, E, R: Threads + Wait + Clock + RandomSource + Sync>(
-    rt: &'s R,
-    scope: &'s Scope<'s, E>,
-    daemon: &'s Daemon,
-    stream: TcpStream,
-) {
+fn start_connection<
+    's,
+    E,
+    L: Ledger + Send + Sync,
+    R: Threads + Wait + Clock + RandomSource + Sync,
+>(rt: &'s R, scope: &'s Scope<'s, E>, daemon: &'s Daemon<L>, stream: TcpStream) {
     drop(
         Builder::new()
             .stack_size(STACK)

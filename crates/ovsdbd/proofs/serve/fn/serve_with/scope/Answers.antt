@@ -1,5 +1,5 @@
 use Rattle.ovsdbd.proofs.Crosses.{crosses}
-use Rattle.ovsdbd.proofs.serve.fn.serve_all.scope.Goals as goal
+use Rattle.ovsdbd.proofs.serve.fn.serve_with.scope.Goals as goal
 
 pub spawn_scoped-pump-requires-send-F : goal.spawn_scoped-pump-requires-send-F
 spawn_scoped-pump-requires-send-F g c κs within = search crosses depth 20

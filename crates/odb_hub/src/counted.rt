@@ -1,0 +1,193 @@
+//! What the lock guards, and the ledger of what its seats were answered.
+ghost use Rattle.std.specs.Prelude.{◌≡◌, ◌+◌, ◌-◌, ◌⊎◌, ℕ, [], length, true, false, IfErr, IfOk, OnErr, OnOk};
+ghost use Rattle.odb_core.specs.declared.refused.Refused.TheVariants as refused;
+ghost use Rattle.odb_service.specs.Run.{closed, opened, ticked};
+
+use crate::mailbox::Mailbox;
+use crate::seat::Seat;
+use crate::state::HubState;
+use crate::submission::Submission;
+use odb_core::{Core, Refused, SessionId};
+use std::alloc::{AllocError, Global};
+use std::marker::Model;
+use std::snapshot::Snapshot;
+use std::sync::ledger::{Blank, Book, Ledger, Share};
+
+/// A hub's state, and the ledger of its seats. What is always so (`IsCounted`): the submits in the journal, with those
+/// settled away, are as many as all seats together were answered, also those that parted. The ledger takes no memory.
+#[derive(Drop)]
+pub struct Counted<L: Ledger> {
+    state: HubState,
+    book: Book<L>,
+    settled: Snapshot<Book<L>>,
+    parted: Share<L>,
+    seats: u64,
+}
+
+impl<L: Ledger> Model for Counted<L> {
+    ghost use Rattle.std.specs.Prelude.{◌<◌};
+    ghost use Rattle.odb_hub.specs.Counted as model;
+    ghost use Rattle.odb_hub.specs.Counted.{IsCounted};
+
+    ghost Value = { model.Counted };
+
+    ghost coded = { model.counted_code };
+
+    ghost view = { λ c. record { kept = c.state; settled = c.settled.value.total; answered = c.book.total } };
+
+    ghost invariant = { λ c. IsCounted (record { kept = c.state; settled = c.settled.value.total; answered = c.book.total }) × (c.seats < c.parted.parts) };
+}
+
+impl<L: Ledger> Counted<L> {
+    ghost use Rattle.odb_atoms.specs.FinMap.{empty, get, insert};
+    ghost use Rattle.odb_service.specs.Server.{serve};
+    ghost use Rattle.odb_core.specs.Represented.Reason.{IsReason};
+    ghost use Rattle.odb_hub.specs.Batch.{RefusesFirst, TakesUpTo};
+    ghost use Rattle.odb_hub.specs.Counted.{Closes, IsCounted, SameCount, submits};
+    ghost use Rattle.odb_hub.specs.Kept.{IsKept, Takes, TakesRound, counted};
+    ghost use Rattle.odb_hub.specs.Represented.Mailbox.{name_of, taken};
+    ghost use Rattle.odb_hub.specs.Represented.Submission.{events_of};
+    ghost use Rattle.odb_hub.specs.Rings.{fresh_ring, IsFlushedAt};
+
+    /// A hub's state over a core without sessions, of which so many seats may be given at once.
+    pub fn new(alloc: Global, core: Core, blank: Blank, seats: u64) -> Counted<L>
+        requires core { (core.world.sessions ≡ empty) × (core.opened ≡ 0) }
+        requires ledger { (blank.name ≡ L.name) × (blank.parts ≡ L.parts) }
+        requires parts { blank.parts ≡ seats + 1 }
+        ensures { result ≡ record { kept = record { server = core; base = core.world; events = []; rings = empty }; settled = 0; answered = 0 } }
+    {
+        let (book, parted) = blank.open::<L>();
+        Counted {
+            state: HubState::new(alloc, core),
+            settled: Snapshot::of(&book),
+            book,
+            parted,
+            seats,
+        }
+    }
+
+    /// How many events there were since the base, and what is so whenever the lock is free.
+    pub fn since_base(&self) -> u64
+        ensures count { result ≡ counted self.now.kept.events }
+        ensures kept { IsKept self.now.kept }
+        ensures counted { IsCounted self.now }
+    {
+        self.state.since_base()
+    }
+
+    /// Opens a session, with a seat that was answered nothing. It is refused as [`HubState::open`] is, and with `Memory`
+    /// where all seats are given. O(log n).
+    pub fn open(&mut self) -> Result<(Seat<L>, Mailbox), Refused>
+        ensures ok { IfOk result (λ ends. Takes (opened ends.0.session) self.old.kept self.new.kept []) }
+        ensures ring { IfOk result (λ ends. self.new.kept.rings ≡ insert self.old.kept.rings ends.0.session (fresh_ring (name_of ends.1))) }
+        ensures mailbox { IfOk result (λ ends. taken ends.1 ≡ []) }
+        ensures seat { IfOk result (λ ends. ends.0.answered ≡ 0) }
+        ensures count { OnOk result (SameCount self.old self.new) }
+        ensures why { IfErr result (λ why. (why ≡ refused.Memory) ⊎ IsReason why (serve (opened self.old.kept.server.opened) self.old.kept.server)) }
+        ensures err { OnErr result (self.new ≡ self.old) }
+    {
+        if self.seats == 0 {
+            return Err(Refused::Memory);
+        }
+        let (session, mailbox, bell) = self.state.open()?;
+        let share = self.parted.split_off(1, 0);
+        self.seats -= 1;
+        Ok((
+            Seat {
+                session,
+                share,
+                bell,
+            },
+            mailbox,
+        ))
+    }
+
+    /// Submits what stands in the batch as [`HubState::submit_all`] does. The seat is answered each submission that was
+    /// taken.
+    pub fn submit_all(
+        &mut self,
+        seat: &mut Seat<L>,
+        batch: &mut Vec<Submission>,
+        now: u64,
+    ) -> Result<(), Refused>
+        ensures taken { TakesUpTo (events_of seat.old.session now batch.old.items) (events_of seat.old.session now batch.new.items) self.old.kept self.new.kept }
+        ensures all { OnOk result (batch.new.items ≡ []) }
+        ensures why { IfErr result (λ why. RefusesFirst why (events_of seat.old.session now batch.new.items) self.new.kept.server) }
+        ensures seat { seat.new ≡ record { session = seat.old.session; answered = seat.old.answered + (length batch.old.items - length batch.new.items) } }
+        ensures answered { self.new.answered ≡ self.old.answered + (length batch.old.items - length batch.new.items) }
+        ensures settled { self.new.settled ≡ self.old.settled }
+    {
+        let before = batch.len();
+        let submitted = self.state.submit_all(seat.session, batch, now);
+        let answered = before.saturating_sub(batch.len());
+        self.book.add(&mut seat.share, answered as u64);
+        submitted
+    }
+
+    /// As [`HubState::tick`].
+    pub fn tick(&mut self, now: u64) -> Result<(), AllocError>
+        ensures ok { OnOk result (Takes (ticked now) self.old.kept self.new.kept []) }
+        ensures rings { OnOk result (self.new.kept.rings ≡ self.old.kept.rings) }
+        ensures count { OnOk result (SameCount self.old self.new) }
+        ensures err { OnErr result (self.new ≡ self.old) }
+    {
+        self.state.tick(now)
+    }
+
+    /// As [`HubState::round`].
+    pub fn round(&mut self) -> Result<usize, AllocError>
+        ensures ok { IfOk result (λ count. TakesRound count self.old.kept self.new.kept) }
+        ensures count { SameCount self.old self.new }
+        ensures err { OnErr result (self.new.kept.server ≡ self.old.kept.server) }
+        ensures journal { OnErr result ((self.new.kept.base ≡ self.old.kept.base) × (self.new.kept.events ≡ self.old.kept.events)) }
+        ensures flushed { OnErr result ((s : ℕ) → IsFlushedAt (get self.old.kept.rings s) (get self.new.kept.rings s)) }
+    {
+        self.state.round()
+    }
+
+    /// As [`HubState::settle`]. The submits in the journal count as settled.
+    pub fn settle(&mut self) -> u64
+        ensures count { result ≡ counted self.old.kept.events }
+        ensures kept { self.new.kept ≡ record self.old.kept { base = self.old.kept.server.world; events = [] } }
+        ensures settled { self.new.settled ≡ self.old.settled + submits self.old.kept.events }
+        ensures answered { self.new.answered ≡ self.old.answered }
+    {
+        self.settled = Snapshot::of(&self.book);
+        self.state.settle()
+    }
+
+    /// Ends a session, and takes its seat back; what that was answered stays counted. Where memory is refused nothing
+    /// changes and the seat comes back.
+    pub fn part(&mut self, seat: Seat<L>) -> Result<(), Seat<L>>
+        ensures ok { OnOk result (Closes seat.session self.old.kept self.new.kept) }
+        ensures count { OnOk result (SameCount self.old self.new) }
+        ensures err { OnErr result (self.new ≡ self.old) }
+        ensures seat { IfErr result (λ back. back ≡ seat) }
+    {
+        if !self.close(seat.session) {
+            return Err(seat);
+        }
+        let Seat {
+            session: _,
+            share,
+            bell,
+        } = seat;
+        drop(bell);
+        self.parted.merge(share);
+        self.seats = self.seats.saturating_add(1);
+        Ok(())
+    }
+
+    /// Closes the session, if it is open. False says that memory was refused.
+    fn close(&mut self, session: SessionId) -> bool
+        ensures done { result ≡ true → Closes session self.old.kept self.new.kept }
+        ensures count { SameCount self.old self.new }
+        ensures refused { result ≡ false → self.new ≡ self.old }
+    {
+        match self.state.close(session) {
+            Ok(()) => true,
+            Err(Refused::Gone) => true,
+            Err(_) => false,
+        }
+    }
+}

@@ -1,0 +1,35 @@
+//! The right to submit for a session.
+
+use crate::bell::Bell;
+use odb_core::SessionId;
+use std::marker::Model;
+use std::sync::Arc;
+use std::sync::ledger::{Ledger, Share};
+
+/// The right to submit for a session, and how many submits it was answered. It can't be copied or dropped:
+/// `Hub::part` takes it.
+pub struct Seat<L: Ledger> {
+    pub(crate) session: SessionId,
+    pub(crate) share: Share<L>,
+    pub(crate) bell: Arc<Bell>,
+}
+
+impl<L: Ledger> Model for Seat<L> {
+    ghost use Rattle.std.specs.Prelude.{◌<◌};
+    ghost use Rattle.odb_hub.specs.Counted as model;
+
+    ghost Value = { model.Seat };
+
+    ghost coded = { model.seat_code };
+
+    ghost view = { λ s. record { session = s.session; answered = s.share.amount } };
+
+    ghost invariant = { λ s. 0 < s.share.parts };
+}
+
+impl<L: Ledger> Seat<L> {
+    /// What wakes the threads of the session.
+    pub fn bell(&self) -> &Bell {
+        &*self.bell
+    }
+}
