@@ -1,4 +1,5 @@
 pub mod Examples
+pub mod OfChains
 pub mod OfClients
 pub mod OfCommands
 pub mod OfConditions
