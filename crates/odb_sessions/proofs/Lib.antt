@@ -25,6 +25,7 @@ mod Releases
 mod Replays
 mod Rests
 mod Room
+mod Rounds
 mod Seen
 mod Stops
 mod Sums

@@ -11,4 +11,5 @@ pub mod Posts
 pub mod Represented
 pub mod Started
 pub mod Stopped
+pub mod Taken
 pub mod Tied

@@ -1,7 +1,9 @@
 pub mod Codes
 pub mod Composed
 pub mod Origin
+pub mod Out
 pub mod Queued
+pub mod Ready
 pub mod Taking
 pub mod Told
 pub mod Under

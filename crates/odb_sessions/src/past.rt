@@ -58,6 +58,13 @@ impl Past {
         self.chains.db()
     }
 
+    /// The database with its past. O(1).
+    pub(crate) fn chains(&self) -> &Chains
+        ensures { result.now ≡ self.now }
+    {
+        &self.chains
+    }
+
     /// Makes the whole change, or none, and then the change comes back.
     pub(crate) fn absorb(&mut self, change: ChangeSet) -> Result<(), AllocFailed<ChangeSet>>
         requires { IsChangeOf self.old.db change }

@@ -19,6 +19,8 @@ ghost use Rattle.odb_sessions.specs.Named.{named};
 ghost use Rattle.odb_sessions.specs.Posts.{all_posted, at_number, posted, unposted};
 ghost use Rattle.odb_sessions.specs.Started.{AreApart, AreOfTables, started};
 ghost use Rattle.odb_sessions.specs.Stopped.{changed_in, stopped_in};
+ghost use Rattle.odb_sessions.specs.Represented.Ready.{ready_of};
+ghost use Rattle.odb_sessions.specs.Taken.{IsReadyFor};
 ghost use Rattle.odb_tables.specs.Change.{all_changed_by};
 ghost use Rattle.odb_tables.specs.Installing.{IsChangeOf};
 ghost use Rattle.odb_wire.specs.Message.{has_left_out, id_of};
@@ -32,6 +34,7 @@ use crate::item::Item;
 use crate::named::{Named, first_of};
 use crate::numbered::Numbered;
 use crate::past::Past;
+use crate::ready::Ready;
 use crate::session::Session;
 use crate::starting::Starting;
 use odb_locks::SessionId;
@@ -47,7 +50,7 @@ use std::marker::Model;
 /// the machine's sessions (`specs/Book.antt`).
 #[derive(Drop)]
 pub struct Sessions {
-    alloc: Global,
+    pub(crate) alloc: Global,
     past: Past,
     sessions: Numbered,
 }
@@ -91,6 +94,13 @@ impl Sessions {
         ensures { result ≡ finite.len self.now.sessions }
     {
         self.sessions.len()
+    }
+
+    /// Whether a session is open. O(log n) for n sessions.
+    pub fn has(&self, session: SessionId) -> bool
+        ensures { result ≡ is_some (finite.get self.now.sessions session) }
+    {
+        self.sessions.has(session)
     }
 
     /// Opens a session, for which nothing is queued and which has no monitors. O(log n) for n sessions.
@@ -265,6 +275,19 @@ impl Sessions {
             return;
         };
         closed.release(&mut self.past);
+    }
+
+    /// What a taking of a session uses up, and what comes, if it is open. Nothing changes. O(log n) for n sessions,
+    /// and what `Session::taking` costs.
+    pub(crate) fn taking(&self, session: SessionId) -> Result<Ready, AllocError>
+        ensures session { IfOk result (λ ready. ready.session ≡ session) }
+        ensures ready { IfOk result (λ ready. (s : Schema) → IsReadyFor s self.now.db (finite.get self.now.sessions session) (ready_of ready)) }
+    {
+        let Some(of) = self.sessions.get(session) else {
+            return Ok(Ready::none(session));
+        };
+        let taking = of.taking(self.alloc, self.past.chains())?;
+        Ready::new(self.alloc, session, taking)
     }
 
     /// Carries a taking of a session out, if that is open: this many items of its queue are used up, and then the

@@ -1,0 +1,210 @@
+-- Takings that are ready, carried out one after the other, are a round.
+use Rattle.std.proofs.Common.{◌≡◌, ℕ, zero, suc, ◌==◌, ◌||◌, Bool, true, false, cond, List, [], ◌∷◌, ◌++◌, map, Option, Some, None, refl, sym, ap, append_assoc, subst, ◌∙◌, true≢false}
+use Rattle.std.specs.Prelude.{option_and_then, option_map, option_to_list, slice_get}
+use Rattle.std.proofs.lemmas.List.{map-append}
+use Rattle.std.specs.Ordering.{eq_by_cmp, nat_cmp}
+use Rattle.serde_json.specs.Written.{compact_text}
+use Rattle.odb_atoms.specs.FinMap.{FinMap, get, insert}
+use Rattle.odb_queue.specs.Represented.Item.{item_of, text_of}
+use Rattle.odb_queue.specs.declared.queue.Finished.{Finished}
+use Rattle.odb_schema.specs.Schema.{Schema}
+use Rattle.odb_service.specs.Run.{Sent, sent, take_each, take_of}
+use Rattle.odb_service.specs.Server.{printed, served_by}
+use Rattle.odb_service.specs.Service.{Service}
+use Rattle.odb_service.specs.Session.{Item, Out, Session, renamed, say, shift, start, stopped, sync, take}
+use Rattle.odb_service.specs.World.{World}
+use Rattle.odb_service.proofs.SessionMaps.{apart_keys, eq_turned, get-insert}
+use Rattle.odb_tables.specs.Database.{Db}
+use Rattle.odb_sessions.specs.Book.{Book}
+use Rattle.odb_sessions.specs.Carried.{finished_in, last_finished, used_by}
+use Rattle.odb_sessions.specs.Foreseen.{due_text, finished_text, last_used}
+use Rattle.odb_sessions.specs.Planned.{AreOnce, Due, Plan, applied, is_listed, out_of, plan}
+use Rattle.odb_sessions.specs.Posts.{at_number}
+use Rattle.odb_sessions.specs.Represented.Ready.{AreReady, ready_of}
+use Rattle.odb_sessions.specs.Taken as model
+use Rattle.odb_sessions.specs.Taken.{IsReadyFor, Text, last_text, text_from, text_taken}
+use Rattle.odb_sessions.specs.declared.ready.Ready.{Ready}
+use Rattle.odb_sessions.proofs.Plans.{planned_takes}
+use Rattle.odb_sessions.proofs.Posts.{at_open, at_shut}
+
+abbrev Sessions : Type 0
+Sessions = FinMap nat_cmp Session
+
+-- ---- one taking
+
+module _ (s : Schema) (db : Db) where
+  abbrev h : Service
+  h = served_by s
+
+  texts_of : (o : Option Due) → option_map (due_text h db) o ≡ option_map text_of (option_map (out_of h db) o)
+  texts_of None = refl
+  texts_of (Some d) = refl
+
+  abbrev Taken : Type 0
+  Taken = Option Out × Session
+
+  -- what a plan says is ready
+  pub ready_by_plan : (x : Session) (items monitors : ℕ) (t : Text) → items ≡ (plan h db x).items → monitors ≡ (plan h db x).monitors
+      → text_from t (last_used items x.queue) ≡ option_map (due_text h db) (plan h db x).out → IsReadyFor s db (Some x) (record { items = items; monitors = monitors; text = t })
+  ready_by_plan x items monitors t a b c =
+      let p : Plan = plan h db x in
+      let taken : take h db x ≡ (option_map (out_of h db) p.out, applied h db p x) = planned_takes h db x in (
+        (λ i. used_by h db (a i) (b i) x) ∙ sym (ap (λ (r : Taken). r.1) taken),
+        c ∙ texts_of p.out ∙ sym (ap (λ (r : Taken). option_map text_of r.0) taken),
+      )
+
+  -- the text that is ready is the one that the taking gives
+  pub text_ready : (o : Option Session) (r : model.Ready) → IsReadyFor s db o r → text_from r.text (option_and_then (λ x. last_used r.items x.queue) o) ≡ text_taken h db o
+  text_ready None r e = ap (λ t. text_from t None) e
+  text_ready (Some x) r e = e.1
+
+  pub book_ready : (m : Sessions) (n : ℕ) (r : model.Ready) → IsReadyFor s db (get m n) r → at_number (used_by h db r.items r.monitors) m n ≡ at_number (λ x. (take h db x).1) m n
+  book_ready m n r = by (get m n) refl
+    where
+      by : (o : Option Session) → get m n ≡ o → IsReadyFor s db o r → at_number (used_by h db r.items r.monitors) m n ≡ at_number (λ x. (take h db x).1) m n
+      by None there e = at_shut (used_by h db r.items r.monitors) m n there ∙ sym (at_shut (λ x. (take h db x).1) m n there)
+      by (Some x) there e = at_open (used_by h db r.items r.monitors) m n x there ∙ ap (insert m n) e.0 ∙ sym (at_open (λ x. (take h db x).1) m n x there)
+
+-- a finished text that comes out of the queue is that of the last item used up
+text_finished : (i : Item) → option_and_then finished_text (finished_in i) ≡ finished_text i
+text_finished (say a d) = refl
+text_finished (start d k) = refl
+text_finished (sync i) = refl
+text_finished (shift i fs) = refl
+text_finished (renamed d old new fs) = refl
+text_finished (stopped d i) = refl
+
+last_text_of : (n : ℕ) (is : List Item) → option_and_then finished_text (last_finished n is) ≡ option_and_then finished_text (last_used n is)
+last_text_of zero is = refl
+last_text_of (suc n) is = by (slice_get is n)
+  where
+    by : (o : Option Item) → option_and_then finished_text (option_and_then finished_in o) ≡ option_and_then finished_text o
+    by None = refl
+    by (Some i) = text_finished i
+
+last_text_at : (n : ℕ) (o : Option Session) → option_and_then finished_text (option_and_then (λ x. last_finished n x.queue) o) ≡ option_and_then finished_text (option_and_then (λ x. last_used n x.queue) o)
+last_text_at n None = refl
+last_text_at n (Some x) = last_text_of n x.queue
+
+text_in_queue : (f : Option Finished) → option_map (λ (g : Finished). g.text.items) f ≡ option_and_then finished_text (option_map item_of f)
+text_in_queue None = refl
+text_in_queue (Some f) = ap Some f.printed
+
+pub queued_text : (n : ℕ) (o : Option Session) (f : Option Finished) → option_map item_of f ≡ option_and_then (λ x. last_finished n x.queue) o
+    → option_map (λ (g : Finished). g.text.items) f ≡ text_from last_text (option_and_then (λ x. last_used n x.queue) o)
+queued_text n o f e = text_in_queue f ∙ ap (option_and_then finished_text) e ∙ last_text_at n o
+
+-- ---- one of a round
+
+module _ (s : Schema) where
+  abbrev hs : Service
+  hs = served_by s
+
+  abbrev as_sent : ℕ → Option (List ℕ) → List (ℕ × List ℕ)
+  as_sent n t = option_to_list (option_map (λ t. let p : ℕ × List ℕ = (n, t) in p) t)
+
+  sent_text : (n : ℕ) (o : Option Out) → map printed (sent n o) ≡ as_sent n (option_map text_of o)
+  sent_text n None = refl
+  sent_text n (Some x) = refl
+
+  abbrev with_sessions : World → Sessions → World
+  with_sessions w m = record w { sessions = m }
+
+  one_taken : (n : ℕ) (w : World) → (take_of hs n (get w.sessions n) w).0 ≡ with_sessions w (at_number (λ x. (take hs w.db x).1) w.sessions n)
+  one_taken n w = by (get w.sessions n) refl
+    where
+      by : (o : Option Session) → get w.sessions n ≡ o → (take_of hs n o w).0 ≡ with_sessions w (at_number (λ x. (take hs w.db x).1) w.sessions n)
+      by None there = ap (with_sessions w) (sym (at_shut (λ x. (take hs w.db x).1) w.sessions n there))
+      by (Some x) there = ap (with_sessions w) (sym (at_open (λ x. (take hs w.db x).1) w.sessions n x there))
+
+  one_sent : (n : ℕ) (w : World) (o : Option Session) → map printed (take_of hs n o w).1 ≡ as_sent n (text_taken hs w.db o)
+  one_sent n w None = refl
+  one_sent n w (Some x) = sent_text n (take hs w.db x).0
+
+  abbrev Given : Type 0
+  Given = World × List Sent
+
+  abbrev rest_after : List ℕ → World → Given
+  rest_after ns w = take_each hs ns w
+
+  -- a round, by its first taking and the rest
+  pub round_on : (n : ℕ) (ns : List ℕ) (w v : World) (text : Option (List ℕ)) → with_sessions w (at_number (λ x. (take hs w.db x).1) w.sessions n) ≡ v → text ≡ text_taken hs w.db (get w.sessions n)
+      → ((take_each hs (n ∷ ns) w).0 ≡ (take_each hs ns v).0) × (map printed (take_each hs (n ∷ ns) w).1 ≡ as_sent n text ++ map printed (take_each hs ns v).1)
+  round_on n ns w v text is said =
+      let one : Given = take_of hs n (get w.sessions n) w in
+      let then : one.0 ≡ v = one_taken n w ∙ is in (
+        ap (λ u. (rest_after ns u).0) then,
+        map-append printed one.1 (rest_after ns one.0).1
+            ∙ (λ i. (one_sent n w (get w.sessions n) ∙ ap (as_sent n) (sym said)) i ++ map printed (rest_after ns (then i)).1),
+      )
+
+-- ---- those that are still to be carried out
+
+neither : (a b : Bool) → (a || b) ≡ false → (a ≡ false) × (b ≡ false)
+neither true b e = absurd (true≢false e)
+neither false b e = (refl, e)
+
+stays_ready : (s : Schema) (b : Book) (n : ℕ) (x : Session) (rs : List Ready) → is_listed n (map (λ (r : Ready). r.session) rs) ≡ false → AreReady s b rs → AreReady s (record b { sessions = insert b.sessions n x }) rs
+stays_ready s b n x [] e h = tt
+stays_ready s b n x (r ∷ rs) e h =
+    let k : (r.session == n ≡ false) × (is_listed n (map (λ (r : Ready). r.session) rs) ≡ false) = neither (r.session == n) (is_listed n (map (λ (r : Ready). r.session) rs)) e in
+    let same : get (insert b.sessions n x) r.session ≡ get b.sessions r.session =
+    get-insert b.sessions n x r.session ∙ ap (λ c. cond c (Some x) (get b.sessions r.session)) (apart_keys r.session n (sym (eq_turned r.session n) ∙ k.0))
+    in
+    (subst (λ o. IsReadyFor s b.db o (ready_of r)) (sym same) h.0, stays_ready s b n x rs k.1 h.1)
+
+pub still_ready : (s : Schema) (b : Book) (n : ℕ) (f : Session → Session) (rs : List Ready) → is_listed n (map (λ (r : Ready). r.session) rs) ≡ false → AreReady s b rs → AreReady s (record b { sessions = at_number f b.sessions n }) rs
+still_ready s b n f rs e h = by (get b.sessions n) refl
+  where
+    by : (o : Option Session) → get b.sessions n ≡ o → AreReady s (record b { sessions = at_number f b.sessions n }) rs
+    by None there = subst (λ (m : Sessions). AreReady s (record b { sessions = m }) rs) (sym (at_shut f b.sessions n there)) h
+    by (Some x) there = subst (λ (m : Sessions). AreReady s (record b { sessions = m }) rs) (sym (at_open f b.sessions n x there)) (stays_ready s b n (f x) rs e h)
+
+-- as many are ready as were listed, each for its session
+pub ready-append : (s : Schema) (b : Book) (rs : List Ready) (r : Ready) → AreReady s b rs → IsReadyFor s b.db (get b.sessions r.session) (ready_of r) → AreReady s b (rs ++ r ∷ [])
+ready-append s b [] r h k = (k, tt)
+ready-append s b (q ∷ rs) r h k = (h.0, ready-append s b rs r h.1 k)
+
+-- ---- a round that goes on
+
+abbrev sessions_of : List Ready → List ℕ
+sessions_of rs = map (λ (r : Ready). r.session) rs
+
+abbrev then_with : World → Sessions → World
+then_with w m = record w { sessions = m }
+
+-- what the round of these makes of the world, and what was sent so far
+abbrev pub GoesOn : Schema → List ℕ → World → Sessions → List Ready → List (ℕ × List ℕ) → Type 0
+GoesOn s listed w m rs given =
+    ((take_each (served_by s) listed w).0 ≡ (take_each (served_by s) (map (λ (r : Ready). r.session) rs) (record w { sessions = m })).0)
+    × (map printed (take_each (served_by s) listed w).1 ≡ given ++ map printed (take_each (served_by s) (map (λ (r : Ready). r.session) rs) (record w { sessions = m })).1)
+
+pub goes_on : (s : Schema) (listed : List ℕ) (w : World) (b c : Book) (r : Ready) (rs : List Ready) (given : List (ℕ × List ℕ)) (out : Option (ℕ × List ℕ)) → w.db ≡ b.db → GoesOn s listed w b.sessions (r ∷ rs) given
+    → c ≡ record b { sessions = at_number (λ x. (take (served_by s) b.db x).1) b.sessions r.session }
+    → out ≡ option_map (λ t. let p : ℕ × List ℕ = (r.session, t) in p) (text_taken (served_by s) b.db (get b.sessions r.session))
+    → GoesOn s listed w c.sessions rs (given ++ option_to_list out)
+goes_on s listed w b c r rs given out same before is said =
+    let h : Service = served_by s in
+    let n = r.session in
+    let u : World = then_with w b.sessions in
+    let v : World = then_with w c.sessions in
+    let left : then_with u (at_number (λ x. (take h u.db x).1) u.sessions n) ≡ v =
+    ap (λ d. then_with w (at_number (λ x. (take h d x).1) b.sessions n)) same ∙ ap (λ (d : Book). then_with w d.sessions) (sym is)
+    in
+    let one = round_on s n (sessions_of rs) u v (text_taken h u.db (get u.sessions n)) left refl in
+    let told : option_to_list out ≡ as_sent s n (text_taken h u.db (get u.sessions n)) =
+    ap option_to_list said ∙ ap (λ d. as_sent s n (text_taken h d (get b.sessions n))) (sym same)
+    in (
+      before.0 ∙ one.0,
+      before.1 ∙ ap (λ os. given ++ os) one.1
+          ∙ ap (λ os. given ++ (os ++ map printed (take_each h (sessions_of rs) v).1)) (sym told)
+          ∙ sym (append_assoc given (option_to_list out) (map printed (take_each h (sessions_of rs) v).1)),
+    )
+
+-- those left are ready after one was carried out
+pub left_ready : (s : Schema) (b c : Book) (r : Ready) (rs : List Ready) → AreOnce (sessions_of (r ∷ rs)) → AreReady s b (r ∷ rs) → c ≡ record b { sessions = at_number (λ x. (take (served_by s) b.db x).1) b.sessions r.session } → AreReady s c rs
+left_ready s b c r rs once h is = subst (λ (d : Book). AreReady s d rs) (sym is) (still_ready s b r.session (λ x. (take (served_by s) b.db x).1) rs once.0 h.1)
+
+-- a schema, where it matters not which
+pub no_schema : Schema
+no_schema = record { name = []; version = []; cksum = None; tables = [] }

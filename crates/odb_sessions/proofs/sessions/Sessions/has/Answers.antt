@@ -1,0 +1,17 @@
+use Rattle.std.proofs.Common.{◌≡◌, Option, Some, None, is_some, option_map, refl, sym, ap, ◌∙◌}
+use Rattle.odb_atoms.specs.FinMap as finite
+use Rattle.odb_sessions.specs.Book.{Book}
+use Rattle.odb_sessions.specs.Held.{Kept, Sessions, seen}
+use Rattle.odb_sessions.proofs.Ties.{get-seen}
+use Rattle.odb_sessions.proofs.sessions.Sessions.has.Goals as goal
+
+-- what is seen of a session is there where the session is
+still_there : (o : Option Kept) → is_some (option_map seen o) ≡ is_some o
+still_there None = refl
+still_there (Some x) = refl
+
+pub returns : goal.returns
+returns c =
+    let m : Sessions = c.self.inside.sessions in
+    c.has.ensures ∙ sym (still_there (finite.get m c.args.session)) ∙ ap is_some (sym (get-seen m c.args.session))
+    ∙ ap (λ (b : Book). is_some (finite.get b.sessions c.args.session)) c.self.view_is

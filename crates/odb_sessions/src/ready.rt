@@ -1,0 +1,142 @@
+//! Takings that are ready: what they were to take memory for is done. [P 10.3]
+ghost use Rattle.std.specs.Prelude.{◌≡◌, IfOk, List};
+ghost use Rattle.odb_sessions.specs.Foreseen.{last_used};
+ghost use Rattle.odb_sessions.specs.Represented.Out.{text_of_out};
+ghost use Rattle.odb_sessions.specs.Represented.Ready.{ready_of, text_coming, text_shared};
+ghost use Rattle.odb_sessions.specs.Represented.Taking.{taking_text};
+ghost use Rattle.odb_sessions.specs.Represented.Composed.{text_in};
+ghost use Rattle.odb_sessions.specs.Taken.{no_text, text_from};
+ghost use Rattle.odb_service.specs.Session.{Item};
+
+use crate::composing::Message;
+use crate::out::Out;
+use crate::taking;
+use crate::taking::Taking;
+use odb_locks::SessionId;
+use odb_queue::Finished;
+use std::alloc::{AllocError, Global};
+use std::sync::Arc;
+
+/// What comes of a taking.
+#[derive(Drop)]
+pub(crate) enum Coming {
+    /// Nothing.
+    Nothing,
+    /// The text of the last item that is used up.
+    Queued,
+    /// A text that was composed.
+    Composed(Shared),
+}
+
+/// A composed text, whose body may be shared. It is the three parts in order.
+#[derive(Drop)]
+pub(crate) struct Shared {
+    before: Vec<u8>,
+    body: Arc<Vec<u8>>,
+    after: Vec<u8>,
+}
+
+impl Shared {
+    fn new(alloc: Global, message: Message) -> Result<Shared, AllocError>
+        ensures { IfOk result (λ shared. text_shared shared ≡ text_in message) }
+    {
+        let Message {
+            before,
+            body,
+            after,
+        } = message;
+        Ok(Shared {
+            before,
+            body: Arc::new(alloc, body)?,
+            after,
+        })
+    }
+
+    /// The message for a session.
+    pub(crate) fn out(self, session: SessionId) -> Out
+        ensures session { result.session ≡ session }
+        ensures text { text_of_out result ≡ text_shared self }
+    {
+        let Shared {
+            before,
+            body,
+            after,
+        } = self;
+        Out {
+            session,
+            before,
+            body: Some(body),
+            after,
+        }
+    }
+}
+
+/// A taking that is planned for a session: how many items of the queue it uses up, how many monitors it then
+/// brings to now, and what comes.
+#[derive(Drop)]
+pub(crate) struct Ready {
+    pub(crate) session: SessionId,
+    pub(crate) items: usize,
+    pub(crate) monitors: usize,
+    pub(crate) coming: Coming,
+}
+
+impl Ready {
+    /// Of no session that is open nothing comes.
+    pub(crate) fn none(session: SessionId) -> Ready
+        ensures session { result.session ≡ session }
+        ensures coming { text_coming result.coming ≡ no_text }
+    {
+        Ready {
+            session,
+            items: 0,
+            monitors: 0,
+            coming: Coming::Nothing,
+        }
+    }
+
+    /// The taking, with a count of the text that was composed.
+    pub(crate) fn new(
+        alloc: Global,
+        session: SessionId,
+        taking: Taking,
+    ) -> Result<Ready, AllocError>
+        ensures session { IfOk result (λ ready. ready.session ≡ session) }
+        ensures items { IfOk result (λ ready. ready.items ≡ taking.items) }
+        ensures monitors { IfOk result (λ ready. ready.monitors ≡ taking.monitors) }
+        ensures text { IfOk result (λ ready. (is : List Item)
+            → text_from (ready_of ready).text (last_used taking.items is) ≡ taking_text taking is) }
+    {
+        let Taking {
+            items,
+            monitors,
+            coming,
+        } = taking;
+        let coming = match coming {
+            None => Coming::Nothing,
+            Some(taking::Coming::Queued) => Coming::Queued,
+            Some(taking::Coming::Composed(message)) => {
+                Coming::Composed(Shared::new(alloc, message)?)
+            }
+        };
+        Ok(Ready {
+            session,
+            items,
+            monitors,
+            coming,
+        })
+    }
+}
+
+/// The message for a session that a finished text is.
+pub(crate) fn finished(alloc: Global, session: SessionId, text: Finished) -> Out
+    ensures session { result.session ≡ session }
+    ensures text { text_of_out result ≡ text.text.items }
+{
+    Out {
+        session,
+        before: text.text,
+        body: None,
+        after: Vec::new(alloc),
+    }
+}
