@@ -8,6 +8,7 @@ mod CarriedOut
 mod Composed
 mod Copies
 mod Counted
+pub mod Crossing
 mod Endings
 mod Firsts
 mod Leading
@@ -18,20 +19,22 @@ mod Newest
 mod Numbers
 mod OtherFilters
 mod PlannedTexts
-mod Plans
+pub mod Plans
 mod Posts
 mod Quiet
+mod QuietSessions
 mod Releases
 mod Replays
 mod Rests
 mod Room
-mod Rounds
+pub mod Rounds
 mod Seen
 mod Stops
 mod Sums
 mod TakenFilters
 mod Theirs
 mod Ties
+mod Unconcerned
 mod Updates
 mod Used
 mod Watches

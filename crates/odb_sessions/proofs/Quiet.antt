@@ -10,7 +10,7 @@ use Rattle.odb_request.specs.Request.{Request}
 use Rattle.odb_service.specs.Service.{Service}
 use Rattle.odb_service.specs.Session.{Monitor, Out, brought, update_to}
 use Rattle.odb_service.proofs.WhatIsOwed.{all_owe_nothing}
-use Rattle.odb_sessions.specs.Composed.{part_to}
+use Rattle.odb_sessions.specs.Composed.{AreNow, part_to}
 use Rattle.odb_sessions.specs.Foreseen.{due_text, update_text}
 use Rattle.odb_sessions.specs.Held.{Held, Watched, monitor_of, view_of, watch_of}
 use Rattle.odb_sessions.specs.Planned.{Due, out_of, update_of}
@@ -24,9 +24,6 @@ pub now_same : (db : Db) (q : Request) (t : Option Filter) (m : Mark) → t ≡ 
     → selected (record q { filter = told_under q t }) m.content ≡ selected q (table_at db q.place)
 now_same db q t m none table content = λ j. selected (record q { filter = told_under q (none j) }) ((content ∙ ap (table_at db) table) j)
 
-abbrev pub AreNow : Db → List Watched → Type 0
-AreNow db ws = map (λ (w : Watched). (part_to db w).told) ws ≡ map (λ (w : Watched). (part_to db w).asked) ws
-
 view_now : (db : Db) (x : Held) → AreNow db x.tables → view_of x ≡ query db (watch_of x).requests
 view_now db x same = same ∙ sym (mapped_twice (λ (q : Request). selected q (table_at db q.place)) (λ (w : Watched). w.request) x.tables)
 
@@ -38,10 +35,18 @@ nothing_due : (f : Due → Out) (o : Option Due) → option_map f o ≡ None →
 nothing_due f None e = refl
 nothing_due f (Some d) e = absurd (none-some (f d) (sym e))
 
+-- such a client is brought to what it has, and is sent nothing
+pub brought_same : (h : Service) (db : Db) (x : Held) → AreNow db x.tables → monitor_of x ≡ brought h db (watch_of x).requests (monitor_of x)
+brought_same h db x same = (λ i. let n : Monitor = record { watch = watch_of x; view = view_now db x same i } in n)
+
+pub nothing_sent : (h : Service) (db : Db) (x : Held) → AreNow db x.tables → update_to h db (watch_of x).requests (monitor_of x) ≡ None
+nothing_sent h db x same =
+    let m : Monitor = monitor_of x in
+    let qs : List Request = (watch_of x).requests in
+    ap (λ (n : Monitor). update_to h db qs n) (brought_same h db x same) ∙ no_more (update_to h db qs (brought h db qs m)) (all_owe_nothing h db (m ∷ []))
+
 pub quiet : (h : Service) (db : Db) (x : Held) → AreNow db x.tables → None ≡ update_text h db (watch_of x).requests (monitor_of x)
 quiet h db x same =
     let m : Monitor = monitor_of x in
     let qs : List Request = (watch_of x).requests in
-    let now : m ≡ brought h db qs m = (λ i. let n : Monitor = record { watch = watch_of x; view = view_now db x same i } in n) in
-    let sent : update_to h db qs m ≡ None = ap (λ (n : Monitor). update_to h db qs n) now ∙ no_more (update_to h db qs (brought h db qs m)) (all_owe_nothing h db (m ∷ [])) in
-    sym (ap (option_map (due_text h db)) (nothing_due (out_of h db) (update_of h db qs m) (sym (update_given h db qs m) ∙ sent)))
+    sym (ap (option_map (due_text h db)) (nothing_due (out_of h db) (update_of h db qs m) (sym (update_given h db qs m) ∙ nothing_sent h db x same)))

@@ -39,6 +39,10 @@ part_to db w = record {
   asked = selected w.request (table_at db w.request.place);
 }
 
+-- a client has what these tables are now, under what is asked
+abbrev pub AreNow : Db → List Watched → Type 0
+AreNow db ws = map (λ (w : Watched). (part_to db w).told) ws ≡ map (λ (w : Watched). (part_to db w).asked) ws
+
 -- of a table of which the client was told nothing
 abbrev pub first_part : Db → Request → Part
 first_part db q = record { request = q; told = empty; asked = selected q (table_at db q.place) }

@@ -2,12 +2,14 @@ pub mod Asked
 pub mod Book
 pub mod Carried
 pub mod Composed
+pub mod Concerned
 pub mod Foreseen
 pub mod Held
 pub mod Moved
 pub mod Named
 pub mod Planned
 pub mod Posts
+pub mod Quiet
 pub mod Represented
 pub mod Started
 pub mod Stopped

@@ -28,6 +28,7 @@ mod past;
 mod planning;
 mod queue;
 mod ready;
+mod resting;
 mod round;
 mod session;
 mod sessions;

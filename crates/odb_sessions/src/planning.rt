@@ -5,7 +5,7 @@ ghost use Rattle.serde_json.specs.Written.{compact_text};
 ghost use Rattle.odb_chain.specs.Chains as model;
 ghost use Rattle.odb_service.specs.Service.{Service};
 ghost use Rattle.odb_service.specs.Session.{refilter};
-ghost use Rattle.odb_sessions.specs.Composed.{IsKnown, all_asked_as, first_updates, part_to};
+ghost use Rattle.odb_sessions.specs.Composed.{AreNow, IsKnown, all_asked_as, first_updates, part_to};
 ghost use Rattle.odb_sessions.specs.Foreseen.{as_told, seen_ahead, update_text};
 ghost use Rattle.odb_sessions.specs.Held.{marks_in, monitor_of, watch_of};
 ghost use Rattle.odb_sessions.specs.Represented.Composed.{text_in};
@@ -137,9 +137,9 @@ impl Watching {
 }
 
 /// Whether the client has what these tables are now, under what is asked. `false` says nothing. O(n) for n tables.
-fn are_now(tables: &[Watching], chains: &Chains) -> bool
+pub(crate) fn are_now(tables: &[Watching], chains: &Chains) -> bool
     requires { All (IsKnown chains.now) tables.now }
-    ensures { result ≡ true → map (λ w. (part_to chains.now.db w).told) tables.now ≡ map (λ w. (part_to chains.now.db w).asked) tables.now }
+    ensures { result ≡ true → AreNow chains.now.db tables.now }
 {
     for table in tables {
         if !table.is_now(chains) {

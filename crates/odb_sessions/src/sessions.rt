@@ -51,8 +51,8 @@ use std::marker::Model;
 #[derive(Drop)]
 pub struct Sessions {
     pub(crate) alloc: Global,
-    past: Past,
-    sessions: Numbered,
+    pub(crate) past: Past,
+    pub(crate) sessions: Numbered,
 }
 
 impl Model for Sessions {

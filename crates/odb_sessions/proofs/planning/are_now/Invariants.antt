@@ -1,5 +1,5 @@
 use Rattle.std.proofs.Common.{take}
-use Rattle.odb_sessions.proofs.Quiet.{AreNow}
+use Rattle.odb_sessions.specs.Composed.{AreNow}
 use Rattle.odb_sessions.proofs.planning.are_now.Given as goal
 
 abbrev pub invariant-loop-table : goal.invariant-loop-table

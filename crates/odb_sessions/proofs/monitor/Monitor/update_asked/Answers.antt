@@ -3,10 +3,10 @@ use Rattle.std.proofs.lemmas.Result.{IfOk-weaker}
 use Rattle.std.specs.List.{All}
 use Rattle.odb_chain.specs.Chains.{Chains}
 use Rattle.odb_request.specs.Represented.Kind.{notation_of}
-use Rattle.odb_sessions.specs.Composed.{IsKnown, part_to}
+use Rattle.odb_sessions.specs.Composed.{AreNow, IsKnown, part_to}
 use Rattle.odb_sessions.specs.Held.{Held, Watched, marks_in}
 use Rattle.odb_sessions.specs.Tied.{AreLive}
-use Rattle.odb_sessions.proofs.Quiet.{AreNow, quiet}
+use Rattle.odb_sessions.proofs.Quiet.{quiet}
 use Rattle.odb_sessions.proofs.Theirs.{known_all}
 use Rattle.odb_sessions.proofs.Updates.{asked_is}
 use Rattle.odb_sessions.proofs.monitor.Monitor.update_asked.Goals as goal
