@@ -2,11 +2,13 @@
 use denote.Param.Send.{IsSend, IsSync, sendable}
 use Rattle.std.proofs.Crossing as heap
 use Rattle.std.proofs.MapsCrossing as maps
-use Rattle.odb_request.proofs.kind.Kind.TheSendSync as kind
-use Rattle.odb_request.specs.contracts.kind.Kind as Kind
+use Rattle.odb_cond.proofs.filter.Filter.TheSendSync as filter
+use Rattle.odb_cond.specs.contracts.filter.Filter as Filter
+use Rattle.odb_request.specs.contracts.change.Change as Change
+use Rattle.odb_schema.proofs.schema.Schema.TheSendSync as schema
+use Rattle.odb_schema.specs.contracts.schema.Schema as Schema
 use Rattle.odb_wire.proofs.JsonCrosses.{Value-send, Value-sync}
 use Rattle.odb_sessions.proofs.granted.Granted.TheSendSync as granted
-use Rattle.odb_sessions.proofs.item.Changes.TheSendSync as changes
 use Rattle.odb_sessions.proofs.monitor.Watching.TheSendSync as watching
 use Rattle.odb_sessions.proofs.origin.Origin.TheSendSync as origin
 use Rattle.odb_sessions.proofs.past.Past.TheSendSync as past
@@ -35,10 +37,7 @@ Id-send = search (Value-send, sendable, heap.crosses) depth 20
 Id-sync : IsSync (Id.the_field).row
 Id-sync = search (Value-sync, sendable, heap.crosses) depth 20
 
-Kind-send : IsSend (Kind.the_field).row
-Kind-send = kind.the_send
-
-Finished-send : IsSend (Finished.the_field).row
+Finished-send : IsSend Finished.the_row
 Finished-send = finished.the_send
 
 Granted-send : IsSend (Granted.the_field).row
@@ -47,8 +46,23 @@ Granted-send = granted.the_send
 Origin-send : IsSend (Origin.the_field).row
 Origin-send = origin.the_send
 
+Filter-send : IsSend (Filter.the_field).row
+Filter-send = filter.the_send
+
+Filter-sync : IsSync (Filter.the_field).row
+Filter-sync = filter.the_sync
+
+Schema-send : IsSend (Schema.the_field).row
+Schema-send = schema.the_send
+
+Schema-sync : IsSync (Schema.the_field).row
+Schema-sync = schema.the_sync
+
+Change-send : IsSend (Change.the_field).row
+Change-send = search (Filter-send, Filter-sync, sendable, heap.crosses) depth 20
+
 Changes-send : IsSend (Changes.the_field).row
-Changes-send = changes.the_send
+Changes-send = search (Schema-send, Schema-sync, Change-send, sendable, heap.crosses) depth 20
 
 Watching-send : IsSend (Watching.the_field).row
 Watching-send = watching.the_send
@@ -57,7 +71,7 @@ Past-send : IsSend (Past.the_field).row
 Past-send = past.the_send
 
 Monitor-send : IsSend (Monitor.the_field).row
-Monitor-send = search (Id-send, Id-sync, Kind-send, Watching-send, sendable, heap.crosses) depth 20
+Monitor-send = search (Id-send, Id-sync, Watching-send, sendable, heap.crosses) depth 20
 
 Start-send : IsSend (Start.the_field).row
 Start-send = search (Origin-send, Monitor-send, sendable, heap.crosses) depth 20
