@@ -29,7 +29,7 @@ use Rattle.odb_atoms.specs.Error.{Error}
 abbrev InRest : {A : Type 0} → Option A → List A → List A → A → List A → Type 0
 InRest {A} g rest a o b = (c : List A) × (a ≡ option_to_list g ++ c) × (rest ≡ c ++ o ∷ b)
 
-head_of : {A : Type 0} (x y : A) (xs ys : List A) → x ∷ xs ≡ y ∷ ys → (x ≡ y) × (xs ≡ ys)
+pub head_of : {A : Type 0} (x y : A) (xs ys : List A) → x ∷ xs ≡ y ∷ ys → (x ≡ y) × (xs ≡ ys)
 head_of x y xs ys e = (cc, cc)
 
 first_or_rest : {A : Type 0} (g : Option A) (rest a : List A) (o : A) (b : List A) → option_to_list g ++ rest ≡ a ++ o ∷ b → ((g ≡ Some o) × (a ≡ [])) ⊎ InRest g rest a o b
@@ -43,7 +43,7 @@ cons-list : {A : Type 0} (g : Option A) (xs : List A) → cons_option g xs ≡ o
 cons-list None xs = refl
 cons-list (Some x) xs = refl
 
-no_empty : {A : Type 0} (a : List A) (o : A) (b : List A) → [] ≡ a ++ o ∷ b → ⊥
+pub no_empty : {A : Type 0} (a : List A) (o : A) (b : List A) → [] ≡ a ++ o ∷ b → ⊥
 no_empty [] o b e = cc
 no_empty (x ∷ a) o b e = cc
 

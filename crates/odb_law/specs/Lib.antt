@@ -1,3 +1,4 @@
 pub mod Client
 pub mod Headline
 pub mod Law
+pub mod Sent

@@ -7,6 +7,8 @@ ghost use Rattle.odb_monitor.specs.Law.{NoOtherLeads};
 ghost use Rattle.odb_schema.specs.Schema.{Schema};
 ghost use Rattle.odb_law.specs.Headline.{BringsWhole, HoldsAlways, IsBroughtToNow, IsChangedWhole, IsDroppedWhole, IsKnown, IsMinimal};
 ghost use Rattle.odb_law.specs.Law.{AllAreTried, IsAnsweredOnce, IsCommitted, IsCounted, IsGranted, IsToldBefore, OwedIsTaken, RoundsTake, TakesEvents};
+ghost use Rattle.odb_law.specs.Sent.{HoldsOfTexts, IsRun, TextsBringWhole};
+ghost use Rattle.odb_service.specs.Server.{served_by};
 ghost use Rattle.odb_service.specs.Service.{service_of};
 
 /// The monitor law, for every schema, whichever methods are served, and over every run of the service machine. The call does nothing.
@@ -43,4 +45,24 @@ pub fn law()
     ensures counted { (serves : List ℕ → Bool) (s : Schema) → HoldsAlways (service_of serves s) (IsCounted (service_of serves s)) }
     // Each waiting transaction was tried on the database as it is now, and had to wait.
     ensures tried { (serves : List ℕ → Bool) (s : Schema) → AllAreTried (service_of serves s) }
+{}
+
+/// The monitor law of what a server sent: for every schema, whatever events a new server of it took, and the texts that it sent by them. A call of a server says of itself that it is such a step. The call does nothing.
+pub fn law_of_texts()
+    // What was sent are the texts of the messages that the machine gives by the same events, and the server ends as the machine does.
+    ensures is_run { (s : Schema) → IsRun s }
+    // A client that takes these, and then what it is still owed, has just what its newest filters select from the server's database.
+    ensures brought_to_now { (s : Schema) → HoldsOfTexts s (IsBroughtToNow (served_by s)) }
+    // The monitors that it then has are those that it asked for.
+    ensures known { (s : Schema) → HoldsOfTexts s (IsKnown (served_by s)) }
+    // A strict client refuses none of them: each is non-empty and names only what differs.
+    ensures minimal { (s : Schema) → HoldsOfTexts s (IsMinimal (served_by s)) }
+    // A monitor goes when its client has what the filters select.
+    ensures dropped_whole { (s : Schema) → HoldsOfTexts s (IsDroppedWhole (served_by s)) }
+    // New filters hold when its client has what they select.
+    ensures changed_whole { (s : Schema) → HoldsOfTexts s (IsChangedWhole (served_by s)) }
+    // Each request is answered once, is owed its answer, or waits.
+    ensures answered_once { (s : Schema) → HoldsOfTexts s (IsAnsweredOnce (served_by s)) }
+    // Texts come by rounds alone, one at most to a session, and each brings the monitor that it is about whole to its taking.
+    ensures bring_whole { (s : Schema) → TextsBringWhole s }
 {}
