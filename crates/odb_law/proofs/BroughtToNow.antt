@@ -49,7 +49,7 @@ no_empty (x ∷ a) o b e = cc
 
 -- ---- labels
 
-unlabelled : (d : Data) → no_request ≡ to d → ⊥
+pub unlabelled : (d : Data) → no_request ≡ to d → ⊥
 unlabelled d e = cc
 
 same_request : (c d : Data) → to c ≡ to d → c ≡ d
@@ -119,14 +119,14 @@ module _ (h : Service) where
   -- ---- the monitor of a reply that takes effect
 
   -- it is there, and its view is what its filters select, or the new ones
-  abbrev Sure : Db → (List Request → List Request) → Data → List Monitor → Type 0
+  abbrev pub Sure : Db → (List Request → List Request) → Data → List Monitor → Type 0
   Sure db f i ms = (m : Monitor) × (find (has_id h i) ms ≡ Some m) × (m.view ≡ query db (f m.watch.requests))
 
-  abbrev as_they_are : List Request → List Request
+  abbrev pub as_they_are : List Request → List Request
   as_they_are qs = qs
 
   -- sure, or under another condition
-  abbrev ReadyFor : Db → (Data → Type 0) → Item → List Monitor → Type 0
+  abbrev pub ReadyFor : Db → (Data → Type 0) → Item → List Monitor → Type 0
   ReadyFor db X (say a m) ms = Unit {0}
   ReadyFor db X (start d k) ms = Unit {0}
   ReadyFor db X (sync i) ms = Unit {0}
@@ -134,7 +134,7 @@ module _ (h : Service) where
   ReadyFor db X (renamed d old new fs) ms = Sure db (refilter fs) old ms ⊎ X old
   ReadyFor db X (stopped d i) ms = Sure db as_they_are i ms ⊎ X i
 
-  abbrev Ready : Db → (Data → Type 0) → List Item → List Monitor → Type 0
+  abbrev pub Ready : Db → (Data → Type 0) → List Item → List Monitor → Type 0
   Ready db X [] ms = Unit {0}
   Ready db X (i ∷ is) ms = ReadyFor db X i ms
 
@@ -159,7 +159,7 @@ module _ (h : Service) where
             (s.0, ap (λ b. cond b (Some m) (find (has_id h i) (brought_by db f i ms))) isnt ∙ s.1, s.2)
       ] refl e
 
-  behind_sync : (db : Db) (p : Item) (i : Data) (ms : List Monitor) → IsSyncOf i p → is_some (watched h i (map (λ m. m.watch) (leaves h db p ms))) ≡ true → Sure db as_they_are i (leaves h db p ms)
+  pub behind_sync : (db : Db) (p : Item) (i : Data) (ms : List Monitor) → IsSyncOf i p → is_some (watched h i (map (λ m. m.watch) (leaves h db p ms))) ≡ true → Sure db as_they_are i (leaves h db p ms)
   behind_sync db (say a m) i ms s there = absurd s
   behind_sync db (start r k) i ms s there = absurd s
   behind_sync db (sync j) i ms s there =
@@ -168,7 +168,7 @@ module _ (h : Service) where
   behind_sync db (renamed r old new fs) i ms s there = absurd s
   behind_sync db (stopped r j) i ms s there = absurd s
 
-  behind_shift : (db : Db) (p : Item) (i : Data) (fs : List (List ℕ × Filter)) (ms : List Monitor) → IsShiftOf i fs p → is_some (watched h i (map (λ m. m.watch) (leaves h db p ms))) ≡ true → Sure db (refilter fs) i (leaves h db p ms)
+  pub behind_shift : (db : Db) (p : Item) (i : Data) (fs : List (List ℕ × Filter)) (ms : List Monitor) → IsShiftOf i fs p → is_some (watched h i (map (λ m. m.watch) (leaves h db p ms))) ≡ true → Sure db (refilter fs) i (leaves h db p ms)
   behind_shift db (say a m) i fs ms s there = absurd s
   behind_shift db (start r k) i fs ms s there = absurd s
   behind_shift db (sync j) i fs ms s there = absurd s
@@ -178,11 +178,11 @@ module _ (h : Service) where
   behind_shift db (renamed r old new gs) i fs ms s there = absurd s
   behind_shift db (stopped r j) i fs ms s there = absurd s
 
-  abbrev Never : Data → Type 0
+  abbrev pub Never : Data → Type 0
   Never i = ⊥
 
   -- in the queue, such a reply finds its monitor sure
-  next_ready : (db : Db) (p : Item) (is : List Item) (ms : List Monitor) → Goes p is → IsWell h (record { queue = is; monitors = leaves h db p ms }) → Ready db Never is (leaves h db p ms)
+  pub next_ready : (db : Db) (p : Item) (is : List Item) (ms : List Monitor) → Goes p is → IsWell h (record { queue = is; monitors = leaves h db p ms }) → Ready db Never is (leaves h db p ms)
   next_ready db p [] ms g k = tt
   next_ready db p (say a m ∷ is) ms g k = tt
   next_ready db p (start d w ∷ is) ms g k = tt
@@ -270,7 +270,7 @@ module _ (h : Service) where
 
   -- ---- a cancel
 
-  abbrev Dropped : Db → (Data → Type 0) → List Out → Data → Type 0
+  abbrev pub Dropped : Db → (Data → Type 0) → List Out → Data → Type 0
   Dropped db Y os i = (p : Picture) × (pictured h i os ≡ Some p) × (IsNow h db p.requests p.view ⊎ Y i)
 
   stop_dropped : (db : Db) (Y : Data → Type 0) (os : List Out) (i : Data) (ms : List Monitor) → client h os ≡ Some (map seen ms) → is_some (watched h i (map (λ m. m.watch) ms)) ≡ true → Sure db as_they_are i ms ⊎ Y i → Dropped db Y os i
@@ -279,7 +279,7 @@ module _ (h : Service) where
       let f : (m : Monitor) × (find (has_id h i) ms ≡ Some m) = found_watched i ms there in
       (seen f.0, pictured_seen h i os ms f.0 c f.1, inr y)
 
-  item_dropped : (db : Db) (Y : Data → Type 0) (p : Item) (q : List Item) (ms : List Monitor) (os : List Out) (o : Out) (d i : Data) → IsWell h (record { queue = p ∷ q; monitors = ms }) → client h os ≡ Some (map seen ms) → ReadyFor db Y p ms
+  pub item_dropped : (db : Db) (Y : Data → Type 0) (p : Item) (q : List Item) (ms : List Monitor) (os : List Out) (o : Out) (d i : Data) → IsWell h (record { queue = p ∷ q; monitors = ms }) → client h os ≡ Some (map seen ms) → ReadyFor db Y p ms
       → gives h db p ms ≡ Some o → o.answers ≡ to d → is_granted o.message ≡ true → wish_of d ≡ drops i → Dropped db Y os i
   item_dropped db Y (say l m) q ms os o d i k c ready e label granted is =
       let x : (let u : Out = record { answers = l; message = m } in u) ≡ o = some_is _ o e in
@@ -300,7 +300,7 @@ module _ (h : Service) where
 
   -- ---- a change of filters
 
-  abbrev Changed : Db → (Data → Type 0) → List Out → Data → Data → Type 0
+  abbrev pub Changed : Db → (Data → Type 0) → List Out → Data → Data → Type 0
   Changed db Y os old new = (p : Picture) × (pictured h new os ≡ Some p) × (IsNow h db p.requests p.view ⊎ Y old)
 
   new_changed : (db : Db) (Y : Data → Type 0) (os : List Out) (r old new : Data) (fs : List (List ℕ × Filter)) (q : List Item) (ms : List Monitor) → IsWell h (record { queue = renamed r old new fs ∷ q; monitors = ms }) → client h os ≡ Some (map seen ms)
@@ -321,7 +321,7 @@ module _ (h : Service) where
           let f : (m : Monitor) × (find (has_id h old) ms ≡ Some m) = found_watched old ms k.distinct.1 in
           (seen (with_new h new fs f.0), at f.0 f.1 later distinct, inr y)
 
-  item_changed : (db : Db) (Y : Data → Type 0) (p : Item) (q : List Item) (ms : List Monitor) (os : List Out) (o : Out) (d old new filters : Data) → IsWell h (record { queue = p ∷ q; monitors = ms }) → client h os ≡ Some (map seen ms) → ReadyFor db Y p ms
+  pub item_changed : (db : Db) (Y : Data → Type 0) (p : Item) (q : List Item) (ms : List Monitor) (os : List Out) (o : Out) (d old new filters : Data) → IsWell h (record { queue = p ∷ q; monitors = ms }) → client h os ≡ Some (map seen ms) → ReadyFor db Y p ms
       → gives h db p ms ≡ Some o → o.answers ≡ to d → is_granted o.message ≡ true → wish_of d ≡ changes old new filters → Changed db Y (os ++ o ∷ []) old new
   item_changed db Y (say l m) q ms os o d old new filters k c ready e label granted is =
       let x : (let u : Out = record { answers = l; message = m } in u) ≡ o = some_is _ o e in

@@ -1,5 +1,5 @@
 -- What an event does, where it isn't refused; and how a fact is carried through a run.
-use Rattle.std.proofs.Common.{◌≡◌, ℕ, Bool, true, false, cond, List, [], ◌∷◌, Option, Some, None, Result, Ok, Err, refl, ◌∙◌, ap, subst, not, ◌&&◌, is_some, true≢false}
+use Rattle.std.proofs.Common.{◌≡◌, ℕ, Bool, true, false, cond, List, [], ◌∷◌, ◌++◌, Option, Some, None, Result, Ok, Err, refl, ◌∙◌, ap, subst, not, ◌&&◌, is_some, true≢false}
 use Rattle.std.specs.Prelude.{nat_lt}
 use Rattle.serde_json.specs.Data.{Data}
 use Rattle.odb_atoms.specs.FinMap.{get, insert, len}
@@ -86,3 +86,13 @@ module _ (h : Service) where
   -- a fact of the beginning that each event keeps holds of every state that is reached
   pub reached_has : (P : State → Type 0) → ((tables : ℕ) → P (beginning tables)) → ((e : Event) (st : State) (r : World × List Sent) → P st → Stepped e st.world r → P (after h e st r)) → (st : State) → IsReached h st → P st
   reached_has P begins goes st r = run_carries P goes r.1 (beginning r.0) st (begins r.0) r.2
+
+  -- a run that goes on
+  pub run_on : (es : List Event) (st mid now : State) (e : Event) → run h es st ≡ Ok mid → next h e mid ≡ Ok now → run h (es ++ e ∷ []) st ≡ Ok now
+  run_on [] st mid now e is goes = ap (if_ok (run h [])) (ap (next h e) (ok_is st mid is) ∙ goes)
+  run_on (f ∷ es) st mid now e is goes =
+      let x : (m : State) × (next h f st ≡ Ok m) × (run h es m ≡ Ok mid) = if_ok_is (run h es) (next h f st) mid is in
+      ap (if_ok (run h (es ++ e ∷ []))) x.1 ∙ run_on es x.0 mid now e x.2 goes
+
+  pub next_reached : (st now : State) (e : Event) → IsReached h st → next h e st ≡ Ok now → IsReached h now
+  next_reached st now e r goes = (r.0, r.1 ++ e ∷ [], run_on r.1 (beginning r.0) st now e r.2 goes)

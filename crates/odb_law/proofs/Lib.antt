@@ -8,6 +8,7 @@ pub mod ToldBeforeReply
 pub mod RefusedEvents
 pub mod OwedByRounds
 pub mod PictureLookups
+pub mod RepliesAtOnce
 pub mod RequestNames
 pub mod SentTexts
 pub mod Rounds

@@ -3,7 +3,7 @@ use Rattle.std.proofs.Common.{◌≡◌, ◌==◌, ℕ, Bool, true, false, cond,
 use Rattle.odb_atoms.specs.FinMap.{get}
 use Rattle.serde_json.specs.Data.{Data}
 use Rattle.odb_law.proofs.BroughtToNow.{head_of, no_empty}
-use Rattle.odb_law.proofs.EventSteps.{Stepped, if_ok_is, ok_is, stepped}
+use Rattle.odb_law.proofs.EventSteps.{Stepped, if_ok_is, ok_is, run_on, stepped}
 use Rattle.odb_law.proofs.RequestNames.{reads_named}
 use Rattle.odb_law.proofs.SessionInvariant.{map-append}
 use Rattle.odb_law.proofs.WholeMessages.{brings_whole}
@@ -11,7 +11,7 @@ use Rattle.odb_law.specs.Headline.{HasTurn, HoldsAlways, IsReached, IsWhole, abo
 use Rattle.odb_law.specs.Sent.{AreServed, EndsWhole, HoldsOfTexts, IsRun, IsRunOf, Taken, Text, TextsBringWhole, events, server_after, text_of, texts_since, texts_to}
 use Rattle.odb_rpc.specs.Served.{served}
 use Rattle.odb_schema.specs.Schema.{Schema}
-use Rattle.odb_service.specs.Run.{Event, Sent, State, after, beginning, closed, if_ok, next, opened, opens, round, run, sent_to, step, submitted, ticked}
+use Rattle.odb_service.specs.Run.{Event, Sent, State, after, beginning, closed, if_ok, next, opened, opens, round, sent_to, step, submitted, ticked}
 use Rattle.odb_service.specs.Server.{Server, opened_after, printed, serve, served_by}
 use Rattle.odb_service.specs.Service.{Service}
 use Rattle.odb_service.specs.Session.{Out, Session}
@@ -54,12 +54,6 @@ opening_sends_nothing e s p is t opening =
     ap (λ (q : Served). q.1) (sym m.2) ∙ ap (map printed) (no_sent (served_by s.schema) e s.world m.0 (stepped (served_by s.schema) e s.world m.0 m.1) t opening)
 
 -- ---- lists
-
-run_on : (h : Service) (es : List Event) (st mid now : State) (e : Event) → run h es st ≡ Ok mid → next h e mid ≡ Ok now → run h (es ++ e ∷ []) st ≡ Ok now
-run_on h [] st mid now e is goes = ap (if_ok (run h [])) (ap (next h e) (ok_is st mid is) ∙ goes)
-run_on h (f ∷ es) st mid now e is goes =
-    let x : (m : State) × (next h f st ≡ Ok m) × (run h es m ≡ Ok mid) = if_ok_is (run h es) (next h f st) mid is in
-    ap (if_ok (run h (es ++ e ∷ []))) x.1 ∙ run_on h es x.0 mid now e x.2 goes
 
 -- a list is parted as what f makes of it is
 abbrev PartedAs : {A B : Type 0} → (A → B) → List A → List B → B → List B → Type 0

@@ -24,15 +24,15 @@ use Rattle.odb_tables.specs.Database.{Db}
 use Rattle.odb_service.proofs.WhatIsOwed.{all_owe_nothing}
 
 module _ (h : Service) where
-  abbrev left : Db → List Item → List Monitor → List Monitor
+  abbrev pub left : Db → List Item → List Monitor → List Monitor
   left db [] ms = ms
   left db (i ∷ is) ms = left db is (leaves h db i ms)
 
-  abbrev given : Db → List Item → List Monitor → List Out
+  abbrev pub given : Db → List Item → List Monitor → List Out
   given db [] ms = []
   given db (i ∷ is) ms = option_to_list (gives h db i ms) ++ given db is (leaves h db i ms)
 
-  owed_append : (db : Db) (q is : List Item) (ms : List Monitor) → owed_from h db (q ++ is) ms ≡ given db q ms ++ owed_from h db is (left db q ms)
+  pub owed_append : (db : Db) (q is : List Item) (ms : List Monitor) → owed_from h db (q ++ is) ms ≡ given db q ms ++ owed_from h db is (left db q ms)
   owed_append db [] is ms = refl
   owed_append db (i ∷ q) is ms =
       ap (λ os. option_to_list (gives h db i ms) ++ os) (owed_append db q is (leaves h db i ms))

@@ -1,4 +1,5 @@
 pub mod Client
 pub mod Headline
 pub mod Law
+pub mod Replies
 pub mod Sent

@@ -12,6 +12,7 @@ use Rattle.odb_law.proofs.WholeMessages as whole
 use Rattle.odb_law.proofs.AnsweredOnce as busy
 use Rattle.odb_law.proofs.WaitingTried as waiting
 use Rattle.odb_monitor.proofs.OnlyViews.{fold-only}
+use Rattle.odb_law.proofs.RepliesAtOnce as replies
 use Rattle.odb_law.proofs.law.Goals as goal
 
 pub returns-clause-brought_to_now : goal.returns-clause-brought_to_now
@@ -61,3 +62,6 @@ returns-clause-tried c = λ serves s. waiting.all_are_tried (service_of serves s
 
 pub returns-clause-only : goal.returns-clause-only
 returns-clause-only c = fold-only
+
+pub returns-clause-replies_at_once : goal.returns-clause-replies_at_once
+returns-clause-replies_at_once c = λ serves s. replies.replies_at_once (service_of serves s) (reads_named serves s)
