@@ -27,6 +27,7 @@ pub mod OfSection6
 pub mod OfSection7
 pub mod OfSection8
 pub mod OfSection9
+pub mod OfSent
 pub mod OfValues
 pub mod TestSchemas
 pub mod Transcripts

@@ -4,16 +4,18 @@ use Rattle.std.specs.Prelude.{◌≡◌, ℕ, ◌+◌, ◌==◌, nat_le, Bool, t
 use Rattle.std.specs.List.{list_all, list_any}
 use Rattle.std.specs.Result.{result_err}
 use Rattle.std.specs.Cmp.Lexicographic.{pointwise}
-use Rattle.serde_json.specs.Data.{Data, null}
+use Rattle.serde_json.specs.Data.{Data, array, no_items, null, number, string, unsigned}
 use Rattle.odb_examples.proofs.Transcripts.{shows}
 use Rattle.odb_service.specs.Session as session
-use Rattle.odb_atoms.specs.FinMap.{get, len}
+use Rattle.odb_atoms.specs.FinMap.{get, insert, len}
 use Rattle.odb_law.specs.Client.{Picture, Wish, adds, changes, client, drops, is_id_of, nothing_else, wish_of}
 use Rattle.odb_law.specs.Headline.{about, is_granted, pictured, updated}
+use Rattle.odb_law.specs.Replies.{is_replied_at_once}
 use Rattle.odb_law.specs.Law.{answers_one, asked_by, committed_by, open_after, refusal}
 use Rattle.odb_service.specs.Run.{Event, Refusal, State, beginning, busy, closed, gone, in_use, next, opened, opens, round, run, submitted, ticked, too_many}
 use Rattle.odb_service.specs.Service.{Service, ended, service, waiting}
-use Rattle.odb_service.specs.Session.{Answers, Out, Session, Watch, asked, no_request, owed, to}
+use Rattle.odb_rpc.specs.Message.{call_of, reply}
+use Rattle.odb_service.specs.Session.{Answers, Item, Out, Session, Watch, asked, no_request, owed, renamed, say, shift, stopped, sync, to}
 use Rattle.odb_service.specs.World.{owed_replies, untried}
 use Rattle.odb_monitor.specs.View.{View, delta, is_none, query}
 use Rattle.odb_request.specs.Request.{Request}
@@ -29,10 +31,10 @@ first_message t = elim ((messages t).0) [ [] ↦ null | d ∷ ds ↦ d ]
 abbrev at : ℕ → ℕ → ℕ → List ℕ → Event
 at now s k t = submitted s (first_message t) (fresh_from k 1) now
 
-abbrev sub : ℕ → ℕ → List ℕ → Event
+abbrev pub sub : ℕ → ℕ → List ℕ → Event
 sub s k t = at 0 s k t
 
-abbrev turn : ℕ → Event
+abbrev pub turn : ℕ → Event
 turn s = round (s ∷ [])
 
 module _ (h : Service) where
@@ -207,6 +209,36 @@ module _ (h : Service) where
     | p ∷ ps ↦ true
     | [] ↦ (if now.world.commits == st.world.commits then true else elim (get now.world.sessions s) [ None ↦ true | Some y ↦ last_answers d (owed h now.world.db y) ])
   ]
+
+  -- ---- right after a request
+
+  abbrev are_notices : List Out → Bool
+  are_notices os = list_all (λ o. not (answers_one h (λ d. true) o)) os
+
+  abbrev has_now : Db → Data → List Out → Bool
+  has_now db i os = elim (pictured h i os) [ None ↦ false | Some p ↦ is_now db p.requests p.view ]
+
+  abbrev is_whole_by : State → ℕ → List Out → Out → Wish → Bool
+  is_whole_by st s a o (adds n i d) = true
+  is_whole_by st s a o nothing_else = true
+  is_whole_by st s a o (drops i) = has_now st.world.db i (st.given s ++ a)
+  is_whole_by st s a o (changes old new d) = has_now st.world.db new (st.given s ++ a ++ o ∷ [])
+
+  -- the last reply of these is to this request, and its monitor is whole then
+  abbrev replied_from : Data → State → ℕ → List Out → List Out → Bool
+  replied_from d st s a [] = false
+  replied_from d st s a (o ∷ b) =
+      (are_notices b && (answers_one h (λ c. bytes_eq (h.printed c) (h.printed d)) o && (not (is_granted o.message) || is_whole_by st s a o (wish_of d)))) || replied_from d st s (a ++ o ∷ []) b
+
+  abbrev replied : Data → State → ℕ → Session → Bool
+  replied d st s x = replied_from d st s [] (owed h st.world.db x)
+
+  abbrev replied_at_once : State → Event → State → Bool
+  replied_at_once st (opened s) now = true
+  replied_at_once st (ticked t) now = true
+  replied_at_once st (closed s) now = true
+  replied_at_once st (round ss) now = true
+  replied_at_once st (submitted s d fresh t) now = if is_replied_at_once (call_of h.db_name h.schema h.serves d) then elim (get now.world.sessions s) [ None ↦ true | Some y ↦ replied d now s y ] else true
 
   abbrev sessions_stay : State → Event → State → ℕ → Bool
   sessions_stay st e now s = by (is_some (get now.world.sessions s)) (open_after e s (is_some (get st.world.sessions s)))
@@ -462,6 +494,7 @@ all_hold h es st =
     && (after_each h (at_both h (granted h))) es st
     && (after_each h (committed h)) es st
     && (after_each h (told_before h)) es st
+    && (after_each h (replied_at_once h)) es st
     && (after_each h ((λ st e now. sessions_stay h st e now 0 && sessions_stay h st e now 1))) es st
     && (refusals h) es st
 
@@ -496,3 +529,102 @@ answers_holds = refl
 pub one_id_holds : holds all_hold run_one_id ≡ Some true
 unfolding shows
 one_id_holds = refl
+
+-- ---- wrong machines: what they would owe right after a request
+
+-- the state in which a request of session 0 was taken in, and this is queued for it
+abbrev with_queue : Data → List Item → Session → State → State
+with_queue d q x st = record {
+  world = record (st.world) { sessions = insert st.world.sessions 0 (record { queue = q; monitors = x.monitors }) };
+  given = st.given;
+  requests = λ s. if s == 0 then st.requests s ++ d ∷ [] else st.requests s;
+}
+
+-- a test of session 0 in this state
+abbrev queued_after : (Service → State → ℕ → Session → Bool) → List Event → Data → List Item → Option Bool
+queued_after f es d q = elim (schema_of_text net) [
+  | Ok n ↦ elim (run (service n) es (beginning (length n.tables))) [
+    | Ok st ↦ elim (get st.world.sessions 0) [
+      | Some x ↦ Some (f (service n) (with_queue d q x st) 0 (record { queue = q; monitors = x.monitors }))
+      | None ↦ None
+    ]
+    | Err e ↦ None
+  ]
+  | Err e ↦ None
+]
+
+-- what was said of the state after each event before
+abbrev said_before : Service → State → ℕ → Session → Bool
+said_before h st s x = brought h st s x && minimal h st s x && dropped h st s x && changed h st s x && dries h st s x && one_turn h st s x && answered h st s x && counted h st s x
+
+-- the last that session 0 was given is an update of its monitor, and then the database changed
+abbrev run_told : List Event
+run_told =
+    (opened 0) ∷
+    (opened 1) ∷
+    (sub 0 0 ((quoted (codes "{'method':'monitor_cond','params':['net','m',{'Bridge':[{'columns':['name']}]}],'id':1}")))) ∷
+    (turn 0) ∷
+    (sub 1 1 ((quoted (codes "{'method':'transact','params':['net',{'op':'insert','table':'Bridge','row':{'name':'a'}}],'id':1}")))) ∷
+    (turn 0) ∷
+    (sub 1 2 ((quoted (codes "{'method':'transact','params':['net',{'op':'insert','table':'Bridge','row':{'name':'b'}}],'id':2}")))) ∷
+    []
+
+abbrev named_m : Data
+named_m = string (codes "m")
+
+abbrev named_n : Data
+named_n = string (codes "n")
+
+abbrev a_cancel : Data
+a_cancel = first_message (quoted (codes "{'method':'monitor_cancel','params':['m'],'id':2}"))
+
+abbrev a_change : Data
+a_change = first_message (quoted (codes "{'method':'monitor_cond_change','params':['m','n',{}],'id':2}"))
+
+pub right_cancel : queued_after (λ h st s x. said_before h st s x && replied h a_cancel st s x) run_told a_cancel (sync named_m ∷ stopped a_cancel named_m ∷ []) ≡ Some true
+unfolding shows
+right_cancel = refl
+
+pub cancel_without_its_difference_was_let_through : queued_after said_before run_told a_cancel (stopped a_cancel named_m ∷ []) ≡ Some true
+unfolding shows
+cancel_without_its_difference_was_let_through = refl
+
+pub cancel_without_its_difference : queued_after (λ h st s x. replied h a_cancel st s x) run_told a_cancel (stopped a_cancel named_m ∷ []) ≡ Some false
+unfolding shows
+cancel_without_its_difference = refl
+
+pub right_change : queued_after (λ h st s x. said_before h st s x && replied h a_change st s x) run_told a_change (shift named_m [] ∷ renamed a_change named_m named_n [] ∷ []) ≡ Some true
+unfolding shows
+right_change = refl
+
+pub change_before_its_difference_was_let_through : queued_after said_before run_told a_change (renamed a_change named_m named_n [] ∷ shift named_n [] ∷ []) ≡ Some true
+unfolding shows
+change_before_its_difference_was_let_through = refl
+
+pub change_before_its_difference : queued_after (λ h st s x. replied h a_change st s x) run_told a_change (renamed a_change named_m named_n [] ∷ shift named_n [] ∷ []) ≡ Some false
+unfolding shows
+change_before_its_difference = refl
+
+abbrev run_echo : List Event
+run_echo = (opened 0) ∷ (sub 0 0 ((quoted (codes "{'method':'echo','params':[],'id':1}")))) ∷ []
+
+abbrev first_echo : Data
+first_echo = first_message (quoted (codes "{'method':'echo','params':[],'id':1}"))
+
+abbrev an_echo : Data
+an_echo = first_message (quoted (codes "{'method':'echo','params':[],'id':2}"))
+
+abbrev echoed : ℕ → Data → Item
+echoed id d = say (to d) (reply (number (unsigned id)) (array no_items))
+
+pub right_echo : queued_after (λ h st s x. said_before h st s x && replied h an_echo st s x) run_echo an_echo (echoed 1 first_echo ∷ echoed 2 an_echo ∷ []) ≡ Some true
+unfolding shows
+right_echo = refl
+
+pub echo_that_overtakes_was_let_through : queued_after said_before run_echo an_echo (echoed 2 an_echo ∷ echoed 1 first_echo ∷ []) ≡ Some true
+unfolding shows
+echo_that_overtakes_was_let_through = refl
+
+pub echo_that_overtakes : queued_after (λ h st s x. replied h an_echo st s x) run_echo an_echo (echoed 2 an_echo ∷ echoed 1 first_echo ∷ []) ≡ Some false
+unfolding shows
+echo_that_overtakes = refl

@@ -9,6 +9,7 @@ pub mod RefusedEvents
 pub mod OwedByRounds
 pub mod PictureLookups
 pub mod RepliesAtOnce
+pub mod ReplyOrder
 pub mod RequestNames
 pub mod SentTexts
 pub mod Rounds

@@ -7,15 +7,24 @@ use Rattle.odb_atoms.specs.Uuid.{Uuid}
 use Rattle.odb_law.specs.Client.{Picture, changes, drops, wish_of}
 use Rattle.odb_law.specs.Headline.{IsNow, IsReached, is_granted, pictured}
 use Rattle.odb_rpc.specs.Message.{Call, call_of}
-use Rattle.odb_service.specs.Run.{State, next, submitted}
+use Rattle.odb_service.specs.Run.{Event, State, next, opens, submitted}
 use Rattle.odb_service.specs.Service.{Service}
-use Rattle.odb_service.specs.Session.{Out, Session, no_request, owed, to}
+use Rattle.odb_service.specs.Session.{Answers, Out, Session, no_request, owed, to}
 use Rattle.odb_tables.specs.Database.{Db}
 
 -- no message of these is a reply
 abbrev pub AreNotices : List Out → Type 0
 AreNotices [] = Unit {0}
 AreNotices (o ∷ os) = (o.answers ≡ no_request) × AreNotices os
+
+abbrev pub with_request : Answers → List Data → List Data
+with_request no_request ds = ds
+with_request (to d) ds = d ∷ ds
+
+-- the requests that messages answer, in order
+abbrev pub answered_in : List Out → List Data
+answered_in [] = []
+answered_in (o ∷ os) = with_request o.answers (answered_in os)
 
 -- requests that never wait
 abbrev pub is_replied_at_once : Call → Bool
@@ -51,3 +60,9 @@ module _ (h : Service) where
   RepliesAtOnce =
       (st now : State) → IsReached h st → (s : ℕ) (d : Data) (fresh : List Uuid) (moment : ℕ) → next h (submitted s d fresh moment) st ≡ Ok now → is_replied_at_once (call_of h.db_name h.schema h.serves d) ≡ true
       → (y : Session) → get now.world.sessions s ≡ Some y → IsRepliedTo d now s y
+
+  -- Of the replies that a session was given and is owed, an event takes none away and leaves their order; those that it adds come after all others.
+  abbrev pub KeepsOrder : Type 0
+  KeepsOrder =
+      (st now : State) (e : Event) → next h e st ≡ Ok now → (s : ℕ) (x y : Session) → opens e s ≡ false → get st.world.sessions s ≡ Some x → get now.world.sessions s ≡ Some y
+      → (more : List Data) × (answered_in (now.given s ++ owed h now.world.db y) ≡ answered_in (st.given s ++ owed h st.world.db x) ++ more)

@@ -7,7 +7,7 @@ ghost use Rattle.odb_monitor.specs.Law.{NoOtherLeads};
 ghost use Rattle.odb_schema.specs.Schema.{Schema};
 ghost use Rattle.odb_law.specs.Headline.{BringsWhole, HoldsAlways, IsBroughtToNow, IsChangedWhole, IsDroppedWhole, IsKnown, IsMinimal};
 ghost use Rattle.odb_law.specs.Law.{AllAreTried, IsAnsweredOnce, IsCommitted, IsCounted, IsGranted, IsToldBefore, OwedIsTaken, RoundsTake, TakesEvents};
-ghost use Rattle.odb_law.specs.Replies.{RepliesAtOnce};
+ghost use Rattle.odb_law.specs.Replies.{KeepsOrder, RepliesAtOnce};
 ghost use Rattle.odb_law.specs.Sent.{HoldsOfTexts, IsRun, TextsBringWhole};
 ghost use Rattle.odb_service.specs.Server.{served_by};
 ghost use Rattle.odb_service.specs.Service.{service_of};
@@ -24,6 +24,8 @@ pub fn law()
     ensures changed_whole { (serves : List ℕ → Bool) (s : Schema) → HoldsAlways (service_of serves s) (IsChangedWhole (service_of serves s)) }
     // Right after a request that never waits its reply is the last that is owed; with a cancel, and with a change of filters, its client then has just what the filters select.
     ensures replies_at_once { (serves : List ℕ → Bool) (s : Schema) → RepliesAtOnce (service_of serves s) }
+    // Replies keep their order: what an event adds comes after all that were given and are owed.
+    ensures keeps_order { (serves : List ℕ → Bool) (s : Schema) → KeepsOrder (service_of serves s) }
     // Messages come by rounds alone, one at most, and each brings the monitor that it is about whole to its taking.
     ensures brings_whole { (serves : List ℕ → Bool) (s : Schema) → BringsWhole (service_of serves s) }
     // A strict client refuses no message: each is non-empty and names only what differs.

@@ -13,6 +13,7 @@ use Rattle.odb_law.proofs.AnsweredOnce as busy
 use Rattle.odb_law.proofs.WaitingTried as waiting
 use Rattle.odb_monitor.proofs.OnlyViews.{fold-only}
 use Rattle.odb_law.proofs.RepliesAtOnce as replies
+use Rattle.odb_law.proofs.ReplyOrder as order
 use Rattle.odb_law.proofs.law.Goals as goal
 
 pub returns-clause-brought_to_now : goal.returns-clause-brought_to_now
@@ -65,3 +66,6 @@ returns-clause-only c = fold-only
 
 pub returns-clause-replies_at_once : goal.returns-clause-replies_at_once
 returns-clause-replies_at_once c = λ serves s. replies.replies_at_once (service_of serves s) (reads_named serves s)
+
+pub returns-clause-keeps_order : goal.returns-clause-keeps_order
+returns-clause-keeps_order c = λ serves s. order.keeps_order (service_of serves s)
