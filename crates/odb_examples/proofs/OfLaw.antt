@@ -10,7 +10,7 @@ use Rattle.odb_service.specs.Session as session
 use Rattle.odb_atoms.specs.FinMap.{get, insert, len}
 use Rattle.odb_law.specs.Client.{Picture, Wish, adds, changes, client, drops, is_id_of, nothing_else, wish_of}
 use Rattle.odb_law.specs.Headline.{about, is_granted, pictured, updated}
-use Rattle.odb_law.specs.Replies.{is_replied_at_once}
+use Rattle.odb_law.specs.Replies.{answered_in, is_replied_at_once}
 use Rattle.odb_law.specs.Law.{answers_one, asked_by, committed_by, open_after, refusal}
 use Rattle.odb_service.specs.Run.{Event, Refusal, State, beginning, busy, closed, gone, in_use, next, opened, opens, round, run, submitted, ticked, too_many}
 use Rattle.odb_service.specs.Service.{Service, ended, service, waiting}
@@ -239,6 +239,18 @@ module _ (h : Service) where
   replied_at_once st (closed s) now = true
   replied_at_once st (round ss) now = true
   replied_at_once st (submitted s d fresh t) now = if is_replied_at_once (call_of h.db_name h.schema h.serves d) then elim (get now.world.sessions s) [ None ↦ true | Some y ↦ replied d now s y ] else true
+
+  -- what was answered and will be stays in front
+  abbrev goes_before : List Data → List Data → Bool
+  goes_before [] es = true
+  goes_before (d ∷ ds) [] = false
+  goes_before (d ∷ ds) (e ∷ es) = bytes_eq (h.printed d) (h.printed e) && goes_before ds es
+
+  abbrev keeps_order : State → Event → State → ℕ → Session → Bool
+  keeps_order st e now s x = elim (get st.world.sessions s) [
+    | None ↦ true
+    | Some y ↦ opens e s || goes_before (answered_in (st.given s ++ owed h st.world.db y)) (answered_in (now.given s ++ owed h now.world.db x))
+  ]
 
   abbrev sessions_stay : State → Event → State → ℕ → Bool
   sessions_stay st e now s = by (is_some (get now.world.sessions s)) (open_after e s (is_some (get st.world.sessions s)))
@@ -495,6 +507,7 @@ all_hold h es st =
     && (after_each h (committed h)) es st
     && (after_each h (told_before h)) es st
     && (after_each h (replied_at_once h)) es st
+    && (after_each h (at_both h (keeps_order h))) es st
     && (after_each h ((λ st e now. sessions_stay h st e now 0 && sessions_stay h st e now 1))) es st
     && (refusals h) es st
 
@@ -628,3 +641,35 @@ echo_that_overtakes_was_let_through = refl
 pub echo_that_overtakes : queued_after (λ h st s x. replied h an_echo st s x) run_echo an_echo (echoed 2 an_echo ∷ echoed 1 first_echo ∷ []) ≡ Some false
 unfolding shows
 echo_that_overtakes = refl
+
+-- a moment in which the replies that are queued change places
+abbrev reordered : Service → State → Data → List Item → Bool
+reordered h st d q = elim (get st.world.sessions 0) [
+  | None ↦ false
+  | Some x ↦ keeps_order h st (ticked 0) (with_queue d q x st) 0 (record { queue = q; monitors = x.monitors })
+]
+
+abbrev run_two_echoes : List Event
+run_two_echoes = (opened 0) ∷ (sub 0 0 ((quoted (codes "{'method':'echo','params':[],'id':1}")))) ∷ (sub 0 0 ((quoted (codes "{'method':'echo','params':[],'id':2}")))) ∷ []
+
+abbrev after_two_echoes : List Item → Option Bool
+after_two_echoes q = elim (schema_of_text net) [
+  | Ok s ↦ elim (run (service s) run_two_echoes (beginning (length s.tables))) [ Ok st ↦ Some (reordered (service s) st an_echo q) | Err e ↦ None ]
+  | Err e ↦ None
+]
+
+pub queue_that_stays : after_two_echoes (echoed 1 first_echo ∷ echoed 2 an_echo ∷ []) ≡ Some true
+unfolding shows
+queue_that_stays = refl
+
+pub queue_that_grows : after_two_echoes (echoed 1 first_echo ∷ echoed 2 an_echo ∷ echoed 3 an_echo ∷ []) ≡ Some true
+unfolding shows
+queue_that_grows = refl
+
+pub queue_that_changes_places : after_two_echoes (echoed 2 an_echo ∷ echoed 1 first_echo ∷ []) ≡ Some false
+unfolding shows
+queue_that_changes_places = refl
+
+pub queue_that_loses_a_reply : after_two_echoes (echoed 2 an_echo ∷ []) ≡ Some false
+unfolding shows
+queue_that_loses_a_reply = refl

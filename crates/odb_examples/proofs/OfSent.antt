@@ -1,5 +1,5 @@
 -- What a server took and sent: the lists of which the law of texts speaks. [P 9.7, 13.1]
-use Rattle.std.proofs.Common.{◌≡◌, ℕ, List, [], ◌∷◌, Option, Some, None, Result, Ok, Err, codes, refl, length, subst}
+use Rattle.std.proofs.Common.{◌≡◌, ℕ, Bool, true, false, true≢false, ap, List, [], ◌∷◌, Option, Some, None, Result, Ok, Err, codes, refl, length, subst}
 use Rattle.odb_core.specs.Represented.Core.{new_server}
 use Rattle.odb_examples.proofs.OfLaw.{sub, turn}
 use Rattle.odb_examples.proofs.TestSchemas.{net, quoted}
@@ -75,8 +75,16 @@ oldest_first n a b = refl
 abbrev Answer : Type 0
 Answer = Result (Server × List (ℕ × Text)) Refusal
 
+abbrev is_silent : List (ℕ × Text) → Bool
+is_silent [] = true
+is_silent (o ∷ os) = false
+
+abbrev answers_silently : Answer → Bool
+answers_silently (Ok p) = is_silent p.1
+answers_silently (Err r) = true
+
 not_empty : (s t : Server) (o : ℕ × Text) (os : List (ℕ × Text)) → (let a : Answer = Ok (s, []) in a) ≡ Ok (t, o ∷ os) → ⊥
-not_empty s t o os e = cc
+not_empty s t o os e = true≢false (ap answers_silently e)
 
 pub an_invented_text_is_not_served : (schema : Schema) (after : Server) → AreServed schema (took (ticked 5) after ((0, []) ∷ []) ∷ []) → ⊥
 an_invented_text_is_not_served schema after a = not_empty _ after (0, []) [] a.0
