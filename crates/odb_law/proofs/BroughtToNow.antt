@@ -39,7 +39,7 @@ first_or_rest (Some u) rest (v ∷ a) o b e =
     let t : (u ≡ v) × (rest ≡ a ++ o ∷ b) = head_of u v rest (a ++ o ∷ b) e in
     inr (a, ap (λ x. x ∷ a) (sym t.0), t.1)
 
-cons-list : {A : Type 0} (g : Option A) (xs : List A) → cons_option g xs ≡ option_to_list g ++ xs
+pub cons-list : {A : Type 0} (g : Option A) (xs : List A) → cons_option g xs ≡ option_to_list g ++ xs
 cons-list None xs = refl
 cons-list (Some x) xs = refl
 

@@ -14,6 +14,7 @@ pub mod RequestNames
 pub mod SentTexts
 pub mod Rounds
 pub mod HeadlineRuns
+pub mod KindsSent
 pub mod EventSteps
 pub mod TakingPictures
 pub mod UpdateBeforeReply

@@ -6,6 +6,7 @@ ghost use Rattle.std.specs.Prelude.{Bool, List, ℕ};
 ghost use Rattle.odb_monitor.specs.Law.{NoOtherLeads};
 ghost use Rattle.odb_schema.specs.Schema.{Schema};
 ghost use Rattle.odb_law.specs.Headline.{BringsWhole, HoldsAlways, IsBroughtToNow, IsChangedWhole, IsDroppedWhole, IsKnown, IsMinimal};
+ghost use Rattle.odb_law.specs.Kinds.{SendsKinds};
 ghost use Rattle.odb_law.specs.Law.{AllAreTried, IsAnsweredOnce, IsCommitted, IsCounted, IsGranted, IsToldBefore, OwedIsTaken, RoundsTake, TakesEvents};
 ghost use Rattle.odb_law.specs.Replies.{KeepsOrder, RepliesAtOnce};
 ghost use Rattle.odb_law.specs.Sent.{HoldsOfTexts, IsRun, TextsBringWhole};
@@ -30,6 +31,8 @@ pub fn law()
     ensures brings_whole { (serves : List ℕ → Bool) (s : Schema) → BringsWhole (service_of serves s) }
     // A strict client refuses no message: each is non-empty and names only what differs.
     ensures minimal { (serves : List ℕ → Bool) (s : Schema) → HoldsAlways (service_of serves s) (IsMinimal (service_of serves s)) }
+    // With kinds of change switched off a session is sent what it would be sent with all on, without these, and they count as told.
+    ensures sends_kinds { (serves : List ℕ → Bool) (s : Schema) → SendsKinds (service_of serves s) }
     // No other message leads a strict client from the one view to the other.
     ensures only { NoOtherLeads }
     // Events are refused for the reasons that are named, and sessions open and close by their events alone.

@@ -14,6 +14,7 @@ use Rattle.odb_law.proofs.WaitingTried as waiting
 use Rattle.odb_monitor.proofs.OnlyViews.{fold-only}
 use Rattle.odb_law.proofs.RepliesAtOnce as replies
 use Rattle.odb_law.proofs.ReplyOrder as order
+use Rattle.odb_law.proofs.KindsSent as kinds
 use Rattle.odb_law.proofs.law.Goals as goal
 
 pub returns-clause-brought_to_now : goal.returns-clause-brought_to_now
@@ -69,3 +70,6 @@ returns-clause-replies_at_once c = λ serves s. replies.replies_at_once (service
 
 pub returns-clause-keeps_order : goal.returns-clause-keeps_order
 returns-clause-keeps_order c = λ serves s. order.keeps_order (service_of serves s)
+
+pub returns-clause-sends_kinds : goal.returns-clause-sends_kinds
+returns-clause-sends_kinds c = λ serves s. kinds.sends_kinds (service_of serves s)

@@ -1,0 +1,169 @@
+-- With kinds of change switched off a session is sent what it would be sent with all on, without these.
+use Rattle.std.proofs.Common.{◌≡◌, ℕ, Bool, true, false, cond, List, [], ◌∷◌, ◌++◌, map, Option, Some, None, inl, inr, refl, sym, ◌∙◌, ap, subst}
+use Rattle.std.specs.Prelude.{option_and_then, option_map, option_to_list, filter_map, find}
+use Rattle.std.specs.List.{cons_option}
+use Rattle.serde_json.specs.Data.{Data}
+use Rattle.odb_atoms.specs.FinMap.{FinMap, combine, empty, get, map_entries}
+use Rattle.odb_atoms.specs.Uuid.{uuid_cmp}
+use Rattle.odb_cond.specs.Filter.{Filter}
+use Rattle.odb_law.proofs.BroughtToNow.{cons-list}
+use Rattle.odb_law.proofs.PictureLookups.{find_map}
+use Rattle.odb_law.proofs.SessionInvariant.{at_first-map, drop_first-map, map-append}
+use Rattle.odb_law.specs.Kinds.{AreCut, IsCut, SendsKinds, all_kinds, everything, full_item, full_monitor, full_watch}
+use Rattle.odb_monitor.proofs.Maps.{get-map_entries, same_map}
+use Rattle.odb_monitor.specs.Update.{table_updates}
+use Rattle.odb_monitor.specs.View.{Change, Delta, View, change, comes_in, delta, differs, goes_out, is_none, is_shown, nothing, query, selected, shown}
+use Rattle.odb_request.specs.Request.{Notation, Request, Shape}
+use Rattle.odb_rpc.specs.Message.{notification, reply}
+use Rattle.odb_service.specs.Service.{Service}
+use Rattle.odb_service.specs.Session.{Item, Monitor, Out, Watch, begun, brought, changed, first_out, gives, has_id, leaves, method_of, no_request, owed_from, refilter, renamed, rested, say, shapes, shift, start, stopped, sync, to, update_to}
+use Rattle.odb_tables.specs.Database.{Db, table_at}
+use Rattle.odb_wire.specs.Message.{id_of}
+
+-- ---- requests with all kinds on
+
+query_full : (db : Db) (qs : List Request) → query db (all_kinds qs) ≡ query db qs
+query_full db [] = refl
+query_full db (q ∷ qs) = ap (λ W. selected q (table_at db q.place) ∷ W) (query_full db qs)
+
+shapes_full : (qs : List Request) → shapes (all_kinds qs) ≡ shapes qs
+shapes_full [] = refl
+shapes_full (q ∷ qs) = ap (λ ss. q.shape ∷ ss) (shapes_full qs)
+
+nothing_full : (qs : List Request) → ◌≡◌ {A = View} (nothing (all_kinds qs)) (nothing qs)
+nothing_full [] = refl
+nothing_full (q ∷ qs) = ap (λ (V : View). empty ∷ V) (nothing_full qs)
+
+refilter_full : (fs : List (List ℕ × Filter)) (qs : List Request) → all_kinds (refilter fs qs) ≡ refilter fs (all_kinds qs)
+refilter_full fs [] = refl
+refilter_full fs (q ∷ qs) = ap (λ ps. all_kinds (refilter fs (q ∷ [])) ++ ps) (refilter_full fs qs)
+
+all_shown : (first : Bool) (c : Change) → is_shown first everything c ≡ true
+all_shown true (comes_in new) = refl
+all_shown false (comes_in new) = refl
+all_shown first (goes_out old) = refl
+all_shown first (differs old new) = refl
+
+entries_stay : (first : Bool) (t : FinMap uuid_cmp Change) → map_entries (λ u c. cond (is_shown first everything c) (Some c) None) t ≡ t
+entries_stay first t = same_map (map_entries (λ u c. cond (is_shown first everything c) (Some c) None) t) t (λ q. get-map_entries (λ u c. cond (is_shown first everything c) (Some c) None) t q ∙ by (get t q))
+  where
+    by : (o : Option Change) → option_and_then (λ c. cond (is_shown first everything c) (Some c) None) o ≡ o
+    by None = refl
+    by (Some c) = ap (λ b. cond b (Some c) None) (all_shown first c)
+
+shown_full : (first : Bool) (db : Db) (qs : List Request) (V : View) → shown first (all_kinds qs) (delta V (query db qs)) ≡ delta V (query db qs)
+shown_full first db [] [] = refl
+shown_full first db [] (t ∷ V) = refl
+shown_full first db (q ∷ qs) [] = refl
+shown_full first db (q ∷ qs) (t ∷ V) = λ i. entries_stay first (combine change t (selected q (table_at db q.place))) i ∷ shown_full first db qs V i
+
+module _ (h : Service) where
+  -- ---- one message
+
+  abbrev told_by : Notation → Data → List Shape → Delta → Option Out
+  told_by n i ss D = cond (is_none D) None (Some (record { answers = no_request; message = notification (method_of h n) (i ∷ table_updates n false ss D ∷ []) }))
+
+  update_cut : (db : Db) (qs : List Request) (m : Monitor) → IsCut h (update_to h db (all_kinds qs) (full_monitor m)) (update_to h db qs m)
+  update_cut db qs m = inr (inr (
+    m.watch.notation,
+    m.watch.id,
+    qs,
+    delta m.view (query db qs),
+    (λ j. told_by m.watch.notation m.watch.id (shapes_full qs j) (shown false (all_kinds qs) (delta m.view (query_full db qs j)))) ∙ ap (told_by m.watch.notation m.watch.id (shapes qs)) (shown_full false db qs m.view),
+    refl,
+  ))
+
+  abbrev first_by : Data → Watch → List Shape → Delta → Option Out
+  first_by d k ss D = Some (record { answers = to d; message = reply (id_of d) (table_updates k.notation true ss D) })
+
+  first_cut : (db : Db) (d : Data) (k : Watch) → IsCut h (Some (first_out h db d (full_watch k))) (Some (first_out h db d k))
+  first_cut db d k = inr (inl (
+    d,
+    k,
+    delta (nothing k.requests) (query db k.requests),
+    (λ j. first_by d k (shapes_full k.requests j) (shown true (all_kinds k.requests) (delta (nothing_full k.requests j) (query_full db k.requests j)))) ∙ ap (first_by d k (shapes k.requests)) (shown_full true db k.requests (nothing k.requests)),
+    refl,
+  ))
+
+  -- of the monitor that was found, if there is one
+  found_cut : (db : Db) (f g : List Request → List Request) → ((qs : List Request) → all_kinds (f qs) ≡ g (all_kinds qs)) → (o : Option Monitor)
+      → IsCut h (option_and_then (λ m. update_to h db (g m.watch.requests) m) (option_map full_monitor o)) (option_and_then (λ m. update_to h db (f m.watch.requests) m) o)
+  found_cut db f g e None = inl refl
+  found_cut db f g e (Some m) = subst (λ qs. IsCut h (update_to h db qs (full_monitor m)) (update_to h db (f m.watch.requests) m)) (e m.watch.requests) (update_cut db (f m.watch.requests) m)
+
+  item_cut : (db : Db) (i : Item) (ms : List Monitor) → IsCut h (gives h db (full_item i) (map full_monitor ms)) (gives h db i ms)
+  item_cut db (say a d) ms = inl refl
+  item_cut db (start d k) ms = first_cut db d k
+  item_cut db (sync i) ms =
+      subst (λ o. IsCut h (option_and_then (λ m. update_to h db m.watch.requests m) o) (gives h db (sync i) ms)) (sym (find_map full_monitor (has_id h i) ms)) (found_cut db (λ qs. qs) (λ qs. qs) (λ qs. refl) (find (has_id h i) ms))
+  item_cut db (shift i fs) ms =
+      subst (λ o. IsCut h (option_and_then (λ m. update_to h db (refilter fs m.watch.requests) m) o) (gives h db (shift i fs) ms)) (sym (find_map full_monitor (has_id h i) ms))
+      (found_cut db (refilter fs) (refilter fs) (refilter_full fs) (find (has_id h i) ms))
+  item_cut db (renamed d old new fs) ms = inl refl
+  item_cut db (stopped d i) ms = inl refl
+
+  -- ---- what is left
+
+  brought_full : (db : Db) (m : Monitor) → full_monitor (brought h db m.watch.requests m) ≡ brought h db (full_monitor m).watch.requests (full_monitor m)
+  brought_full db m = λ j. record { watch = full_watch m.watch; view = sym (query_full db m.watch.requests) j }
+
+  shifted_full : (db : Db) (fs : List (List ℕ × Filter)) (m : Monitor) → full_monitor (brought h db (refilter fs m.watch.requests) m) ≡ brought h db (refilter fs (full_monitor m).watch.requests) (full_monitor m)
+  shifted_full db fs m = λ j. record { watch = full_watch m.watch; view = (sym (query_full db (refilter fs m.watch.requests)) ∙ ap (query db) (refilter_full fs m.watch.requests)) j }
+
+  begun_full : (db : Db) (k : Watch) → full_monitor (begun h db k) ≡ begun h db (full_watch k)
+  begun_full db k = λ j. record { watch = full_watch k; view = sym (query_full db k.requests) j }
+
+  abbrev with_watch : (Watch → Watch) → Monitor → Monitor
+  with_watch f m = record { watch = f m.watch; view = m.view }
+
+  changed_full : (new : Data) (fs : List (List ℕ × Filter)) (m : Monitor) → full_monitor (with_watch (changed h new fs) m) ≡ with_watch (changed h new fs) (full_monitor m)
+  changed_full new fs m = λ j. record { watch = record { id = new; notation = m.watch.notation; requests = refilter_full fs m.watch.requests j }; view = m.view }
+
+  leaves_full : (db : Db) (i : Item) (ms : List Monitor) → map full_monitor (leaves h db i ms) ≡ leaves h db (full_item i) (map full_monitor ms)
+  leaves_full db (say a d) ms = refl
+  leaves_full db (start d k) ms = map-append full_monitor ms (begun h db k ∷ []) ∙ ap (λ m. map full_monitor ms ++ m ∷ []) (begun_full db k)
+  leaves_full db (sync i) ms = at_first-map full_monitor (has_id h i) (λ m. brought h db m.watch.requests m) (λ m. brought h db m.watch.requests m) (brought_full db) ms
+  leaves_full db (shift i fs) ms = at_first-map full_monitor (has_id h i) (λ m. brought h db (refilter fs m.watch.requests) m) (λ m. brought h db (refilter fs m.watch.requests) m) (shifted_full db fs) ms
+  leaves_full db (renamed d old new fs) ms = at_first-map full_monitor (has_id h old) (with_watch (changed h new fs)) (with_watch (changed h new fs)) (changed_full new fs) ms
+  leaves_full db (stopped d i) ms = drop_first-map full_monitor (has_id h i) ms
+
+  -- ---- all messages
+
+  abbrev Pairs : Type 0
+  Pairs = List (Option Out × Option Out)
+
+  rest_cut : (db : Db) (ms : List Monitor) → AreCut h (filter_map (λ m. update_to h db m.watch.requests m) (map full_monitor ms)) (filter_map (λ m. update_to h db m.watch.requests m) ms)
+  rest_cut db [] = ([], refl, refl, tt)
+  rest_cut db (m ∷ ms) =
+      let r : AreCut h (filter_map (λ m. update_to h db m.watch.requests m) (map full_monitor ms)) (filter_map (λ m. update_to h db m.watch.requests m) ms) = rest_cut db ms in (
+        (update_to h db (all_kinds m.watch.requests) (full_monitor m), update_to h db m.watch.requests m) ∷ r.0,
+        ap (cons_option (update_to h db (all_kinds m.watch.requests) (full_monitor m))) r.1,
+        ap (cons_option (update_to h db m.watch.requests m)) r.2,
+        (update_cut db m.watch.requests m, r.3),
+      )
+
+  owed_cut : (db : Db) (q : List Item) (ms : List Monitor) → AreCut h (owed_from h db (map full_item q) (map full_monitor ms)) (owed_from h db q ms)
+  owed_cut db [] ms = rest_cut db ms
+  owed_cut db (i ∷ is) ms =
+      let r : AreCut h (owed_from h db (map full_item is) (map full_monitor (leaves h db i ms))) (owed_from h db is (leaves h db i ms)) = owed_cut db is (leaves h db i ms) in
+      let all : Option Out = gives h db (full_item i) (map full_monitor ms) in
+      let some : Option Out = gives h db i ms in (
+        (all, some) ∷ r.0,
+        ap (λ ns. option_to_list all ++ owed_from h db (map full_item is) ns) (sym (leaves_full db i ms)) ∙ ap (λ os. option_to_list all ++ os) r.1 ∙ sym (cons-list all (filter_map (λ p. p.0) r.0)),
+        ap (λ os. option_to_list some ++ os) r.2 ∙ sym (cons-list some (filter_map (λ p. p.1) r.0)),
+        (item_cut db i ms, r.3),
+      )
+
+  all_brought : (db : Db) (ms : List Monitor) → map full_monitor (map (λ m. brought h db m.watch.requests m) ms) ≡ map (λ m. brought h db m.watch.requests m) (map full_monitor ms)
+  all_brought db [] = refl
+  all_brought db (m ∷ ms) = λ j. brought_full db m j ∷ all_brought db ms j
+
+  rested_full : (db : Db) (q : List Item) (ms : List Monitor) → map full_monitor (rested h db q ms) ≡ rested h db (map full_item q) (map full_monitor ms)
+  rested_full db [] ms = all_brought db ms
+  rested_full db (i ∷ is) ms = rested_full db is (leaves h db i ms) ∙ ap (rested h db (map full_item is)) (leaves_full db i ms)
+
+  pub sends_kinds : SendsKinds h
+  sends_kinds = record {
+    cut = λ db x. owed_cut db x.queue x.monitors;
+    counts = λ db x j. record { queue = []; monitors = rested_full db x.queue x.monitors j };
+  }
