@@ -1,5 +1,5 @@
 -- With kinds of change switched off a session is sent what it would be sent with all on, without these.
-use Rattle.std.proofs.Common.{◌≡◌, ℕ, Bool, true, false, cond, List, [], ◌∷◌, ◌++◌, map, Option, Some, None, inl, inr, refl, sym, ◌∙◌, ap, subst}
+use Rattle.std.proofs.Common.{◌≡◌, ℕ, Bool, true, false, cond, List, [], ◌∷◌, ◌++◌, map, Option, Some, None, inl, inr, refl, sym, ◌∙◌, ap, subst, is_some, true≢false}
 use Rattle.std.specs.Prelude.{option_and_then, option_map, option_to_list, filter_map, find}
 use Rattle.std.specs.List.{cons_option}
 use Rattle.serde_json.specs.Data.{Data}
@@ -8,15 +8,16 @@ use Rattle.odb_atoms.specs.Uuid.{uuid_cmp}
 use Rattle.odb_cond.specs.Filter.{Filter}
 use Rattle.odb_law.proofs.BroughtToNow.{cons-list}
 use Rattle.odb_law.proofs.PictureLookups.{find_map}
-use Rattle.odb_law.proofs.SessionInvariant.{at_first-map, drop_first-map, map-append}
-use Rattle.odb_law.specs.Kinds.{AreCut, IsCut, SendsKinds, all_kinds, everything, full_item, full_monitor, full_watch}
+use Rattle.odb_law.proofs.SessionInvariant.{at_first-map, drop_first-map, leaves-asks, map-append, shapes-refilter}
+use Rattle.odb_law.specs.Kinds.{AreCut, AreEachCut, IsAmong, IsCut, SendsKinds, all_kinds, everything, full_item, full_monitor, full_watch}
 use Rattle.odb_monitor.proofs.Maps.{get-map_entries, same_map}
+use Rattle.odb_monitor.proofs.Views.{some_is}
 use Rattle.odb_monitor.specs.Update.{table_updates}
 use Rattle.odb_monitor.specs.View.{Change, Delta, View, change, comes_in, delta, differs, goes_out, is_none, is_shown, nothing, query, selected, shown}
 use Rattle.odb_request.specs.Request.{Notation, Request, Shape}
 use Rattle.odb_rpc.specs.Message.{notification, reply}
 use Rattle.odb_service.specs.Service.{Service}
-use Rattle.odb_service.specs.Session.{Item, Monitor, Out, Watch, begun, brought, changed, first_out, gives, has_id, leaves, method_of, no_request, owed_from, refilter, renamed, rested, say, shapes, shift, start, stopped, sync, to, update_to}
+use Rattle.odb_service.specs.Session.{Item, Monitor, Out, Watch, asks, begun, brought, changed, first_out, gives, has_id, leaves, method_of, no_request, owed_from, refilter, renamed, rested, say, shapes, shift, start, stopped, sync, to, update_to}
 use Rattle.odb_tables.specs.Database.{Db, table_at}
 use Rattle.odb_wire.specs.Message.{id_of}
 
@@ -57,48 +58,73 @@ shown_full first db [] (t ∷ V) = refl
 shown_full first db (q ∷ qs) [] = refl
 shown_full first db (q ∷ qs) (t ∷ V) = λ i. entries_stay first (combine change t (selected q (table_at db q.place))) i ∷ shown_full first db qs V i
 
+shown_refiltered : (first : Bool) (fs : List (List ℕ × Filter)) (qs : List Request) (D : Delta) → shown first (refilter fs qs) D ≡ shown first qs D
+shown_refiltered first fs [] D = refl
+shown_refiltered first fs (q ∷ qs) [] = refl
+shown_refiltered first fs (q ∷ qs) (t ∷ D) = ap (λ E. map_entries (λ u c. cond (is_shown first q.select c) (Some c) None) t ∷ E) (shown_refiltered first fs qs D)
+
+abbrev watches : List Monitor → List Watch
+watches ms = map (λ m. m.watch) ms
+
+found_among : (p : Monitor → Bool) (ms : List Monitor) (m : Monitor) → find p ms ≡ Some m → IsAmong m.watch (watches ms)
+found_among p [] m e = absurd (true≢false (sym (ap is_some e)))
+found_among p (k ∷ ms) m e =
+    elim (p k) as (λ b. cond b (Some k) (find p ms) ≡ Some m → IsAmong m.watch (watches (k ∷ ms))) [
+      | true ↦ λ f. inl (ap (λ (m : Monitor). m.watch) (some_is k m f))
+      | false ↦ λ f. inr (found_among p ms m f)
+    ] e
+
+last_among : (ks : List Watch) (k : Watch) → IsAmong k (ks ++ k ∷ [])
+last_among [] k = inl refl
+last_among (l ∷ ks) k = inr (last_among ks k)
+
 module _ (h : Service) where
   -- ---- one message
 
   abbrev told_by : Notation → Data → List Shape → Delta → Option Out
   told_by n i ss D = cond (is_none D) None (Some (record { answers = no_request; message = notification (method_of h n) (i ∷ table_updates n false ss D ∷ []) }))
 
-  update_cut : (db : Db) (qs : List Request) (m : Monitor) → IsCut h (update_to h db (all_kinds qs) (full_monitor m)) (update_to h db qs m)
-  update_cut db qs m = inr (inr (
-    m.watch.notation,
-    m.watch.id,
-    qs,
+  -- towards requests that differ from its own in their filters alone
+  update_cut : (db : Db) (ks : List Watch) (qs : List Request) (m : Monitor) → IsAmong m.watch ks → shapes qs ≡ shapes m.watch.requests → ((D : Delta) → shown false qs D ≡ shown false m.watch.requests D) → IsCut h ks (update_to h db (all_kinds qs) (full_monitor m)) (update_to h db qs m)
+  update_cut db ks qs m among alike shows = inr (inr (
+    m.watch,
+    among,
     delta m.view (query db qs),
-    (λ j. told_by m.watch.notation m.watch.id (shapes_full qs j) (shown false (all_kinds qs) (delta m.view (query_full db qs j)))) ∙ ap (told_by m.watch.notation m.watch.id (shapes qs)) (shown_full false db qs m.view),
-    refl,
+    (λ j. told_by m.watch.notation m.watch.id (shapes_full qs j) (shown false (all_kinds qs) (delta m.view (query_full db qs j)))) ∙ (λ j. told_by m.watch.notation m.watch.id (alike j) (shown_full false db qs m.view j)),
+    (λ j. told_by m.watch.notation m.watch.id (alike j) (shows (delta m.view (query db qs)) j)),
   ))
 
   abbrev first_by : Data → Watch → List Shape → Delta → Option Out
   first_by d k ss D = Some (record { answers = to d; message = reply (id_of d) (table_updates k.notation true ss D) })
 
-  first_cut : (db : Db) (d : Data) (k : Watch) → IsCut h (Some (first_out h db d (full_watch k))) (Some (first_out h db d k))
-  first_cut db d k = inr (inl (
+  first_cut : (db : Db) (ks : List Watch) (d : Data) (k : Watch) → IsCut h (ks ++ k ∷ []) (Some (first_out h db d (full_watch k))) (Some (first_out h db d k))
+  first_cut db ks d k = inr (inl (
     d,
     k,
+    last_among ks k,
     delta (nothing k.requests) (query db k.requests),
     (λ j. first_by d k (shapes_full k.requests j) (shown true (all_kinds k.requests) (delta (nothing_full k.requests j) (query_full db k.requests j)))) ∙ ap (first_by d k (shapes k.requests)) (shown_full true db k.requests (nothing k.requests)),
     refl,
   ))
 
   -- of the monitor that was found, if there is one
-  found_cut : (db : Db) (f g : List Request → List Request) → ((qs : List Request) → all_kinds (f qs) ≡ g (all_kinds qs)) → (o : Option Monitor)
-      → IsCut h (option_and_then (λ m. update_to h db (g m.watch.requests) m) (option_map full_monitor o)) (option_and_then (λ m. update_to h db (f m.watch.requests) m) o)
-  found_cut db f g e None = inl refl
-  found_cut db f g e (Some m) = subst (λ qs. IsCut h (update_to h db qs (full_monitor m)) (update_to h db (f m.watch.requests) m)) (e m.watch.requests) (update_cut db (f m.watch.requests) m)
+  found_cut : (db : Db) (ks : List Watch) (f g : List Request → List Request) → ((qs : List Request) → all_kinds (f qs) ≡ g (all_kinds qs)) → ((qs : List Request) → shapes (f qs) ≡ shapes qs) → ((qs : List Request) (D : Delta) → shown false (f qs) D ≡ shown false qs D)
+      → (o : Option Monitor) → ((m : Monitor) → o ≡ Some m → IsAmong m.watch ks)
+      → IsCut h ks (option_and_then (λ m. update_to h db (g m.watch.requests) m) (option_map full_monitor o)) (option_and_then (λ m. update_to h db (f m.watch.requests) m) o)
+  found_cut db ks f g e alike shows None among = inl refl
+  found_cut db ks f g e alike shows (Some m) among =
+      subst (λ qs. IsCut h ks (update_to h db qs (full_monitor m)) (update_to h db (f m.watch.requests) m)) (e m.watch.requests)
+      (update_cut db ks (f m.watch.requests) m (among m refl) (alike m.watch.requests) (shows m.watch.requests))
 
-  item_cut : (db : Db) (i : Item) (ms : List Monitor) → IsCut h (gives h db (full_item i) (map full_monitor ms)) (gives h db i ms)
+  item_cut : (db : Db) (i : Item) (ms : List Monitor) → IsCut h (asks h i (watches ms)) (gives h db (full_item i) (map full_monitor ms)) (gives h db i ms)
   item_cut db (say a d) ms = inl refl
-  item_cut db (start d k) ms = first_cut db d k
+  item_cut db (start d k) ms = first_cut db (watches ms) d k
   item_cut db (sync i) ms =
-      subst (λ o. IsCut h (option_and_then (λ m. update_to h db m.watch.requests m) o) (gives h db (sync i) ms)) (sym (find_map full_monitor (has_id h i) ms)) (found_cut db (λ qs. qs) (λ qs. qs) (λ qs. refl) (find (has_id h i) ms))
+      subst (λ o. IsCut h (watches ms) (option_and_then (λ m. update_to h db m.watch.requests m) o) (gives h db (sync i) ms)) (sym (find_map full_monitor (has_id h i) ms))
+      (found_cut db (watches ms) (λ qs. qs) (λ qs. qs) (λ qs. refl) (λ qs. refl) (λ qs D. refl) (find (has_id h i) ms) (λ m e. found_among (has_id h i) ms m e))
   item_cut db (shift i fs) ms =
-      subst (λ o. IsCut h (option_and_then (λ m. update_to h db (refilter fs m.watch.requests) m) o) (gives h db (shift i fs) ms)) (sym (find_map full_monitor (has_id h i) ms))
-      (found_cut db (refilter fs) (refilter fs) (refilter_full fs) (find (has_id h i) ms))
+      subst (λ o. IsCut h (watches ms) (option_and_then (λ m. update_to h db (refilter fs m.watch.requests) m) o) (gives h db (shift i fs) ms)) (sym (find_map full_monitor (has_id h i) ms))
+      (found_cut db (watches ms) (refilter fs) (refilter fs) (refilter_full fs) (shapes-refilter fs) (shown_refiltered false fs) (find (has_id h i) ms) (λ m e. found_among (has_id h i) ms m e))
   item_cut db (renamed d old new fs) ms = inl refl
   item_cut db (stopped d i) ms = inl refl
 
@@ -129,29 +155,27 @@ module _ (h : Service) where
 
   -- ---- all messages
 
-  abbrev Pairs : Type 0
-  Pairs = List (Option Out × Option Out)
-
-  rest_cut : (db : Db) (ms : List Monitor) → AreCut h (filter_map (λ m. update_to h db m.watch.requests m) (map full_monitor ms)) (filter_map (λ m. update_to h db m.watch.requests m) ms)
-  rest_cut db [] = ([], refl, refl, tt)
-  rest_cut db (m ∷ ms) =
-      let r : AreCut h (filter_map (λ m. update_to h db m.watch.requests m) (map full_monitor ms)) (filter_map (λ m. update_to h db m.watch.requests m) ms) = rest_cut db ms in (
+  -- those that are left in a list of monitors
+  rest_cut : (db : Db) (ks : List Watch) (ms : List Monitor) → ((k : Watch) → IsAmong k (watches ms) → IsAmong k ks) → AreCut h [] ks (filter_map (λ m. update_to h db m.watch.requests m) (map full_monitor ms)) (filter_map (λ m. update_to h db m.watch.requests m) ms)
+  rest_cut db ks [] among = ([], refl, refl, tt)
+  rest_cut db ks (m ∷ ms) among =
+      let r : AreCut h [] ks (filter_map (λ m. update_to h db m.watch.requests m) (map full_monitor ms)) (filter_map (λ m. update_to h db m.watch.requests m) ms) = rest_cut db ks ms (λ k a. among k (inr a)) in (
         (update_to h db (all_kinds m.watch.requests) (full_monitor m), update_to h db m.watch.requests m) ∷ r.0,
         ap (cons_option (update_to h db (all_kinds m.watch.requests) (full_monitor m))) r.1,
         ap (cons_option (update_to h db m.watch.requests m)) r.2,
-        (update_cut db m.watch.requests m, r.3),
+        (update_cut db ks m.watch.requests m (among m.watch (inl refl)) refl (λ D. refl), r.3),
       )
 
-  owed_cut : (db : Db) (q : List Item) (ms : List Monitor) → AreCut h (owed_from h db (map full_item q) (map full_monitor ms)) (owed_from h db q ms)
-  owed_cut db [] ms = rest_cut db ms
+  owed_cut : (db : Db) (q : List Item) (ms : List Monitor) → AreCut h q (watches ms) (owed_from h db (map full_item q) (map full_monitor ms)) (owed_from h db q ms)
+  owed_cut db [] ms = rest_cut db (watches ms) ms (λ k a. a)
   owed_cut db (i ∷ is) ms =
-      let r : AreCut h (owed_from h db (map full_item is) (map full_monitor (leaves h db i ms))) (owed_from h db is (leaves h db i ms)) = owed_cut db is (leaves h db i ms) in
+      let r : AreCut h is (watches (leaves h db i ms)) (owed_from h db (map full_item is) (map full_monitor (leaves h db i ms))) (owed_from h db is (leaves h db i ms)) = owed_cut db is (leaves h db i ms) in
       let all : Option Out = gives h db (full_item i) (map full_monitor ms) in
       let some : Option Out = gives h db i ms in (
         (all, some) ∷ r.0,
         ap (λ ns. option_to_list all ++ owed_from h db (map full_item is) ns) (sym (leaves_full db i ms)) ∙ ap (λ os. option_to_list all ++ os) r.1 ∙ sym (cons-list all (filter_map (λ p. p.0) r.0)),
         ap (λ os. option_to_list some ++ os) r.2 ∙ sym (cons-list some (filter_map (λ p. p.1) r.0)),
-        (item_cut db i ms, r.3),
+        (item_cut db i ms, subst (λ ks. AreEachCut h is ks r.0) (leaves-asks h db i ms) r.3),
       )
 
   all_brought : (db : Db) (ms : List Monitor) → map full_monitor (map (λ m. brought h db m.watch.requests m) ms) ≡ map (λ m. brought h db m.watch.requests m) (map full_monitor ms)

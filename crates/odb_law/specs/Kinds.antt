@@ -3,10 +3,10 @@ use Rattle.std.specs.Prelude.{◌≡◌, ◌⊎◌, true, false, List, [], ◌�
 use Rattle.serde_json.specs.Data.{Data}
 use Rattle.odb_monitor.specs.Update.{table_updates}
 use Rattle.odb_monitor.specs.View.{Delta, shown}
-use Rattle.odb_request.specs.Request.{Notation, Request, Select}
+use Rattle.odb_request.specs.Request.{Request, Select}
 use Rattle.odb_rpc.specs.Message.{reply}
 use Rattle.odb_service.specs.Service.{Service}
-use Rattle.odb_service.specs.Session.{Item, Monitor, Out, Session, Watch, drained, owed, renamed, say, shapes, shift, start, stopped, sync, to, told_of}
+use Rattle.odb_service.specs.Session.{Item, Monitor, Out, Session, Watch, asks, drained, owed, renamed, say, shapes, shift, start, stopped, sync, to, told, told_of}
 use Rattle.odb_tables.specs.Database.{Db}
 use Rattle.odb_wire.specs.Message.{id_of}
 
@@ -41,27 +41,37 @@ full x = record { queue = map full_item x.queue; monitors = map full_monitor x.m
 abbrev pub first_reply : Data → Watch → Delta → Out
 first_reply d k D = record { answers = to d; message = reply (id_of d) (table_updates k.notation true (shapes k.requests) D) }
 
--- of a first reply, the rows of the kinds that are on
-abbrev pub IsFirstCut : Option Out → Option Out → Type 0
-IsFirstCut all some = (d : Data) × (k : Watch) × (D : Delta) × (all ≡ Some (first_reply d k D)) × (some ≡ Some (first_reply d k (shown true k.requests D)))
+abbrev pub IsAmong : Watch → List Watch → Type 0
+IsAmong k [] = ⊥
+IsAmong k (l ∷ ls) = (l ≡ k) ⊎ IsAmong k ls
+
+-- the first reply of one of these monitors: of its rows those of the kinds that are on
+abbrev pub IsFirstCut : List Watch → Option Out → Option Out → Type 0
+IsFirstCut ks all some = (d : Data) × (k : Watch) × IsAmong k ks × (D : Delta) × (all ≡ Some (first_reply d k D)) × (some ≡ Some (first_reply d k (shown true k.requests D)))
 
 module _ (h : Service) where
-  -- of an update, the rows of the kinds that are on; none where no row is left
-  abbrev pub IsUpdateCut : Option Out → Option Out → Type 0
-  IsUpdateCut all some = (n : Notation) × (i : Data) × (qs : List Request) × (D : Delta) × (all ≡ told_of h n i qs D) × (some ≡ told_of h n i qs (shown false qs D))
+  -- an update of one of these monitors: of its rows those of the kinds that are on; none where no row is left
+  abbrev pub IsUpdateCut : List Watch → Option Out → Option Out → Type 0
+  IsUpdateCut ks all some = (k : Watch) × IsAmong k ks × (D : Delta) × (all ≡ told_of h k.notation k.id k.requests D) × (some ≡ told_of h k.notation k.id k.requests (shown false k.requests D))
 
-  abbrev pub IsCut : Option Out → Option Out → Type 0
-  IsCut all some = (some ≡ all) ⊎ (IsFirstCut all some ⊎ IsUpdateCut all some)
+  abbrev pub IsCut : List Watch → Option Out → Option Out → Type 0
+  IsCut ks all some = (some ≡ all) ⊎ (IsFirstCut ks all some ⊎ IsUpdateCut ks all some)
 
-  abbrev pub AreEachCut : List (Option Out × Option Out) → Type 0
-  AreEachCut [] = Unit {0}
-  AreEachCut (p ∷ ps) = IsCut p.0 p.1 × AreEachCut ps
+  abbrev pub Pairs : Type 0
+  Pairs = List (Option Out × Option Out)
+
+  -- what each item of a queue gives, with the monitors as asked up to it; and then what monitors give
+  abbrev pub AreEachCut : List Item → List Watch → Pairs → Type 0
+  AreEachCut [] ks [] = Unit {0}
+  AreEachCut [] ks (p ∷ ps) = IsCut ks p.0 p.1 × AreEachCut [] ks ps
+  AreEachCut (i ∷ is) ks [] = ⊥
+  AreEachCut (i ∷ is) ks (p ∷ ps) = IsCut (asks h i ks) p.0 p.1 × AreEachCut is (asks h i ks) ps
 
   -- message by message
-  abbrev pub AreCut : List Out → List Out → Type 0
-  AreCut all some = (pairs : List (Option Out × Option Out)) × (all ≡ filter_map (λ p. p.0) pairs) × (some ≡ filter_map (λ p. p.1) pairs) × AreEachCut pairs
+  abbrev pub AreCut : List Item → List Watch → List Out → List Out → Type 0
+  AreCut q ks all some = (pairs : Pairs) × (all ≡ filter_map (λ p. p.0) pairs) × (some ≡ filter_map (λ p. p.1) pairs) × AreEachCut q ks pairs
 
-  -- What a session is owed is what it would be owed had it asked for all kinds of change, message by message without those that are off. What isn't sent counts as told: when nothing more is owed, the two sessions are the same again.
+  -- What a session is owed is what it would be owed had it asked for all kinds of change, message by message without those that its monitor has off. What isn't sent counts as told: when nothing more is owed, the two sessions are the same again.
   pub record SendsKinds : Type 0 where
-    pub cut : (db : Db) (x : Session) → AreCut (owed h db (full x)) (owed h db x)
+    pub cut : (db : Db) (x : Session) → AreCut x.queue (told h x) (owed h db (full x)) (owed h db x)
     pub counts : (db : Db) (x : Session) → full (drained h db x) ≡ drained h db (full x)
