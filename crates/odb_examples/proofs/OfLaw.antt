@@ -1,6 +1,6 @@
 -- The law's statements as tests, each held against runs, after every event of each: what a machine gets wrong in one of them shows here, whatever is proved of it. [P 9.7]
 use Rattle.odb_examples.proofs.TestSchemas.{net, quoted}
-use Rattle.std.specs.Prelude.{◌≡◌, ℕ, ◌+◌, ◌==◌, nat_le, Bool, true, false, not, ◌&&◌, ◌||◌, if◌then◌else◌, List, [], ◌∷◌, ◌++◌, length, take, drop, replicate, count_by, Option, Some, None, is_some, option_and_then, option_to_list, Ok, Err, codes, bytes_eq, refl}
+use Rattle.std.specs.Prelude.{◌≡◌, ℕ, ◌+◌, ◌==◌, nat_le, Bool, true, false, not, ◌&&◌, ◌||◌, if◌then◌else◌, List, [], ◌∷◌, ◌++◌, length, take, drop, replicate, count_by, Option, Some, None, is_some, option_and_then, option_to_list, Ok, Err, codes, bytes_eq, refl, filter_map}
 use Rattle.std.specs.List.{list_all, list_any}
 use Rattle.std.specs.Result.{result_err}
 use Rattle.std.specs.Cmp.Lexicographic.{pointwise}
@@ -11,13 +11,14 @@ use Rattle.odb_atoms.specs.FinMap.{get, insert, len}
 use Rattle.odb_law.specs.Client.{Picture, Wish, adds, changes, client, drops, is_id_of, nothing_else, wish_of}
 use Rattle.odb_law.specs.Headline.{about, is_granted, pictured, updated}
 use Rattle.odb_law.specs.Replies.{answered_in, is_replied_at_once}
+use Rattle.odb_law.specs.Kinds.{all_kinds, full}
 use Rattle.odb_law.specs.Law.{answers_one, asked_by, committed_by, open_after, refusal}
 use Rattle.odb_service.specs.Run.{Event, Refusal, State, beginning, busy, closed, gone, in_use, next, opened, opens, round, run, submitted, ticked, too_many}
 use Rattle.odb_service.specs.Service.{Service, ended, service, waiting}
 use Rattle.odb_rpc.specs.Message.{call_of, reply}
-use Rattle.odb_service.specs.Session.{Answers, Item, Out, Session, Watch, asked, no_request, owed, renamed, say, shift, stopped, sync, to}
+use Rattle.odb_service.specs.Session.{Answers, Item, Monitor, Out, Session, Watch, asked, drained, no_request, owed, renamed, say, shift, stopped, sync, to, told_of}
 use Rattle.odb_service.specs.World.{owed_replies, untried}
-use Rattle.odb_monitor.specs.View.{View, delta, is_none, query}
+use Rattle.odb_monitor.specs.View.{View, delta, is_none, query, shown}
 use Rattle.odb_request.specs.Request.{Request}
 use Rattle.odb_schema.specs.SchemaText.{schema_of_text}
 use Rattle.odb_tables.specs.Database.{Db}
@@ -673,3 +674,67 @@ queue_that_changes_places = refl
 pub queue_that_loses_a_reply : after_two_echoes (echoed 2 an_echo ∷ []) ≡ Some false
 unfolding shows
 queue_that_loses_a_reply = refl
+
+-- ---- kinds of change that are switched off
+
+abbrev run_off : List Event
+run_off =
+    (opened 0) ∷
+    (opened 1) ∷
+    (sub 0 0 ((quoted (codes "{'method':'monitor_cond','params':['net','m',{'Bridge':{'columns':['name'],'select':{'insert':false}}}],'id':1}")))) ∷
+    (turn 0) ∷
+    (sub 1 1 ((quoted (codes "{'method':'transact','params':['net',{'op':'insert','table':'Bridge','row':{'name':'a'}}],'id':1}")))) ∷
+    []
+
+abbrev run_modified : List Event
+run_modified =
+    run_off
+    ++ (turn 0) ∷
+    (sub 1 0 ((quoted (codes "{'method':'transact','params':['net',{'op':'update','table':'Bridge','where':[['name','==','a']],'row':{'name':'b'}}],'id':2}")))) ∷
+    []
+
+-- a test of session 0 after a run
+abbrev of_session : (Service → State → Session → Bool) → List Event → Option Bool
+of_session f es = elim (schema_of_text net) [
+  | Ok s ↦ elim (run (service s) es (beginning (length s.tables))) [
+    | Ok st ↦ elim (get st.world.sessions 0) [ Some x ↦ Some (f (service s) st x) | None ↦ None ]
+    | Err e ↦ None
+  ]
+  | Err e ↦ None
+]
+
+-- what a machine says that the session comes to, when nothing more is owed, against the same with all kinds on
+abbrev comes_to : Service → State → Session → Session → Bool
+comes_to h st x y = pointwise (λ (k l : Monitor). is_none (delta k.view l.view)) y.monitors (drained h st.world.db (full x)).monitors
+
+-- what a machine says that the monitors of a session owe, against what they owe with all kinds on, without those that are off
+abbrev owes_cut : Service → State → Session → List Out → Bool
+owes_cut h st x os = same_outs h os (filter_map (λ k. told_of h k.watch.notation k.watch.id k.watch.requests (shown false k.watch.requests (delta k.view (query st.world.db (all_kinds k.watch.requests))))) x.monitors)
+
+-- the state in which session 0 is this one
+abbrev with_session : Session → State → State
+with_session x st = record { world = record (st.world) { sessions = insert st.world.sessions 0 x }; given = st.given; requests = st.requests }
+
+pub insert_that_is_off_counts_as_told : of_session (λ h st x. said_before h st 0 x && comes_to h st x (drained h st.world.db x)) run_off ≡ Some true
+unfolding shows
+insert_that_is_off_counts_as_told = refl
+
+pub view_that_stays_was_let_through : of_session (λ h st x. said_before h (with_session x st) 0 x) run_off ≡ Some true
+unfolding shows
+view_that_stays_was_let_through = refl
+
+pub view_that_stays : of_session (λ h st x. comes_to h st x x) run_off ≡ Some false
+unfolding shows
+view_that_stays = refl
+
+pub modify_that_is_on_is_sent : of_session (λ h st x. said_before h st 0 x && owes_cut h st x (owed h st.world.db x)) run_modified ≡ Some true
+unfolding shows
+modify_that_is_on_is_sent = refl
+
+pub silence_was_let_through : of_session (λ h st x. said_before h (with_session (drained h st.world.db x) st) 0 (drained h st.world.db x)) run_modified ≡ Some true
+unfolding shows
+silence_was_let_through = refl
+
+pub silence : of_session (λ h st x. owes_cut h st x []) run_modified ≡ Some false
+unfolding shows
+silence = refl
