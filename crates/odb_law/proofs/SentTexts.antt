@@ -5,10 +5,11 @@ use Rattle.serde_json.specs.Data.{Data}
 use Rattle.odb_law.proofs.BroughtToNow.{head_of, no_empty}
 use Rattle.odb_law.proofs.EventSteps.{Stepped, if_ok_is, ok_is, run_on, stepped}
 use Rattle.odb_law.proofs.RequestNames.{reads_named}
+use Rattle.odb_law.proofs.RepliesAtOnce.{replies_at_once}
 use Rattle.odb_law.proofs.SessionInvariant.{map-append}
 use Rattle.odb_law.proofs.WholeMessages.{brings_whole}
 use Rattle.odb_law.specs.Headline.{HasTurn, HoldsAlways, IsReached, IsWhole, about}
-use Rattle.odb_law.specs.Sent.{AreServed, EndsWhole, HoldsOfTexts, IsRun, IsRunOf, Taken, Text, TextsBringWhole, events, server_after, text_of, texts_since, texts_to}
+use Rattle.odb_law.specs.Sent.{AreServed, EndsWhole, HoldsOfTexts, IsRun, IsRunOf, RepliesAreWhole, Taken, Text, TextsBringWhole, events, server_after, text_of, texts_since, texts_to}
 use Rattle.odb_rpc.specs.Served.{served}
 use Rattle.odb_schema.specs.Schema.{Schema}
 use Rattle.odb_service.specs.Run.{Event, Sent, State, after, beginning, closed, if_ok, next, opened, opens, round, sent_to, step, submitted, ticked}
@@ -161,3 +162,12 @@ module _ (schema : Schema) where
               },
             ),
           )
+
+  pub replies_are_whole : RepliesAreWhole schema
+  replies_are_whole t ts a s d fresh moment is at_once x found =
+      let k : (st : State) × IsRunOf schema ts st = is_run ts a.1 in
+      let n : GoesOn t ts k.0 = goes_on t ts a k.0 k.1 in (
+        n.now,
+        n.is_run,
+        replies_at_once machine (reads_named served schema) k.0 n.now (reached ts k.0 k.1) s d fresh moment (ap (λ (e : Event). next machine e k.0) (sym is) ∙ n.goes) at_once x (ap (λ (v : World). get v.sessions s) n.is_run.world ∙ found),
+      )

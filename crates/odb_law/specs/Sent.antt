@@ -1,12 +1,16 @@
 -- The law of what was sent: a server's events as it took them, with the texts that it sent, and what these say to a client. That each call of a server is such a step is that call's own contract. [P 9.7, 13.1]
-use Rattle.std.specs.Prelude.{◌≡◌, ◌==◌, if◌then◌else◌, ℕ, List, [], ◌∷◌, ◌++◌, map, length, Some, Ok}
+use Rattle.std.specs.Prelude.{◌≡◌, ◌==◌, if◌then◌else◌, true, ℕ, List, [], ◌∷◌, ◌++◌, map, length, Some, Ok}
 use Rattle.serde_json.specs.Data.{Data}
 use Rattle.serde_json.specs.Written.{compact_text}
 use Rattle.odb_atoms.specs.FinMap.{get}
+use Rattle.odb_atoms.specs.Uuid.{Uuid}
 use Rattle.odb_law.specs.Headline.{HasTurn, IsWhole, about}
+use Rattle.odb_law.specs.Replies.{IsRepliedTo, is_replied_at_once}
+use Rattle.odb_rpc.specs.Message.{call_of}
 use Rattle.odb_schema.specs.Schema.{Schema}
-use Rattle.odb_service.specs.Run.{Event, State, beginning, opens, run}
+use Rattle.odb_service.specs.Run.{Event, State, beginning, opens, run, submitted}
 use Rattle.odb_service.specs.Server.{Server, serve, served_by}
+use Rattle.odb_service.specs.Service.{Service}
 use Rattle.odb_service.specs.Session.{Out, Session}
 
 abbrev pub Text : Type 0
@@ -80,3 +84,10 @@ module _ (schema : Schema) where
       (t : Taken) (ts : List Taken) → AreServed (t ∷ ts) → (s : ℕ) (before : List Text) (text : Text) (rest : List Text) → texts_to s t.sent ≡ before ++ text ∷ rest
       → (before ≡ []) × (rest ≡ []) × HasTurn s t.event × (t.server.world.db ≡ (server_after ts).world.db)
       × ((x : Session) → get t.server.world.sessions s ≡ Some x → (st : State) × IsRunOf (t ∷ ts) st × EndsWhole st s x text)
+
+  -- Right after a server took a request that never waits, its reply is the last that the session is owed; and where it cancels a monitor, or changes its filters, the client then has what the filters select from the server's database.
+  abbrev pub RepliesAreWhole : Type 0
+  RepliesAreWhole =
+      (t : Taken) (ts : List Taken) → AreServed (t ∷ ts) → (s : ℕ) (d : Data) (fresh : List Uuid) (moment : ℕ) → t.event ≡ submitted s d fresh moment
+      → (let h : Service = served_by schema in is_replied_at_once (call_of h.db_name h.schema h.serves d)) ≡ true
+      → (x : Session) → get t.server.world.sessions s ≡ Some x → (st : State) × IsRunOf (t ∷ ts) st × IsRepliedTo (served_by schema) d st s x

@@ -9,7 +9,7 @@ ghost use Rattle.odb_law.specs.Headline.{BringsWhole, HoldsAlways, IsBroughtToNo
 ghost use Rattle.odb_law.specs.Kinds.{SendsKinds};
 ghost use Rattle.odb_law.specs.Law.{AllAreTried, IsAnsweredOnce, IsCommitted, IsCounted, IsGranted, IsToldBefore, OwedIsTaken, RoundsTake, TakesEvents};
 ghost use Rattle.odb_law.specs.Replies.{KeepsOrder, RepliesAtOnce};
-ghost use Rattle.odb_law.specs.Sent.{HoldsOfTexts, IsRun, TextsBringWhole};
+ghost use Rattle.odb_law.specs.Sent.{HoldsOfTexts, IsRun, RepliesAreWhole, TextsBringWhole};
 ghost use Rattle.odb_service.specs.Server.{served_by};
 ghost use Rattle.odb_service.specs.Service.{service_of};
 
@@ -71,6 +71,8 @@ pub fn law_of_texts()
     ensures changed_whole { (s : Schema) → HoldsOfTexts s (IsChangedWhole (served_by s)) }
     // Each request is answered once, is owed its answer, or waits.
     ensures answered_once { (s : Schema) → HoldsOfTexts s (IsAnsweredOnce (served_by s)) }
+    // Right after a request that never waits its reply is the last that is owed, and with a cancel or a change of filters the client then has what is selected.
+    ensures replies_at_once { (s : Schema) → RepliesAreWhole s }
     // Texts come by rounds alone, one at most to a session, and each brings the monitor that it is about whole to its taking.
     ensures bring_whole { (s : Schema) → TextsBringWhole s }
 {}

@@ -7,7 +7,7 @@ use Rattle.odb_law.proofs.AnsweredOnce.{answered_once}
 use Rattle.odb_law.proofs.BroughtToNow.{changed_whole, dropped_whole}
 use Rattle.odb_law.proofs.HeadlineRuns.{brought_to_now, known, minimal}
 use Rattle.odb_law.proofs.RequestNames.{reads_named}
-use Rattle.odb_law.proofs.SentTexts.{holds_of_texts, is_run, texts_bring_whole}
+use Rattle.odb_law.proofs.SentTexts.{holds_of_texts, is_run, replies_are_whole, texts_bring_whole}
 use Rattle.odb_law.proofs.law_of_texts.Goals as goal
 
 pub returns-clause-is_run : goal.returns-clause-is_run
@@ -33,3 +33,6 @@ returns-clause-answered_once c = λ s. holds_of_texts s (IsAnsweredOnce (served_
 
 pub returns-clause-bring_whole : goal.returns-clause-bring_whole
 returns-clause-bring_whole c = λ s. texts_bring_whole s
+
+pub returns-clause-replies_at_once : goal.returns-clause-replies_at_once
+returns-clause-replies_at_once c = λ s. replies_are_whole s
