@@ -28,10 +28,12 @@ use Rattle.odb_commit.proofs.NoFloats.{done_whole, refused_whole}
 use Rattle.odb_rpc.specs.Message.{operations_of}
 use Rattle.serde_json.specs.Written.{has_float}
 use Rattle.odb_service.specs.Service.{max_rows}
-use Rattle.odb_core.specs.Represented.Sessions.{Sessions, at_session, ended_in}
+use Rattle.odb_core.specs.Represented.Sessions.{Sessions}
+use Rattle.odb_sessions.specs.Asked.{ended_in}
+use Rattle.odb_sessions.specs.Posts.{at_number}
 
 -- posting changes the sessions alone
-pub post_as : (n : ℕ) (is : List Item) (w : World) → post n is w ≡ record w { sessions = at_session (push is) w.sessions n }
+pub post_as : (n : ℕ) (is : List Item) (w : World) → post n is w ≡ record w { sessions = at_number (push is) w.sessions n }
 post_as n is w = by (get w.sessions n)
   where
     by : (o : Option Session) → post_to n is o w ≡ record w { sessions = elim o as (λ _. Sessions) [ None ↦ w.sessions | Some x ↦ insert w.sessions n (push is x) ] }
@@ -39,15 +41,15 @@ post_as n is w = by (get w.sessions n)
     by (Some x) = refl
 
 -- a commit changes the database, its count and the session that asked for it
-pub commit_as : (h : Service) (n : ℕ) (d r : Data) (db : Db) (w : World)
-    → end_transaction h n d r (Some db) w ≡ record w { db = db; commits = w.commits + 1; sessions = at_session (ended_in h (say (to d) (reply (id_of d) r))) w.sessions n }
-commit_as h n d r db w = by (get w.sessions n)
+pub commit_as : (s : Schema) (n : ℕ) (d r : Data) (db : Db) (w : World)
+    → end_transaction (served_by s) n d r (Some db) w ≡ record w { db = db; commits = w.commits + 1; sessions = at_number (ended_in s (say (to d) (reply (id_of d) r))) w.sessions n }
+commit_as s n d r db w = by (get w.sessions n)
   where
     i : Item
     i = say (to d) (reply (id_of d) r)
 
-    by : (o : Option Session) → post_to n (map (λ k. sync k.id) (asked_of h o) ++ i ∷ []) o (record w { db = db; commits = w.commits + 1 })
-        ≡ record w { db = db; commits = w.commits + 1; sessions = elim o as (λ _. Sessions) [ None ↦ w.sessions | Some x ↦ insert w.sessions n (ended_in h i x) ] }
+    by : (o : Option Session) → post_to n (map (λ k. sync k.id) (asked_of (served_by s) o) ++ i ∷ []) o (record w { db = db; commits = w.commits + 1 })
+        ≡ record w { db = db; commits = w.commits + 1; sessions = elim o as (λ _. Sessions) [ None ↦ w.sessions | Some x ↦ insert w.sessions n (ended_in s i x) ] }
     by None = refl
     by (Some x) = refl
 

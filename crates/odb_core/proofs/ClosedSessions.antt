@@ -13,7 +13,7 @@ use Rattle.odb_service.specs.Session.{Item, say, to}
 use Rattle.odb_service.specs.World.{Waiting, World, at_moment, cancel, cancel_one, close, is_due, is_of, post, retry_all, split_first, tick, try_due, untried, with_waiting, attempt}
 use Rattle.odb_core.specs.Represented.Places.{split_at}
 use Rattle.odb_queue.specs.Represented.Post.{told_of}
-use Rattle.odb_core.specs.Represented.Sessions.{all_posted}
+use Rattle.odb_sessions.specs.Posts.{all_posted}
 use Rattle.odb_core.proofs.Attempts.{post_as}
 use Rattle.odb_core.proofs.ListPlaces.{first_at}
 use Rattle.odb_core.proofs.WorldPosts.{notices_as, removed_all}

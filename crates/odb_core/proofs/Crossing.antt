@@ -1,14 +1,13 @@
 -- A core may go to another thread, with the requests of its transactions that wait.
 use denote.Param.Send.{IsSend, IsSync, sendable}
 use Rattle.std.proofs.Crossing as heap
+use Rattle.std.proofs.MapsCrossing as maps
 use Rattle.odb_wire.proofs.JsonCrosses.{Request-send, Request-sync}
-use Rattle.odb_tables.specs.contracts.database.Db as Db
-use Rattle.odb_tables.proofs.database.Db.TheSendSync as database
+use Rattle.odb_sessions.proofs.Crossing as book
 use Rattle.odb_locks.specs.contracts.locks.Locks as Locks
 use Rattle.odb_locks.proofs.locks.Locks.TheSendSync as locks
 use Rattle.odb_queue.specs.contracts.served_schema.ServedSchema as ServedSchema
 use Rattle.odb_queue.proofs.served_schema.ServedSchema.TheSendSync as served
-use Rattle.odb_core.proofs.sessions.Sessions.TheSendSync as sessions
 use Rattle.odb_core.specs.contracts.sessions.Sessions as Sessions
 use Rattle.odb_core.specs.contracts.submitted.Submitted as Submitted
 use Rattle.odb_core.specs.contracts.waiting.Waiting as Waiting
@@ -24,20 +23,17 @@ Submitted-sync = search (Request-sync, sendable, heap.crosses) depth 20
 Waiting-send : IsSend (Waiting.the_field).row
 Waiting-send = search (Submitted-send, Submitted-sync, sendable, heap.crosses) depth 20
 
-Db-send : IsSend (Db.the_field).row
-Db-send = database.the_send
-
 Locks-send : IsSend (Locks.the_field).row
 Locks-send = locks.the_send
 
 Sessions-send : IsSend (Sessions.the_field).row
-Sessions-send = sessions.the_send
+Sessions-send = search (book.Sessions-send, sendable, heap.crosses, maps.crosses) depth 20
 
 ServedSchema-send : IsSend (ServedSchema.the_field).row
 ServedSchema-send = served.the_send
 
 State-send : IsSend (State.the_field).row
-State-send = search (Db-send, Locks-send, Sessions-send, Waiting-send, sendable, heap.crosses) depth 20
+State-send = search (Locks-send, Sessions-send, Waiting-send, sendable, heap.crosses) depth 20
 
 pub Core-send : IsSend (Core.the_field).row
 Core-send = search (State-send, ServedSchema-send, sendable, heap.crosses) depth 20

@@ -5,8 +5,14 @@ use Rattle.std.proofs.lemmas.List.{append-nil}
 use Rattle.serde_json.specs.Data.{Data}
 use Rattle.odb_atoms.specs.Uuid.{Uuid}
 use Rattle.odb_rpc.specs.Message.{Call, answered, cancel, cancel_monitor, change_filters, lock, monitor, operations_of, passed_over, steal, transact, unlock}
+use Rattle.odb_rpc.specs.Represented.Monitor.{monitor_called}
+use Rattle.odb_rpc.specs.Represented.Printable.{printable_data}
 use Rattle.odb_rpc.specs.Served.{served}
-use Rattle.odb_rpc.proofs.Asked.{lock-asked, steal-asked, transact-asked, transact-operations, unlock-asked}
+use Rattle.odb_rpc.specs.declared.monitor.MonitorCall.{MonitorCall}
+use Rattle.odb_rpc.specs.declared.monitor.MonitorCall.TheVariants.{Cancel, Change, Start}
+use Rattle.odb_request.specs.Represented.Kind.{notation_of}
+use Rattle.serde_json.specs.View.{view}
+use Rattle.odb_rpc.proofs.Asked.{cancel_monitor-asked, change-asked, lock-asked, monitor-asked, steal-asked, transact-asked, transact-operations, unlock-asked}
 use Rattle.odb_rpc.proofs.LeftOut.{whole-at_key}
 use Rattle.odb_schema.specs.Schema.{Schema}
 use Rattle.odb_schema.specs.SchemaText.{write_schema}
@@ -40,6 +46,11 @@ module _ (s : Schema) (d : Data) where
 
   pub unlock_own : (id : Data) (name : List ℕ) → call_at s d ≡ unlock id name → Own
   unlock_own id name e = own (unlock-asked s.name (write_schema s) served d id name e).0
+
+  pub monitor_own : (id : Data) (m : MonitorCall) → call_at s d ≡ monitor_called id m → Own
+  monitor_own id (Start a) e = own (monitor-asked s.name (write_schema s) served d id (notation_of a.kind) (printable_data a.id) (view a.requests.now) e).0
+  monitor_own id (Change a) e = own (change-asked s.name (write_schema s) served d id (printable_data a.old) (printable_data a.new) (view a.filters.now) e).0
+  monitor_own id (Cancel i) e = own (cancel_monitor-asked s.name (write_schema s) served d id (printable_data i) e).0
 
   abbrev Asking : Call → Type 0
   Asking c = (id : Data) × (operations : List Data) × (c ≡ transact id operations)

@@ -1,3 +1,4 @@
+pub mod AskedMonitors
 pub mod Attempts
 pub mod CanceledTransactions
 pub mod ChangedTables
@@ -9,12 +10,11 @@ pub mod ListPlaces
 pub mod ListedSessions
 pub mod LockPosts
 pub mod PlainCalls
-pub mod RoundTakings
+pub mod RequestTables
 pub mod ServerSteps
 pub mod SessionNumbers
-pub mod SessionPosts
-pub mod SessionTables
 pub mod WorldPosts
-pub mod Crossing
 pub mod OwedSessions
 pub mod QuietRounds
+pub mod QuietSessions
+pub mod Crossing

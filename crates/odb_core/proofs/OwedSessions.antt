@@ -1,86 +1,121 @@
 -- Those that may be owed something, along each change of the sessions.
-use Rattle.std.proofs.Common.{◌≡◌, ℕ, Bool, true, false, cond, Option, Some, None, refl, sym, ap, subst, ◌∙◌}
+use Rattle.std.proofs.Common.{◌≡◌, ℕ, Bool, true, false, cond, ◌||◌, List, [], ◌∷◌, map, Option, Some, None, refl, sym, ap, subst, ◌∙◌}
 use Rattle.std.specs.BTreeSet.{BTreeSet, Updates, contains}
 use Rattle.std.specs.Ordering.{eq_by_cmp, nat_cmp}
+use Rattle.std.proofs.lemmas.Option.{none-some, same_Some}
 use mathlib.Core.Bool.{true≢false}
-use Rattle.odb_atoms.specs.FinMap.{empty, get, insert, remove}
-use Rattle.odb_service.specs.Session.{Session}
-use Rattle.odb_service.proofs.SessionMaps.{get-empty, get-insert, get-remove, key-itself, same_key, turned_about}
-use Rattle.odb_core.specs.Represented.Sessions.{AreOwed, IsIdle, Sessions, at_session, fresh_session}
+use Rattle.odb_atoms.specs.FinMap.{get, insert, remove}
+use Rattle.odb_schema.specs.Schema.{Schema}
+use Rattle.odb_service.specs.Run.{take_each}
+use Rattle.odb_service.specs.Server.{served_by}
+use Rattle.odb_service.specs.Session.{Item, Session, take}
+use Rattle.odb_service.specs.World.{World}
+use Rattle.odb_service.proofs.SessionMaps.{get-empty, get-insert, get-remove, same_key, turned_about}
+use Rattle.odb_sessions.specs.Book.{Book, book_of, fresh_session}
+use Rattle.odb_sessions.specs.Posts.{all_posted, at_number, unposted}
+use Rattle.odb_sessions.specs.Quiet.{IsQuiet, IsQuietAt}
+use Rattle.odb_tables.specs.Database.{Db}
+use Rattle.odb_core.specs.Represented.Sessions.{AreNoted, AreOwed, is_posted_to}
+use Rattle.odb_core.proofs.QuietSessions.{not_posted, other_session, quiet_fresh, quiet_same, quiet_taken, quiet_unposted}
 
-pub none_owed : (o : BTreeSet ℕ) → AreOwed o empty
-none_owed o q out = subst IsIdle (sym (get-empty q)) tt
+pub none_owed : (o : BTreeSet ℕ) (db : Db) → AreOwed o (book_of db)
+none_owed o db q out x there = absurd (none-some x (sym (get-empty q) ∙ there))
 
 -- a session that was just opened is owed nothing
-pub opened_owed : (o : BTreeSet ℕ) (m : Sessions) (s : ℕ) → AreOwed o m → AreOwed o (insert m s fresh_session)
-opened_owed o m s before q out = subst IsIdle (sym (get-insert m s fresh_session q)) (by (eq_by_cmp nat_cmp q s))
+pub opened_owed : (o : BTreeSet ℕ) (b : Book) (s : ℕ) → AreOwed o b → AreOwed o (record b { sessions = insert b.sessions s fresh_session })
+opened_owed o b s before q out x there = by (eq_by_cmp nat_cmp q s) (sym (get-insert b.sessions s fresh_session q) ∙ there)
   where
-    by : (b : Bool) → IsIdle (cond b (Some fresh_session) (get m q))
-    by true = refl
-    by false = before q out
+    by : (c : Bool) → cond c (Some fresh_session) (get b.sessions q) ≡ Some x → IsQuiet b.db x
+    by true e = subst (IsQuiet b.db) (same_Some fresh_session x e) (quiet_fresh b.db)
+    by false e = before q out x e
 
 -- whether another one is in the set stays
 stays : (o o' : BTreeSet ℕ) (s q : ℕ) (slot : Bool) → Updates nat_cmp o o' s slot → eq_by_cmp nat_cmp q s ≡ false → contains nat_cmp o q ≡ contains nat_cmp o' q
 stays o o' s q slot changed other = sym (changed.0 q ∙ ap (λ b. cond b slot (contains nat_cmp o q)) (turned_about s q ∙ other))
 
-pub closed_owed : (o o' : BTreeSet ℕ) (m : Sessions) (s : ℕ) → AreOwed o m → Updates nat_cmp o o' s false → AreOwed o' (remove m s)
-closed_owed o o' m s before changed q out = subst IsIdle (sym (get-remove m s q)) (by (eq_by_cmp nat_cmp q s) refl)
+-- whoever is out of the set that one more is in is another one, and was out before
+out_before : (o o' : BTreeSet ℕ) (s q : ℕ) → Updates nat_cmp o o' s true → contains nat_cmp o' q ≡ false → (eq_by_cmp nat_cmp q s ≡ false) × (contains nat_cmp o q ≡ false)
+out_before o o' s q changed out = by (eq_by_cmp nat_cmp q s) refl
   where
-    by : (b : Bool) → eq_by_cmp nat_cmp q s ≡ b → IsIdle (cond b None (get m q))
-    by true is = tt
-    by false is = before q (stays o o' s q false changed is ∙ out)
+    by : (b : Bool) → eq_by_cmp nat_cmp q s ≡ b → (b ≡ false) × (contains nat_cmp o q ≡ false)
+    by true is = absurd (true≢false (sym (changed.0 q ∙ ap (λ b. cond b true (contains nat_cmp o q)) (turned_about s q ∙ is)) ∙ out))
+    by false is = (refl, stays o o' s q true changed is ∙ out)
 
--- what a change of one session makes of the others
-other_session : (f : Session → Session) (m : Sessions) (s q : ℕ) → eq_by_cmp nat_cmp q s ≡ false → get (at_session f m s) q ≡ get m q
-other_session f m s q other = by (get m s)
+pub closed_owed : (o o' : BTreeSet ℕ) (b : Book) (s : ℕ) → AreOwed o b → Updates nat_cmp o o' s false → AreOwed o' (record b { sessions = remove b.sessions s })
+closed_owed o o' b s before changed q out x there = by (eq_by_cmp nat_cmp q s) refl (sym (get-remove b.sessions s q) ∙ there)
   where
-    by : (slot : Option Session) → get (elim slot as (λ _. Sessions) [ None ↦ m | Some x ↦ insert m s (f x) ]) q ≡ get m q
-    by None = refl
-    by (Some x) = get-insert m s (f x) q ∙ ap (λ b. cond b (Some (f x)) (get m q)) other
+    by : (c : Bool) → eq_by_cmp nat_cmp q s ≡ c → cond c None (get b.sessions q) ≡ Some x → IsQuiet b.db x
+    by true is e = absurd (none-some x e)
+    by false is e = before q (stays o o' s q false changed is ∙ out) x e
 
 -- a session that is in the set may become any
-pub posted_owed : (o o' : BTreeSet ℕ) (m : Sessions) (s : ℕ) (f : Session → Session) → AreOwed o m → Updates nat_cmp o o' s true → AreOwed o' (at_session f m s)
-posted_owed o o' m s f before changed q out = by (eq_by_cmp nat_cmp q s) refl
-  where
-    by : (b : Bool) → eq_by_cmp nat_cmp q s ≡ b → IsIdle (get (at_session f m s) q)
-    by true is = absurd (true≢false (sym (changed.0 q ∙ ap (λ b. cond b true (contains nat_cmp o q)) (turned_about s q ∙ is)) ∙ out))
-    by false is = subst IsIdle (sym (other_session f m s q is)) (before q (stays o o' s q true changed is ∙ out))
+pub posted_owed : (o o' : BTreeSet ℕ) (b : Book) (s : ℕ) (f : Session → Session) → AreOwed o b → Updates nat_cmp o o' s true → AreOwed o' (record b { sessions = at_number f b.sessions s })
+posted_owed o o' b s f before changed q out =
+    let was = out_before o o' s q changed out in
+    quiet_same b (record b { sessions = at_number f b.sessions s }) q refl (other_session f b.sessions s q was.0) (before q was.1)
 
 -- nothing changes but that one more is in the set
-pub grown_owed : (o o' : BTreeSet ℕ) (m : Sessions) (s : ℕ) → AreOwed o m → Updates nat_cmp o o' s true → AreOwed o' m
-grown_owed o o' m s before changed q out = by (eq_by_cmp nat_cmp q s) refl
-  where
-    by : (b : Bool) → eq_by_cmp nat_cmp q s ≡ b → IsIdle (get m q)
-    by true is = absurd (true≢false (sym (changed.0 q ∙ ap (λ b. cond b true (contains nat_cmp o q)) (turned_about s q ∙ is)) ∙ out))
-    by false is = before q (stays o o' s q true changed is ∙ out)
+pub grown_owed : (o o' : BTreeSet ℕ) (b : Book) (s : ℕ) → AreOwed o b → Updates nat_cmp o o' s true → AreOwed o' b
+grown_owed o o' b s before changed q out = before q (out_before o o' s q changed out).1
 
--- a change that leaves idle sessions idle
-pub still_owed : (o : BTreeSet ℕ) (m : Sessions) (s : ℕ) (f : Session → Session) → f fresh_session ≡ fresh_session → AreOwed o m → AreOwed o (at_session f m s)
-still_owed o m s f kept before q out = by (get m s) refl
+-- one that rests leaves the set
+pub resting_owed : (o o' : BTreeSet ℕ) (b : Book) (s : ℕ) → AreOwed o b → Updates nat_cmp o o' s false → IsQuietAt b s → AreOwed o' b
+resting_owed o o' b s before changed rests q out = by (eq_by_cmp nat_cmp q s) refl
   where
-    by : (slot : Option Session) → get m s ≡ slot → IsIdle (get (elim slot as (λ _. Sessions) [ None ↦ m | Some x ↦ insert m s (f x) ]) q)
-    by None there = before q out
-    by (Some x) there = subst IsIdle (sym (get-insert m s (f x) q)) (at (eq_by_cmp nat_cmp q s) refl)
-      where
-        at : (b : Bool) → eq_by_cmp nat_cmp q s ≡ b → IsIdle (cond b (Some (f x)) (get m q))
-        at true is = let idle : x ≡ fresh_session = subst IsIdle (ap (get m) (same_key q s is) ∙ there) (before q out) in ap f idle ∙ kept
-        at false is = before q out
-
--- one that is idle leaves the set
-pub idle_owed : (o o' : BTreeSet ℕ) (m : Sessions) (s : ℕ) → AreOwed o m → Updates nat_cmp o o' s false → IsIdle (get m s) → AreOwed o' m
-idle_owed o o' m s before changed idle q out = by (eq_by_cmp nat_cmp q s) refl
-  where
-    by : (b : Bool) → eq_by_cmp nat_cmp q s ≡ b → IsIdle (get m q)
-    by true is = subst IsIdle (ap (get m) (sym (same_key q s is))) idle
+    by : (c : Bool) → eq_by_cmp nat_cmp q s ≡ c → IsQuietAt b q
+    by true is = subst (IsQuietAt b) (sym (same_key q s is)) rests
     by false is = before q (stays o o' s q false changed is ∙ out)
 
--- another session in its place, which is idle where that was
-pub taken_owed : (o : BTreeSet ℕ) (m : Sessions) (s : ℕ) (x y : Session) → get m s ≡ Some x → (x ≡ fresh_session → y ≡ fresh_session) → AreOwed o m → AreOwed o (insert m s y)
-taken_owed o m s x y there kept before q out = subst IsIdle (sym (get-insert m s y q)) (at (eq_by_cmp nat_cmp q s) refl)
-  where
-    at : (b : Bool) → eq_by_cmp nat_cmp q s ≡ b → IsIdle (cond b (Some y) (get m q))
-    at true is = kept (subst IsIdle (ap (get m) (same_key q s is) ∙ there) (before q out))
-    at false is = before q out
+-- those to whom something is posted are in the set
+pub noted_owed : (o o' : BTreeSet ℕ) (b : Book) (ps : List (ℕ × Item)) → AreOwed o b → AreNoted o o' ps → AreOwed o' (record b { sessions = all_posted b.sessions ps })
+noted_owed o o' b ps before noted q out =
+    let was = noted q out in
+    quiet_same b (record b { sessions = all_posted b.sessions ps }) q refl (not_posted b.sessions ps q was.1) (before q was.0)
 
-pub idle_now : (m : Sessions) (s : ℕ) (y : Session) → y ≡ fresh_session → IsIdle (get (insert m s y) s)
-idle_now m s y is = subst IsIdle (sym (get-insert m s y s ∙ ap (λ b. cond b (Some y) (get m s)) (key-itself s))) is
+pub still_noted : (o o' : BTreeSet ℕ) (b : Book) (ps : List (ℕ × Item)) → AreOwed o b → AreNoted o o' ps → AreOwed o' b
+still_noted o o' b ps before noted q out = before q (noted q out).0
+
+pub unposted_owed : (o : BTreeSet ℕ) (b : Book) (ss : List ℕ) → AreOwed o b → AreOwed o (record b { sessions = unposted ss b.sessions })
+unposted_owed o b ss before q out = quiet_unposted b.db b.sessions ss q (before q out)
+
+-- ---- those that a change concerns
+
+abbrev Keeps : BTreeSet ℕ → BTreeSet ℕ → Type 0
+Keeps o o' = (s : ℕ) → contains nat_cmp o s ≡ true → contains nat_cmp o' s ≡ true
+
+was_out : (o o' : BTreeSet ℕ) → Keeps o o' → (q : ℕ) → contains nat_cmp o' q ≡ false → contains nat_cmp o q ≡ false
+was_out o o' kept q out = by (contains nat_cmp o q) refl
+  where
+    by : (b : Bool) → contains nat_cmp o q ≡ b → b ≡ false
+    by true is = absurd (true≢false (sym (kept q is) ∙ out))
+    by false is = refl
+
+pub kept_owed : (o o' : BTreeSet ℕ) (b : Book) → AreOwed o b → Keeps o o' → AreOwed o' b
+kept_owed o o' b before kept q out = before q (was_out o o' kept q out)
+
+pub changed_owed : (o o' : BTreeSet ℕ) (b c : Book) → AreOwed o b → Keeps o o' → ((s : ℕ) → contains nat_cmp o' s ≡ false → IsQuietAt b s → IsQuietAt c s) → AreOwed o' c
+changed_owed o o' b c before kept concerned q out = concerned q out (before q (was_out o o' kept q out))
+
+-- ---- a round
+
+pub round_owed : (s : Schema) (o : BTreeSet ℕ) (b c : Book) (ss : List ℕ) (w : World) → w.db ≡ b.db → w.sessions ≡ b.sessions
+    → (take_each (served_by s) ss w).0 ≡ record w { sessions = c.sessions } → c.db ≡ b.db → AreOwed o b → AreOwed o c
+round_owed s o b c ss w db sessions taken stays before q out =
+    let quiet : (x : Session) → get w.sessions q ≡ Some x → take (served_by s) w.db x ≡ (None, x) = λ x there. subst (λ d. take (served_by s) d x ≡ (None, x)) (sym db) ((before q out x (ap (λ m. get m q) (sym sessions) ∙ there)).1 s) in
+    quiet_same b c q stays (ap (λ (v : World). get v.sessions q) (sym taken) ∙ quiet_taken (served_by s) ss w q quiet ∙ ap (λ m. get m q) sessions) (before q out)
+
+-- ---- posts that are noted one by one
+
+pub none_noted : (o : BTreeSet ℕ) → AreNoted o o []
+none_noted o q out = (out, refl)
+
+-- one that is noted, and then the rest
+pub one_noted : (o o' n : BTreeSet ℕ) (p : ℕ × Item) (ps : List (ℕ × Item)) → Updates nat_cmp o o' p.0 true → AreNoted o' n ps → AreNoted o n (p ∷ ps)
+one_noted o o' n p ps changed rest q out =
+    let later = rest q out in
+    let was = out_before o o' p.0 q changed later.0 in
+    (was.1, ap (λ b. b || is_posted_to q ps) was.0 ∙ later.1)
+
+-- who was out before stays out before
+pub kept_noted : (first old now : BTreeSet ℕ) (s : ℕ) → AreNoted first old [] → Updates nat_cmp old now s true → AreNoted first now []
+kept_noted first old now s before changed q out = before q (out_before old now s q changed out).1

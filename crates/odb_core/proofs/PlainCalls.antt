@@ -7,6 +7,7 @@ use Rattle.odb_rpc.specs.Message.{answered, cancel, cancel_monitor, change_filte
 use Rattle.odb_rpc.specs.Represented.Call.{called}
 use Rattle.odb_rpc.specs.declared.call.Call.{Call}
 use Rattle.odb_rpc.specs.declared.call.Call.TheVariants as call
+use Rattle.odb_rpc.specs.declared.monitor.MonitorCall.{MonitorCall}
 use Rattle.odb_rpc.specs.declared.printable.Printable.{Printable}
 use Rattle.serde_json.specs.declared.value.Value.{Value}
 use Rattle.odb_schema.specs.Json.{Data}
@@ -45,14 +46,15 @@ plain_as s n d fresh w v passed_over e p = sym (nothing_posted n w) ∙ p None r
 -- what is left beside locks, cancels and transactions
 pub is_left : (db : List ℕ) (schema id : Data) (c : Call)
     → ((x : Bor (List Value)) → c ≡ call.Transact x → ⊥) → ((x : Bor (List ℕ)) → c ≡ call.Lock x → ⊥) → ((x : Bor (List ℕ)) → c ≡ call.Steal x → ⊥)
-    → ((x : Bor (List ℕ)) → c ≡ call.Unlock x → ⊥) → ((x : Printable) → c ≡ call.Cancel x → ⊥)
+    → ((x : Bor (List ℕ)) → c ≡ call.Unlock x → ⊥) → ((x : Printable) → c ≡ call.Cancel x → ⊥) → ((x : MonitorCall) → c ≡ call.Monitor x → ⊥)
     → is_plain (called db schema id c) ≡ true
-is_left db schema id call.ListDatabases t a b u x = refl
-is_left db schema id call.GetSchema t a b u x = refl
-is_left db schema id (call.Echo params) t a b u x = refl
-is_left db schema id (call.Transact operations) t a b u x = absurd (t operations refl)
-is_left db schema id (call.Lock name) t a b u x = absurd (a name refl)
-is_left db schema id (call.Steal name) t a b u x = absurd (b name refl)
-is_left db schema id (call.Unlock name) t a b u x = absurd (u name refl)
-is_left db schema id (call.Cancel canceled) t a b u x = absurd (x canceled refl)
-is_left db schema id call.PassedOver t a b u x = refl
+is_left db schema id call.ListDatabases t a b u x m = refl
+is_left db schema id call.GetSchema t a b u x m = refl
+is_left db schema id (call.Echo params) t a b u x m = refl
+is_left db schema id (call.Transact operations) t a b u x m = absurd (t operations refl)
+is_left db schema id (call.Monitor asked) t a b u x m = absurd (m asked refl)
+is_left db schema id (call.Lock name) t a b u x m = absurd (a name refl)
+is_left db schema id (call.Steal name) t a b u x m = absurd (b name refl)
+is_left db schema id (call.Unlock name) t a b u x m = absurd (u name refl)
+is_left db schema id (call.Cancel canceled) t a b u x m = absurd (x canceled refl)
+is_left db schema id call.PassedOver t a b u x m = refl

@@ -12,8 +12,8 @@ use Rattle.odb_service.specs.Session.{Out, Session, take}
 use Rattle.odb_service.specs.World.{World}
 use Rattle.odb_service.proofs.SessionMaps.{get-insert, same_key}
 use Rattle.odb_core.specs.Represented.Core.{IsQuietBut}
-use Rattle.odb_core.specs.Represented.Sessions.{AreOwed, IsIdle, Sessions}
-use Rattle.odb_core.proofs.SessionPosts.{reinserted}
+use Rattle.odb_core.specs.Represented.Sessions.{AreOwed, Sessions}
+use Rattle.odb_core.proofs.WorldPosts.{reinserted}
 
 -- ---- what is listed once, of some
 
@@ -99,8 +99,6 @@ round_among owed s quiet ss =
     ap (λ (r : World × List Sent). let a : Result (Server × List (ℕ × List ℕ)) Refusal = Ok (record { schema = s.schema; world = r.0; opened = s.opened }, map printed r.1) in a)
     (fewer_taken p h (once ss) s.world quiet ∙ ap (λ ys. take_each h ys s.world) (sym (once-filter p ss)))
 
--- who is idle is quiet
-pub quiet_but : (owed : BTreeSet ℕ) (s : Server) → AreOwed owed s.world.sessions → IsQuietBut owed s
-quiet_but owed s idle q x out there =
-    let is = subst IsIdle there (idle q out) in
-    ap (take (served_by s.schema) s.world.db) is ∙ ap (λ (y : Session). let t : Option Out × Session = (None, y) in t) (sym is)
+-- who isn't in the set of those that may be owed something is quiet
+pub quiet_but : (owed : BTreeSet ℕ) (s : Server) → AreOwed owed (record { db = s.world.db; sessions = s.world.sessions }) → IsQuietBut owed s
+quiet_but owed s quiet q x out there = (quiet q out x there).1 s.schema

@@ -10,7 +10,8 @@ use Rattle.odb_service.proofs.SessionMaps.{get-insert, get-remove, key-itself, s
 use Rattle.odb_service.specs.Session.{Item, Session, no_request, say}
 use Rattle.odb_service.specs.World.{World, notice_of, post, post_notices, post_to, push}
 use Rattle.odb_queue.specs.Represented.Post.{told_of}
-use Rattle.odb_core.specs.Represented.Sessions.{Sessions, all_posted, posted}
+use Rattle.odb_core.specs.Represented.Sessions.{Sessions}
+use Rattle.odb_sessions.specs.Posts.{all_posted, posted}
 
 -- notices are posted as their items
 pub notices_as : (ns : List Notice) (w : World) → post_notices ns w ≡ record w { sessions = all_posted w.sessions (map told_of ns) }
@@ -72,7 +73,7 @@ removed_all m (p ∷ ps) s = removed_all (posted m p) ps s ∙ ap (λ n. all_pos
 
 -- ---- nothing that is posted
 
-reinserted : (m : Sessions) (k : ℕ) (x : Session) → get m k ≡ Some x → insert m k x ≡ m
+pub reinserted : (m : Sessions) (k : ℕ) (x : Session) → get m k ≡ Some x → insert m k x ≡ m
 reinserted m k x e = same_map _ _ (λ q. get-insert m k x q ∙ by (eq_by_cmp nat_cmp q k) q refl)
   where
     by : (b : Bool) (q : ℕ) → eq_by_cmp nat_cmp q k ≡ b → cond b (Some x) (get m q) ≡ get m q

@@ -1,6 +1,6 @@
 pub mod Core
 pub mod Locking
-pub mod Out
+pub mod Monitors
 pub mod Waiting
 pub mod Places
 pub mod Reason

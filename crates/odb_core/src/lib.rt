@@ -5,17 +5,16 @@
 #![tactic(auto)]
 
 mod locking;
-mod out;
+mod monitors;
 mod refused;
 mod requests;
 mod server;
-mod session;
 mod sessions;
 mod state;
 mod submitted;
 mod waiting;
 
 pub use odb_locks::SessionId;
-pub use out::Out;
+pub use odb_sessions::Out;
 pub use refused::Refused;
 pub use server::Core;

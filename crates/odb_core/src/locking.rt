@@ -8,7 +8,7 @@ ghost use Rattle.odb_locks.specs.Represented.Locks.{claim_by};
 ghost use Rattle.odb_locks.specs.Represented.Notice.{notices_of};
 ghost use Rattle.odb_wire.specs.Message.{has_left_out, id_of};
 ghost use Rattle.odb_wire.specs.Shown.{request_data};
-ghost use Rattle.odb_core.specs.Represented.Sessions.{unposted};
+ghost use Rattle.odb_sessions.specs.Posts.{unposted};
 ghost use Rattle.odb_service.specs.Service.{Service};
 ghost use Rattle.odb_service.specs.Session.{no_result};
 ghost use Rattle.odb_service.specs.World.{fail, lock_error, locked, on_lock, post_notices, succeed};
@@ -46,7 +46,7 @@ impl State {
         let result = locked(self.alloc, preview.owns)?;
         let posted_to = self.answer_lock(session, request, &result, &preview.notices)?;
         if self.locks.claim(session, name, stolen).is_err() {
-            self.sessions.unpost(posted_to);
+            self.sessions.take_back(posted_to);
             return Err(AllocError);
         }
         Ok(())
@@ -72,7 +72,7 @@ impl State {
         let result = Value::Object(Map::new(self.alloc));
         let posted_to = self.answer_lock(session, request, &result, &notices)?;
         if self.locks.unlock(session, name).is_err() {
-            self.sessions.unpost(posted_to);
+            self.sessions.take_back(posted_to);
             return Err(AllocError);
         }
         Ok(())

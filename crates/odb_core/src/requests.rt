@@ -70,8 +70,7 @@ impl State {
             && not (nat_lt (owed_replies h session x self.entry.now) max_owed)) (get self.entry.now.sessions session) }
     {
         let waiting = self.waiting_of(session);
-        let asking = self.sessions.get(session)?;
-        Some(asking.owes_too_many(request, waiting))
+        self.sessions.owes_too_many(session, request, waiting)
     }
 
     /// How many transactions of the session wait.
@@ -142,6 +141,7 @@ impl State {
         session: SessionId,
         request: &Request,
     ) -> Result<bool, AllocError>
+        requires { IsSound served.now self.old.db }
         ensures done { IfOk result (λ done. done ≡ true → (fresh : List identifiers.Uuid) → handle (served_by served.now) session (request_data request.now) fresh
             (call_at served.now (request_data request.now)) self.old ≡ self.new) }
         ensures transaction { IfOk result (λ done. done ≡ false → asks_transaction (call_at served.now (request_data request.now)) ≡ true) }
@@ -163,8 +163,9 @@ impl State {
         request: &Request,
         call: Call<'_>,
     ) -> Result<bool, AllocError>
-        requires { called served.now.name (write_schema served.now) (reply_id (id_of (request_data request.now))) call
+        requires call { called served.now.name (write_schema served.now) (reply_id (id_of (request_data request.now))) call
             ≡ call_at served.now (request_data request.now) }
+        requires sound { IsSound served.now self.old.db }
         ensures done { IfOk result (λ done. done ≡ true → (fresh : List identifiers.Uuid) → handle (served_by served.now) session (request_data request.now) fresh
             (call_at served.now (request_data request.now)) self.old ≡ self.new) }
         ensures transaction { IfOk result (λ done. done ≡ false → asks_transaction (call_at served.now (request_data request.now)) ≡ true) }
@@ -179,6 +180,7 @@ impl State {
             Call::Steal(name) => done(self.claim(session, request, name, true)),
             Call::Unlock(name) => done(self.unlock(session, request, name)),
             Call::Cancel(id) => done(self.cancel(session, id)),
+            Call::Monitor(call) => done(self.monitor(served, session, request, call)),
             call => done(self.answer(served, session, request, Ok(call))),
         }
     }

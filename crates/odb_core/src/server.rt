@@ -1,6 +1,6 @@
 //! The server as a machine over events. [P 10.3, 13.1, 14]
 
-ghost use Rattle.std.specs.Prelude.{◌≡◌, ◌≤◌, ◌↔◌, [], ◌∷◌, map, length, option_to_list, Ok, OnOk, OnErr, IfOk, IfErr, IsErrOf};
+ghost use Rattle.std.specs.Prelude.{◌≡◌, ◌≤◌, ◌↔◌, [], map, length, Ok, OnOk, OnErr, IfOk, IfErr, IsErrOf};
 ghost use Rattle.odb_atoms.specs.FinMap.{len};
 ghost use Rattle.odb_atoms.specs.Represented.Atom.{uuid_of};
 ghost use Rattle.odb_wire.specs.Message.{inserts_of};
@@ -8,12 +8,12 @@ ghost use Rattle.odb_wire.specs.Shown.{request_data};
 ghost use Rattle.odb_service.specs.Run.{closed, max_sessions, once, opened, round, submitted, ticked};
 ghost use Rattle.odb_core.specs.declared.refused.Refused.TheVariants as refused;
 
-use crate::out::Out;
 use crate::refused::Refused;
 use crate::state::State;
 use odb_locks::SessionId;
 use odb_queue::ServedSchema;
 use odb_schema::Schema;
+use odb_sessions::Out;
 use odb_wire::Request;
 use std::alloc::{AllocError, Global};
 use std::collections::BTreeSet;
@@ -52,8 +52,8 @@ impl Model for Core {
 
 impl Core {
     ghost use Rattle.odb_service.specs.Server.{serve};
-    ghost use Rattle.odb_core.specs.Represented.Core.{IsQuietBut, new_server, takes};
-    ghost use Rattle.odb_core.specs.Represented.Out.{sent_in};
+    ghost use Rattle.odb_core.specs.Represented.Core.{IsQuietBut, new_server};
+    ghost use Rattle.odb_sessions.specs.Represented.Out.{sent_in};
     ghost use Rattle.odb_core.specs.Represented.Reason.{IsReason};
 
     /// A server of the schema with empty tables and no session, whose tables will hash by `hashing`.
@@ -111,7 +111,7 @@ impl Core {
         ensures why { IfErr result (λ why. IsReason why (serve (closed session) self.old)) }
         ensures err { OnErr result (self.new ≡ self.old) }
     {
-        if self.state.sessions.get(session).is_none() {
+        if !self.state.sessions.has(session) {
             return Err(Refused::Gone);
         }
         self.state.close(session)?;
@@ -173,13 +173,7 @@ impl Core {
         ensures err { OnErr result (self.new ≡ self.old) }
     {
         let listed = once(self.alloc, ready)?;
-        let mut outs = Vec::with_capacity(self.alloc, listed.len())?;
-        for session in &listed {
-            if let Some(out) = self.take(*session) {
-                outs.push_reserved(out);
-            }
-        }
-        Ok(outs)
+        self.state.round(listed.as_slice())
     }
 
     /// The sessions that may be owed something. A round gives nothing to any other, and changes nothing of it. O(1).
@@ -187,19 +181,6 @@ impl Core {
         ensures { IsQuietBut result.now self.now }
     {
         self.state.sessions.owed()
-    }
-
-    /// The next message of a session, if it is open and has one. O(log n).
-    fn take(&mut self, session: SessionId) -> Option<Out>
-        ensures { takes (session ∷ []) self.old ≡ (self.new, map sent_in (option_to_list result)) }
-    {
-        let text = self.state.sessions.take(session)?;
-        Some(Out {
-            session,
-            before: text,
-            body: None,
-            after: Vec::new(self.alloc),
-        })
     }
 
     /// An equal core: the same state, whose rows and waiting transactions are shared with this one.

@@ -1,203 +1,301 @@
-//! The sessions of a core. [P 10.1, 10.3]
+//! The database and the sessions of a core. [P 10.1, 10.3]
 
-ghost use Rattle.std.specs.Prelude.{◌≡◌, false, map, option_map, IfOk, OnErr, OnOk, ℕ};
-ghost use Rattle.std.specs.Option.{option_copied};
+ghost use Rattle.std.specs.Prelude.{◌≡◌, ◌+◌, ◌&&◌, [], false, is_some, nat_lt, not, map, option_map, None, IfOk, OnErr, OnOk};
+ghost use Rattle.odb_atoms.specs.FinMap as finite;
+ghost use Rattle.odb_queue.specs.Represented.Answer.{call_at};
 ghost use Rattle.odb_queue.specs.Represented.Item.{item_of};
 ghost use Rattle.odb_queue.specs.Represented.Post.{post_of};
+ghost use Rattle.odb_rpc.specs.Message.{has_reply};
+ghost use Rattle.odb_rpc.specs.Represented.Printable.{printable_data};
+ghost use Rattle.odb_schema.specs.Schema.{Schema};
+ghost use Rattle.odb_service.specs.Run.{max_owed, take_each};
+ghost use Rattle.odb_service.specs.Server.{printed, served_by};
+ghost use Rattle.odb_service.specs.Session.{replies_in};
+ghost use Rattle.odb_service.specs.World.{World, asked_of, watched};
+ghost use Rattle.odb_sessions.specs.Asked.{ended_in};
+ghost use Rattle.odb_sessions.specs.Book.{book_of, fresh_session};
+ghost use Rattle.odb_sessions.specs.Named.{named};
+ghost use Rattle.odb_sessions.specs.Planned.{AreOnce};
+ghost use Rattle.odb_sessions.specs.Posts.{all_posted, at_number, posted, unposted};
+ghost use Rattle.odb_sessions.specs.Represented.Out.{sent_in};
+ghost use Rattle.odb_sessions.specs.Started.{AreApart, AreOfTables, started};
+ghost use Rattle.odb_sessions.specs.Stopped.{changed_in, stopped_in};
+ghost use Rattle.odb_tables.specs.Change.{all_changed_by};
+ghost use Rattle.odb_tables.specs.Installing.{IsChangeOf};
+ghost use Rattle.odb_wire.specs.Message.{has_left_out, id_of};
+ghost use Rattle.odb_wire.specs.Shown.{request_data};
+ghost use Rattle.odb_core.specs.Represented.Sessions.{AreNoted, AreOwed};
 
-use crate::session::Session;
 use odb_locks::SessionId;
 use odb_queue::{Finished, Post};
+use odb_rpc::Printable;
+use odb_sessions as book;
+use odb_sessions::{Changing, Id, Named, Out, Starting};
+use odb_tables::{ChangeSet, Db};
+use odb_wire::Request;
 use std::alloc::{AllocError, Global};
-use std::collections::{BTreeMap, BTreeSet};
+use std::collections::BTreeSet;
+use std::hash::RandomState;
 use std::marker::Model;
 
-/// The open sessions by their numbers, and which of them may be owed something. What is posted to sessions can be taken
-/// back, so that a call which is refused later leaves them as they were.
+/// The database and the open sessions, and which of these may be owed something. What is posted to sessions can
+/// be taken back, so that a call which is refused later leaves them as they were.
 #[derive(Drop)]
 pub(crate) struct Sessions {
-    alloc: Global,
-    sessions: BTreeMap<SessionId, Session>,
+    book: book::Sessions,
     owed: BTreeSet<SessionId>,
 }
 
 impl Model for Sessions {
-    ghost use Rattle.std.specs.Coded.{coded_ℕ};
-    ghost use Rattle.odb_atoms.specs.FinMap as finite;
-    ghost use Rattle.odb_service.specs.WorldCode.{session_code};
-    ghost use Rattle.odb_core.specs.Represented.Core.{sessions_in};
+    ghost use Rattle.odb_sessions.specs.Book.{Book};
+    ghost use Rattle.odb_sessions.specs.Represented.Codes.{book_code};
     ghost use Rattle.odb_core.specs.Represented.Sessions.{AreOwed};
-    ghost use Rattle.odb_core.specs.Represented.Sessions as model;
 
-    ghost Value = { model.Sessions };
+    ghost Value = { Book };
 
-    ghost coded = { finite.code coded_ℕ session_code };
+    ghost coded = { book_code };
 
-    ghost view = { λ s. sessions_in s.sessions };
+    ghost view = { λ s. s.book };
 
-    ghost invariant = { λ s. AreOwed s.owed (sessions_in s.sessions) };
+    ghost invariant = { λ s. AreOwed s.owed s.book };
 }
 
 impl Sessions {
-    ghost use Rattle.odb_atoms.specs.FinMap.{empty, get, insert, len, remove};
-    ghost use Rattle.odb_service.specs.Service.{Service};
-    ghost use Rattle.odb_service.specs.Session.{take};
-    ghost use Rattle.std.specs.BTreeSet.{contains};
-    ghost use Rattle.std.specs.Ordering.{nat_cmp};
-    ghost use Rattle.odb_core.specs.Represented.Sessions.{AreOwed, all_posted, at_session, ended_in, posted};
-    ghost use Rattle.odb_core.specs.Represented.Sessions.{fresh_session, unposted, text_taken};
-    ghost use Rattle.odb_queue.specs.Represented.Newest.{without_last};
-    ghost use Rattle.odb_tables.specs.Database.{Db};
-
-    /// No session is open.
-    pub(crate) fn new(alloc: Global) -> Sessions
-        ensures { result ≡ empty }
+    /// The database, and no session.
+    pub(crate) fn new(alloc: Global, db: Db, hashing: RandomState) -> Result<Sessions, AllocError>
+        ensures { IfOk result (λ sessions. sessions ≡ book_of db) }
     {
-        Sessions {
-            alloc,
-            sessions: BTreeMap::new(alloc),
+        Ok(Sessions {
+            book: book::Sessions::new(alloc, db, hashing)?,
             owed: BTreeSet::new(alloc),
-        }
+        })
     }
 
-    /// How many are open. O(1).
+    /// The database. O(1).
+    pub(crate) fn db(&self) -> &Db
+        ensures { result.now ≡ self.now.db }
+    {
+        self.book.db()
+    }
+
+    /// How many sessions are open. O(1).
     pub(crate) fn len(&self) -> usize
-        ensures { result ≡ len self.now }
+        ensures { result ≡ finite.len self.now.sessions }
     {
-        self.sessions.len()
+        self.book.len()
     }
 
-    /// A session, if it is open. O(log n).
-    pub(crate) fn get(&self, session: SessionId) -> Option<&Session>
-        ensures { option_copied result ≡ get self.now session }
+    /// Whether a session is open. O(log n).
+    pub(crate) fn has(&self, session: SessionId) -> bool
+        ensures { result ≡ is_some (finite.get self.now.sessions session) }
     {
-        self.sessions.get(&session)
+        self.book.has(session)
     }
 
-    /// Which sessions may be owed something: nothing is queued for any other. O(1).
+    /// Whether the request has a reply while the session is owed as many as it may be, `waiting` of them as
+    /// replies of its transactions that wait; `None` where no such session is open. O(log n).
+    pub(crate) fn owes_too_many(
+        &self,
+        session: SessionId,
+        request: &Request,
+        waiting: usize,
+    ) -> Option<bool>
+        ensures { (schema : Schema) → result ≡ option_map (λ x. has_reply (call_at schema (request_data request.now)) && not (nat_lt (replies_in x.queue + waiting) max_owed)) (finite.get self.now.sessions session) }
+    {
+        self.book.owes_too_many(session, request, waiting)
+    }
+
+    /// Which sessions may be owed something: a taking of any other gives nothing and changes nothing. O(1).
     pub(crate) fn owed(&self) -> &BTreeSet<SessionId>
         ensures { AreOwed result.now self.now }
     {
         &self.owed
     }
 
-    /// Opens a session, for which nothing is queued. O(log n).
+    /// Opens a session, for which nothing is queued and which has no monitors. O(log n).
     pub(crate) fn open(&mut self, session: SessionId) -> Result<(), AllocError>
-        ensures ok { OnOk result (self.new ≡ insert self.old session fresh_session) }
+        requires { finite.get self.old.sessions session ≡ None }
+        ensures ok { OnOk result (self.new ≡ record (self.old) { sessions = finite.insert self.old.sessions session fresh_session }) }
         ensures err { OnErr result (self.new ≡ self.old) }
     {
-        drop(self.sessions.insert(session, Session::new(self.alloc))?);
-        Ok(())
+        self.book.open(session)
     }
 
-    /// Ends a session, if it is open. O(log n).
+    /// Ends a session, if it is open. O(log n), and what was kept for its monitors.
     pub(crate) fn close(&mut self, session: SessionId)
-        ensures { self.new ≡ remove self.old session }
+        ensures { self.new ≡ record (self.old) { sessions = finite.remove self.old.sessions session } }
     {
-        self.sessions.remove(&session);
+        self.book.close(session);
         self.owed.remove(&session);
     }
 
     /// Posts each item to its session, and returns the sessions for which one was queued, by which
-    /// `unpost` undoes it. O(log n) for each.
+    /// `take_back` undoes it. O(log n) for each.
     pub(crate) fn post_all(&mut self, posts: Vec<Post>) -> Result<Vec<SessionId>, AllocError>
-        ensures ok { IfOk result (λ posted_to. self.new ≡ all_posted self.old (map post_of posts.items)) }
-        ensures back { IfOk result (λ posted_to. unposted posted_to.items self.new ≡ self.old) }
+        ensures ok { IfOk result (λ posted_to. self.new ≡ record (self.old) { sessions = all_posted self.old.sessions (map post_of posts.items) }) }
+        ensures back { IfOk result (λ posted_to. unposted posted_to.items self.new.sessions ≡ self.old.sessions) }
         ensures err { OnErr result (self.new ≡ self.old) }
     {
-        let mut posted_to = Vec::new(self.alloc);
-        for post in posts {
-            if let Err(refused) = self.post(&mut posted_to, post.session, post.item) {
-                self.unpost(posted_to);
-                return Err(refused);
-            }
-        }
-        Ok(posted_to)
+        note_all(&mut self.owed, posts.as_slice())?;
+        self.book.post_all(posts)
     }
 
-    /// Posts the reply of a transaction that ended, as a commit wants it: after a sync for each of
-    /// the session's monitors. It returns what `post_all` does. O(log n + monitors).
+    /// The newest item of each of these sessions' queues goes, that of the last session first.
+    /// O(log n) for each.
+    pub(crate) fn take_back(&mut self, posted_to: Vec<SessionId>)
+        ensures { self.new ≡ record (self.old) { sessions = unposted posted_to.items self.old.sessions } }
+    {
+        self.book.take_back(posted_to);
+    }
+
+    /// Posts the reply of a transaction that ended with a commit, after a sync for each of the session's monitors as
+    /// asked, if the session is open. It returns what `post_all` does. O(log n + monitors + items queued).
     pub(crate) fn post_end(
         &mut self,
         session: SessionId,
         reply: Finished,
     ) -> Result<Vec<SessionId>, AllocError>
-        ensures ok { IfOk result (λ posted_to. (h : Service)
-            → self.new ≡ at_session (ended_in h (item_of reply)) self.old session) }
-        ensures back { IfOk result (λ posted_to. unposted posted_to.items self.new ≡ self.old) }
+        ensures ok { IfOk result (λ posted_to. (schema : Schema) → self.new ≡ record (self.old) { sessions = at_number (ended_in schema (item_of reply)) self.old.sessions session }) }
+        ensures back { IfOk result (λ posted_to. unposted posted_to.items self.new.sessions ≡ self.old.sessions) }
         ensures err { OnErr result (self.new ≡ self.old) }
     {
-        let mut posted_to = Vec::new(self.alloc);
-        self.post(&mut posted_to, session, reply)?;
-        Ok(posted_to)
+        self.owed.insert(session)?;
+        self.book.post_end(session, reply)
     }
 
-    /// Queues an item for a session, if it is open, and then adds the session to `posted_to`. O(log n).
-    fn post(
-        &mut self,
-        posted_to: &mut Vec<SessionId>,
-        session: SessionId,
-        item: Finished,
-    ) -> Result<(), AllocError>
-        ensures ok { OnOk result (self.new ≡ posted self.old (session, item_of item)) }
-        ensures monitors { OnOk result ((h : Service)
-            → self.new ≡ at_session (ended_in h (item_of item)) self.old session) }
-        ensures back { OnOk result (unposted posted_to.new.items self.new ≡ unposted posted_to.old.items self.old) }
+    /// Makes the whole change of the database, or none. The costs are those of `odb_sessions::Sessions::install`
+    /// and `add_concerned`.
+    pub(crate) fn install(&mut self, change: ChangeSet) -> Result<(), AllocError>
+        requires { IsChangeOf self.old.db change }
+        ensures ok { OnOk result (self.new ≡ record (self.old) { db = all_changed_by self.old.db change }) }
         ensures err { OnErr result (self.new ≡ self.old) }
-        ensures posted_to { OnErr result (posted_to.new.items ≡ posted_to.old.items) }
     {
-        posted_to.reserve(1)?;
-        self.owed.insert(session)?;
-        let Some(to) = self.sessions.get_mut(&session) else {
-            return Ok(());
-        };
-        to.push(item)?;
-        posted_to.push_reserved(session);
+        self.book.add_concerned(&mut self.owed, &change)?;
+        self.book.install(change)?;
         Ok(())
     }
 
-    /// The newest item of each of these sessions' queues goes, that of the last session first.
-    /// O(log n) for each.
-    pub(crate) fn unpost(&mut self, posted_to: Vec<SessionId>)
-        ensures { self.new ≡ unposted posted_to.items self.old }
+    /// Whether the id is that of a monitor of the session as asked. The costs are those of
+    /// `odb_sessions::Sessions::asked`.
+    pub(crate) fn asked(&self, session: SessionId, id: &Id) -> Result<bool, AllocError>
+        ensures { IfOk result (λ found. (schema : Schema) → found ≡ is_some (watched (served_by schema) id.now (asked_of (served_by schema) (finite.get self.now.sessions session)))) }
     {
-        let mut posted_to = posted_to;
-        while let Some(session) = posted_to.pop() {
-            self.take_newest_back(session);
+        self.book.asked(session, id)
+    }
+
+    /// The monitor of the session as asked that has this id, without its filters. It costs what `asked` does.
+    pub(crate) fn asked_watch(
+        &self,
+        session: SessionId,
+        id: &Id,
+    ) -> Result<Option<Named<'_>>, AllocError>
+        ensures { IfOk result (λ found. (schema : Schema) → found ≡ option_map named (watched (served_by schema) id.now (asked_of (served_by schema) (finite.get self.now.sessions session)))) }
+    {
+        self.book.asked_watch(session, id)
+    }
+
+    /// Queues the first reply of a monitor for a session, if it is open. The costs are those of
+    /// `odb_sessions::Sessions::start`.
+    pub(crate) fn start(&mut self, session: SessionId, starting: Starting) -> Result<(), AllocError>
+        requires tables { AreOfTables self.old.db starting.watch.requests }
+        requires apart { AreApart starting.watch.requests }
+        ensures ok { OnOk result (self.new ≡ record (self.old) { sessions = posted self.old.sessions (session, started starting) }) }
+        ensures err { OnErr result (self.new ≡ self.old) }
+    {
+        self.owed.insert(session)?;
+        self.book.start(session, starting)
+    }
+
+    /// Queues for a session, if it is open, a sync of the monitor with this id, and then the reply to the request
+    /// for its cancel. The costs are those of `odb_sessions::Sessions::stop`.
+    pub(crate) fn stop(
+        &mut self,
+        session: SessionId,
+        request: &Request,
+        id: Printable<'_>,
+    ) -> Result<(), AllocError>
+        requires { has_left_out (id_of (request_data request.now)) ≡ false }
+        ensures ok { OnOk result (self.new ≡ record (self.old) { sessions = at_number (stopped_in (request_data request.now) (printable_data id.entry)) self.old.sessions session }) }
+        ensures err { OnErr result (self.new ≡ self.old) }
+    {
+        self.owed.insert(session)?;
+        self.book.stop(session, request, id)
+    }
+
+    /// Queues for a session, if it is open, what the client lacks under new filters, and then the reply to the
+    /// request for the change. The costs are those of `odb_sessions::Sessions::change`.
+    pub(crate) fn change(
+        &mut self,
+        session: SessionId,
+        changing: Changing,
+    ) -> Result<(), AllocError>
+        ensures ok { OnOk result (self.new ≡ record (self.old) { sessions = at_number (changed_in changing) self.old.sessions session }) }
+        ensures err { OnErr result (self.new ≡ self.old) }
+    {
+        self.owed.insert(session)?;
+        self.book.change(session, changing)
+    }
+
+    /// Gives each listed session that is open its next message, if it has one, in the order of the list. Where
+    /// memory is refused nothing was taken.
+    pub(crate) fn round(&mut self, listed: &[SessionId]) -> Result<Vec<Out>, AllocError>
+        requires { AreOnce listed.now }
+        ensures ok { IfOk result (λ outs. (schema : Schema) (w : World) → w.db ≡ self.old.db → w.sessions ≡ self.old.sessions
+            → (let r = take_each (served_by schema) listed.now w in (r.0 ≡ record w { sessions = self.new.sessions }) × (map printed r.1 ≡ map sent_in outs.items))) }
+        ensures database { self.new.db ≡ self.old.db }
+        ensures err { OnErr result (self.new ≡ self.old) }
+    {
+        let outs = self.take_all(listed)?;
+        self.forget_resting(listed);
+        Ok(outs)
+    }
+
+    /// Gives each listed session its next message; who may be owed something stays.
+    fn take_all(&mut self, listed: &[SessionId]) -> Result<Vec<Out>, AllocError>
+        requires { AreOnce listed.now }
+        ensures ok { IfOk result (λ outs. (schema : Schema) (w : World) → w.db ≡ self.old.db → w.sessions ≡ self.old.sessions
+            → (let r = take_each (served_by schema) listed.now w in (r.0 ≡ record w { sessions = self.new.sessions }) × (map printed r.1 ≡ map sent_in outs.items))) }
+        ensures database { self.new.db ≡ self.old.db }
+        ensures err { OnErr result (self.new ≡ self.old) }
+    {
+        self.book.round(listed)
+    }
+
+    /// Forgets those of the listed sessions that rest.
+    fn forget_resting(&mut self, listed: &[SessionId])
+        ensures { self.new ≡ self.old }
+    {
+        for session in listed {
+            self.forget_if_resting(*session);
         }
     }
 
-    fn take_newest_back(&mut self, session: SessionId)
-        ensures { self.new ≡ at_session without_last self.old session }
+    fn forget_if_resting(&mut self, session: SessionId)
+        ensures { self.new ≡ self.old }
     {
-        let Some(of) = self.sessions.get_mut(&session) else {
+        if !self.book.rests(session) {
             return;
-        };
-        of.unpost();
-    }
-
-    /// Takes the next message of a session, if it is open and has one. O(log n).
-    pub(crate) fn take(&mut self, session: SessionId) -> Option<Vec<u8>>
-        ensures text { (h : Service) (db : Db)
-            → option_map (λ t. t.items) result ≡ text_taken h db (get self.old session) }
-        ensures sessions { (h : Service) (db : Db)
-            → self.new ≡ at_session (λ x. (take h db x).1) self.old session }
-    {
-        let text = self.sessions.get_mut(&session)?.take();
-        if text.is_none() {
-            self.owed.remove(&session);
         }
-        text
+        self.owed.remove(&session);
     }
 
-    /// Equal sessions. O(bytes queued).
-    pub(crate) fn try_copy(&self, alloc: Global) -> Result<Sessions, AllocError>
+    /// Equal sessions, and an equal database. O(rows + bytes queued).
+    pub(crate) fn try_copy(&self) -> Result<Sessions, AllocError>
         ensures { IfOk result (λ copy. copy ≡ self.now) }
     {
-        Ok(Sessions {
-            alloc,
-            sessions: self.sessions.clone()?,
-            owed: self.owed.clone()?,
-        })
+        let book = self.book.try_copy()?;
+        let owed = self.owed.clone()?;
+        Ok(Sessions { book, owed })
     }
+}
+
+/// Notes the sessions of these posts. Where memory is refused some of them are noted.
+fn note_all(owed: &mut BTreeSet<SessionId>, posts: &[Post]) -> Result<(), AllocError>
+    ensures kept { AreNoted owed.old owed.new [] }
+    ensures noted { OnOk result (AreNoted owed.old owed.new (map post_of posts.now)) }
+{
+    for post in posts {
+        owed.insert(post.session)?;
+    }
+    Ok(())
 }

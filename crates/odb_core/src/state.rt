@@ -10,14 +10,18 @@ ghost use Rattle.odb_commit.specs.Represented.Outcome.{Answers};
 ghost use Rattle.odb_ops.specs.Represented.Ran.{results_of};
 ghost use Rattle.odb_rpc.specs.Represented.Printable.{printable_data};
 ghost use Rattle.odb_schema.specs.Json.{array_of};
+ghost use Rattle.odb_schema.specs.Schema.{Schema};
 ghost use Rattle.odb_tables.specs.Change.{all_changed_by};
 ghost use Rattle.odb_tables.specs.Installing.{IsChangeOf};
 ghost use Rattle.odb_commit.specs.Sound.{IsSound};
 ghost use Rattle.odb_wire.specs.Message.{has_left_out, id_of};
 ghost use Rattle.odb_wire.specs.Shown.{request_data};
+ghost use Rattle.odb_service.specs.Run.{take_each};
 ghost use Rattle.odb_service.specs.Service.{Service};
-ghost use Rattle.odb_service.specs.Server.{served_by};
+ghost use Rattle.odb_service.specs.Server.{printed, served_by};
 ghost use Rattle.odb_service.specs.Session.{say, to};
+ghost use Rattle.odb_sessions.specs.Planned.{AreOnce};
+ghost use Rattle.odb_sessions.specs.Represented.Out.{sent_in};
 ghost use Rattle.odb_core.specs.Represented.Waiting.{left_waiting, outcome_in, waiting_as, IsDone};
 
 use crate::sessions::Sessions;
@@ -29,6 +33,7 @@ use odb_ops::Context;
 use odb_queue::{Finished, Post, failed, notices, replied};
 use odb_rpc::{Failure, Printable};
 use odb_schema::Schema;
+use odb_sessions::Out;
 use odb_tables::{ChangeSet, Db, TableChange};
 use odb_wire::Request;
 use serde_json::Value;
@@ -40,12 +45,11 @@ use std::mem;
 /// The rows that a database may have.
 const MAX_ROWS: usize = 1_000_000;
 
-/// The database with its commits, the moment, the transactions that wait in order of arrival, the locks,
-/// and the open sessions. Contracts see it as the state of the service machine (`specs/World.antt`).
+/// The database with its commits and the open sessions, the moment, the transactions that wait in order of
+/// arrival, and the locks. Contracts see it as the state of the service machine (`specs/World.antt`).
 #[derive(Drop)]
 pub(crate) struct State {
     pub(crate) alloc: Global,
-    pub(crate) db: Db,
     pub(crate) commits: u64,
     pub(crate) now: u64,
     pub(crate) waiting: Vec<Waiting>,
@@ -61,7 +65,7 @@ impl Model for State {
 
     ghost coded = { world_code };
 
-    ghost view = { λ s. record { db = s.db; commits = s.commits; now = s.now; waiting = s.waiting.items; locks = s.locks; sessions = s.sessions } };
+    ghost view = { λ s. record { db = s.sessions.db; commits = s.commits; now = s.now; waiting = s.waiting.items; locks = s.locks; sessions = s.sessions.sessions } };
 }
 
 impl State {
@@ -82,14 +86,14 @@ impl State {
     ) -> Result<State, AllocError>
         ensures { IfOk result (λ state. state ≡ empty_world tables) }
     {
+        let db = Db::new(alloc, tables, hashing)?;
         Ok(State {
             alloc,
-            db: Db::new(alloc, tables, hashing)?,
             commits: 0,
             now: 0,
             waiting: Vec::new(alloc),
             locks: Locks::new(alloc),
-            sessions: Sessions::new(alloc),
+            sessions: Sessions::new(alloc, db, hashing)?,
         })
     }
 
@@ -108,7 +112,7 @@ impl State {
         let number = self.commits.checked_add(1).ok_or(AllocError)?;
         transact(
             self.alloc,
-            &self.db,
+            self.sessions.db(),
             schema,
             asked.operations(),
             number,
@@ -150,8 +154,8 @@ impl State {
     ) -> Result<(), AllocError>
         requires float { has_float (array_of (results_of results)) ≡ false }
         requires change { IsChangeOf self.old.db change }
-        ensures ok { OnOk result ((h : Service)
-            → end_transaction h asked.now.session (request_data asked.now.request) (array_of (results_of results)) (Some (all_changed_by self.old.db change)) self.old ≡ self.new) }
+        ensures ok { OnOk result ((s : Schema)
+            → end_transaction (served_by s) asked.now.session (request_data asked.now.request) (array_of (results_of results)) (Some (all_changed_by self.old.db change)) self.old ≡ self.new) }
         ensures database { OnOk result (self.new.db ≡ all_changed_by self.old.db change) }
         ensures waiting { self.new.waiting ≡ self.old.waiting }
         ensures err { OnErr result (self.new ≡ self.old) }
@@ -159,13 +163,13 @@ impl State {
         let number = self.commits.checked_add(1).ok_or(AllocError)?;
         let reply = replied(self.alloc, &asked.request, &Value::from(results))?;
         let posted_to = self.sessions.post_end(asked.session, reply)?;
-        match self.db.install(change) {
+        match self.sessions.install(change) {
             Ok(()) => {
                 self.commits = number;
                 Ok(())
             }
             Err(_) => {
-                self.sessions.unpost(posted_to);
+                self.sessions.take_back(posted_to);
                 Err(AllocError)
             }
         }
@@ -364,18 +368,29 @@ impl State {
         Ok(())
     }
 
+    /// Gives each listed session that is open its next message, if it has one, in the order of the list. Where
+    /// memory is refused nothing was taken.
+    pub(crate) fn round(&mut self, listed: &[SessionId]) -> Result<Vec<Out>, AllocError>
+        requires { AreOnce listed.now }
+        ensures ok { IfOk result (λ outs. (schema : Schema)
+            → (let r = take_each (served_by schema) listed.now self.old in (r.0 ≡ self.new) × (map printed r.1 ≡ map sent_in outs.items))) }
+        ensures rest { self.new ≡ record (self.old) { sessions = self.new.sessions } }
+        ensures err { OnErr result (self.new ≡ self.old) }
+    {
+        self.sessions.round(listed)
+    }
+
     /// An equal state. O(rows + waiting transactions + claims + bytes queued).
     pub(crate) fn try_copy(&self) -> Result<State, AllocError>
         ensures { IfOk result (λ copy. copy ≡ self.entry.now) }
     {
         Ok(State {
             alloc: self.alloc,
-            db: self.db.try_copy(self.alloc)?,
             commits: self.commits,
             now: self.now,
             waiting: self.waiting.clone()?,
             locks: self.locks.try_copy(self.alloc)?,
-            sessions: self.sessions.try_copy(self.alloc)?,
+            sessions: self.sessions.try_copy()?,
         })
     }
 }

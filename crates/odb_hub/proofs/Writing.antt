@@ -4,8 +4,8 @@ use Rattle.std.specs.Prelude.{◌≢◌, OnErr, Result, Ok, Err}
 use Rattle.std.specs.List.{flat_map}
 use Rattle.std.specs.declared.option.Option.{Option}
 use Rattle.std.specs.Io.KnownBytes.{Appends, Keeps}
-use Rattle.odb_core.specs.declared.out.Out.{Out}
-use Rattle.odb_core.specs.Represented.Out.{text_of_out}
+use Rattle.odb_sessions.specs.declared.out.Out.{Out}
+use Rattle.odb_sessions.specs.Represented.Out.{text_of_out}
 use Rattle.odb_hub.specs.Represented.Mailbox.{IsCutIn, IsCutOff, IsWritten}
 
 abbrev Known : Type 0

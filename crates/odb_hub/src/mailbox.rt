@@ -1,7 +1,7 @@
 //! Where a session's messages come out.
 ghost use Rattle.std.specs.Prelude.{◌≡◌, [], ◌∷◌, ◌++◌, IfSome, IfNone, IfOk, OnErr, OnOk};
 ghost use Rattle.std.specs.Io.KnownBytes.{Appends};
-ghost use Rattle.odb_core.specs.Represented.Out.{text_of_out};
+ghost use Rattle.odb_sessions.specs.Represented.Out.{text_of_out};
 ghost use Rattle.odb_hub.specs.Represented.Mailbox.{taken, name_of, body_of, IsCutIn, IsCutOff, IsWritten};
 
 use crate::bell::Bell;

@@ -24,7 +24,7 @@ pub(crate) struct Ring {
 impl Model for Ring {
     ghost use Rattle.std.specs.Prelude.{map, option_map};
     ghost use Rattle.rtrb.specs.Ring.{sent};
-    ghost use Rattle.odb_core.specs.Represented.Out.{text_of_out};
+    ghost use Rattle.odb_sessions.specs.Represented.Out.{text_of_out};
     ghost use Rattle.odb_hub.specs.Represented.Ends.{producer_name};
     ghost use Rattle.odb_hub.specs.Rings as model;
 
@@ -36,7 +36,7 @@ impl Model for Ring {
 }
 
 impl Ring {
-    ghost use Rattle.odb_core.specs.Represented.Out.{text_of_out};
+    ghost use Rattle.odb_sessions.specs.Represented.Out.{text_of_out};
     ghost use Rattle.odb_hub.specs.Represented.Mailbox.{name_of, taken};
     ghost use Rattle.odb_hub.specs.Rings.{IsFlushed, IsPut, fresh_ring};
 

@@ -2,7 +2,7 @@
 ghost use Rattle.std.specs.Prelude.{◌≡◌, ◌==◌, ℕ, [], ◌∷◌, Some, None, OnErr, OnOk, IfOk, IfErr, filter, map};
 ghost use Rattle.std.specs.BTreeSet.{contains};
 ghost use Rattle.std.specs.Ordering.{nat_cmp};
-ghost use Rattle.odb_core.specs.Represented.Out.{sent_in, text_of_out};
+ghost use Rattle.odb_sessions.specs.Represented.Out.{sent_in, text_of_out};
 
 use crate::bell::Bell;
 use crate::mailbox::Mailbox;

@@ -86,6 +86,7 @@ fn called_text(
         Call::GetSchema => Ok(Some(reply_printed(alloc, id, served.text())?)),
         Call::Echo(params) => Ok(Some(reply(alloc, id, params)?)),
         Call::Transact(_) => Ok(None),
+        Call::Monitor(_) => Ok(None),
         Call::Lock(_) => Ok(None),
         Call::Steal(_) => Ok(None),
         Call::Unlock(_) => Ok(None),

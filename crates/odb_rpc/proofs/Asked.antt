@@ -17,6 +17,9 @@ IsWholeUnder d id = (has_left_out d ≡ false) × (id ≡ id_of d)
 -- a `transact` has the message's operations, too
 abbrev pub Asks : Data → Call → Type 0
 Asks d (transact id operations) = (operations ≡ operations_of d) × IsWholeUnder d id
+Asks d (monitor id n i requests) = IsWholeUnder d id
+Asks d (change_filters id old new filters) = IsWholeUnder d id
+Asks d (cancel_monitor id i) = IsWholeUnder d id
 Asks d (lock id name) = IsWholeUnder d id
 Asks d (steal id name) = IsWholeUnder d id
 Asks d (unlock id name) = IsWholeUnder d id
@@ -49,7 +52,7 @@ module _ (d : Data) where
     changing [] = tt
     changing (a ∷ []) = tt
     changing (a ∷ b ∷ []) = tt
-    changing (a ∷ b ∷ c ∷ []) = pick (is_object c) (change_filters (id_of d) a b c) (fault (id_of d) (failed syntax_error)) tt tt
+    changing (a ∷ b ∷ c ∷ []) = pick (is_object c) (change_filters (id_of d) a b c) (fault (id_of d) (failed syntax_error)) (whole, refl) tt
     changing (a ∷ b ∷ c ∷ e ∷ ds) = tt
 
     module _ (db : List ℕ) where
@@ -65,7 +68,7 @@ module _ (d : Data) where
       monitors n [] = tt
       monitors n (a ∷ []) = tt
       monitors n (a ∷ b ∷ []) = tt
-      monitors n (a ∷ b ∷ c ∷ []) = pick (is_object c) (of_db db (id_of d) a (monitor (id_of d) n b c)) (fault (id_of d) (failed syntax_error)) (in_db (monitor (id_of d) n b c) tt a) tt
+      monitors n (a ∷ b ∷ c ∷ []) = pick (is_object c) (of_db db (id_of d) a (monitor (id_of d) n b c)) (fault (id_of d) (failed syntax_error)) (in_db (monitor (id_of d) n b c) (whole, refl) a) tt
       monitors n (a ∷ b ∷ c ∷ e ∷ ds) = tt
 
       transacts : (ds : List Data) → drop 1 ds ≡ operations_of d → Asks d (of_transact db (id_of d) ds)
@@ -90,7 +93,7 @@ module _ (d : Data) where
         (either (bytes_eq m (codes "monitor")) _ _ (λ ds _. monitors db update ds)
         (either (bytes_eq m (codes "monitor_cond")) _ _ (λ ds _. monitors db update2 ds)
         (either (bytes_eq m (codes "monitor_cond_change")) _ _ (λ ds _. changing ds)
-        (either (bytes_eq m (codes "monitor_cancel")) _ _ (λ ds _. with_one (cancel_monitor id) (λ _. tt) ds)
+        (either (bytes_eq m (codes "monitor_cancel")) _ _ (λ ds _. with_one (cancel_monitor id) (λ _. (whole, refl)) ds)
         (either (bytes_eq m (codes "lock")) _ _ (λ ds _. with_one (of_lock id (lock id)) (locks (lock id) (λ _. (whole, refl))) ds)
         (either (bytes_eq m (codes "steal")) _ _ (λ ds _. with_one (of_lock id (steal id)) (locks (steal id) (λ _. (whole, refl))) ds)
         (either (bytes_eq m (codes "unlock")) _ _ (λ ds _. with_one (of_lock id (unlock id)) (locks (unlock id) (λ _. (whole, refl))) ds)
@@ -143,6 +146,15 @@ module _ (db : List ℕ) (schema : Data) (serves : List ℕ → Bool) (d : Data)
 
   pub transact-asked : (id : Data) (operations : List Data) → call_of db schema serves d ≡ transact id operations → IsWholeUnder d id
   transact-asked id operations e = (subst (Asks d) e asked).1
+
+  pub monitor-asked : (id : Data) (n : Notation) (i requests : Data) → call_of db schema serves d ≡ monitor id n i requests → IsWholeUnder d id
+  monitor-asked id n i requests e = subst (Asks d) e asked
+
+  pub change-asked : (id old new filters : Data) → call_of db schema serves d ≡ change_filters id old new filters → IsWholeUnder d id
+  change-asked id old new filters e = subst (Asks d) e asked
+
+  pub cancel_monitor-asked : (id i : Data) → call_of db schema serves d ≡ cancel_monitor id i → IsWholeUnder d id
+  cancel_monitor-asked id i e = subst (Asks d) e asked
 
   pub lock-asked : (id : Data) (name : List ℕ) → call_of db schema serves d ≡ lock id name → IsWholeUnder d id
   lock-asked id name e = subst (Asks d) e asked

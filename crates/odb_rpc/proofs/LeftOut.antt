@@ -1,12 +1,16 @@
 -- What has no left-out number has none in its members, and no fraction.
-use Rattle.std.proofs.Common.{◌≡◌, ℕ, Bool, false, ◌||◌, List, Some, Option, refl, ap, ◌∙◌, unwrap_or}
+use Rattle.std.proofs.Common.{◌≡◌, ℕ, Bool, false, ◌||◌, List, [], ◌∷◌, map, Some, Option, refl, ap, ◌∙◌, unwrap_or}
+use Rattle.std.proofs.lemmas.Option.{same_Some}
+use Rattle.std.specs.List.{list_any}
 use Rattle.std.proofs.lemmas.Bool.{or_parts}
 use Rattle.std.specs.Ordering.{nat_cmp, match_ordering}
 use Rattle.std.specs.Cmp.Lexicographic.{slice_cmp}
 use Rattle.std.specs.declared.cmp.Ordering.{Ordering}
 use Rattle.std.specs.declared.cmp.Ordering.TheVariants.{Less, Equal, Greater}
 use Rattle.serde_json.specs.Data.{Num, unsigned, negative, float, Data, null, boolean, number, string, array, object, Items, no_items, item, Members, no_members, member}
-use Rattle.serde_json.specs.Find.{get_member, is_float}
+use Rattle.serde_json.specs.Find.{as_array, get_member, is_float}
+use Rattle.serde_json.specs.View.{view, items_view}
+use Rattle.serde_json.specs.declared.value.Value.{Value}
 use Rattle.serde_json.specs.Written.{has_float, items_have_float, members_have_float}
 use Rattle.odb_wire.specs.Message.{at_key, has_left_out, items_left_out, members_left_out, is_left_out}
 
@@ -58,3 +62,17 @@ mutual
   no_float_members : (ms : Members) → members_left_out ms ≡ false → members_have_float ms ≡ false
   no_float_members no_members e = refl
   no_float_members (member k d ms) e = let p = or_parts (has_left_out d) (members_left_out ms) e in both_false (has_float d) (members_have_float ms) (no_float d p.0) (no_float_members ms p.1)
+
+-- ---- the members of `params`
+
+each_whole : (xs : List Value) → list_any has_left_out (map view xs) ≡ items_left_out (items_view xs)
+each_whole [] = refl
+each_whole (x ∷ xs) = ap (λ b. has_left_out (view x) || b) (each_whole xs)
+
+pub whole_params : (xs : List Value) (params : Data) → Some (items_view xs) ≡ as_array params → has_left_out params ≡ false → list_any has_left_out (map view xs) ≡ false
+whole_params xs null e whole = cc
+whole_params xs (boolean b) e whole = cc
+whole_params xs (number n) e whole = cc
+whole_params xs (string s) e whole = cc
+whole_params xs (array ds) e whole = each_whole xs ∙ ap items_left_out (same_Some _ _ e) ∙ whole
+whole_params xs (object ms) e whole = cc

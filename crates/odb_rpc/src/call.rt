@@ -14,8 +14,10 @@ ghost use Rattle.odb_rpc.specs.Represented.Call.{of_name, outcome, unless};
 ghost use Rattle.odb_rpc.specs.Represented.Printable.{printable_data};
 
 use crate::error::Failure;
+use crate::monitor::{MonitorCall, read_monitor, read_monitor_cancel, read_monitor_change};
 use crate::printable::Printable;
 use odb_atoms::Error;
+use odb_request::Kind;
 use odb_schema::{Schema, is_id};
 use odb_wire::Request;
 use serde_json::Value;
@@ -31,6 +33,8 @@ pub enum Call<'a> {
     Echo(Printable<'a>),
     /// `transact` on the database (RFC 7047, section 4.1.3): these are its operations.
     Transact(&'a [Value]),
+    /// One of the four methods of monitors.
+    Monitor(MonitorCall<'a>),
     /// `lock` of this name (RFC 7047, section 4.1.8), which is an id (3.1).
     Lock(&'a str),
     /// `steal` of this name (RFC 7047, section 4.1.8), which is an id.
@@ -65,6 +69,10 @@ enum Method {
     ListDatabases,
     GetSchema,
     Transact,
+    Monitor,
+    MonitorCond,
+    MonitorCondChange,
+    MonitorCancel,
     Lock,
     Steal,
     Unlock,
@@ -172,6 +180,10 @@ impl Method {
             "list_dbs" => Some(Method::ListDatabases),
             "get_schema" => Some(Method::GetSchema),
             "transact" => Some(Method::Transact),
+            "monitor" => Some(Method::Monitor),
+            "monitor_cond" => Some(Method::MonitorCond),
+            "monitor_cond_change" => Some(Method::MonitorCondChange),
+            "monitor_cancel" => Some(Method::MonitorCancel),
             "lock" => Some(Method::Lock),
             "steal" => Some(Method::Steal),
             "unlock" => Some(Method::Unlock),
@@ -192,6 +204,10 @@ impl Method {
             Method::ListDatabases => list_databases(items.as_slice()),
             Method::GetSchema => get_schema(items.as_slice(), database),
             Method::Transact => transact(items.as_slice(), database),
+            Method::Monitor => read_monitor(items.as_slice(), database, Kind::Monitor),
+            Method::MonitorCond => read_monitor(items.as_slice(), database, Kind::MonitorCond),
+            Method::MonitorCondChange => read_monitor_change(items.as_slice()),
+            Method::MonitorCancel => read_monitor_cancel(items.as_slice()),
             Method::Lock => lock(items.as_slice()),
             Method::Steal => steal(items.as_slice()),
             Method::Unlock => unlock(items.as_slice()),
@@ -328,8 +344,8 @@ fn behind_first(params: &[Value]) -> &[Value]
     }
 }
 
-/// Whether requests of the method are served: all of RFC 7047, section 4.1 but `monitor` and
-/// `monitor_cancel` are, and none of ovsdb-server(7)'s. O(1).
+/// Whether requests of the method are served: all of RFC 7047, section 4.1 are, and of
+/// ovsdb-server(7)'s `monitor_cond` and `monitor_cond_change`. O(1).
 pub fn is_served(method: &str) -> bool
     ensures { result ≡ served method.now }
 {

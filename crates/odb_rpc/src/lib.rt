@@ -13,7 +13,7 @@ mod text;
 
 pub use call::{Call, CallFault, has_reply, is_served, operations, reply_id};
 pub use error::Failure;
-pub use monitor::{MonitorCall, read_monitor, read_monitor_cancel, read_monitor_change};
+pub use monitor::{MonitorCall, MonitorChange, MonitorStart};
 pub use odb_atoms::Error;
 pub use printable::Printable;
 pub use shared::{after_result, after_updates, before_result, before_updates};

@@ -1,15 +1,15 @@
 //! Requests about monitors (RFC 7047, sections 4.1.5 and 4.1.7; ovsdb-server(7), 4.1.12 and
-//! 4.1.13).
-ghost use Rattle.std.specs.Prelude.{◌≡◌, false, map};
+//! 4.1.13). [P 8.2]
+ghost use Rattle.std.specs.Prelude.{◌≡◌, false, List, map, ℕ};
 ghost use Rattle.std.specs.List.{list_any};
 ghost use Rattle.serde_json.specs.Data.{Data};
 ghost use Rattle.serde_json.specs.View.{view};
 ghost use Rattle.odb_request.specs.Represented.Kind.{notation_of};
 ghost use Rattle.odb_wire.specs.Message.{has_left_out};
 ghost use Rattle.odb_rpc.specs.Message.{cancel_monitor, is_object, of_change, of_monitor, of_one};
-ghost use Rattle.odb_rpc.specs.Represented.Monitor.{asked};
+ghost use Rattle.odb_rpc.specs.Represented.Call.{outcome};
 
-use crate::call::{CallFault, check_database};
+use crate::call::{Call, CallFault, check_database};
 use crate::printable::Printable;
 use odb_request::Kind;
 use serde_json::Value;
@@ -17,28 +17,49 @@ use serde_json::Value;
 /// What a request about monitors asks. It borrows from the request.
 #[derive(Clone, Copy, Debug)]
 pub enum MonitorCall<'a> {
-    /// `monitor` (RFC 7047, section 4.1.5) or `monitor_cond` (ovsdb-server(7), 4.1.12): a monitor
-    /// under this id, with these requests, an object.
-    Begin(Kind, Printable<'a>, &'a Value),
-    /// `monitor_cond_change` (ovsdb-server(7), 4.1.13): of the monitor with the first id, which has the second
-    /// from then on; with these filters, an object.
-    Change(Printable<'a>, Printable<'a>, &'a Value),
+    /// `monitor` (RFC 7047, section 4.1.5) or `monitor_cond` (ovsdb-server(7), 4.1.12).
+    Start(MonitorStart<'a>),
+    /// `monitor_cond_change` (ovsdb-server(7), 4.1.13).
+    Change(MonitorChange<'a>),
     /// `monitor_cancel` (RFC 7047, section 4.1.7): of the monitor with this id.
     Cancel(Printable<'a>),
+}
+
+/// A monitor that is to begin.
+#[derive(Clone, Copy, Debug)]
+pub struct MonitorStart<'a> {
+    /// Which of the two methods asks for it.
+    pub kind: Kind,
+    /// Its id, any JSON.
+    pub id: Printable<'a>,
+    /// Its requests, an object.
+    pub requests: &'a Value,
+}
+
+/// A change of a monitor.
+#[derive(Clone, Copy, Debug)]
+pub struct MonitorChange<'a> {
+    /// Its id.
+    pub old: Printable<'a>,
+    /// The id that it has from then on.
+    pub new: Printable<'a>,
+    /// Its new filters, an object.
+    pub filters: &'a Value,
 }
 
 /// The `params` of `monitor` or `monitor_cond`: the database's name, the monitor's id and its
 /// requests. O(1).
 ///
-/// The faults in their order: another number of members, or requests that are no object, or a name that is no
-/// string (`Syntax`); another database (`UnknownDatabase`).
-pub fn read_monitor<'a>(
+/// The faults in their order: another number of members, or requests that are no object, or a name
+/// that is no string (`Syntax`); another database (`UnknownDatabase`).
+pub(crate) fn read_monitor<'a>(
     params: &'a [Value],
     database: &str,
     kind: Kind,
-) -> Result<MonitorCall<'a>, CallFault>
+) -> Result<Call<'a>, CallFault>
     requires { list_any has_left_out (map view params.now) ≡ false }
-    ensures { (id : Data) → asked id result ≡ of_monitor database.now id (notation_of kind) (map view params.now) }
+    ensures { (json id : Data) → outcome database.now json id result
+        ≡ of_monitor database.now id (notation_of kind) (map view params.now) }
 {
     let [name, monitor, requests] = params else {
         return Err(CallFault::Syntax);
@@ -47,7 +68,11 @@ pub fn read_monitor<'a>(
         return Err(CallFault::Syntax);
     }
     match check_database(name, database) {
-        Ok(()) => Ok(MonitorCall::Begin(kind, Printable::known(monitor), requests)),
+        Ok(()) => Ok(Call::Monitor(MonitorCall::Start(MonitorStart {
+            kind,
+            id: Printable::known(monitor),
+            requests,
+        }))),
         Err(fault) => Err(fault),
     }
 }
@@ -55,9 +80,10 @@ pub fn read_monitor<'a>(
 /// The `params` of `monitor_cond_change`: the monitor's id, its new id and the filters. O(1).
 ///
 /// Another number of members, or filters that are no object, are a fault (`Syntax`).
-pub fn read_monitor_change(params: &[Value]) -> Result<MonitorCall<'_>, CallFault>
+pub(crate) fn read_monitor_change<'a>(params: &'a [Value]) -> Result<Call<'a>, CallFault>
     requires { list_any has_left_out (map view params.now) ≡ false }
-    ensures { (id : Data) → asked id result ≡ of_change id (map view params.now) }
+    ensures { (db : List ℕ) → (json id : Data) → outcome db json id result
+        ≡ of_change id (map view params.now) }
 {
     let [old, new, filters] = params else {
         return Err(CallFault::Syntax);
@@ -65,17 +91,22 @@ pub fn read_monitor_change(params: &[Value]) -> Result<MonitorCall<'_>, CallFaul
     if !is_object(filters) {
         return Err(CallFault::Syntax);
     }
-    Ok(MonitorCall::Change(Printable::known(old), Printable::known(new), filters))
+    Ok(Call::Monitor(MonitorCall::Change(MonitorChange {
+        old: Printable::known(old),
+        new: Printable::known(new),
+        filters,
+    })))
 }
 
 /// The `params` of `monitor_cancel`: the monitor's id. O(1). Another number of members is a fault
 /// (`Syntax`).
-pub fn read_monitor_cancel(params: &[Value]) -> Result<MonitorCall<'_>, CallFault>
+pub(crate) fn read_monitor_cancel<'a>(params: &'a [Value]) -> Result<Call<'a>, CallFault>
     requires { list_any has_left_out (map view params.now) ≡ false }
-    ensures { (id : Data) → asked id result ≡ of_one id (cancel_monitor id) (map view params.now) }
+    ensures { (db : List ℕ) → (json id : Data) → outcome db json id result
+        ≡ of_one id (cancel_monitor id) (map view params.now) }
 {
     match params {
-        [monitor] => Ok(MonitorCall::Cancel(Printable::known(monitor))),
+        [monitor] => Ok(Call::Monitor(MonitorCall::Cancel(Printable::known(monitor)))),
         _ => Err(CallFault::Syntax),
     }
 }

@@ -6,10 +6,9 @@ use Rattle.std.specs.Option.{option_to_list}
 use Rattle.std.specs.Ordering.{eq_by_cmp, nat_cmp}
 use Rattle.serde_json.specs.Written.{compact_text}
 use Rattle.odb_atoms.specs.FinMap.{FinMap, get, insert}
-use Rattle.odb_service.specs.Run.{Refusal, round, sent}
+use Rattle.odb_service.specs.Run.{Refusal, round, sent, take_each}
 use Rattle.odb_service.specs.Server.{Server, printed, serve, served_by}
 use Rattle.odb_service.specs.Session.{Out, Session, drained, owed, take}
-use Rattle.odb_core.specs.Represented.Core.{takes}
 use Rattle.odb_service.proofs.WhatIsOwed as owed_ones
 use Rattle.odb_service.proofs.SessionMaps.{get-insert, key-itself, same_map}
 use Rattle.odb_script.specs.Script.{line_of}
@@ -35,6 +34,12 @@ insert_again m k x y = same_map _ _ (λ q. get-insert (insert m k x) k y q ∙ a
 
 get-itself : (m : FinMap nat_cmp Session) (k : ℕ) (x : Session) → get (insert m k x) k ≡ Some x
 get-itself m k x = get-insert m k x k ∙ ap (λ b. cond b (Some x) (get m k)) (key-itself k)
+
+-- one taking for each of these sessions that is open, and what they are sent as it is printed
+abbrev takes : List ℕ → Server → Server × Sends
+takes ss s =
+    let r = take_each (served_by s.schema) ss s.world in
+    (record s { world = r.0 }, map printed r.1)
 
 -- one round for one session
 pub one_round : (n : ℕ) (p q : Server) (os : Sends) → serve (round (n ∷ [])) p ≡ Ok (q, os) → takes (n ∷ []) p ≡ (q, os)

@@ -14,7 +14,7 @@ use Rattle.odb_service.specs.Server.{Server, served_by}
 use Rattle.odb_service.specs.Session.{Session, drained}
 use Rattle.odb_service.proofs.SessionMaps.{get-insert, same_key}
 use Rattle.odb_core.specs.Represented.Core.{IsQuietBut}
-use Rattle.odb_core.proofs.SessionPosts.{reinserted}
+use Rattle.odb_core.proofs.WorldPosts.{reinserted}
 use Rattle.odb_script.specs.Script.{ScriptSession}
 use Rattle.odb_script.specs.Represented.Draining.{all_drained, drain_if, drain_session, drained_session, found_drained, numbered, numbered_drained}
 use Rattle.odb_script.specs.Represented.Names.{AreInOrder, by_number}

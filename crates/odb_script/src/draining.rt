@@ -2,7 +2,7 @@
 ghost use Rattle.std.specs.Prelude.{◌≡◌, ◌++◌, IfOk, OnOk};
 ghost use Rattle.std.specs.List.Sorted.{IsStrictlySortedBy};
 ghost use Rattle.std.specs.Ordering.{nat_cmp};
-ghost use Rattle.odb_core.specs.Represented.Out.{text_of_out};
+ghost use Rattle.odb_sessions.specs.Represented.Out.{text_of_out};
 ghost use Rattle.odb_script.specs.Script.{line_of};
 ghost use Rattle.odb_script.specs.Represented.Draining.{all_drained, drain_session, drained_session, numbered, numbered_drained};
 ghost use Rattle.odb_script.specs.Represented.Names.{AreInOrder};

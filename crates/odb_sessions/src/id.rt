@@ -44,7 +44,7 @@ impl Id {
     }
 
     /// Whether the two are one id: their compact texts are equal. O(n) for texts of n bytes.
-    pub(crate) fn same(&self, other: &Id) -> bool
+    pub fn same(&self, other: &Id) -> bool
         ensures { result ≡ bytes_eq (compact_text self.now) (compact_text other.now) }
     {
         self.text.as_slice() == other.text.as_slice()

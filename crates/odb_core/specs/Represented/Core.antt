@@ -1,20 +1,14 @@
 -- What the parts of a core stand for.
 use Rattle.std.specs.Prelude.{◌≡◌, ◌≤◌, ℕ, false, List, [], None, Some, length, map, replicate}
 use Rattle.std.specs.Ordering.{nat_cmp}
-use Rattle.std.specs.BTreeMap.{BTreeMap}
 use Rattle.std.specs.BTreeSet.{BTreeSet, contains}
 use Rattle.odb_atoms.specs.FinMap as finite
-use Rattle.odb_service.specs.Run.{take_each}
-use Rattle.odb_service.specs.Server.{Server, printed, served_by}
+use Rattle.odb_service.specs.Server.{Server, served_by}
 use Rattle.odb_service.specs.Service.{Service}
 use Rattle.odb_service.specs.Session.{Session, take}
 use Rattle.odb_service.specs.World.{World, untried}
 use Rattle.odb_schema.specs.Schema.{Schema}
 use Rattle.odb_commit.specs.Sound.{IsSound}
-
--- the sessions by their numbers
-abbrev pub sessions_in : BTreeMap ℕ Session → finite.FinMap nat_cmp Session
-sessions_in s = finite.from_entries s.entries
 
 -- no session has this number or a later one
 abbrev pub AreUnused : finite.FinMap nat_cmp Session → ℕ → Type 0
@@ -38,12 +32,6 @@ empty_world tables = record {
 -- a server of the schema with no session
 abbrev pub new_server : Schema → Server
 new_server schema = record { schema = schema; world = empty_world (length schema.tables); opened = 0 }
-
--- one taking for each of these sessions that is open, and what they are sent as it is printed
-abbrev pub takes : List ℕ → Server → Server × List (ℕ × List ℕ)
-takes ss s =
-    let r = take_each (served_by s.schema) ss s.world in
-    (record s { world = r.0 }, map printed r.1)
 
 -- a taking of an open session that isn't in the set gives nothing and changes nothing
 abbrev pub IsQuietBut : BTreeSet ℕ → Server → Type 0

@@ -2,9 +2,9 @@
 use Rattle.std.specs.Prelude.{◌≡◌, ◌≢◌, ℕ, List, [], ◌∷◌, Option, Some, None, ◌++◌, length}
 use Rattle.std.specs.List.{flat_map}
 use Rattle.std.specs.Io.KnownBytes.{Appends}
-use Rattle.odb_core.specs.Represented.Out.{text_of_out}
+use Rattle.odb_sessions.specs.Represented.Out.{text_of_out}
 use Rattle.rtrb.specs.Ring.{received}
-use Rattle.odb_core.specs.declared.out.Out.{Out}
+use Rattle.odb_sessions.specs.declared.out.Out.{Out}
 use Rattle.odb_hub.specs.Represented.Ends.{consumer_name}
 use Rattle.odb_hub.specs.Rings.{Name}
 use Rattle.odb_hub.specs.declared.mailbox.Mailbox.{Mailbox}

@@ -7,6 +7,7 @@ use Rattle.odb_atoms.specs.Error.{syntax_error}
 use Rattle.odb_wire.specs.Message.{id_of}
 use Rattle.odb_rpc.specs.Message as model
 use Rattle.odb_rpc.specs.Message.{answered, cancel, fault, lock, passed_over, reply, reply_id, steal, transact, unlock, unknown_method, unknown_database, failed}
+use Rattle.odb_rpc.specs.Represented.Monitor.{monitor_called}
 use Rattle.odb_rpc.specs.Represented.Printable.{printable_data}
 use Rattle.odb_rpc.specs.declared.call.Call.{Call}
 use Rattle.odb_rpc.specs.declared.call.Call.TheVariants as call
@@ -32,6 +33,10 @@ abbrev pub name_of : Method → List ℕ
 name_of method.ListDatabases = codes "list_dbs"
 name_of method.GetSchema = codes "get_schema"
 name_of method.Transact = codes "transact"
+name_of method.Monitor = codes "monitor"
+name_of method.MonitorCond = codes "monitor_cond"
+name_of method.MonitorCondChange = codes "monitor_cond_change"
+name_of method.MonitorCancel = codes "monitor_cancel"
 name_of method.Lock = codes "lock"
 name_of method.Steal = codes "steal"
 name_of method.Unlock = codes "unlock"
@@ -44,6 +49,7 @@ module _ (db : List ℕ) (schema id : Data) where
   called call.GetSchema = answered (reply id schema)
   called (call.Echo params) = answered (reply id (printable_data params))
   called (call.Transact operations) = transact id (map view operations.now)
+  called (call.Monitor asked) = monitor_called id asked
   called (call.Lock name) = lock id name.now
   called (call.Steal name) = steal id name.now
   called (call.Unlock name) = unlock id name.now

@@ -2,7 +2,7 @@ use Rattle.std.proofs.Common.{rules, ◌≡◌, [], ◌∷◌, ◌++◌, Ok, map
 use Rattle.std.proofs.lemmas.List.{map-append}
 use Rattle.odb_service.specs.Run.{round}
 use Rattle.odb_service.specs.Server.{serve}
-use Rattle.odb_core.specs.Represented.Out.{sent_in, text_of_out}
+use Rattle.odb_sessions.specs.Represented.Out.{sent_in, text_of_out}
 use Rattle.odb_script.specs.Script.{line_of}
 use Rattle.odb_script.specs.Represented.Draining.{drained_session}
 use Rattle.odb_script.proofs.DrainOne.{Rests, one_round, rests}

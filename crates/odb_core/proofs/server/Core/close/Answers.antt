@@ -1,12 +1,11 @@
 use Rattle.std.proofs.Common.{rules, ◌≡◌, ℕ, true, List, [], Result, Ok, is_some, subst, sym, ap, ◌∙◌}
-use Rattle.std.specs.Option.{option_copied}
 use Rattle.odb_atoms.specs.FinMap.{get}
 use Rattle.odb_service.specs.Run.{Refusal, closed}
 use Rattle.odb_service.specs.Server.{Server, serve, served_by}
 use Rattle.odb_service.specs.World.{World}
 use Rattle.odb_core.specs.Represented.Core.{IsValid}
 use Rattle.odb_core.proofs.ServerSteps.{at, closes}
-use Rattle.odb_core.proofs.CoreInvariant.{shown, unused_closed}
+use Rattle.odb_core.proofs.CoreInvariant.{unused_closed}
 use Rattle.odb_commit.specs.Sound.{IsSound}
 use Rattle.odb_core.proofs.server.Core.close.Goals as goal
 
@@ -26,8 +25,7 @@ returns-clause-ok c =
     let i = c.self.inside in
     let s = i.served in
     let n = c.args.session in
-    let some : is_some c.get.result ≡ true = search rules in
-    let found : option_copied c.get.result ≡ get i.state.sessions n = search rules in
+    let there : is_some (get i.state.sessions n) ≡ true = search rules in
     ap (serve (closed n)) (sym c.self.view_is)
-    ∙ closes s i.state i.opened n (shown c.get.result (get i.state.sessions n) found some)
+    ∙ closes s i.state i.opened n there
     ∙ ap (λ (v : World). let r : Result (Server × List (ℕ × List ℕ)) Refusal = Ok (at s v i.opened, []) in r) (c.in_ok-close.ensures.ok (served_by s))

@@ -49,7 +49,7 @@ returns-then-is_empty-clause-ok c =
     let empty : w.waiting ≡ [] = ap (λ (u : World). u.waiting) (sym c.self.view_is) ∙ nil_from_length c.self.inside.waiting.items long in
     let ended : attempt h (waiting_as a None w.commits) w ≡ (v, None) =
     done_as s w a None w.commits c.args.results c.args.change true some c.requires.outcome
-    ∙ (λ i. let t : World × Option Waiting = (c.in_ok-commit.ensures.ok h i, None) in t)
+    ∙ (λ i. let t : World × Option Waiting = (c.in_ok-commit.ensures.ok s i, None) in t)
     in
     runs_alone h (waiting_as a None w.commits) w v ended (ap (split_first (is_untried v.commits)) (c.commit.ensures.waiting ∙ empty))
 
@@ -69,7 +69,7 @@ returns-clause-ok c =
     let some : has_rows s w a None w.commits c.args.change ≡ true = search rules in
     let same : c.in_ok-copy.copy ≡ w = search rules in
     let ended : end_transaction h a.session (request_data a.request) (array_of (results_of c.args.results)) (Some (all_changed_by w.db c.args.change)) w ≡ v =
-    ap (λ (u : World). end_transaction h a.session (request_data a.request) (array_of (results_of c.args.results)) (Some (all_changed_by u.db c.args.change)) u) (sym same) ∙ c.in_ok-commit-2.ensures.ok h
+    ap (λ (u : World). end_transaction h a.session (request_data a.request) (array_of (results_of c.args.results)) (Some (all_changed_by u.db c.args.change)) u) (sym same) ∙ c.in_ok-commit-2.ensures.ok s
     in
     runs_ended h (waiting_as a None w.commits) w v
     (done_as s w a None w.commits c.args.results c.args.change true some c.requires.outcome ∙ (λ i. let t : World × Option Waiting = (ended i, None) in t))

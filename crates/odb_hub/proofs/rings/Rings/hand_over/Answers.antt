@@ -1,8 +1,8 @@
 use Rattle.std.proofs.Common.{rules, ◌≡◌, ◌==◌, ℕ, List, [], ◌∷◌, length, map, sym, ap, subst, ◌∙◌}
 use Rattle.std.proofs.lemmas.List.{nil_from_length}
 use Rattle.odb_atoms.specs.FinMap.{get}
-use Rattle.odb_core.specs.declared.out.Out.{Out}
-use Rattle.odb_core.specs.Represented.Out.{sent_in}
+use Rattle.odb_sessions.specs.declared.out.Out.{Out}
+use Rattle.odb_sessions.specs.Represented.Out.{sent_in}
 use Rattle.odb_hub.specs.Rings.{HandsOver, HasRoom, IsPutAt, Rings, Text, texts_to}
 use Rattle.odb_hub.proofs.HandingOver.{hand_step, nothing_more, room_first}
 use Rattle.odb_hub.proofs.rings.Rings.hand_over.Goals as goal

@@ -1,6 +1,6 @@
 use Rattle.std.proofs.Common.{ℕ, map, Option}
 use Rattle.odb_atoms.specs.FinMap.{get}
-use Rattle.odb_core.specs.Represented.Out.{sent_in}
+use Rattle.odb_sessions.specs.Represented.Out.{sent_in}
 use Rattle.odb_hub.specs.Rings.{HandsOver, HasRoom, Ring, texts_to}
 use Rattle.odb_hub.proofs.rings.Rings.hand_over.Given as goal
 

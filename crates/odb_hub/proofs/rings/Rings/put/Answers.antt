@@ -2,7 +2,7 @@ use Rattle.std.proofs.Common.{rules, ◌≡◌, ℕ, ◌==◌, IsSome, Some, Non
 use Rattle.std.specs.BTreeMap as tree
 use Rattle.std.specs.Ordering.{nat_cmp}
 use Rattle.odb_atoms.specs.FinMap.{get}
-use Rattle.odb_core.specs.Represented.Out.{text_of_out}
+use Rattle.odb_sessions.specs.Represented.Out.{text_of_out}
 use Rattle.odb_hub.specs.Represented.Rings.{rings_in}
 use Rattle.odb_hub.specs.Rings.{HasRoom, IsPutAt, Ring, Rings}
 use Rattle.odb_hub.proofs.HandingOver.{free_is}

@@ -2,7 +2,7 @@ use Rattle.std.proofs.Common.{rules, ◌≡◌, ℕ, List, [], ◌∷◌, ◌++�
 use Rattle.std.specs.BTreeSet.{contains}
 use Rattle.std.specs.Ordering.{nat_cmp}
 use Rattle.std.proofs.lemmas.List.{length-map}
-use Rattle.odb_core.specs.Represented.Out.{sent_in}
+use Rattle.odb_sessions.specs.Represented.Out.{sent_in}
 use Rattle.odb_core.proofs.QuietRounds.{round_among}
 use Rattle.odb_service.specs.Run.{round}
 use Rattle.odb_service.specs.Server.{serve}

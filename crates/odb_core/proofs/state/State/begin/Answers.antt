@@ -1,0 +1,17 @@
+use Rattle.std.proofs.Common.{rules, ◌≡◌, [], ◌∷◌, sym, ◌∙◌}
+use Rattle.odb_request.specs.Represented.Kind.{notation_of}
+use Rattle.odb_rpc.specs.Represented.Printable.{printable_data}
+use Rattle.odb_wire.specs.Shown.{request_data}
+use Rattle.odb_service.specs.Session.{Item, start}
+use Rattle.odb_service.specs.World.{World, push}
+use Rattle.odb_sessions.specs.Posts.{at_number}
+use Rattle.odb_core.proofs.Attempts.{post_as}
+use Rattle.odb_core.proofs.state.State.begin.Goals as goal
+
+pub returns-clause-ok : goal.returns-clause-ok
+returns-clause-ok c =
+    let w : World = c.args.self.now in
+    let i : Item = start (request_data c.args.request.now) (record { id = printable_data c.args.asked.id; notation = notation_of c.args.asked.kind; requests = c.args.requests.items }) in
+    let told : c.start.new.self ≡ record { db = w.db; sessions = at_number (push (i ∷ [])) w.sessions c.args.session } = search rules in
+    post_as c.args.session (i ∷ []) w
+    ∙ (λ j. record { db = (sym told j).db; commits = (sym c.self.view_is j).commits; now = (sym c.self.view_is j).now; waiting = (sym c.self.view_is j).waiting; locks = (sym c.self.view_is j).locks; sessions = (sym told j).sessions })
