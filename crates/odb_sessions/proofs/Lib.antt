@@ -28,6 +28,7 @@ mod Replays
 mod Rests
 mod Room
 pub mod Rounds
+mod SameUpdates
 mod Seen
 mod Stops
 mod Sums

@@ -1,16 +1,17 @@
 -- What is composed for a monitor is what the machine sends, whatever was foreseen of it and under whichever filters.
-use Rattle.std.proofs.Common.{◌≡◌, List, [], ◌∷◌, map, Some, refl, ap, ◌∙◌}
+use Rattle.std.proofs.Common.{◌≡◌, ℕ, List, [], ◌∷◌, map, Some, None, refl, ap, ◌∙◌}
 use Rattle.std.specs.Prelude.{option_map}
+use Rattle.serde_json.specs.Written.{compact_text}
 use Rattle.odb_monitor.specs.Job.{Part, updates_of}
 use Rattle.odb_monitor.specs.View.{query, selected}
 use Rattle.odb_request.specs.Request.{Notation, Request}
 use Rattle.odb_schema.specs.Json.{Data}
 use Rattle.odb_service.specs.Service.{Service}
 use Rattle.odb_service.specs.Session.{refilter}
-use Rattle.odb_sessions.specs.Composed.{all_asked_as, asked_of, later_job, notified_text, part_to}
+use Rattle.odb_sessions.specs.Composed.{all_asked_as, asked_of, later_job, notified_text, part_to, updates_for}
 use Rattle.odb_sessions.specs.Foreseen.{Ahead, Filters, all_parts_again, asked_under, seen_ahead, update_text}
 use Rattle.odb_sessions.specs.Held.{Held, Watched, monitor_of, view_of, watch_of}
-use Rattle.odb_sessions.proofs.Composed.{parts_asked, parts_now, parts_sent, parts_told}
+use Rattle.odb_sessions.proofs.Composed.{body_sent, none_sent, parts_asked, parts_now, parts_sent, parts_told}
 use Rattle.odb_sessions.proofs.OtherFilters.{same_asked, same_view, under}
 use Rattle.odb_tables.specs.Database.{Db, table_at}
 
@@ -58,9 +59,13 @@ sent_again h db gs fs x =
 
 -- ---- as the code names it
 
-pub asked_is : (h : Service) (db : Db) (x : Held) (i : Data) (n : Notation) (ps : List Part) → i ≡ x.id → n ≡ x.notation → ps ≡ map (part_to db) x.tables
-    → option_map (notified_text n i) (updates_of (later_job n ps)) ≡ update_text h db (watch_of x).requests (monitor_of x)
-asked_is h db x i n ps id notation parts = (λ j. option_map (notified_text (notation j) (id j)) (updates_of (later_job (notation j) (parts j)))) ∙ sent_asked h db x
+pub none_owed : (h : Service) (db : Db) (x : Held) → None ≡ updates_for db x → None ≡ update_text h db (watch_of x).requests (monitor_of x)
+none_owed h db x none = none_sent x.notation x.id (updates_of (later_job x.notation (map (part_to db) x.tables))) none ∙ sent_asked h db x
+
+pub body_owed : (h : Service) (db : Db) (x : Held) (i : Data) (n : Notation) (body text : List ℕ) → i ≡ x.id → n ≡ x.notation → Some body ≡ updates_for db x
+    → ((d : Data) → body ≡ compact_text d → text ≡ notified_text n i d) → Some text ≡ update_text h db (watch_of x).requests (monitor_of x)
+body_owed h db x i n body text id notation is around =
+    body_sent x.notation x.id body text (updates_of (later_job x.notation (map (part_to db) x.tables))) is (λ d e. around d e ∙ (λ j. notified_text (notation j) (id j) d)) ∙ sent_asked h db x
 
 pub under_is : (h : Service) (db : Db) (fs : Filters) (x : Held) (i : Data) (n : Notation) (ps : List Part) → i ≡ x.id → n ≡ x.notation → ps ≡ map (part_to db) (all_asked_as x.tables (refilter fs (asked_of x.tables)))
     → option_map (notified_text n i) (updates_of (later_job n ps)) ≡ update_text h db (refilter fs (watch_of x).requests) (monitor_of x)

@@ -20,6 +20,10 @@ abbrev pub AreLive : Chains → List Mark → Type 0
 AreLive k [] = Unit {0}
 AreLive k (m ∷ ms) = IsLive k m × AreLive k ms
 
+-- the marks of all sessions
+abbrev pub AreAllLive : Chains → Sessions → Type 0
+AreAllLive k m = (s : ℕ) (x : Kept) → get m s ≡ Some x → AreLive k (marks_of x)
+
 -- the sum of a weight over entries
 abbrev pub total : {X : Type 0} → (X → ℕ) → List (ℕ × X) → ℕ
 total w [] = 0
@@ -30,7 +34,7 @@ abbrev pub used : ℕ → ℕ → Sessions → ℕ
 used t p m = total (λ x. uses t p (marks_of x)) (entries_of m)
 
 abbrev pub IsTied : Chains → Sessions → Type 0
-IsTied k m = IsNow k × ((t p : ℕ) → count k t p ≡ used t p m) × ((s : ℕ) (x : Kept) → get m s ≡ Some x → AreLive k (marks_of x))
+IsTied k m = IsNow k × ((t p : ℕ) → count k t p ≡ used t p m) × AreAllLive k m
 
 -- ---- marks that are released
 

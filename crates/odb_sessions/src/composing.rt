@@ -7,7 +7,7 @@ ghost use Rattle.odb_monitor.specs.Job.{updates_of};
 ghost use Rattle.odb_request.specs.Represented.Kind.{notation_of};
 ghost use Rattle.odb_sessions.specs.Composed as model;
 ghost use Rattle.odb_sessions.specs.Composed.{IsKnown, asked_of, first_updates, later_job, notified_text, part_to};
-ghost use Rattle.odb_sessions.specs.Represented.Composed.{text_in};
+ghost use Rattle.odb_sessions.specs.Represented.Composed.{bytes_in, bytes_of, text_in};
 
 use crate::id::Id;
 use crate::owed::Owed;
@@ -16,6 +16,7 @@ use odb_monitor::{Job, Part, compose};
 use odb_request::Kind;
 use odb_rpc::{after_updates, before_updates};
 use std::alloc::{AllocError, Global};
+use std::sync::Arc;
 
 /// The parts of these tables. For each the costs are those of `odb_chain::Chains::since`.
 pub(crate) fn parts_of<'a>(
@@ -49,11 +50,11 @@ fn first_parts_of<'a>(
     Ok(parts)
 }
 
-/// A composed message, whose text is the three parts in order.
+/// A composed message, whose text is the three parts in order. Other messages may have its body too.
 #[derive(Drop)]
 pub(crate) struct Message {
     pub(crate) before: Vec<u8>,
-    pub(crate) body: Vec<u8>,
+    pub(crate) body: Arc<Vec<u8>>,
     pub(crate) after: Vec<u8>,
 }
 
@@ -63,11 +64,14 @@ pub(crate) fn compose_updates(
     alloc: Global,
     kind: Kind,
     parts: Vec<Part<'_>>,
-) -> Result<Option<Vec<u8>>, AllocError>
-    ensures { IfOk result (λ text. option_map (λ t. t.items) text
+) -> Result<Option<Arc<Vec<u8>>>, AllocError>
+    ensures { IfOk result (λ text. bytes_in text
         ≡ option_map compact_text (updates_of (later_job (notation_of kind) parts.entry.items))) }
 {
-    compose(alloc, &Job::new(kind, false, parts))
+    let Some(body) = compose(alloc, &Job::new(kind, false, parts))? else {
+        return Ok(None);
+    };
+    Ok(Some(Arc::new(alloc, body)?))
 }
 
 /// Table updates as the notification of a monitor. O(n) for an id of n bytes.
@@ -75,9 +79,9 @@ pub(crate) fn around_updates(
     alloc: Global,
     kind: Kind,
     monitor: &Id,
-    body: Vec<u8>,
+    body: Arc<Vec<u8>>,
 ) -> Result<Message, AllocError>
-    ensures { IfOk result (λ message. (d : Data) → body.items ≡ compact_text d
+    ensures { IfOk result (λ message. (d : Data) → bytes_of body ≡ compact_text d
         → text_in message ≡ notified_text (notation_of kind) monitor.now d) }
 {
     Ok(Message {

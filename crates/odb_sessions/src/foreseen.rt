@@ -1,5 +1,5 @@
 //! What a plan foresees of a session's monitors. It changes nothing of them. [P 10.1]
-ghost use Rattle.std.specs.Prelude.{◌≡◌, IfOk, OnOk, Some, flat_map, map, option_map, position};
+ghost use Rattle.std.specs.Prelude.{◌≡◌, [], IfOk, OnOk, Some, flat_map, map, option_map, position};
 ghost use Rattle.odb_schema.specs.Schema.{Schema};
 ghost use Rattle.odb_service.specs.Server.{served_by};
 ghost use Rattle.odb_service.specs.Service.{Service};
@@ -12,6 +12,7 @@ ghost use Rattle.odb_sessions.specs.Represented.Composed.{text_in};
 ghost use Rattle.odb_sessions.specs.Represented.Under.{filters_in, item_in};
 ghost use Rattle.odb_sessions.specs.Tied.{AreLive};
 
+use crate::composer::Composer;
 use crate::composing::Message;
 use crate::id::Id;
 use crate::monitor::Monitor;
@@ -56,18 +57,18 @@ impl<'a> Ahead<'a> {
     /// those of `Monitor::update`.
     fn update(
         &self,
-        alloc: Global,
-        chains: &'a Chains,
+        composer: &mut Composer<'a>,
         under: Under<'a>,
     ) -> Result<Option<Message>, AllocError>
-        requires { AreLive chains.now (marks_in self.now.held) }
-        ensures { IfOk result (λ message. (h : Service) → option_map text_in message
-            ≡ update_text h chains.now.db (refilter (filters_in under.entry) (watch_of self.now.held).requests) (seen_ahead chains.now.db self.now)) }
+        requires { AreLive composer.old (marks_in self.now.held) }
+        ensures text { IfOk result (λ message. (h : Service) → option_map text_in message
+            ≡ update_text h composer.old.db (refilter (filters_in under.entry) (watch_of self.now.held).requests) (seen_ahead composer.old.db self.now)) }
+        ensures chains { composer.new ≡ composer.old }
     {
         let monitor = self.monitor;
         match self.told {
-            None => monitor.update(alloc, chains, under),
-            Some(told) => monitor.update_again(alloc, chains, told, under),
+            None => monitor.update(composer, under),
+            Some(told) => { monitor.update_again(composer.alloc(), composer.chains(), told, under) }
         }
     }
 
@@ -109,23 +110,23 @@ fn place_of(monitors: &[Ahead<'_>], id: &Id) -> Option<usize>
 
 /// The first of these that has the id, once it is brought to now under these filters, and what its client is sent.
 fn pass<'a>(
-    alloc: Global,
-    chains: &'a Chains,
+    composer: &mut Composer<'a>,
     monitors: &mut Vec<Ahead<'a>>,
     id: &Id,
     under: Under<'a>,
 ) -> Result<Option<Message>, AllocError>
-    requires { AreLive chains.now (marks_ahead monitors.old.items) }
+    requires { AreLive composer.old (marks_ahead monitors.old.items) }
     ensures text { IfOk result (λ message. (s : Schema) → option_map text_in message
-        ≡ option_map (due_text (served_by s) chains.now.db) (due (served_by s) chains.now.db (item_in id.now under.entry) (map (seen_ahead chains.now.db) monitors.old.items))) }
-    ensures passed { OnOk result ((s : Schema) → map (seen_ahead chains.now.db) monitors.new.items
-        ≡ leaves (served_by s) chains.now.db (item_in id.now under.entry) (map (seen_ahead chains.now.db) monitors.old.items)) }
-    ensures live { AreLive chains.now (marks_ahead monitors.new.items) }
+        ≡ option_map (due_text (served_by s) composer.old.db) (due (served_by s) composer.old.db (item_in id.now under.entry) (map (seen_ahead composer.old.db) monitors.old.items))) }
+    ensures passed { OnOk result ((s : Schema) → map (seen_ahead composer.old.db) monitors.new.items
+        ≡ leaves (served_by s) composer.old.db (item_in id.now under.entry) (map (seen_ahead composer.old.db) monitors.old.items)) }
+    ensures chains { composer.new ≡ composer.old }
+    ensures live { AreLive composer.old (marks_ahead monitors.new.items) }
 {
     let Some(place) = place_of(monitors.as_slice(), id) else {
         return Ok(None);
     };
-    let message = monitors[place].update(alloc, chains, under)?;
+    let message = monitors[place].update(composer, under)?;
     monitors[place] = monitors[place].brought(under);
     Ok(message)
 }
@@ -140,19 +141,16 @@ pub(crate) struct Rest {
 
 /// What these monitors have due. The costs are those of `Ahead::update` for each monitor up to the first that is
 /// owed something.
-fn rest_due<'a>(
-    alloc: Global,
-    chains: &'a Chains,
-    monitors: &[Ahead<'a>],
-) -> Result<Rest, AllocError>
-    requires { AreLive chains.now (marks_ahead monitors.now) }
+fn rest_due<'a>(composer: &mut Composer<'a>, monitors: &[Ahead<'a>]) -> Result<Rest, AllocError>
+    requires { AreLive composer.old (marks_ahead monitors.now) }
     ensures monitors { IfOk result (λ rest. (h : Service)
-        → rest.monitors ≡ (plan_rest h chains.now.db (map (seen_ahead chains.now.db) monitors.now)).monitors) }
+        → rest.monitors ≡ (plan_rest h composer.old.db (map (seen_ahead composer.old.db) monitors.now)).monitors) }
     ensures text { IfOk result (λ rest. (h : Service) → option_map text_in rest.message
-        ≡ option_map (due_text h chains.now.db) (plan_rest h chains.now.db (map (seen_ahead chains.now.db) monitors.now)).out) }
+        ≡ option_map (due_text h composer.old.db) (plan_rest h composer.old.db (map (seen_ahead composer.old.db) monitors.now)).out) }
+    ensures chains { composer.new ≡ composer.old }
 {
     for place in 0..monitors.len() {
-        let message = monitors[place].update(alloc, chains, Under::Asked)?;
+        let message = monitors[place].update(composer, Under::Asked)?;
         if message.is_some() {
             return Ok(Rest {
                 monitors: place + 1,
@@ -166,11 +164,10 @@ fn rest_due<'a>(
     })
 }
 
-/// The database with its past, and what a plan foresees of a session's monitors.
+/// The database with its past, the last compositions, and what a plan foresees of a session's monitors.
 #[derive(Drop)]
 pub(crate) struct Planner<'a> {
-    pub(crate) alloc: Global,
-    pub(crate) chains: &'a Chains,
+    pub(crate) composer: Composer<'a>,
     monitors: Vec<Ahead<'a>>,
 }
 
@@ -185,27 +182,31 @@ impl<'a> Model for Planner<'a> {
 
     ghost coded = { foreseen_code };
 
-    ghost view = { λ p. record { chains = p.chains.now; monitors = map (seen_ahead p.chains.now.db) p.monitors.items } };
+    ghost view = { λ p. record { chains = p.composer; monitors = map (seen_ahead p.composer.db) p.monitors.items } };
 
-    ghost invariant = { λ p. AreLive p.chains.now (marks_ahead p.monitors.items) };
+    ghost invariant = { λ p. AreLive p.composer (marks_ahead p.monitors.items) };
 }
 
 impl<'a> Planner<'a> {
-    /// These monitors, of which nothing is foreseen. O(n) for n monitors.
-    pub(crate) fn new(
-        alloc: Global,
-        chains: &'a Chains,
-        monitors: &'a [Monitor],
-    ) -> Result<Planner<'a>, AllocError>
-        requires { AreLive chains.now (flat_map marks_in monitors.now) }
-        ensures { IfOk result (λ planner. planner ≡ record { chains = chains.now; monitors = map monitor_of monitors.now }) }
+    /// No monitors. O(1).
+    pub(crate) fn new(alloc: Global, chains: &'a Chains) -> Planner<'a>
+        ensures { result ≡ record { chains = chains.now; monitors = [] } }
     {
-        let ahead = all_ahead(alloc, monitors)?;
-        Ok(Planner {
-            alloc,
-            chains,
-            monitors: ahead,
-        })
+        Planner {
+            composer: Composer::new(alloc, chains),
+            monitors: Vec::new(alloc),
+        }
+    }
+
+    /// These monitors in the place of those that it had, with nothing foreseen of them. O(n) for n monitors.
+    pub(crate) fn turn_to(&mut self, monitors: &'a [Monitor]) -> Result<(), AllocError>
+        requires { AreLive self.old.chains (flat_map marks_in monitors.now) }
+        ensures monitors { OnOk result (self.new.monitors ≡ map monitor_of monitors.now) }
+        ensures chains { self.new.chains ≡ self.old.chains }
+    {
+        let ahead = all_ahead(self.composer.alloc(), monitors)?;
+        self.monitors = ahead;
+        Ok(())
     }
 
     /// What the client of the monitor with this id is sent to be brought to now under these filters; `None` where
@@ -217,17 +218,18 @@ impl<'a> Planner<'a> {
             ≡ leaves (served_by s) self.old.chains.db (item_in id.now under.entry) self.old.monitors) }
         ensures chains { self.new.chains ≡ self.old.chains }
     {
-        pass(self.alloc, self.chains, &mut self.monitors, id, under)
+        pass(&mut self.composer, &mut self.monitors, id, under)
     }
 
     /// What its monitors have due once the queue is empty. The costs are those of `Monitor::update` for each
     /// monitor up to the first that is owed something.
-    pub(crate) fn rest(&self) -> Result<Rest, AllocError>
+    pub(crate) fn rest(&mut self) -> Result<Rest, AllocError>
         ensures monitors { IfOk result (λ rest. (h : Service)
-            → rest.monitors ≡ (plan_rest h self.now.chains.db self.now.monitors).monitors) }
+            → rest.monitors ≡ (plan_rest h self.old.chains.db self.old.monitors).monitors) }
         ensures text { IfOk result (λ rest. (h : Service) → option_map text_in rest.message
-            ≡ option_map (due_text h self.now.chains.db) (plan_rest h self.now.chains.db self.now.monitors).out) }
+            ≡ option_map (due_text h self.old.chains.db) (plan_rest h self.old.chains.db self.old.monitors).out) }
+        ensures chains { self.new.chains ≡ self.old.chains }
     {
-        rest_due(self.alloc, self.chains, self.monitors.as_slice())
+        rest_due(&mut self.composer, self.monitors.as_slice())
     }
 }

@@ -5,10 +5,12 @@
 #![tactic(auto)]
 
 mod again;
+mod alike;
 mod applying;
 mod asked;
 mod carrying;
 mod changing;
+mod composer;
 mod composing;
 mod copying;
 mod ending;

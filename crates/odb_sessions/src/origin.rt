@@ -13,6 +13,7 @@ use odb_rpc::{after_result, before_result, reply_id};
 use odb_wire::Request;
 use std::alloc::{AllocError, Global};
 use std::marker::Model;
+use std::sync::Arc;
 
 /// A request whose reply is due, with the text with which that begins. Contracts see the request.
 #[derive(Drop)]
@@ -55,7 +56,7 @@ impl Origin {
         let after = Vec::from_slice(alloc, after_result())?;
         Ok(Message {
             before,
-            body,
+            body: Arc::new(alloc, body)?,
             after,
         })
     }

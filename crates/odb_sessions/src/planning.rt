@@ -13,7 +13,8 @@ ghost use Rattle.odb_sessions.specs.Represented.Under.{filters_in};
 ghost use Rattle.odb_sessions.specs.Tied.{AreLive};
 
 use crate::again::parts_again;
-use crate::composing::{Message, compose_first, compose_update, parts_of};
+use crate::composer::Composer;
+use crate::composing::{Message, around_updates, compose_first, compose_update, parts_of};
 use crate::monitor::{Monitor, Watching};
 use crate::owed::{Owed, all_owed, all_owed_as};
 use crate::under::{Under, requests_under};
@@ -46,40 +47,42 @@ impl Monitor {
     }
 
     /// The update that its client is owed under these filters, where nothing of it was foreseen; `None` where it
-    /// is owed nothing. The costs are those of `compose_update` and, for each table, of
-    /// `odb_chain::Chains::since`.
+    /// is owed nothing. The costs are those of `Composer::updates` under what it asks, and else those of
+    /// `compose_update` and, for each table, of `odb_chain::Chains::since`.
     pub(crate) fn update<'a>(
         &'a self,
-        alloc: Global,
-        chains: &'a Chains,
+        composer: &mut Composer<'a>,
         under: Under<'a>,
     ) -> Result<Option<Message>, AllocError>
-        requires { AreLive chains.now (marks_in self.now) }
-        ensures { IfOk result (λ message. (h : Service) → option_map text_in message
-            ≡ update_text h chains.now.db (refilter (filters_in under.entry) (watch_of self.now).requests) (seen_ahead chains.now.db (as_told self.now))) }
+        requires { AreLive composer.old (marks_in self.now) }
+        ensures text { IfOk result (λ message. (h : Service) → option_map text_in message
+            ≡ update_text h composer.old.db (refilter (filters_in under.entry) (watch_of self.now).requests) (seen_ahead composer.old.db (as_told self.now))) }
+        ensures chains { composer.new ≡ composer.old }
     {
         match under {
-            Under::Asked => self.update_asked(alloc, chains),
-            Under::Changed(_) => self.update_under(alloc, chains, under),
+            Under::Asked => self.update_asked(composer),
+            Under::Changed(_) => self.update_under(composer.alloc(), composer.chains(), under),
         }
     }
 
     /// The update that its client is owed.
     fn update_asked<'a>(
         &'a self,
-        alloc: Global,
-        chains: &'a Chains,
+        composer: &mut Composer<'a>,
     ) -> Result<Option<Message>, AllocError>
-        requires { AreLive chains.now (marks_in self.now) }
-        ensures { IfOk result (λ message. (h : Service) → option_map text_in message
-            ≡ update_text h chains.now.db (watch_of self.now).requests (monitor_of self.now)) }
+        requires { AreLive composer.old (marks_in self.now) }
+        ensures text { IfOk result (λ message. (h : Service) → option_map text_in message
+            ≡ update_text h composer.old.db (watch_of self.now).requests (monitor_of self.now)) }
+        ensures chains { composer.new ≡ composer.old }
     {
-        if are_now(self.tables.as_slice(), chains) {
+        if are_now(self.tables.as_slice(), composer.chains()) {
             return Ok(None);
         }
-        let tables = self.owed(alloc)?;
-        let parts = parts_of(alloc, chains, tables.as_slice())?;
-        compose_update(alloc, self.kind, &self.id, parts)
+        let updates = composer.updates(self)?;
+        let Some(body) = updates else {
+            return Ok(None);
+        };
+        Ok(Some(around_updates(composer.alloc(), self.kind, &self.id, body)?))
     }
 
     /// The update that its client is owed under these filters.

@@ -1,9 +1,9 @@
 //! Takings that are ready: what they were to take memory for is done. [P 10.3]
-ghost use Rattle.std.specs.Prelude.{◌≡◌, IfOk, List};
+ghost use Rattle.std.specs.Prelude.{◌≡◌, List, Option};
 ghost use Rattle.odb_sessions.specs.Foreseen.{last_used};
 ghost use Rattle.odb_sessions.specs.Represented.Out.{text_of_out};
-ghost use Rattle.odb_sessions.specs.Represented.Ready.{ready_of, text_coming, text_shared};
-ghost use Rattle.odb_sessions.specs.Represented.Taking.{taking_text};
+ghost use Rattle.odb_sessions.specs.Represented.Ready.{ready_of, text_coming};
+ghost use Rattle.odb_sessions.specs.Represented.Taking.{coming_text, taking_text};
 ghost use Rattle.odb_sessions.specs.Represented.Composed.{text_in};
 ghost use Rattle.odb_sessions.specs.Taken.{no_text, text_from};
 ghost use Rattle.odb_service.specs.Session.{Item};
@@ -14,8 +14,7 @@ use crate::taking;
 use crate::taking::Taking;
 use odb_locks::SessionId;
 use odb_queue::Finished;
-use std::alloc::{AllocError, Global};
-use std::sync::Arc;
+use std::alloc::Global;
 
 /// What comes of a taking.
 #[derive(Drop)]
@@ -25,39 +24,16 @@ pub(crate) enum Coming {
     /// The text of the last item that is used up.
     Queued,
     /// A text that was composed.
-    Composed(Shared),
+    Composed(Message),
 }
 
-/// A composed text, whose body may be shared. It is the three parts in order.
-#[derive(Drop)]
-pub(crate) struct Shared {
-    before: Vec<u8>,
-    body: Arc<Vec<u8>>,
-    after: Vec<u8>,
-}
-
-impl Shared {
-    fn new(alloc: Global, message: Message) -> Result<Shared, AllocError>
-        ensures { IfOk result (λ shared. text_shared shared ≡ text_in message) }
-    {
-        let Message {
-            before,
-            body,
-            after,
-        } = message;
-        Ok(Shared {
-            before,
-            body: Arc::new(alloc, body)?,
-            after,
-        })
-    }
-
-    /// The message for a session.
+impl Message {
+    /// It, for a session.
     pub(crate) fn out(self, session: SessionId) -> Out
         ensures session { result.session ≡ session }
-        ensures text { text_of_out result ≡ text_shared self }
+        ensures text { text_of_out result ≡ text_in self }
     {
-        let Shared {
+        let Message {
             before,
             body,
             after,
@@ -95,36 +71,35 @@ impl Ready {
         }
     }
 
-    /// The taking, with a count of the text that was composed.
-    pub(crate) fn new(
-        alloc: Global,
-        session: SessionId,
-        taking: Taking,
-    ) -> Result<Ready, AllocError>
-        ensures session { IfOk result (λ ready. ready.session ≡ session) }
-        ensures items { IfOk result (λ ready. ready.items ≡ taking.items) }
-        ensures monitors { IfOk result (λ ready. ready.monitors ≡ taking.monitors) }
-        ensures text { IfOk result (λ ready. (is : List Item)
-            → text_from (ready_of ready).text (last_used taking.items is) ≡ taking_text taking is) }
+    /// The taking, for a session.
+    pub(crate) fn new(session: SessionId, taking: Taking) -> Ready
+        ensures session { result.session ≡ session }
+        ensures items { result.items ≡ taking.items }
+        ensures monitors { result.monitors ≡ taking.monitors }
+        ensures text { (is : List Item) → text_from (ready_of result).text (last_used taking.items is) ≡ taking_text taking is }
     {
         let Taking {
             items,
             monitors,
             coming,
         } = taking;
-        let coming = match coming {
-            None => Coming::Nothing,
-            Some(taking::Coming::Queued) => Coming::Queued,
-            Some(taking::Coming::Composed(message)) => {
-                Coming::Composed(Shared::new(alloc, message)?)
-            }
-        };
-        Ok(Ready {
+        Ready {
             session,
             items,
             monitors,
-            coming,
-        })
+            coming: all_that_comes(coming),
+        }
+    }
+}
+
+/// What comes, where that may be nothing.
+fn all_that_comes(coming: Option<taking::Coming>) -> Coming
+    ensures { (last : Option Item) → text_from (text_coming result) last ≡ coming_text coming last }
+{
+    match coming {
+        None => Coming::Nothing,
+        Some(taking::Coming::Queued) => Coming::Queued,
+        Some(taking::Coming::Composed(message)) => Coming::Composed(message),
     }
 }
 

@@ -19,8 +19,6 @@ ghost use Rattle.odb_sessions.specs.Named.{named};
 ghost use Rattle.odb_sessions.specs.Posts.{all_posted, at_number, posted, unposted};
 ghost use Rattle.odb_sessions.specs.Started.{AreApart, AreOfTables, started};
 ghost use Rattle.odb_sessions.specs.Stopped.{changed_in, stopped_in};
-ghost use Rattle.odb_sessions.specs.Represented.Ready.{ready_of};
-ghost use Rattle.odb_sessions.specs.Taken.{IsReadyFor};
 ghost use Rattle.odb_tables.specs.Change.{all_changed_by};
 ghost use Rattle.odb_tables.specs.Installing.{IsChangeOf};
 ghost use Rattle.odb_wire.specs.Message.{has_left_out, id_of};
@@ -34,7 +32,6 @@ use crate::item::Item;
 use crate::named::{Named, first_of};
 use crate::numbered::Numbered;
 use crate::past::Past;
-use crate::ready::Ready;
 use crate::session::Session;
 use crate::starting::Starting;
 use odb_locks::SessionId;
@@ -275,19 +272,6 @@ impl Sessions {
             return;
         };
         closed.release(&mut self.past);
-    }
-
-    /// What a taking of a session uses up, and what comes, if it is open. Nothing changes. O(log n) for n sessions,
-    /// and what `Session::taking` costs.
-    pub(crate) fn taking(&self, session: SessionId) -> Result<Ready, AllocError>
-        ensures session { IfOk result (λ ready. ready.session ≡ session) }
-        ensures ready { IfOk result (λ ready. (s : Schema) → IsReadyFor s self.now.db (finite.get self.now.sessions session) (ready_of ready)) }
-    {
-        let Some(of) = self.sessions.get(session) else {
-            return Ok(Ready::none(session));
-        };
-        let taking = of.taking(self.alloc, self.past.chains())?;
-        Ready::new(self.alloc, session, taking)
     }
 
     /// Carries a taking of a session out, if that is open: this many items of its queue are used up, and then the

@@ -92,7 +92,7 @@ impl<'a> Planner<'a> {
         ensures text { IfOk result (λ coming. (h : Service) (last : Option machine.Item) → coming_text coming last
             ≡ Some (due_text h self.now.chains.db (first_due start.now.origin (watch_of start.now.monitor)))) }
     {
-        let message = start.first_reply(self.alloc, self.chains)?;
+        let message = start.first_reply(self.composer.alloc(), self.composer.chains())?;
         Ok(composed(Some(message)))
     }
 
@@ -165,6 +165,7 @@ fn taking_of<'a>(items: &'a VecDeque<Item>, planner: &mut Planner<'a>) -> Result
     ensures text { IfOk result (λ taking. (s : Schema) → taking_text taking (map item_seen (map queued_of items.now.items))
         ≡ option_map (due_text (served_by s) planner.old.chains.db)
         (plan_from (served_by s) planner.old.chains.db (map item_seen (map queued_of items.now.items)) planner.old.monitors).out) }
+    ensures chains { planner.new.chains ≡ planner.old.chains }
 {
     for place in 0..items.len() {
         let coming = planner.give(&items[place])?;
@@ -185,21 +186,23 @@ fn taking_of<'a>(items: &'a VecDeque<Item>, planner: &mut Planner<'a>) -> Result
 }
 
 impl Session {
-    /// What a taking of the session uses up, and what comes. The costs are those of `Planner::new` and `taking_of`.
-    pub(crate) fn taking(&self, alloc: Global, chains: &Chains) -> Result<Taking, AllocError>
-        requires { AreLive chains.now (marks_of self.now) }
+    /// What a taking of the session uses up, and what comes. The costs are those of `Planner::turn_to` and
+    /// `taking_of`.
+    pub(crate) fn taking<'a>(&'a self, planner: &mut Planner<'a>) -> Result<Taking, AllocError>
+        requires { AreLive planner.old.chains (marks_of self.now) }
         ensures items { IfOk result (λ taking. (s : Schema)
-            → taking.items ≡ (plan (served_by s) chains.now.db (seen self.now)).items) }
+            → taking.items ≡ (plan (served_by s) planner.old.chains.db (seen self.now)).items) }
         ensures monitors { IfOk result (λ taking. (s : Schema)
-            → taking.monitors ≡ (plan (served_by s) chains.now.db (seen self.now)).monitors) }
+            → taking.monitors ≡ (plan (served_by s) planner.old.chains.db (seen self.now)).monitors) }
         ensures text { IfOk result (λ taking. (s : Schema) → taking_text taking (seen self.now).queue
-            ≡ option_map (due_text (served_by s) chains.now.db) (plan (served_by s) chains.now.db (seen self.now)).out) }
+            ≡ option_map (due_text (served_by s) planner.old.chains.db) (plan (served_by s) planner.old.chains.db (seen self.now)).out) }
+        ensures chains { planner.new.chains ≡ planner.old.chains }
     {
         if let Some(taking) = self.queue.at_once() {
             return Ok(taking);
         }
-        let mut planner = Planner::new(alloc, chains, self.monitors.as_slice())?;
-        self.queue.taking(&mut planner)
+        planner.turn_to(self.monitors.as_slice())?;
+        self.queue.taking(planner)
     }
 }
 
@@ -228,6 +231,7 @@ impl Queue {
         ensures text { IfOk result (λ taking. (s : Schema) → taking_text taking (map item_seen self.now)
             ≡ option_map (due_text (served_by s) planner.old.chains.db)
             (plan_from (served_by s) planner.old.chains.db (map item_seen self.now) planner.old.monitors).out) }
+        ensures chains { planner.new.chains ≡ planner.old.chains }
     {
         taking_of(&self.items, planner)
     }

@@ -15,6 +15,7 @@ use Rattle.odb_service.specs.Session.{Item, Monitor, Session, Watch}
 use Rattle.odb_service.specs.WorldCode.{item_code, monitor_code, session_code, watch_code}
 use Rattle.odb_tables.specs.Database.{Db, db_code}
 use Rattle.odb_sessions.specs.Book.{Book}
+use Rattle.odb_sessions.specs.Composed.{Composition}
 use Rattle.odb_sessions.specs.Foreseen.{Ahead, Filters, Foreseen}
 use Rattle.odb_sessions.specs.Held.{Held, Kept, Queued, Sessions, Watched, due, plain}
 use Rattle.odb_sessions.specs.Named.{Named}
@@ -70,3 +71,6 @@ filters_code = coded_list (coded× (coded_list coded_ℕ) filter_code)
 
 abbrev pub ahead_code : Coded Ahead
 ahead_code = code_by (Held × Option Filters) (coded× held_code (coded_option filters_code)) (λ a. (a.held, a.told)) (λ p. record { held = p.0; told = p.1 }) (λ a. refl)
+
+abbrev pub composition_code : Coded Composition
+composition_code = code_by (Held × Option (List ℕ)) (coded× held_code (coded_option (coded_list coded_ℕ))) (λ c. (c.held, c.updates)) (λ p. record { held = p.0; updates = p.1 }) (λ c. refl)

@@ -1,4 +1,5 @@
 use Rattle.std.proofs.Common.{rules, ◌≡◌, Option, Some, None, option_map}
+use Rattle.std.specs.Arc.{arc_value}
 use Rattle.serde_json.specs.Written.{compact_text}
 use Rattle.odb_monitor.specs.Job.{updates_of}
 use Rattle.odb_request.specs.Represented.Kind.{notation_of}
@@ -19,5 +20,5 @@ pub returns : goal.returns
 returns c =
     let n = notation_of c.args.kind in
     let o : Option Data = updates_of (later_job n c.args.parts.items) in
-    let is : Some c.in-Some.body.items ≡ option_map compact_text o = search rules in
-    body_sent n c.args.monitor.now c.in-Some.body.items (text_in c.in_ok-around_updates.field-0) o is c.in_ok-around_updates.ensures
+    let is : Some (arc_value c.in-Some.body).items ≡ option_map compact_text o = search rules in
+    body_sent n c.args.monitor.now (arc_value c.in-Some.body).items (text_in c.in_ok-around_updates.field-0) o is c.in_ok-around_updates.ensures

@@ -5,6 +5,7 @@ use Rattle.odb_sessions.proofs.foreseen.rest_due.Given as goal
 
 abbrev pub invariant-loop-place : goal.invariant-loop-place
 invariant-loop-place l = record {
+  chains : l.composer ≡ l.initial.composer;
   within : l.place ≤ length l.monitors;
-  rest : (h : Service) → rest_of h l.chains.db l.monitors ≡ after_none l.place (rest_of h l.chains.db (drop l.place l.monitors));
+  rest : (h : Service) → rest_of h l.initial.composer.db l.monitors ≡ after_none l.place (rest_of h l.initial.composer.db (drop l.place l.monitors));
 }

@@ -1,4 +1,5 @@
-use Rattle.std.proofs.Common.{◌≡◌, IfOk, OnOk, map, option_map, subst}
+use Rattle.std.proofs.Common.{◌≡◌, IfOk, OnOk, map, option_map, subst, sym}
+use Rattle.odb_chain.specs.Chains.{Chains}
 use Rattle.odb_schema.specs.Schema.{Schema}
 use Rattle.odb_service.specs.Server.{served_by}
 use Rattle.odb_service.specs.Session.{leaves}
@@ -16,7 +17,12 @@ returns-clause-text c =
 
 pub returns-clause-passed : goal.returns-clause-passed
 returns-clause-passed c =
-    let db = c.self.inside.chains.now.db in
+    let db = c.self.inside.composer.db in
+    let now : Foreseen = c.args.self.now in
+    let passed : OnOk c.pass.result ((s : Schema) → map (seen_ahead db) c.pass.new.monitors.items ≡ leaves (served_by s) now.chains.db (item_in c.args.id.now c.args.under) now.monitors) =
     subst (λ (f : Foreseen). OnOk c.pass.result ((s : Schema) → map (seen_ahead db) c.pass.new.monitors.items
     ≡ leaves (served_by s) f.chains.db (item_in c.args.id.now c.args.under) f.monitors))
     c.self.view_is c.pass.ensures.passed
+    in
+    subst (λ (k : Chains). OnOk c.pass.result ((s : Schema) → map (seen_ahead k.db) c.pass.new.monitors.items ≡ leaves (served_by s) now.chains.db (item_in c.args.id.now c.args.under) now.monitors))
+    (sym c.pass.ensures.chains) passed

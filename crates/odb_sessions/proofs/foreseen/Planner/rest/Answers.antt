@@ -6,7 +6,7 @@ use Rattle.odb_sessions.proofs.foreseen.Planner.rest.Goals as goal
 
 pub returns-clause-monitors : goal.returns-clause-monitors
 returns-clause-monitors c =
-    let db = c.self.inside.chains.now.db in
+    let db = c.self.inside.composer.db in
     let slice : c.as_slice.result.now ≡ c.self.inside.monitors.items = search rules in
     IfOk-weaker c.rest_due.result _ _
     (λ rest e. λ h. e h ∙ ap (λ (xs : List Ahead). (plan_rest h db (map (seen_ahead db) xs)).monitors) slice
@@ -15,7 +15,7 @@ returns-clause-monitors c =
 
 pub returns-clause-text : goal.returns-clause-text
 returns-clause-text c =
-    let db = c.self.inside.chains.now.db in
+    let db = c.self.inside.composer.db in
     let slice : c.as_slice.result.now ≡ c.self.inside.monitors.items = search rules in
     IfOk-weaker c.rest_due.result _ _
     (λ rest e. λ h. e h ∙ ap (λ (xs : List Ahead). option_map (due_text h db) (plan_rest h db (map (seen_ahead db) xs)).out) slice

@@ -10,11 +10,11 @@ use Rattle.odb_sessions.specs.declared.under.Under.TheVariants as under
 use Rattle.odb_sessions.proofs.Updates.{refilter_none}
 use Rattle.odb_sessions.proofs.monitor.Monitor.update.Goals as goal
 
-pub returns-in-Asked : goal.returns-in-Asked
-returns-in-Asked c =
+pub returns-in-Asked-clause-text : goal.returns-in-Asked-clause-text
+returns-in-Asked-clause-text c =
     let x : Held = c.args.self.now in
     let qs : List Request = (watch_of x).requests in
     let is : c.args.under ≡ under.Asked = search rules in
     IfOk-weaker c.update_asked.result _ _
-    (λ message e. λ h. e h ∙ ap (λ (rs : List Request). update_text h c.args.chains.now.db rs (monitor_of x)) (sym (refilter_none qs) ∙ ap (λ (u : Under). refilter (filters_in u) qs) (sym is)))
-    c.update_asked.ensures
+    (λ message e. λ h. e h ∙ ap (λ (rs : List Request). update_text h c.args.composer.now.db rs (monitor_of x)) (sym (refilter_none qs) ∙ ap (λ (u : Under). refilter (filters_in u) qs) (sym is)))
+    c.update_asked.ensures.text

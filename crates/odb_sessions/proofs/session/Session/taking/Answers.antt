@@ -1,14 +1,19 @@
-use Rattle.std.proofs.Common.{rules, ◌≡◌, ◌++◌, List, flat_map, subst, sym, ap}
+use Rattle.std.proofs.Common.{rules, ◌≡◌, ◌++◌, List, flat_map, map, option_map, subst, sym, ap, ◌∙◌}
+use Rattle.std.proofs.lemmas.Result.{IfOk-weaker}
 use Rattle.odb_chain.specs.Chains.{Chains, Mark}
-use Rattle.odb_sessions.specs.Foreseen.{Foreseen}
-use Rattle.odb_sessions.specs.Held.{Held, Kept, marks_due, marks_in, marks_of}
+use Rattle.odb_service.specs.Server.{served_by}
+use Rattle.odb_service.specs.Session.{Monitor}
+use Rattle.odb_sessions.specs.Foreseen.{due_text}
+use Rattle.odb_sessions.specs.Held.{Held, Kept, item_seen, marks_due, marks_in, marks_of, monitor_of, seen}
+use Rattle.odb_sessions.specs.Planned.{plan, plan_from}
+use Rattle.odb_sessions.specs.Represented.Taking.{taking_text}
 use Rattle.odb_sessions.specs.Tied.{AreLive}
 use Rattle.odb_sessions.proofs.Releases.{live-left, live-right}
 use Rattle.odb_sessions.proofs.session.Session.taking.Goals as goal
 
-pub new-requires : goal.new-requires
-new-requires c =
-    let k : Chains = c.args.chains.now in
+pub turn_to-requires : goal.turn_to-requires
+turn_to-requires c =
+    let k : Chains = c.args.planner.now.chains in
     let ms : List Mark = flat_map marks_in c.self.inside.monitors.items in
     let ds : List Mark = flat_map marks_due c.self.inside.queue in
     let slice : c.as_slice.result.now ≡ c.self.inside.monitors.items = search rules in
@@ -17,8 +22,47 @@ new-requires c =
 
 pub taking-requires : goal.taking-requires
 taking-requires c =
-    let k : Chains = c.args.chains.now in
+    let k : Chains = c.args.planner.now.chains in
     let ms : List Mark = flat_map marks_in c.self.inside.monitors.items in
     let ds : List Mark = flat_map marks_due c.self.inside.queue in
     let live : AreLive k (ms ++ ds) = subst (λ (x : Kept). AreLive k (marks_of x)) (sym c.self.view_is) c.requires in
-    subst (λ (n : Chains). AreLive n ds) (sym (ap (λ (f : Foreseen). f.chains) c.in_ok-planner.ensures)) (live-right k ms ds live)
+    subst (λ (n : Chains). AreLive n ds) (sym c.turn_to.ensures.chains) (live-right k ms ds live)
+
+pub returns-clause-items : goal.returns-clause-items
+returns-clause-items c =
+    let x : Kept = record { queue = c.self.inside.queue; monitors = c.self.inside.monitors.items } in
+    let slice : c.as_slice.result.now ≡ c.self.inside.monitors.items = search rules in
+    let monitors : c.turn_to.new.self.monitors ≡ map monitor_of x.monitors = c.in_ok-turn_to.ensures.monitors ∙ ap (map monitor_of) slice in
+    let chains : c.turn_to.new.self.chains ≡ c.args.planner.now.chains = c.turn_to.ensures.chains in
+    IfOk-weaker c.taking.result _ _
+    (λ taking e. λ s. e s ∙ (λ i. let k : Chains = chains i in let ms : List Monitor = monitors i in (plan_from (served_by s) k.db (map item_seen x.queue) ms).items)
+    ∙ ap (λ (y : Kept). (plan (served_by s) c.args.planner.now.chains.db (seen y)).items) c.self.view_is)
+    c.taking.ensures.items
+
+pub returns-clause-monitors : goal.returns-clause-monitors
+returns-clause-monitors c =
+    let x : Kept = record { queue = c.self.inside.queue; monitors = c.self.inside.monitors.items } in
+    let slice : c.as_slice.result.now ≡ c.self.inside.monitors.items = search rules in
+    let monitors : c.turn_to.new.self.monitors ≡ map monitor_of x.monitors = c.in_ok-turn_to.ensures.monitors ∙ ap (map monitor_of) slice in
+    let chains : c.turn_to.new.self.chains ≡ c.args.planner.now.chains = c.turn_to.ensures.chains in
+    IfOk-weaker c.taking.result _ _
+    (λ taking e. λ s. e s ∙ (λ i. let k : Chains = chains i in let ms : List Monitor = monitors i in (plan_from (served_by s) k.db (map item_seen x.queue) ms).monitors)
+    ∙ ap (λ (y : Kept). (plan (served_by s) c.args.planner.now.chains.db (seen y)).monitors) c.self.view_is)
+    c.taking.ensures.monitors
+
+pub returns-clause-text : goal.returns-clause-text
+returns-clause-text c =
+    let x : Kept = record { queue = c.self.inside.queue; monitors = c.self.inside.monitors.items } in
+    let slice : c.as_slice.result.now ≡ c.self.inside.monitors.items = search rules in
+    let monitors : c.turn_to.new.self.monitors ≡ map monitor_of x.monitors = c.in_ok-turn_to.ensures.monitors ∙ ap (map monitor_of) slice in
+    let chains : c.turn_to.new.self.chains ≡ c.args.planner.now.chains = c.turn_to.ensures.chains in
+    let db = c.args.planner.now.chains.db in
+    let queue = ap (λ (y : Kept). (seen y).queue) c.self.view_is in
+    IfOk-weaker c.taking.result _ _
+    (λ taking e. λ s. sym (ap (taking_text taking) queue) ∙ e s
+    ∙ (λ i. let k : Chains = chains i in let ms : List Monitor = monitors i in option_map (due_text (served_by s) k.db) (plan_from (served_by s) k.db (map item_seen x.queue) ms).out)
+    ∙ ap (λ (y : Kept). option_map (due_text (served_by s) db) (plan (served_by s) db (seen y)).out) c.self.view_is)
+    c.taking.ensures.text
+
+pub returns-clause-chains : goal.returns-clause-chains
+returns-clause-chains c = c.taking.ensures.chains ∙ c.turn_to.ensures.chains

@@ -1,12 +1,15 @@
-use Rattle.std.proofs.Common.{◌≡◌, ◌≤◌, ℕ, length, map, take}
+use Rattle.std.proofs.Common.{◌≡◌, ◌≤◌, length, map, take}
 use Rattle.std.specs.Prelude.{vec_capacity, vec_len}
 use Rattle.odb_schema.specs.Schema.{Schema}
+use Rattle.odb_sessions.specs.Book.{Book}
+use Rattle.odb_sessions.specs.Held.{all_seen}
 use Rattle.odb_sessions.specs.Represented.Ready.{AreReady}
 use Rattle.odb_sessions.specs.declared.ready.Ready.{Ready}
-use Rattle.odb_sessions.proofs.sessions.Sessions.takings.Given as goal
+use Rattle.odb_sessions.proofs.round.takings_at.Given as goal
 
 abbrev pub invariant-loop-session : goal.invariant-loop-session
 invariant-loop-session l =
     (map (λ (r : Ready). r.session) l.takings.items ≡ take l.session-index l.listed)
-    × ((s : Schema) → AreReady s l.initial.self l.takings.items)
+    × ((s : Schema) → let b : Book = record { db = l.initial.planner.chains.db; sessions = all_seen l.sessions } in AreReady s b l.takings.items)
     × (vec_len l.takings ≡ l.session-index) × (length l.listed ≤ vec_capacity l.takings)
+    × (l.planner.chains ≡ l.initial.planner.chains)
