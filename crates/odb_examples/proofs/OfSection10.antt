@@ -168,6 +168,33 @@ pub changes_are_merged_while_nobody_takes : Plays net (
 unfolding shows
 changes_are_merged_while_nobody_takes = refl
 
+-- Three clients that began at different moments of a row
+pub three_clients_that_began_at_different_moments_of_a_row : Plays net (
+    codes "> !open D"
+    ∷ codes "> A monitor 1 [\"net\",\"m\",{\"Bridge\":{\"columns\":[\"name\"]}}]"
+    ∷ codes "< A reply 1 {}"
+    ∷ codes "> !hold A"
+    ∷ codes "> D transact 1 {\"op\":\"insert\",\"table\":\"Bridge\",\"row\":{\"name\":\"b1\"}}"
+    ∷ codes "< D reply 1 [{\"uuid\":[\"uuid\",\"U1\"]}]"
+    ∷ codes "> B monitor 1 [\"net\",\"m\",{\"Bridge\":{\"columns\":[\"name\"]}}]"
+    ∷ codes "< B reply 1 {\"Bridge\":{\"U1\":{\"new\":{\"name\":\"b1\"}}}}"
+    ∷ codes "> !hold B"
+    ∷ codes "> D transact 2 {\"op\":\"update\",\"table\":\"Bridge\",\"where\":[],\"row\":{\"name\":\"b2\"}}"
+    ∷ codes "< D reply 2 [{\"count\":1}]"
+    ∷ codes "> C monitor 1 [\"net\",\"m\",{\"Bridge\":{\"columns\":[\"name\"]}}]"
+    ∷ codes "< C reply 1 {\"Bridge\":{\"U1\":{\"new\":{\"name\":\"b2\"}}}}"
+    ∷ codes "> !hold C"
+    ∷ codes "> D transact 3 {\"op\":\"delete\",\"table\":\"Bridge\",\"where\":[]}"
+    ∷ codes "< D reply 3 [{\"count\":1}]"
+    ∷ codes "> !take A"
+    ∷ codes "> !take B"
+    ∷ codes "< B update [\"m\",{\"Bridge\":{\"U1\":{\"old\":{\"name\":\"b1\"}}}}]"
+    ∷ codes "> !take C"
+    ∷ codes "< C update [\"m\",{\"Bridge\":{\"U1\":{\"old\":{\"name\":\"b2\"}}}}]"
+    ∷ [])
+unfolding shows
+three_clients_that_began_at_different_moments_of_a_row = refl
+
 -- Two queued changes of conditions, each composed with its own filter when it is taken
 pub two_queued_changes_of_conditions_each_composed_with_its_own_filter_when_it_is_taken : Plays net (
     codes "> B transact 1 {\"op\":\"insert\",\"table\":\"Bridge\",\"row\":{\"name\":\"br0\"}}"
