@@ -3,7 +3,7 @@ use Rattle.std.specs.Prelude.{◌≡◌, ℕ, zero, suc, ◌<◌, true, List, []
 use Rattle.std.specs.List.{list_all}
 use Rattle.std.proofs.Common.{arith, ⊎_elim}
 use Rattle.std.proofs.lemmas.Option.{none-some, same_Some}
-use mathlib.Core.Path.{refl, sym, ap, ◌∙◌}
+use mathlib.Core.Path.{refl, sym, subst, ap, ◌∙◌}
 use Rattle.odb_atoms.specs.FinSet as set
 use Rattle.odb_atoms.specs.Atom.{Atom, uuid, atom_cmp}
 use Rattle.odb_atoms.specs.Row.{Row, Selector, cell, own_uuid}
@@ -15,6 +15,7 @@ use Rattle.odb_atoms.proofs.Atoms.{atom_cmp-IsAntisymmetric}
 use Rattle.odb_atoms.specs.Represented.AtomOrder.{atom_cmp_total}
 use Rattle.odb_atoms.proofs.FinMaps.{same_key}
 use Rattle.odb_atoms.proofs.Lists.{both, either}
+use Rattle.odb_atoms.proofs.Values.{same_value-equal}
 use Rattle.odb_cond.specs.Condition.{Clause, Function, equal, holds, holds_all, includes, relates}
 use Rattle.odb_cond.specs.Pinned.{lone_uuid, or_later, pinned, pinned_by, uuid_in, wanted}
 
@@ -48,6 +49,18 @@ no_other (c ∷ cs) u w r is h = let all = both (holds c u r) (holds_all cs u r)
     by : (o : Option Uuid) → pinned_by c ≡ o → or_later o (pinned cs) ≡ Some w → (pinned cs ≡ Some w → holds_all cs u r ≡ true → u ≡ w) → holds c u r ≡ true → holds_all cs u r ≡ true → u ≡ w
     by None own is rest here later = rest is later
     by (Some x) own is rest here later = alone u w r c.column c.function c.value (own ∙ is) here
+
+-- a condition `==` on a column says what a row has there
+pub equal_there : (c : Clause) (s : Selector) → c.column ≡ s → c.function ≡ equal → (u : Uuid) (r : Row) → holds c u r ≡ true → cell u r s ≡ c.value
+equal_there c s at is u r h =
+    same_value-equal (cell u r s) c.value
+    (subst (λ f. relates f (cell u r s) c.value ≡ true) is (subst (λ t. relates c.function (cell u r t) c.value ≡ true) at h))
+
+-- what a condition asks of each row that matches all
+pub asked_there : (cs : List Clause) (k : ℕ) (c : Clause) → k < length cs → c ≡ get_or cs k c → (u : Uuid) (r : Row) → holds_all cs u r ≡ true → holds c u r ≡ true
+asked_there [] k c low is u r h = absurd (omega arith)
+asked_there (d ∷ cs) zero c low is u r h = subst (λ e. holds e u r ≡ true) (sym is) (both (holds d u r) (holds_all cs u r) h).0
+asked_there (d ∷ cs) (suc k) c low is u r h = asked_there cs k c (omega arith) is u r (both (holds d u r) (holds_all cs u r) h).1
 
 -- ---- from the front
 

@@ -1,10 +1,13 @@
 //! One condition (RFC 7047, section 5.1, `<condition>`): a column, a function and a value. [P 3.1]
 
-ghost use Rattle.std.specs.Prelude.{◌≡◌, option_map, IfOk};
-ghost use Rattle.std.specs.Bool.{Decides};
+ghost use Rattle.std.specs.Prelude.{◌≡◌, option_map, IfOk, IfSome, IsTrue};
+ghost use Rattle.std.specs.Bool.{Decides, OnTrue};
 ghost use Rattle.std.specs.List.{list_any};
 ghost use Rattle.odb_atoms.specs.FinSet as set;
 ghost use Rattle.odb_atoms.specs.Represented.Atom.{atom_of, uuid_of};
+ghost use Rattle.odb_atoms.specs.Row as model_row;
+ghost use Rattle.odb_atoms.specs.Row.{cell, declared};
+ghost use Rattle.odb_atoms.specs.Uuid as model_uuid;
 ghost use Rattle.odb_atoms.specs.Value.{same_value, set_of};
 ghost use Rattle.odb_cond.specs.Condition as model;
 ghost use Rattle.odb_cond.specs.Pinned.{pinned_by, uuid_in};
@@ -184,6 +187,27 @@ impl Clause {
             (Selector::Uuid, Function::Equal) => lone_uuid(&self.value),
             (Selector::Uuid, Function::Includes) => lone_uuid(&self.value),
             _ => None,
+        }
+    }
+
+    /// The value that the declared column at the place has where it holds, if it asks it by `==`.
+    pub(crate) fn required(&self, place: usize) -> Option<&Value>
+        ensures { IfSome result (λ value. (u : model_uuid.Uuid) (r : model_row.Row)
+            → IsTrue (model.holds self.now u r) → cell u r (declared place) ≡ value.now) }
+    {
+        if !self.is_equality_at(place) {
+            return None;
+        }
+        Some(&self.value)
+    }
+
+    /// Whether it is a condition `==` on the declared column at the place.
+    fn is_equality_at(&self, place: usize) -> bool
+        ensures { OnTrue result ((self.now.column ≡ declared place) × (self.now.function ≡ model.equal)) }
+    {
+        match (self.column, self.function) {
+            (Selector::Declared(column), Function::Equal) => column == place,
+            _ => false,
         }
     }
 

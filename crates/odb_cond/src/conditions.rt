@@ -3,12 +3,13 @@
 ghost use Rattle.std.specs.Prelude.{◌≡◌, option_map, IfSome, IsTrue};
 ghost use Rattle.odb_atoms.specs.Represented.Atom.{uuid_of};
 ghost use Rattle.odb_atoms.specs.Row as model_row;
+ghost use Rattle.odb_atoms.specs.Row.{cell, declared};
 ghost use Rattle.odb_atoms.specs.Uuid as model_uuid;
 ghost use Rattle.odb_cond.specs.Condition.{holds_all};
 ghost use Rattle.odb_cond.specs.Pinned.{pinned};
 
 use crate::clause::Clause;
-use odb_atoms::Row;
+use odb_atoms::{Row, Value};
 use std::marker::Model;
 use uuid::Uuid;
 
@@ -58,6 +59,23 @@ impl Where {
         for clause in &self.clauses {
             if let Some(uuid) = clause.pinned() {
                 return Some(uuid);
+            }
+        }
+        None
+    }
+
+    /// The value that the declared column at the place has in each row that matches, by the first
+    /// condition that asks it by `==`, if there is such a condition.
+    ///
+    /// O(the conditions).
+    pub fn required(&self, place: usize) -> Option<&Value>
+        ensures in_each_match { IfSome result (λ value.
+            (u : model_uuid.Uuid) (r : model_row.Row)
+            → IsTrue (holds_all self.now u r) → cell u r (declared place) ≡ value.now) }
+    {
+        for clause in &self.clauses {
+            if let Some(value) = clause.required(place) {
+                return Some(value);
             }
         }
         None
