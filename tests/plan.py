@@ -1,0 +1,140 @@
+"""Which crate is proved when, and by how many processors.
+
+The toolchain hands its idle processors out evenly among all that may begin, so that a crate on which all others wait is
+proved by one. Here each choice is the one that ends the whole soonest, by what the proofs took when they were last
+measured (`tests/costs`, in seconds of one processor). Edits fill what the proofs leave free.
+"""
+
+import importlib.machinery
+import importlib.util
+import itertools
+import os
+import shutil
+import sys
+import time
+from concurrent.futures import FIRST_COMPLETED, ThreadPoolExecutor, wait
+
+ROOT = os.path.dirname(os.path.dirname(os.path.realpath(__file__)))
+SPEED = [0, 1, 1.75, 2.4, 2.9]  # of a proof, by the processors that it has
+LOADING = 15  # the seconds in which a proof loads the libraries below it, on one processor
+MEMORY = 0.5  # of the toolchain's estimate: a proof was never seen to take half of it
+FILLS = ("edits", "again", "sound", "seed")
+
+
+def toolchain():
+    """The kit's own rt, as a module."""
+    loader = importlib.machinery.SourceFileLoader("rt", os.path.realpath(shutil.which("rt")))
+    rt = importlib.util.module_from_spec(importlib.util.spec_from_loader("rt", loader))
+    loader.exec_module(rt)
+    return rt
+
+
+def measured():
+    """The seconds that each crate's proof takes, by its name."""
+    with open(os.path.join(ROOT, "tests", "costs")) as file:
+        return {name: int(seconds) for name, seconds in (line.split() for line in file if not line.startswith("#"))}
+
+
+class Plan:
+    """What is left to do, what runs, and what was given."""
+
+    def __init__(self, rt, tasks, says=True):
+        self.says = says
+        self.tasks, self.lanes, self.memory, self.start = tasks, rt.processors(), 0.85 * rt.free(), time.time()
+        self.left, self.running, self.given = list(tasks), {}, {}
+        costs = measured()
+        self.cost = {key: self.cost_of(key, costs) for key in tasks}
+        self.tail = dict.fromkeys(tasks, 0)  # the seconds of the longest chain of others that wait for it
+        for key in reversed(list(tasks)):
+            for below in tasks[key][0]:
+                self.tail[below] = max(self.tail[below], self.tail[key] + self.took(key, 2))
+
+    def cost_of(self, key, costs):
+        if key[1] in FILLS or not self.tasks[key][1] and key[1] == "tests":
+            return 0
+        return costs.get(key[0], self.tasks[key][1] // 5)
+
+    def took(self, key, jobs):
+        return LOADING + self.cost[key] / SPEED[jobs] if self.cost[key] else 0
+
+    def room(self):
+        return self.memory - sum(needs for _, needs, _, _ in self.running.values())
+
+    def idle(self):
+        return self.lanes - sum(jobs for _, _, jobs, _ in self.running.values())
+
+    def needs(self, key, jobs):
+        return MEMORY * self.tasks[key][2] * (1 + 0.6 * (jobs - 1))
+
+    def ready(self):
+        return [key for key in self.left if all(below in self.given for below in self.tasks[key][0])]
+
+    def end(self, proofs, jobs):
+        """When all would have ended, in seconds from now, if each of these proofs began now with as many jobs."""
+        now = time.time()
+        ends = [(begun + self.took(key, had) - now, key) for key, _, had, begun in self.running.values() if key[1] not in FILLS]
+        ends += [(self.took(key, had), key) for key, had in zip(proofs, jobs) if had]
+        first = max(5, min((end for end, _ in ends), default=0))
+        ends += [(first + self.took(key, 2), key) for key, had in zip(proofs, jobs) if not had]
+        return max(end + self.tail[key] for end, key in ends)
+
+    def choose(self, proofs):
+        """How many jobs each of these proofs gets now: what ends the whole soonest, and of those what takes the fewest."""
+        proofs = sorted(proofs, key=lambda key: -self.took(key, 2) - self.tail[key])[:6]
+        idle, room = self.idle(), self.room()
+        chosen, best = None, None
+        for jobs in itertools.product(range(min(idle, len(SPEED) - 1) + 1), repeat=len(proofs)):
+            needs = sum(self.needs(key, had) for key, had in zip(proofs, jobs) if had)
+            if not 0 < sum(jobs) <= idle or needs > room and (self.running or sum(jobs) > 1):
+                continue
+            rank = round(self.end(proofs, jobs) / 10), sum(jobs)
+            if best is None or rank < best:
+                chosen, best = dict(zip(proofs, jobs)), rank
+        return chosen or {}
+
+    def begin(self, pool, key, jobs):
+        self.left.remove(key)
+        if self.cost[key]:
+            self.say(f"{key[0]}{' (its tests)' if key[1] == 'tests' else ''} begins, by {jobs}")
+        call = self.tasks[key][3]
+        self.running[pool.submit(call, self.given, jobs)] = key, self.needs(key, jobs), jobs, time.time()
+
+    def begin_all(self, pool):
+        ready = self.ready()
+        for key in [key for key in ready if key[1] == "tests" and not self.cost[key]]:
+            self.given[key] = self.tasks[key][3](self.given, 1)
+            self.left.remove(key)
+        ready = self.ready()
+        for key, jobs in self.choose([key for key in ready if key[1] in ("proof", "tests")]).items():
+            if jobs:
+                self.begin(pool, key, jobs)
+        for key in [key for key in ready if key[1] in FILLS]:
+            if self.idle() > 0 and self.may_fill() and (self.needs(key, 1) <= self.room() or not self.running):
+                self.begin(pool, key, 1)
+
+    def may_fill(self):
+        """While proofs are left, edits get half of the processors: each of them is done by one, and they can wait."""
+        filling = sum(key[1] in FILLS for key, _, _, _ in self.running.values())
+        proving = len(self.running) > filling or any(key[1] not in FILLS for key in self.left)
+        return filling < max(1, self.lanes // 2) or not proving
+
+    def finish(self, done):
+        key, _, jobs, begun = self.running.pop(done)
+        self.given[key] = done.result()
+        took = time.time() - begun
+        if self.cost[key]:
+            self.say(f"{key[0]}{' (its tests)' if key[1] == 'tests' else ''} ended: {took:.0f} s by {jobs}")
+
+    def run(self):
+        with ThreadPoolExecutor(self.lanes) as pool:
+            while self.left or self.running:
+                self.begin_all(pool)
+                for done in wait(self.running, return_when=FIRST_COMPLETED).done:
+                    self.finish(done)
+        return self.given
+
+    def say(self, text):
+        if not self.says:
+            return
+        minutes, seconds = divmod(int(time.time() - self.start), 60)
+        print(f"prove: {minutes}:{seconds:02} {text}", flush=True)
