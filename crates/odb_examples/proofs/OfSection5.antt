@@ -25,6 +25,40 @@ pub a_chain_on_a_root_row_stays_and_so_does_a_ring_the_others_go : Plays referen
 unfolding shows
 a_chain_on_a_root_row_stays_and_so_does_a_ring_the_others_go = refl
 
+-- A chain that is cut loses what comes after the cut
+pub a_chain_that_is_cut_loses_what_comes_after_the_cut : Plays lnk (
+    codes "> A transact 1 {\"op\":\"insert\",\"table\":\"R\",\"row\":{\"first\":[\"named-uuid\",\"a\"]}},{\"op\":\"insert\",\"table\":\"N\",\"row\":{\"next\":[\"named-uuid\",\"b\"]},\"uuid-name\":\"a\"},{\"op\":\"insert\",\"table\":\"N\",\"row\":{\"next\":[\"named-uuid\",\"c\"]},\"uuid-name\":\"b\"},{\"op\":\"insert\",\"table\":\"N\",\"row\":{\"next\":[\"named-uuid\",\"d\"]},\"uuid-name\":\"c\"},{\"op\":\"insert\",\"table\":\"N\",\"row\":{},\"uuid-name\":\"d\"},{\"op\":\"insert\",\"table\":\"N\",\"row\":{\"next\":[\"named-uuid\",\"d\"]},\"uuid-name\":\"e\"},{\"op\":\"insert\",\"table\":\"R\",\"row\":{\"first\":[\"named-uuid\",\"e\"]}}"
+    ∷ codes "< A reply 1 [{\"uuid\":[\"uuid\",\"U1\"]},{\"uuid\":[\"uuid\",\"U2\"]},{\"uuid\":[\"uuid\",\"U3\"]},{\"uuid\":[\"uuid\",\"U4\"]},{\"uuid\":[\"uuid\",\"U5\"]},{\"uuid\":[\"uuid\",\"U6\"]},{\"uuid\":[\"uuid\",\"U7\"]}]"
+    ∷ codes "> A transact 2 {\"op\":\"update\",\"table\":\"N\",\"where\":[[\"_uuid\",\"==\",[\"uuid\",\"U2\"]]],\"row\":{\"next\":[\"set\",[]]}}"
+    ∷ codes "< A reply 2 [{\"count\":1}]"
+    ∷ codes "> A transact 3 {\"op\":\"select\",\"table\":\"N\",\"where\":[],\"columns\":[\"_uuid\"]}"
+    ∷ codes "< A reply 3 [{\"rows\":[{\"_uuid\":[\"uuid\",\"U2\"]},{\"_uuid\":[\"uuid\",\"U5\"]},{\"_uuid\":[\"uuid\",\"U6\"]}]}]"
+    ∷ codes "> A transact 4 {\"op\":\"update\",\"table\":\"R\",\"where\":[[\"_uuid\",\"==\",[\"uuid\",\"U7\"]]],\"row\":{\"first\":[\"set\",[]]}}"
+    ∷ codes "< A reply 4 [{\"count\":1}]"
+    ∷ codes "> A transact 5 {\"op\":\"select\",\"table\":\"N\",\"where\":[],\"columns\":[\"_uuid\"]}"
+    ∷ codes "< A reply 5 [{\"rows\":[{\"_uuid\":[\"uuid\",\"U2\"]}]}]"
+    ∷ [])
+unfolding shows
+a_chain_that_is_cut_loses_what_comes_after_the_cut = refl
+
+-- A new row takes the name of a row that isn't touched
+pub a_new_row_takes_the_name_of_a_row_that_isnt_touched : Plays net (
+    codes "> A transact 1 {\"op\":\"insert\",\"table\":\"Bridge\",\"row\":{\"name\":\"a\"}},{\"op\":\"insert\",\"table\":\"Bridge\",\"row\":{\"name\":\"b\"}}"
+    ∷ codes "< A reply 1 [{\"uuid\":[\"uuid\",\"U1\"]},{\"uuid\":[\"uuid\",\"U2\"]}]"
+    ∷ codes "> A transact 2 {\"op\":\"insert\",\"table\":\"Bridge\",\"row\":{\"name\":\"b\"}}"
+    ∷ codes "< A reply 2 [{\"uuid\":[\"uuid\",\"U3\"]},{\"error\":\"constraint violation\"}]"
+    ∷ codes "> A transact 3 {\"op\":\"update\",\"table\":\"Bridge\",\"where\":[[\"name\",\"==\",\"a\"]],\"row\":{\"name\":\"b\"}}"
+    ∷ codes "< A reply 3 [{\"count\":1},{\"error\":\"constraint violation\"}]"
+    ∷ codes "> A transact 4 {\"op\":\"update\",\"table\":\"Bridge\",\"where\":[[\"name\",\"==\",\"b\"]],\"row\":{\"name\":\"c\"}},{\"op\":\"select\",\"table\":\"Bridge\",\"where\":[[\"name\",\"==\",\"b\"]],\"columns\":[\"name\"]},{\"op\":\"select\",\"table\":\"Bridge\",\"where\":[[\"name\",\"==\",\"c\"]],\"columns\":[\"_uuid\"]},{\"op\":\"insert\",\"table\":\"Bridge\",\"row\":{\"name\":\"b\"}}"
+    ∷ codes "< A reply 4 [{\"count\":1},{\"rows\":[]},{\"rows\":[{\"_uuid\":[\"uuid\",\"U2\"]}]},{\"uuid\":[\"uuid\",\"U4\"]}]"
+    ∷ codes "> A transact 5 {\"op\":\"select\",\"table\":\"Bridge\",\"where\":[[\"name\",\"==\",\"b\"]],\"columns\":[\"_uuid\"]},{\"op\":\"delete\",\"table\":\"Bridge\",\"where\":[[\"name\",\"==\",\"c\"]]},{\"op\":\"insert\",\"table\":\"Bridge\",\"row\":{\"name\":\"c\"}}"
+    ∷ codes "< A reply 5 [{\"rows\":[{\"_uuid\":[\"uuid\",\"U4\"]}]},{\"count\":1},{\"uuid\":[\"uuid\",\"U5\"]}]"
+    ∷ codes "> A transact 6 {\"op\":\"select\",\"table\":\"Bridge\",\"where\":[[\"name\",\"==\",\"c\"]],\"columns\":[\"_uuid\"]}"
+    ∷ codes "< A reply 6 [{\"rows\":[{\"_uuid\":[\"uuid\",\"U5\"]}]}]"
+    ∷ [])
+unfolding shows
+a_new_row_takes_the_name_of_a_row_that_isnt_touched = refl
+
 -- A pair goes out with its key, in the commit of the delete
 pub a_pair_goes_out_with_its_key_in_the_commit_of_the_delete : Plays lft (
     codes "> A transact 1 {\"op\":\"insert\",\"table\":\"W\",\"row\":{},\"uuid-name\":\"w\"},{\"op\":\"insert\",\"table\":\"S\",\"row\":{},\"uuid-name\":\"s\"},{\"op\":\"insert\",\"table\":\"R\",\"row\":{\"m\":[\"map\",[[[\"named-uuid\",\"w\"],[\"named-uuid\",\"s\"]]]]}}"
@@ -50,6 +84,22 @@ pub a_ring_keeps_itself : Plays lnk (
     ∷ [])
 unfolding shows
 a_ring_keeps_itself = refl
+
+-- A ring stays when what led to it goes, and goes when it is cut
+pub a_ring_stays_when_what_led_to_it_goes_and_goes_when_it_is_cut : Plays lnk (
+    codes "> A transact 1 {\"op\":\"insert\",\"table\":\"R\",\"row\":{\"first\":[\"named-uuid\",\"x\"]}},{\"op\":\"insert\",\"table\":\"N\",\"row\":{\"next\":[\"named-uuid\",\"y\"]},\"uuid-name\":\"x\"},{\"op\":\"insert\",\"table\":\"N\",\"row\":{\"next\":[\"named-uuid\",\"z\"]},\"uuid-name\":\"y\"},{\"op\":\"insert\",\"table\":\"N\",\"row\":{\"next\":[\"named-uuid\",\"x\"]},\"uuid-name\":\"z\"}"
+    ∷ codes "< A reply 1 [{\"uuid\":[\"uuid\",\"U1\"]},{\"uuid\":[\"uuid\",\"U2\"]},{\"uuid\":[\"uuid\",\"U3\"]},{\"uuid\":[\"uuid\",\"U4\"]}]"
+    ∷ codes "> A transact 2 {\"op\":\"delete\",\"table\":\"R\",\"where\":[]}"
+    ∷ codes "< A reply 2 [{\"count\":1}]"
+    ∷ codes "> A transact 3 {\"op\":\"select\",\"table\":\"N\",\"where\":[],\"columns\":[\"_uuid\"]}"
+    ∷ codes "< A reply 3 [{\"rows\":[{\"_uuid\":[\"uuid\",\"U2\"]},{\"_uuid\":[\"uuid\",\"U3\"]},{\"_uuid\":[\"uuid\",\"U4\"]}]}]"
+    ∷ codes "> A transact 4 {\"op\":\"update\",\"table\":\"N\",\"where\":[[\"_uuid\",\"==\",[\"uuid\",\"U3\"]]],\"row\":{\"next\":[\"uuid\",\"U3\"]}}"
+    ∷ codes "< A reply 4 [{\"count\":1}]"
+    ∷ codes "> A transact 5 {\"op\":\"select\",\"table\":\"N\",\"where\":[],\"columns\":[\"_uuid\"]}"
+    ∷ codes "< A reply 5 [{\"rows\":[]}]"
+    ∷ [])
+unfolding shows
+a_ring_stays_when_what_led_to_it_goes_and_goes_when_it_is_cut = refl
 
 -- A router goes with its NAT rule and the address set that the rule names
 pub a_router_goes_with_its_nat_rule_and_the_address_set_that_the_rule_names : Plays northbound (
