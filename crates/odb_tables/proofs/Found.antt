@@ -21,13 +21,11 @@ use Rattle.odb_atoms.specs.Uuid.{Uuid, uuid_cmp}
 use Rattle.odb_atoms.proofs.Atoms.{uuid_cmp-IsAntisymmetric}
 use Rattle.odb_atoms.proofs.FinMaps.{contains_key-keys, get-empty, get-map_entries, same_key, same_map}
 use Rattle.odb_atoms.proofs.Rising.{is_less}
-use Rattle.odb_cond.specs.Condition.{Clause, holds_all}
 use Rattle.odb_tables.specs.Database.{Table}
-use Rattle.odb_tables.specs.Matching.{matching}
 use Rattle.odb_tables.specs.Represented.Draft.{laid, overlaid}
-use Rattle.odb_tables.specs.Represented.Found.{Appends, Lists, standing, untouched}
+use Rattle.odb_tables.specs.Represented.Found.{Appends, Lists, passing, standing, untouched}
 use Rattle.odb_tables.specs.Represented.Key.{keys_equivalent, uuid_cmp_total}
-use Rattle.odb_tables.specs.Represented.Overlay.{Touched, holds_now, row_of}
+use Rattle.odb_tables.specs.Represented.Overlay.{Touched, passes_now, row_of}
 use Rattle.odb_tables.specs.Represented.Keyed.{keyed}
 use Rattle.odb_tables.proofs.KeyedMaps.{get-keyed}
 use Rattle.odb_tables.proofs.Overlays.{get-overlaid}
@@ -101,11 +99,11 @@ module _ {V : Type 0} (p : Uuid × V → Bool) where
 
 -- ---- which rows match
 
-abbrev hold : List Clause → Uuid → Row → Option Row
-hold cs u r = cond (holds_all cs u r) (Some r) None
+abbrev if_passes : (Uuid → Row → Bool) → Uuid → Row → Option Row
+if_passes p u r = cond (p u r) (Some r) None
 
-pub get-matching : (cs : List Clause) (t : Table) (q : Uuid) → finite.get (matching cs t) q ≡ option_and_then (hold cs q) (finite.get t q)
-get-matching cs t q = get-map_entries uuid_cmp_total uuid_cmp-IsAntisymmetric (hold cs) t q
+pub get-passing : (p : Uuid → Row → Bool) (t : Table) (q : Uuid) → finite.get (passing p t) q ≡ option_and_then (if_passes p q) (finite.get t q)
+get-passing p t q = get-map_entries uuid_cmp_total uuid_cmp-IsAntisymmetric (if_passes p) t q
 
 get-untouched : (o : Touched) (t : Table) (q : Uuid) → finite.get (untouched o t) q ≡ option_and_then (λ r. cond (finite.contains_key o q) None (Some r)) (finite.get t q)
 get-untouched o t q = get-map_entries uuid_cmp_total uuid_cmp-IsAntisymmetric (λ u r. cond (finite.contains_key o u) None (Some r)) t q
@@ -117,15 +115,15 @@ some_cond : (b : Bool) (r : Row) → is_some (cond b (Some r) None) ≡ b
 some_cond true r = refl
 some_cond false r = refl
 
-pub matches : (cs : List Clause) (t : Table) (q : Uuid) → finite.contains_key (matching cs t) q ≡ holds_now cs q (finite.get t q)
-matches cs t q = ap is_some (get-matching cs t q) ∙ by (finite.get t q)
+pub matches : (p : Uuid → Row → Bool) (t : Table) (q : Uuid) → finite.contains_key (passing p t) q ≡ passes_now p q (finite.get t q)
+matches p t q = ap is_some (get-passing p t q) ∙ by (finite.get t q)
   where
-    by : (o : Option Row) → is_some (option_and_then (hold cs q) o) ≡ holds_now cs q o
+    by : (o : Option Row) → is_some (option_and_then (if_passes p q) o) ≡ passes_now p q o
     by None = refl
-    by (Some r) = some_cond (holds_all cs q r) r
+    by (Some r) = some_cond (p q r) r
 
-pub matches-untouched : (cs : List Clause) (o : Touched) (t : Table) (q : Uuid) → finite.contains_key (matching cs (untouched o t)) q ≡ (holds_now cs q (finite.get t q) && not (finite.contains_key o q))
-matches-untouched cs o t q = matches cs (untouched o t) q ∙ ap (holds_now cs q) (get-untouched o t q) ∙ by (finite.get t q) (finite.contains_key o q)
+pub matches-untouched : (p : Uuid → Row → Bool) (o : Touched) (t : Table) (q : Uuid) → finite.contains_key (passing p (untouched o t)) q ≡ (passes_now p q (finite.get t q) && not (finite.contains_key o q))
+matches-untouched p o t q = matches p (untouched o t) q ∙ ap (passes_now p q) (get-untouched o t q) ∙ by (finite.get t q) (finite.contains_key o q)
   where
     and_false : (b : Bool) → false ≡ (b && false)
     and_false true = refl
@@ -135,22 +133,22 @@ matches-untouched cs o t q = matches cs (untouched o t) q ∙ ap (holds_now cs q
     and_true true = refl
     and_true false = refl
 
-    by : (r : Option Row) (b : Bool) → holds_now cs q (option_and_then (λ x. cond b None (Some x)) r) ≡ (holds_now cs q r && not b)
+    by : (r : Option Row) (b : Bool) → passes_now p q (option_and_then (λ x. cond b None (Some x)) r) ≡ (passes_now p q r && not b)
     by None b = refl
-    by (Some r) true = and_false (holds_all cs q r)
-    by (Some r) false = and_true (holds_all cs q r)
+    by (Some r) true = and_false (p q r)
+    by (Some r) false = and_true (p q r)
 
-pub matches-standing : (cs : List Clause) (o : Touched) (q : Uuid) → finite.contains_key (matching cs (standing o)) q ≡ holds_now cs q (option_and_then (λ now. now) (finite.get o q))
-matches-standing cs o q = matches cs (standing o) q ∙ ap (holds_now cs q) (get-standing o q)
+pub matches-standing : (p : Uuid → Row → Bool) (o : Touched) (q : Uuid) → finite.contains_key (passing p (standing o)) q ≡ passes_now p q (option_and_then (λ now. now) (finite.get o q))
+matches-standing p o q = matches p (standing o) q ∙ ap (passes_now p q) (get-standing o q)
 
 -- a row matches in one of the two parts, and not in both
-parted : (cs : List Clause) (o : Touched) (t : Table) (q : Uuid) → (finite.contains_key (matching cs (overlaid t o)) q ≡ (finite.contains_key (matching cs (untouched o t)) q || finite.contains_key (matching cs (standing o)) q)) × (finite.contains_key (matching cs (untouched o t)) q ≡ true → finite.contains_key (matching cs (standing o)) q ≡ false)
-parted cs o t q =
-    let h : Goal (finite.get o q) = by (holds_now cs q (finite.get t q)) (finite.get o q) refl in
-    (matches cs (overlaid t o) q ∙ ap (holds_now cs q) (get-overlaid t o q) ∙ h.0 ∙ (λ i. sym (matches-untouched cs o t q) i || sym (matches-standing cs o q) i), λ e. matches-standing cs o q ∙ h.1 (sym (matches-untouched cs o t q) ∙ e))
+parted : (p : Uuid → Row → Bool) (o : Touched) (t : Table) (q : Uuid) → (finite.contains_key (passing p (overlaid t o)) q ≡ (finite.contains_key (passing p (untouched o t)) q || finite.contains_key (passing p (standing o)) q)) × (finite.contains_key (passing p (untouched o t)) q ≡ true → finite.contains_key (passing p (standing o)) q ≡ false)
+parted p o t q =
+    let h : Goal (finite.get o q) = by (passes_now p q (finite.get t q)) (finite.get o q) refl in
+    (matches p (overlaid t o) q ∙ ap (passes_now p q) (get-overlaid t o q) ∙ h.0 ∙ (λ i. sym (matches-untouched p o t q) i || sym (matches-standing p o q) i), λ e. matches-standing p o q ∙ h.1 (sym (matches-untouched p o t q) ∙ e))
   where
     Goal : Option (Option Row) → Type 0
-    Goal w = (holds_now cs q (laid (finite.get t q) w) ≡ ((holds_now cs q (finite.get t q) && not (is_some w)) || holds_now cs q (option_and_then (λ now. now) w))) × ((holds_now cs q (finite.get t q) && not (is_some w)) ≡ true → holds_now cs q (option_and_then (λ now. now) w) ≡ false)
+    Goal w = (passes_now p q (laid (finite.get t q) w) ≡ ((passes_now p q (finite.get t q) && not (is_some w)) || passes_now p q (option_and_then (λ now. now) w))) × ((passes_now p q (finite.get t q) && not (is_some w)) ≡ true → passes_now p q (option_and_then (λ now. now) w) ≡ false)
 
     alone : (b : Bool) → b ≡ ((b && true) || false)
     alone true = refl
@@ -164,33 +162,33 @@ parted cs o t q =
     not_both true x e = absurd (true≢false (sym e))
     not_both false x e = absurd (true≢false (sym e))
 
-    by : (b : Bool) (w : Option (Option Row)) → holds_now cs q (finite.get t q) ≡ b → Goal w
-    by b None e = (alone (holds_now cs q (finite.get t q)), λ _. refl)
-    by b (Some w) e = (never (holds_now cs q (finite.get t q)) (holds_now cs q w), not_both (holds_now cs q (finite.get t q)) (holds_now cs q w))
+    by : (b : Bool) (w : Option (Option Row)) → passes_now p q (finite.get t q) ≡ b → Goal w
+    by b None e = (alone (passes_now p q (finite.get t q)), λ _. refl)
+    by b (Some w) e = (never (passes_now p q (finite.get t q)) (passes_now p q w), not_both (passes_now p q (finite.get t q)) (passes_now p q w))
 
 -- of an entry of a table: it matches, and isn't touched
-abbrev pub is_untouched : {Z : Type 0} → List Clause → Touched → Uuid × Arc Row Z → Bool
-is_untouched cs o e = holds_all cs e.0 (arc_value e.1) && not (finite.contains_key o e.0)
+abbrev pub is_untouched : {Z : Type 0} → (Uuid → Row → Bool) → Touched → Uuid × Arc Row Z → Bool
+is_untouched p o e = p e.0 (arc_value e.1) && not (finite.contains_key o e.0)
 
 -- of an entry of an overlay: the row is there and matches
-abbrev pub is_standing : {Z : Type 0} → List Clause → Uuid × Option (Arc Row Z) → Bool
-is_standing cs e = holds_now cs e.0 (row_of e.1)
+abbrev pub is_standing : {Z : Type 0} → (Uuid → Row → Bool) → Uuid × Option (Arc Row Z) → Bool
+is_standing p e = passes_now p e.0 (row_of e.1)
 
-pub listed-untouched : {Z S : Type 0} (cs : List Clause) (o : Touched) (m : IndexMap Uuid (Arc Row Z) S) → IsUnique (eq_by_cmp uuid_cmp) m → Lists (found (is_untouched cs o) m.entries) (matching cs (untouched o (keyed arc_value m)))
-listed-untouched {Z = Z} cs o m distinct =
-    found-Lists (is_untouched cs o) m.entries _ distinct
-    (λ q. matches-untouched cs o (keyed arc_value m) q ∙ ap (λ r. holds_now cs q r && not (finite.contains_key o q)) (get-keyed arc_value m q) ∙ by q (lookup (eq_by_cmp uuid_cmp q) m.entries))
+pub listed-untouched : {Z S : Type 0} (p : Uuid → Row → Bool) (o : Touched) (m : IndexMap Uuid (Arc Row Z) S) → IsUnique (eq_by_cmp uuid_cmp) m → Lists (found (is_untouched p o) m.entries) (passing p (untouched o (keyed arc_value m)))
+listed-untouched {Z = Z} p o m distinct =
+    found-Lists (is_untouched p o) m.entries _ distinct
+    (λ q. matches-untouched p o (keyed arc_value m) q ∙ ap (λ r. passes_now p q r && not (finite.contains_key o q)) (get-keyed arc_value m q) ∙ by q (lookup (eq_by_cmp uuid_cmp q) m.entries))
   where
-    by : (q : Uuid) (v : Option (Arc Row Z)) → (holds_now cs q (option_map arc_value v) && not (finite.contains_key o q)) ≡ passes (is_untouched cs o) q v
+    by : (q : Uuid) (v : Option (Arc Row Z)) → (passes_now p q (option_map arc_value v) && not (finite.contains_key o q)) ≡ passes (is_untouched p o) q v
     by q None = refl
     by q (Some v) = refl
 
-pub listed-standing : {Z S : Type 0} (cs : List Clause) (m : IndexMap Uuid (Option (Arc Row Z)) S) → IsUnique (eq_by_cmp uuid_cmp) m → Lists (found (is_standing cs) m.entries) (matching cs (standing (keyed row_of m)))
-listed-standing {Z = Z} cs m distinct =
-    found-Lists (is_standing cs) m.entries _ distinct
-    (λ q. matches-standing cs (keyed row_of m) q ∙ ap (λ r. holds_now cs q (option_and_then (λ now. now) r)) (get-keyed row_of m q) ∙ by q (lookup (eq_by_cmp uuid_cmp q) m.entries))
+pub listed-standing : {Z S : Type 0} (p : Uuid → Row → Bool) (m : IndexMap Uuid (Option (Arc Row Z)) S) → IsUnique (eq_by_cmp uuid_cmp) m → Lists (found (is_standing p) m.entries) (passing p (standing (keyed row_of m)))
+listed-standing {Z = Z} p m distinct =
+    found-Lists (is_standing p) m.entries _ distinct
+    (λ q. matches-standing p (keyed row_of m) q ∙ ap (λ r. passes_now p q (option_and_then (λ now. now) r)) (get-keyed row_of m q) ∙ by q (lookup (eq_by_cmp uuid_cmp q) m.entries))
   where
-    by : (q : Uuid) (v : Option (Option (Arc Row Z))) → holds_now cs q (option_and_then (λ (now : Option Row). now) (option_map row_of v)) ≡ passes (is_standing cs) q v
+    by : (q : Uuid) (v : Option (Option (Arc Row Z))) → passes_now p q (option_and_then (λ (now : Option Row). now) (option_map row_of v)) ≡ passes (is_standing p) q v
     by q None = refl
     by q (Some v) = refl
 
@@ -227,9 +225,9 @@ distinct-++ (u ∷ us) ws h k apart =
     (all-++ _ us ws (IsDistinct-head (eq_by_cmp uuid_cmp) u us h) (none_of (eq_by_cmp uuid_cmp u) ws (apart u (ap (λ b. b || list_any (eq_by_cmp uuid_cmp u) us) (keys_equivalent.refl u)))))
     (distinct-++ us ws (IsDistinct-tail (eq_by_cmp uuid_cmp) u us h) k (λ q e. apart q (or_later (eq_by_cmp uuid_cmp q u) (list_any (eq_by_cmp uuid_cmp q) us) e)))
 
-pub both-Lists : (cs : List Clause) (o : Touched) (t : Table) (us ws : List Uuid) → Lists us (matching cs (untouched o t)) → Lists ws (matching cs (standing o)) → Lists (us ++ ws) (matching cs (overlaid t o))
-both-Lists cs o t us ws h k =
-    (distinct-++ us ws h.0 k.0 (λ q e. k.1 q ∙ (parted cs o t q).1 (sym (h.1 q) ∙ e)), λ q. any-++ (eq_by_cmp uuid_cmp q) us ws ∙ (λ i. h.1 q i || k.1 q i) ∙ sym (parted cs o t q).0)
+pub both-Lists : (p : Uuid → Row → Bool) (o : Touched) (t : Table) (us ws : List Uuid) → Lists us (passing p (untouched o t)) → Lists ws (passing p (standing o)) → Lists (us ++ ws) (passing p (overlaid t o))
+both-Lists p o t us ws h k =
+    (distinct-++ us ws h.0 k.0 (λ q e. k.1 q ∙ (parted p o t q).1 (sym (h.1 q) ∙ e)), λ q. any-++ (eq_by_cmp uuid_cmp q) us ws ∙ (λ i. h.1 q i || k.1 q i) ∙ sym (parted p o t q).0)
 
 -- ---- in order
 
@@ -311,47 +309,50 @@ ranked f (x ∷ xs) up = λ k d low high.
     let long : k + 1 < length (x ∷ xs) = omega (arith, length-map (x ∷ xs) f, high) in
     (λ i. is_lt (uuid_cmp (get_or-map f (x ∷ xs) (k + 1) x d long i) (get_or-map f (x ∷ xs) k x d (omega (arith, long)) i))) ∙ up k x low long
 
--- the identifiers that were found in the two parts, once they are sorted
-pub in-order : {X : Type 0} (f : X → Uuid) (cs : List Clause) (o : Touched) (t : Table) (first second sorted : List X)
-    → Appends [] (map f first) (matching cs (untouched o t)) → Appends (map f first) (map f second) (matching cs (standing o)) → IsPermutation second sorted → IsSortedByKey f uuid_cmp sorted
-    → map f sorted ≡ finite.keys (matching cs (overlaid t o))
-in-order f cs o t first second sorted some rest moved up =
-    let both : map f second ≡ some.0 ++ rest.0 = rest.1 ∙ ap (λ us. us ++ rest.0) some.1 in
-    sorted-keys (map f second) (map f sorted) (matching cs (overlaid t o)) (subst (λ us. Lists us (matching cs (overlaid t o))) (sym both) (both-Lists cs o t some.0 rest.0 some.2 rest.2)) (IsPermutation-map f second sorted moved) (ranked f sorted up)
+-- the identifiers that were found in the two parts, the second after the first
+pub parts-Lists : (p : Uuid → Row → Bool) (o : Touched) (t : Table) (first second : List Uuid) → Appends [] first (passing p (untouched o t)) → Appends first second (passing p (standing o)) → Lists second (passing p (overlaid t o))
+parts-Lists p o t first second some rest =
+    let both : second ≡ some.0 ++ rest.0 = rest.1 ∙ ap (λ us. us ++ rest.0) some.1 in
+    subst (λ us. Lists us (passing p (overlaid t o))) (sym both) (both-Lists p o t some.0 rest.0 some.2 rest.2)
+
+-- and once they are sorted
+pub in-order : {X : Type 0} (f : X → Uuid) (t : Table) (listed sorted : List X) → Lists (map f listed) t → IsPermutation listed sorted → IsSortedByKey f uuid_cmp sorted → map f sorted ≡ finite.keys t
+in-order f t listed sorted all moved up = sorted-keys (map f listed) (map f sorted) t all (IsPermutation-map f listed sorted moved) (ranked f sorted up)
 
 -- ---- where no row under another identifier can match
 
-module _ (cs : List Clause) (t : Table) (u : Uuid) (alone : (v : Uuid) (r : Row) → IsTrue (holds_all cs v r) → v ≡ u) where
-  who : (q : Uuid) → holds_now cs q (finite.get t q) ≡ true → q ≡ u
+module _ (p : Uuid → Row → Bool) (t : Table) (u : Uuid) (alone : (v : Uuid) (r : Row) → IsTrue (p v r) → v ≡ u) where
+  who : (q : Uuid) → passes_now p q (finite.get t q) ≡ true → q ≡ u
   who q h = by (finite.get t q) h
     where
-      by : (o : Option Row) → holds_now cs q o ≡ true → q ≡ u
+      by : (o : Option Row) → passes_now p q o ≡ true → q ≡ u
       by None e = absurd (true≢false (sym e))
       by (Some r) e = alone q r e
 
-  pub none-matches : holds_now cs u (finite.get t u) ≡ false → [] ≡ finite.keys (matching cs t)
-  none-matches absent = rising-keys [] (matching cs t) rising-none (λ q. sym (matches cs t q ∙ by q (holds_now cs q (finite.get t q)) refl))
+  pub none-matches : passes_now p u (finite.get t u) ≡ false → [] ≡ finite.keys (passing p t)
+  none-matches absent = rising-keys [] (passing p t) rising-none (λ q. sym (matches p t q ∙ by q (passes_now p q (finite.get t q)) refl))
     where
-      by : (q : Uuid) (b : Bool) → holds_now cs q (finite.get t q) ≡ b → b ≡ false
+      by : (q : Uuid) (b : Bool) → passes_now p q (finite.get t q) ≡ b → b ≡ false
       by q false e = refl
-      by q true e = sym e ∙ (λ i. holds_now cs (who q e i) (finite.get t (who q e i))) ∙ absent
+      by q true e = sym e ∙ (λ i. passes_now p (who q e i) (finite.get t (who q e i))) ∙ absent
 
-  pub one-matches : holds_now cs u (finite.get t u) ≡ true → u ∷ [] ≡ finite.keys (matching cs t)
-  one-matches here = rising-keys (u ∷ []) (matching cs t) (rising-one u) (λ q. by q (eq_by_cmp uuid_cmp q u) refl (holds_now cs q (finite.get t q)) refl ∙ sym (matches cs t q))
+  pub one-matches : passes_now p u (finite.get t u) ≡ true → u ∷ [] ≡ finite.keys (passing p t)
+  one-matches here = rising-keys (u ∷ []) (passing p t) (rising-one u) (λ q. by q (eq_by_cmp uuid_cmp q u) refl (passes_now p q (finite.get t q)) refl ∙ sym (matches p t q))
     where
-      by : (q : Uuid) (a : Bool) → eq_by_cmp uuid_cmp q u ≡ a → (b : Bool) → holds_now cs q (finite.get t q) ≡ b → (a || false) ≡ b
-      by q true is b e = sym here ∙ (let same = same_key uuid_cmp-IsAntisymmetric q u is in λ i. holds_now cs (sym same i) (finite.get t (sym same i))) ∙ e
+      by : (q : Uuid) (a : Bool) → eq_by_cmp uuid_cmp q u ≡ a → (b : Bool) → passes_now p q (finite.get t q) ≡ b → (a || false) ≡ b
+      by q true is b e = sym here ∙ (let same = same_key uuid_cmp-IsAntisymmetric q u is in λ i. passes_now p (sym same i) (finite.get t (sym same i))) ∙ e
       by q false is false e = refl
       by q false is true e = absurd (true≢false (sym (keys_equivalent.refl u) ∙ (λ i. eq_by_cmp uuid_cmp (sym (who q e) i) u) ∙ is))
 
 -- no conditions at all
-pub all-match : (t : Table) → matching [] t ≡ t
-all-match t = same_map uuid_cmp_total uuid_cmp-IsAntisymmetric (matching [] t) t (λ q. get-matching [] t q ∙ by (finite.get t q))
+pub all-match : (t : Table) → passing (λ u r. true) t ≡ t
+all-match t = same_map uuid_cmp_total uuid_cmp-IsAntisymmetric (passing (λ u r. true) t) t (λ q. get-passing (λ u r. true) t q ∙ by (finite.get t q))
   where
     by : (o : Option Row) → option_and_then (λ (r : Row). Some r) o ≡ o
     by None = refl
     by (Some r) = refl
 
 -- no rows at all
-pub nothing-matches : (cs : List Clause) → [] ≡ finite.keys (matching cs finite.empty)
-nothing-matches cs = rising-keys [] (matching cs finite.empty) rising-none (λ q. sym (matches cs finite.empty q ∙ ap (holds_now cs q) (get-empty uuid_cmp q)))
+pub none-passes : (p : Uuid → Row → Bool) → Lists [] (passing p finite.empty)
+unfolding IsDistinct
+none-passes p = (tt, λ q. sym (matches p finite.empty q ∙ ap (passes_now p q) (get-empty uuid_cmp q)))

@@ -9,4 +9,5 @@ mod Overlays
 mod SameValues
 mod Stamps
 mod TableChanges
+mod Twins
 pub mod TypedDatabases

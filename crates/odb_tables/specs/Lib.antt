@@ -2,6 +2,7 @@ pub mod Change
 pub mod Database
 pub mod Draft
 pub mod Installing
+pub mod Kept
 pub mod Matching
 pub mod Represented
 pub mod Stamped

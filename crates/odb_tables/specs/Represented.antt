@@ -2,6 +2,7 @@ pub mod Counted
 pub mod Draft
 pub mod Found
 pub mod Installed
+pub mod Kept
 pub mod Key
 pub mod Keyed
 pub mod Overlay

@@ -14,9 +14,11 @@ ghost use Rattle.odb_cond.specs.Condition.{holds_all};
 ghost use Rattle.odb_tables.specs.Change.{all_changed_by, change_between};
 ghost use Rattle.odb_tables.specs.Database.{table_at};
 ghost use Rattle.odb_tables.specs.Represented.Draft.{overlaid, touched_at};
-ghost use Rattle.odb_tables.specs.Represented.Overlay.{holds_now};
+ghost use Rattle.odb_tables.specs.Represented.Found.{Lists, passing};
+ghost use Rattle.odb_tables.specs.Represented.Overlay.{passes_now};
 ghost use Rattle.odb_tables.specs.Draft.{draft_of, removed_at, with_row, without_row};
 ghost use Rattle.odb_tables.specs.Installing.{IsChangeOf};
+ghost use Rattle.odb_tables.specs.Kept as kept;
 ghost use Rattle.odb_tables.specs.Matching.{matching};
 ghost use Rattle.odb_tables.specs.Stamped.{stamped};
 
@@ -24,6 +26,7 @@ use crate::change_set::ChangeSet;
 use crate::database::Db;
 use crate::key::Key;
 use crate::overlay::Overlay;
+use crate::row_test::{Referrers, Test, Twins};
 use crate::table::Table;
 use odb_atoms::Row;
 use odb_cond::Where;
@@ -215,7 +218,7 @@ impl<'a> Draft<'a> {
 
     /// Whether the table has a row under the identifier of which the conditions hold.
     fn has_match(&self, table: TableId, uuid: Uuid, conditions: &Where) -> bool
-        ensures { result ≡ holds_now conditions.now (uuid_of uuid) (finite.get (table_at self.now.now table) (uuid_of uuid)) }
+        ensures { result ≡ passes_now (holds_all conditions.now) (uuid_of uuid) (finite.get (table_at self.now.now table) (uuid_of uuid)) }
     {
         match self.get(table, uuid) {
             Some(row) => conditions.holds(uuid, row),
@@ -228,11 +231,54 @@ impl<'a> Draft<'a> {
         ensures { IfOk result (λ uuids. map uuid_of uuids.items
             ≡ finite.keys (matching conditions.now (table_at self.now.now table))) }
     {
+        let mut found = self.find(table, conditions)?;
+        sort(&mut found);
+        Ok(found)
+    }
+
+    /// The identifiers of the table's rows, as they are now, that pass the test, each of them once.
+    /// O(rows of the table).
+    fn find<T: Test>(&self, table: TableId, test: &T) -> Result<Vec<Uuid>, AllocError>
+        ensures { IfOk result (λ uuids. Lists (map uuid_of uuids.items)
+            (passing (T.passes test.now) (table_at self.now.now table))) }
+    {
         let Some(overlay) = self.overlays.get(table.place()) else {
             return Ok(Vec::new(self.alloc));
         };
         let base = &self.base.tables()[table.place()];
-        found_in(self.alloc, base, overlay, conditions)
+        found_in(self.alloc, base, overlay, test)
+    }
+
+    /// Whether the table has the row now, and another one with the same values in the columns at these
+    /// places (RFC 7047, section 3.2, `indexes`).
+    ///
+    /// O(rows of the table), times the values compared.
+    pub fn has_twin(&self, table: TableId, places: &[usize], uuid: Uuid) -> Result<bool, AllocError>
+        ensures { IfOk result (λ twin. twin ≡ kept.has_twin places.now (table_at self.now.now table) (uuid_of uuid)) }
+    {
+        let Some(row) = self.get(table, uuid) else {
+            return Ok(false);
+        };
+        let twins = self.find(table, &Twins { places, uuid, row })?;
+        Ok(!twins.is_empty())
+    }
+
+    /// The identifiers of the table's rows, as they are now, whose value in the column at the place
+    /// mentions this identifier, each of them once, in no order that is told.
+    ///
+    /// O(rows of the table), times what a search in the value costs.
+    pub fn referrers(
+        &self,
+        table: TableId,
+        place: usize,
+        uuid: Uuid,
+    ) -> Result<Vec<Uuid>, AllocError>
+        ensures referrers { IfOk result (λ uuids. (v : model_uuid.Uuid)
+            → list_any (eq_by_cmp uuid_cmp v) (map uuid_of uuids.items)
+            ≡ kept.refers_at place (uuid_of uuid) (table_at self.now.now table) v) }
+        ensures distinct { IfOk result (λ uuids. IsDistinct (eq_by_cmp uuid_cmp) (map uuid_of uuids.items)) }
+    {
+        self.find(table, &Referrers { place, uuid })
     }
 
     /// What leads from the database as it was to the one as it is now. O(rows touched) and
@@ -284,20 +330,19 @@ fn touched(overlays: &[Overlay], table: TableId, uuid: Uuid) -> Option<Option<&R
     }
 }
 
-/// The identifiers of the rows of which the conditions hold, ascending.
-fn found_in(
+/// The identifiers of the rows that pass the test, each of them once.
+fn found_in<T: Test>(
     alloc: Global,
     base: &Table,
     overlay: &Overlay,
-    conditions: &Where,
+    test: &T,
 ) -> Result<Vec<Uuid>, AllocError>
-    ensures { IfOk result (λ uuids. map uuid_of uuids.items
-        ≡ finite.keys (matching conditions.now (overlaid base.now overlay.now))) }
+    ensures { IfOk result (λ uuids. Lists (map uuid_of uuids.items)
+        (passing (T.passes test.now) (overlaid base.now overlay.now))) }
 {
     let mut found = Vec::new(alloc);
-    base.find_untouched(overlay, conditions, &mut found)?;
-    overlay.find(conditions, &mut found)?;
-    sort(&mut found);
+    base.find_untouched(overlay, test, &mut found)?;
+    overlay.find(test, &mut found)?;
     Ok(found)
 }
 

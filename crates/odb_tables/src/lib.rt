@@ -10,6 +10,7 @@ mod draft;
 mod key;
 mod overlay;
 mod row_change;
+mod row_test;
 mod table;
 mod table_change;
 

@@ -11,19 +11,18 @@ ghost use Rattle.odb_atoms.specs.Uuid.{uuid_cmp};
 ghost use Rattle.odb_tables.specs.Represented.Draft.{overlaid, taken_out};
 ghost use Rattle.odb_tables.specs.Change.{change};
 ghost use Rattle.odb_atoms.specs.Represented.Atom.{uuid_of};
-ghost use Rattle.odb_tables.specs.Matching.{matching};
 ghost use Rattle.odb_tables.specs.Represented.Counted as counted;
-ghost use Rattle.odb_tables.specs.Represented.Found.{Appends, standing};
-ghost use Rattle.odb_tables.specs.Represented.Overlay.{holds_now, row_of};
+ghost use Rattle.odb_tables.specs.Represented.Found.{Appends, passing, standing};
+ghost use Rattle.odb_tables.specs.Represented.Overlay.{passes_now, row_of};
 ghost use Rattle.odb_tables.specs.Stamped.{stamped_table};
 
 use crate::key::Key;
 use crate::row_change::RowChange;
+use crate::row_test::Test;
 use crate::table::Table;
 use crate::table_change::TableChange;
 use indexmap::IndexMap;
 use odb_atoms::Row;
-use odb_cond::Where;
 use std::alloc::{AllocError, Global};
 use std::hash::RandomState;
 use std::marker::Model;
@@ -119,14 +118,13 @@ impl Overlay {
         !self.rows.is_empty() && self.rows.contains_key(&key)
     }
 
-    /// Appends the identifiers of the rows that are there and of which the conditions hold. O(rows
-    /// touched).
-    pub(crate) fn find(&self, conditions: &Where, found: &mut Vec<Uuid>) -> Result<(), AllocError>
+    /// Appends the identifiers of the rows that are there and pass the test. O(rows touched).
+    pub(crate) fn find<T: Test>(&self, test: &T, found: &mut Vec<Uuid>) -> Result<(), AllocError>
         ensures { OnOk result (Appends (map uuid_of found.old.items) (map uuid_of found.new.items)
-            (matching conditions.now (standing self.now))) }
+            (passing (T.passes test.now) (standing self.now))) }
     {
         for (key, now) in self.rows.iter() {
-            if is_found(*key, now.as_ref(), conditions) {
+            if is_found(*key, now.as_ref(), test) {
                 found.push(key.uuid())?;
             }
         }
@@ -177,12 +175,12 @@ impl Overlay {
     }
 }
 
-/// Whether the row is there, and the conditions hold of it.
-fn is_found(key: Key, now: Option<&Arc<Row>>, conditions: &Where) -> bool
-    ensures { result ≡ holds_now conditions.now key (row_of (option_copied now.entry)) }
+/// Whether the row is there and pass the test.
+fn is_found<T: Test>(key: Key, now: Option<&Arc<Row>>, test: &T) -> bool
+    ensures { result ≡ passes_now (T.passes test.now) key (row_of (option_copied now.entry)) }
 {
     match now {
-        Some(row) => conditions.holds(key.uuid(), &**row),
+        Some(row) => test.passes(key.uuid(), &**row),
         None => false,
     }
 }

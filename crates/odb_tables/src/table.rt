@@ -8,9 +8,7 @@ ghost use Rattle.std.specs.Ordering.{eq_by_cmp};
 ghost use Rattle.odb_atoms.specs.FinMap as finite;
 ghost use Rattle.odb_atoms.specs.Represented.Atom.{uuid_of};
 ghost use Rattle.odb_atoms.specs.Uuid.{uuid_cmp};
-ghost use Rattle.odb_cond.specs.Condition.{holds_all};
-ghost use Rattle.odb_tables.specs.Matching.{matching};
-ghost use Rattle.odb_tables.specs.Represented.Found.{Appends, untouched};
+ghost use Rattle.odb_tables.specs.Represented.Found.{Appends, passing, untouched};
 ghost use Rattle.odb_tables.specs.Represented.Installed.{each_row, one_row, put_in, settled, taken_back, with_row_at};
 ghost use Rattle.odb_tables.specs.Represented.Overlay.{row_of};
 ghost use Rattle.odb_tables.specs.Represented.Table.{listed};
@@ -18,10 +16,10 @@ ghost use Rattle.odb_tables.specs.Represented.Table.{listed};
 use crate::key::Key;
 use crate::overlay::Overlay;
 use crate::row_change::RowChange;
+use crate::row_test::Test;
 use crate::table_change::TableChange;
 use indexmap::IndexMap;
 use odb_atoms::Row;
-use odb_cond::Where;
 use std::alloc::{AllocError, AllocFailed, Global};
 use std::hash::RandomState;
 use std::marker::Model;
@@ -209,19 +207,19 @@ impl Table {
         *place = row;
     }
 
-    /// Appends the identifiers of the rows of which the conditions hold, but for those that the
-    /// overlay touched. O(rows).
-    pub(crate) fn find_untouched(
+    /// Appends the identifiers of the rows that pass the test, but for those that the overlay touched.
+    /// O(rows).
+    pub(crate) fn find_untouched<T: Test>(
         &self,
         overlay: &Overlay,
-        conditions: &Where,
+        test: &T,
         found: &mut Vec<Uuid>,
     ) -> Result<(), AllocError>
         ensures { OnOk result (Appends (map uuid_of found.old.items) (map uuid_of found.new.items)
-            (matching conditions.now (untouched overlay.now self.now))) }
+            (passing (T.passes test.now) (untouched overlay.now self.now))) }
     {
         for (key, row) in self.rows.iter() {
-            if is_found(*key, &**row, overlay, conditions) {
+            if is_found(*key, &**row, overlay, test) {
                 found.push(key.uuid())?;
             }
         }
@@ -229,9 +227,9 @@ impl Table {
     }
 }
 
-/// Whether the conditions hold of the row, and it wasn't touched.
-fn is_found(key: Key, row: &Row, overlay: &Overlay, conditions: &Where) -> bool
-    ensures { result ≡ (holds_all conditions.now key row.now && not (finite.contains_key overlay.now key)) }
+/// Whether the row passes the test, and wasn't touched.
+fn is_found<T: Test>(key: Key, row: &Row, overlay: &Overlay, test: &T) -> bool
+    ensures { result ≡ (T.passes test.now key row.now && not (finite.contains_key overlay.now key)) }
 {
-    conditions.holds(key.uuid(), row) && !overlay.touches(key)
+    test.passes(key.uuid(), row) && !overlay.touches(key)
 }

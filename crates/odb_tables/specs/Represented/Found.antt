@@ -1,8 +1,9 @@
 -- Identifiers that were found, in no order: those of the rows of a table, each of them once.
-use Rattle.std.specs.Prelude.{◌≡◌, cond, ◌++◌, List, Some, None}
+use Rattle.std.specs.Prelude.{◌≡◌, Bool, cond, ◌++◌, List, Some, None}
 use Rattle.std.specs.List.{IsDistinct, list_any}
 use Rattle.std.specs.Ordering.{eq_by_cmp}
 use Rattle.odb_atoms.specs.FinMap as map
+use Rattle.odb_atoms.specs.Row.{Row}
 use Rattle.odb_atoms.specs.Uuid.{Uuid, uuid_cmp}
 use Rattle.odb_tables.specs.Database.{Table}
 use Rattle.odb_tables.specs.Represented.Overlay.{Touched}
@@ -14,6 +15,10 @@ untouched o t = map.map_entries (λ u r. cond (map.contains_key o u) None (Some 
 -- of the rows that were touched, those that weren't taken out
 abbrev pub standing : Touched → Table
 standing o = map.map_entries (λ u now. now) o
+
+-- the rows that pass the test
+abbrev pub passing : (Uuid → Row → Bool) → Table → Table
+passing p t = map.map_entries (λ u r. cond (p u r) (Some r) None) t
 
 -- each row of the table once, and nothing else
 abbrev pub Lists : List Uuid → Table → Type 0

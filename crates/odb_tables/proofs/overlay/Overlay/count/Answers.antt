@@ -1,4 +1,4 @@
-use Rattle.std.proofs.Common.{rules, ◌≡◌, ◌+◌, ◌-◌, ◌<◌, ◌≤◌, ◌^◌, ℕ, List, length, map, sum_by, arith, sym, ap, subst, ◌∙◌}
+use Rattle.std.proofs.Common.{rules, ◌≡◌, ◌+◌, ◌-◌, ◌<◌, ◌≤◌, ◌^◌, length, map, sum_by, arith, sym, ap, subst, ◌∙◌}
 use Rattle.std.proofs.lemmas.List.{length-map}
 use Rattle.std.proofs.lemmas.Map.Iter.{iter_end, iter_turn}
 use Rattle.std.specs.List.{IsDistinct}
@@ -6,8 +6,7 @@ use Rattle.std.specs.Map.{keys_of}
 use Rattle.std.specs.Map.Iter.{deref_pair}
 use Rattle.std.specs.Ordering.{eq_by_cmp}
 use Rattle.odb_atoms.specs.FinMap as finite
-use Rattle.odb_atoms.specs.Row.{Row}
-use Rattle.odb_atoms.specs.Uuid.{Uuid, uuid_cmp}
+use Rattle.odb_atoms.specs.Uuid.{uuid_cmp}
 use Rattle.odb_tables.specs.Represented.Counted.{gain, loss}
 use Rattle.odb_tables.specs.Represented.Draft.{overlaid}
 use Rattle.odb_tables.specs.Represented.Keyed.{shown}

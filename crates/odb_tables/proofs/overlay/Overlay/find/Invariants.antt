@@ -5,4 +5,4 @@ use Rattle.odb_tables.proofs.Found.{found, is_standing}
 use Rattle.odb_tables.proofs.overlay.Overlay.find.Given as goal
 
 abbrev pub invariant-loop-key : goal.invariant-loop-key
-invariant-loop-key l = map uuid_of l.found.items ≡ map uuid_of l.initial.found.items ++ found (is_standing l.conditions) (map deref_pair l.yielded)
+invariant-loop-key g l = map uuid_of l.found.items ≡ map uuid_of l.initial.found.items ++ found (is_standing (g.T.Test.passes l.test)) (map deref_pair l.yielded)

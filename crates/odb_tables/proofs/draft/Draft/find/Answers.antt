@@ -1,0 +1,37 @@
+use Rattle.std.proofs.Common.{rules, ◌≡◌, ◌<◌, ◌≤◌, List, [], length, map, slice_index_or, IfOk, sym, ap, subst, ◌∙◌, arith}
+use Rattle.odb_atoms.specs.FinMap as finite
+use Rattle.odb_atoms.specs.Represented.Atom.{uuid_of}
+use Rattle.odb_tables.specs.Database.{Db, Table, table_at}
+use Rattle.odb_tables.specs.Draft.{Draft}
+use Rattle.odb_tables.specs.Represented.Draft.{overlaid}
+use Rattle.odb_tables.specs.Represented.Found.{Lists, passing}
+use Rattle.odb_tables.specs.Represented.Overlay.{Touched}
+use Rattle.odb_tables.proofs.Found.{none-passes}
+use Rattle.odb_tables.proofs.Overlays.{at-all_overlaid, nothing-past, table-is, touched-is}
+use Rattle.odb_tables.proofs.draft.Draft.find.Goals as goal
+
+pub returns-in_default : goal.returns-in_default
+returns-in_default g c =
+    let db : Db = c.self.inside.base.now in
+    let os : List Touched = c.self.inside.overlays.items in
+    let k = c.args.table in
+    let long : length os ≡ length db = c.self.invariant in
+    let past : length os ≤ k = search rules in
+    let nothing : table_at c.args.self.now.now k ≡ finite.empty = ap (λ (d : Draft). table_at d.now k) (sym c.self.view_is) ∙ nothing-past db os k long (omega (arith, long, past)) in
+    let p = g.T.Test.passes c.args.test.now in
+    let none : Lists [] (passing p (table_at c.args.self.now.now k)) = subst (λ (t : Table). Lists [] (passing p t)) (sym nothing) (none-passes p) in
+    subst (λ us. Lists (map uuid_of us) (passing p (table_at c.args.self.now.now k))) (sym c.new.ensures.items) none
+
+pub returns : goal.returns
+returns g c =
+    let db : Db = c.self.inside.base.now in
+    let os : List Touched = c.self.inside.overlays.items in
+    let k = c.args.table in
+    let t : Table = c.index-tables-place.result in
+    let o : Touched = c.in-Some.overlay.now in
+    let long : length os ≡ length db = c.self.invariant in
+    let inside : k < length os = search rules in
+    let table : t ≡ slice_index_or db k t = search rules in
+    let over : o ≡ slice_index_or os k o = search rules in
+    let whole : overlaid t o ≡ table_at c.args.self.now.now k = (λ i. overlaid (table-is db k t (omega (arith, long, inside)) table i) (touched-is os k o inside over i)) ∙ sym (at-all_overlaid db os k long) ∙ ap (λ (d : Draft). table_at d.now k) c.self.view_is in
+    subst (λ (u : Table). IfOk c.found_in.result (λ uuids. Lists (map uuid_of uuids.items) (passing (g.T.Test.passes c.args.test.now) u))) whole c.found_in.ensures

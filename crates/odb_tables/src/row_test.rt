@@ -1,0 +1,124 @@
+//! Tests of rows: what rows of a table are looked for.
+ghost use Rattle.std.specs.Prelude.{◌≡◌, Bool};
+ghost use Rattle.odb_atoms.specs.FinSet as set;
+ghost use Rattle.std.specs.List.{list_all, list_any};
+ghost use Rattle.odb_atoms.specs.Represented.Atom.{atom_of, uuid_of};
+ghost use Rattle.odb_atoms.specs.Represented.Value.{pair_of};
+ghost use Rattle.odb_tables.specs.Represented.Kept.{have_same_at as same_at, is_in};
+ghost use Rattle.odb_atoms.specs.Row.{cell, declared};
+ghost use Rattle.odb_atoms.specs.Row as model_row;
+ghost use Rattle.odb_atoms.specs.Uuid as model_uuid;
+ghost use Rattle.odb_atoms.specs.Uuid.{zero_uuid};
+ghost use Rattle.odb_atoms.specs.Value.{same_value, set_of};
+ghost use Rattle.odb_tables.specs.Kept as kept;
+ghost use Rattle.odb_cond.specs.Condition.{holds_all};
+ghost use Rattle.odb_tables.specs.Kept.{is_twin};
+
+use crate::key::Key;
+use odb_atoms::{Atom, Entries, Row, Value};
+use odb_cond::Where;
+use uuid::Uuid;
+
+/// What rows of a table are looked for: those that pass.
+pub(crate) trait Test {
+    ghost passes: { Self → model_uuid.Uuid → model_row.Row → Bool };
+
+    /// Whether the row is one of them. O(the values compared).
+    fn passes(&self, uuid: Uuid, row: &Row) -> bool
+        ensures { result ≡ passes self.now (uuid_of uuid) row.now };
+}
+
+/// Those of which the conditions hold.
+impl Test for Where {
+    ghost passes = { λ conditions. holds_all conditions };
+
+    fn passes(&self, uuid: Uuid, row: &Row) -> bool {
+        self.holds(uuid, row)
+    }
+}
+
+/// Those with the same values in the columns at the places as the row of the identifier, but for that row.
+#[derive(Drop)]
+pub(crate) struct Twins<'a> {
+    pub(crate) places: &'a [usize],
+    pub(crate) uuid: Uuid,
+    pub(crate) row: &'a Row,
+}
+
+impl Test for Twins<'_> {
+    ghost passes = { λ twins v s. is_twin twins.places.now (uuid_of twins.uuid) twins.row.now (v, s) };
+
+    fn passes(&self, uuid: Uuid, row: &Row) -> bool {
+        Key::of(self.uuid) != Key::of(uuid) && have_same(self.places, self.row, row)
+    }
+}
+
+/// Those whose value in the column at the place mentions the identifier.
+#[derive(Drop)]
+pub(crate) struct Referrers {
+    pub(crate) place: usize,
+    pub(crate) uuid: Uuid,
+}
+
+impl Test for Referrers {
+    ghost passes = { λ referrers v s. kept.mentions (uuid_of referrers.uuid) (cell zero_uuid s (declared referrers.place)) };
+
+    fn passes(&self, _uuid: Uuid, row: &Row) -> bool {
+        refers(row, self.place, self.uuid)
+    }
+}
+
+/// Whether the rows have the same values in the columns at the places.
+pub(crate) fn have_same(places: &[usize], left: &Row, right: &Row) -> bool
+    ensures { result ≡ list_all (same_at left.now right.now) places.now }
+{
+    places.iter().all(|place| have_same_at(*place, left, right))
+}
+
+/// Whether the rows have the same value in the column at the place.
+pub(crate) fn have_same_at(place: usize, left: &Row, right: &Row) -> bool
+    ensures { result ≡ same_at left.now right.now place }
+{
+    match (left.get(place), right.get(place)) {
+        (Some(left), Some(right)) => *left == *right,
+        (Some(left), None) => is_nothing(left),
+        (None, Some(right)) => is_nothing(right),
+        (None, None) => true,
+    }
+}
+
+/// Whether it is the set without elements.
+fn is_nothing(value: &Value) -> bool
+    ensures { result ≡ same_value value.now (set_of set.empty) }
+{
+    value.is_empty() && !value.is_map()
+}
+
+/// Whether what the row has in the column at the place mentions the identifier.
+pub(crate) fn refers(row: &Row, place: usize, uuid: Uuid) -> bool
+    ensures { result ≡ kept.mentions (uuid_of uuid) (cell zero_uuid row.now (declared place)) }
+{
+    match row.get(place) {
+        Some(value) => mentions(value, uuid),
+        None => false,
+    }
+}
+
+/// Whether the identifier is an element of the set, or a key or a value of the map. O(log n) for n elements,
+/// and O(n) for n pairs.
+fn mentions(value: &Value, uuid: Uuid) -> bool
+    ensures { result ≡ kept.mentions (uuid_of uuid) value.now }
+{
+    let atom = Atom::Uuid(uuid);
+    match value.entries() {
+        Entries::Set(_) => value.contains(&atom),
+        Entries::Map(pairs) => is_in_pairs(pairs, &atom),
+    }
+}
+
+/// Whether the atom is a key or a value of one of the pairs.
+fn is_in_pairs(pairs: &[(Atom, Atom)], atom: &Atom) -> bool
+    ensures { result ≡ list_any (λ pair. is_in (atom_of atom.now) (pair_of pair)) pairs.now }
+{
+    pairs.iter().any(|pair| pair.0 == *atom || pair.1 == *atom)
+}
