@@ -1,11 +1,16 @@
 pub mod Changes
 mod Counts
+mod Digests
 mod Drafts
+mod Facets
 mod Found
 mod Installs
+mod Keepings
 pub mod KeyedMaps
 mod Keys
 mod Overlays
+mod PairSets
+mod Steps
 mod SameValues
 mod Stamps
 mod TableChanges

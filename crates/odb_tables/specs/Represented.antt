@@ -1,11 +1,15 @@
 pub mod Counted
+pub mod Digest
 pub mod Draft
+pub mod Facet
 pub mod Found
 pub mod Installed
+pub mod Keeping
 pub mod Kept
 pub mod Key
 pub mod Keyed
 pub mod Overlay
+pub mod Pairs
 pub mod RowChange
 pub mod Table
 pub mod TableChange

@@ -4,11 +4,15 @@ ghost use Rattle.std.specs.Option.{option_copied};
 ghost use Rattle.odb_atoms.specs.FinMap as finite;
 ghost use Rattle.odb_atoms.specs.Represented.Atom.{uuid_of};
 ghost use Rattle.odb_tables.specs.Change.{all_changed_by};
+ghost use Rattle.odb_tables.specs.Database as model;
 ghost use Rattle.odb_tables.specs.Database.{table_at};
 ghost use Rattle.odb_tables.specs.Installing.{IsChangeOf};
+ghost use Rattle.odb_tables.specs.Represented.Keeping.{AreKept, AreReady, IsKept, IsReady};
+ghost use Rattle.odb_tables.specs.declared.kept.Side.TheVariants.{New, Old};
 ghost use Rattle.odb_tables.specs.Represented.Installed.{each_table, put_in, settled, taken_back};
 
 use crate::change_set::ChangeSet;
+use crate::kept::{Kept, Side};
 use crate::table::Table;
 use crate::table_change::TableChange;
 use odb_atoms::Row;
@@ -23,17 +27,21 @@ use uuid::Uuid;
 pub struct Db {
     hashing: RandomState,
     tables: Vec<Table>,
+    kept: Vec<Kept>,
 }
 
 impl Model for Db {
     ghost use Rattle.odb_tables.specs.Database as model;
     ghost use Rattle.odb_tables.specs.Database.{db_code};
+    ghost use Rattle.odb_tables.specs.Represented.Keeping.{AreKept};
 
     ghost Value = { model.Db };
 
     ghost coded = { db_code };
 
     ghost view = { λ d. d.tables.items };
+
+    ghost invariant = { λ d. AreKept d.tables.items d.kept.items };
 }
 
 impl Db {
@@ -48,6 +56,7 @@ impl Db {
         Ok(Db {
             hashing,
             tables: list,
+            kept: Vec::new(alloc),
         })
     }
 
@@ -97,10 +106,16 @@ impl Db {
         ensures handed_back { IfErr result (λ refused. refused.value ≡ change) }
         ensures same_tables { length self.new ≡ length self.old }
     {
-        if put_in(&mut self.tables, change.tables()).is_err() {
-            take_back(&mut self.tables, change.tables());
+        if note(&mut self.kept, change.tables()).is_err() {
+            cut(&mut self.kept, change.tables(), Side::New);
             return Err(AllocFailed { value: change });
         }
+        if put_in(&mut self.tables, change.tables()).is_err() {
+            take_back(&mut self.tables, change.tables());
+            cut(&mut self.kept, change.tables(), Side::New);
+            return Err(AllocFailed { value: change });
+        }
+        cut(&mut self.kept, change.tables(), Side::Old);
         settle(&mut self.tables, change.into_tables());
         Ok(())
     }
@@ -116,7 +131,63 @@ impl Db {
         Ok(Db {
             hashing: self.hashing,
             tables,
+            kept: Vec::new(alloc),
         })
+    }
+}
+
+/// Keeps the rows that are new by the changes, and the changed ones under their new tags. Where memory is
+/// refused some of that is done.
+fn note(kept: &mut Vec<Kept>, changes: &[TableChange]) -> Result<(), AllocError>
+    ensures stay_kept { (db : model.Db) → AreKept db kept.old.items → AreKept db kept.new.items }
+    ensures ready { OnOk result ((db : model.Db) → IsChangeOf db changes.now → AreKept db kept.old.items
+        → AreReady db changes.now kept.new.items) }
+{
+    for place in 0..kept.len() {
+        note_one(&mut kept[place], changes)?;
+    }
+    Ok(())
+}
+
+fn note_one(kept: &mut Kept, changes: &[TableChange]) -> Result<(), AllocError>
+    ensures stays_kept { (db : model.Db) → IsKept db kept.old → IsKept db kept.new }
+    ensures ready { OnOk result ((db : model.Db) → IsChangeOf db changes.now → IsKept db kept.old
+        → IsReady db changes.now kept.new) }
+{
+    match change_of(changes, kept.table) {
+        Some(change) => kept.note(change),
+        None => Ok(()),
+    }
+}
+
+/// The change of the table at the place, if there is one.
+fn change_of(changes: &[TableChange], table: usize) -> Option<&TableChange>
+    ensures { option_copied result ≡ slice_get changes.now table }
+{
+    changes.get(table)
+}
+
+/// Takes out the pairs of the side of the changes that goes.
+fn cut(kept: &mut Vec<Kept>, changes: &[TableChange], side: Side)
+    ensures taken_back { side ≡ New → (db : model.Db) → IsChangeOf db changes.now → AreKept db kept.old.items
+        → AreKept db kept.new.items }
+    ensures settled { side ≡ Old → (db : model.Db) → IsChangeOf db changes.now → AreReady db changes.now kept.old.items
+        → AreKept (all_changed_by db changes.now) kept.new.items }
+{
+    for place in 0..kept.len() {
+        cut_one(&mut kept[place], changes, side);
+    }
+}
+
+fn cut_one(kept: &mut Kept, changes: &[TableChange], side: Side)
+    ensures taken_back { side ≡ New → (db : model.Db) → IsChangeOf db changes.now → IsKept db kept.old
+        → IsKept db kept.new }
+    ensures settled { side ≡ Old → (db : model.Db) → IsChangeOf db changes.now → IsReady db changes.now kept.old
+        → IsKept (all_changed_by db changes.now) kept.new }
+{
+    match change_of(changes, kept.table) {
+        Some(change) => kept.cut(change, side),
+        None => {}
     }
 }
 

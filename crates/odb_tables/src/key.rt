@@ -1,9 +1,10 @@
 //! Identifiers as the keys of tables.
-ghost use Rattle.std.specs.Prelude.{◌≡◌, refl, Some};
+ghost use Rattle.std.specs.Prelude.{◌≡◌, false, true, refl, Some};
 ghost use Rattle.std.specs.Hash.{u128};
-ghost use Rattle.std.specs.Ordering.{eq_by_cmp};
+ghost use Rattle.std.specs.Ordering.{eq_by_cmp, is_le, is_lt};
 ghost use Rattle.odb_atoms.specs.Represented.Atom.{uuid_of};
-ghost use Rattle.odb_atoms.specs.Uuid.{uuid_cmp};
+ghost use Rattle.odb_atoms.specs.Uuid as model_uuid;
+ghost use Rattle.odb_atoms.specs.Uuid.{uuid_cmp, uuid_from};
 ghost use Rattle.odb_tables.specs.Represented.Key.{keys_alike, keys_equivalent, keys_partial, keys_partially_equivalent, uuid_cmp_total};
 
 use std::cmp::Ordering;
@@ -51,6 +52,29 @@ impl Key {
         ensures { uuid_of result ≡ self }
     {
         Uuid::from_u128(self.number)
+    }
+
+    /// The least key. O(1).
+    pub(crate) fn least() -> Key
+        ensures { (u : model_uuid.Uuid) → is_le (uuid_cmp result u) ≡ true }
+    {
+        Key { number: 0 }
+    }
+
+    /// The greatest key. O(1).
+    pub(crate) fn greatest() -> Key
+        ensures { (u : model_uuid.Uuid) → is_lt (uuid_cmp result u) ≡ false }
+    {
+        Key { number: u128::MAX }
+    }
+
+    /// The key of a hash. O(1).
+    pub(crate) fn of_hash(hash: u64) -> Key
+        ensures { result ≡ uuid_from hash }
+    {
+        Key {
+            number: u128::from(hash),
+        }
     }
 }
 

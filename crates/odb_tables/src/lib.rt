@@ -6,9 +6,13 @@
 
 mod change_set;
 mod database;
+mod digest;
 mod draft;
+mod facet;
+mod kept;
 mod key;
 mod overlay;
+mod pairs;
 mod row_change;
 mod row_test;
 mod table;

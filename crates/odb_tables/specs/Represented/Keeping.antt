@@ -1,0 +1,68 @@
+-- What is kept beside the rows of tables: that no pair is lacking, and what a change makes of that.
+use Rattle.std.specs.Prelude.{◌≡◌, ℕ, true, List, Option, Some, slice_get, unwrap_or}
+use Rattle.std.specs.List.{AllByRecursion}
+use Rattle.odb_atoms.specs.FinMap as map
+use Rattle.odb_atoms.specs.Row.{Row}
+use Rattle.odb_atoms.specs.Uuid.{Uuid}
+use Rattle.odb_tables.specs.Change.{Changes, before}
+use Rattle.odb_tables.specs.Database.{Db, Table, table_at}
+use Rattle.odb_tables.specs.Represented.Facet.{HasTagsNow, is_tag_now}
+use Rattle.odb_tables.specs.Represented.Pairs.{Pairs, has}
+use Rattle.odb_tables.specs.declared.facet.Facet.{Facet}
+use Rattle.odb_tables.specs.declared.kept.Kept.{Kept}
+use Rattle.odb_tables.specs.declared.kept.Side.{Side}
+use Rattle.odb_tables.specs.declared.kept.Side.TheVariants.{New, Old}
+
+-- each row of the table is kept under each of its tags
+abbrev pub LacksNothing : Kept → Table → Type 0
+LacksNothing k t = (u : Uuid) → HasTagsNow k.facet k.pairs u (map.get t u)
+
+-- what the change says of the rows before is what the table has
+abbrev pub IsOf : Table → Changes → Type 0
+IsOf t c = (u : Uuid) → before (map.get t u) (map.get c u) ≡ map.get t u
+
+-- a row that was kept under each of its tags before the change is so after it
+abbrev pub NotesRow : Facet → Pairs → Pairs → Uuid → Option Row × Option Row → Type 0
+NotesRow f old new u d = HasTagsNow f old u d.0 → HasTagsNow f new u d.1
+
+-- so is each row that is changed
+abbrev pub Notes : Facet → Pairs → Pairs → Changes → Type 0
+Notes f old new c = (u : Uuid) (d : Option Row × Option Row) → map.get c u ≡ Some d → NotesRow f old new u d
+
+-- each row that the change makes is kept under each of its tags
+abbrev pub HasNew : Kept → Changes → Type 0
+HasNew k c = (u : Uuid) (d : Option Row × Option Row) → map.get c u ≡ Some d → HasTagsNow k.facet k.pairs u d.1
+
+-- of the same table and the same facet
+abbrev pub IsOfSame : Kept → Kept → Type 0
+IsOfSame k n = (n.table ≡ k.table) × (n.facet ≡ k.facet)
+
+-- of a change, the side whose pairs go, and the side whose pairs stay
+abbrev pub gone : Side → Option Row × Option Row → Option Row
+gone Old d = d.0
+gone New d = d.1
+
+abbrev pub stays : Side → Option Row × Option Row → Option Row
+stays Old d = d.1
+stays New d = d.0
+
+-- pairs go out of the rows that are changed alone, and none under a tag of the side that stays
+abbrev pub CutsAll : Facet → Pairs → Pairs → Side → Changes → Type 0
+CutsAll f old new side c = (tag v : Uuid) → has old tag v ≡ true → ((d : Option Row × Option Row) → map.get c v ≡ Some d → is_tag_now f tag (stays side d) ≡ true) → has new tag v ≡ true
+
+-- ---- a database
+
+abbrev pub changes_at : List Changes → ℕ → Changes
+changes_at cs t = unwrap_or (slice_get cs t) map.empty
+
+abbrev pub IsKept : Db → Kept → Type 0
+IsKept db k = LacksNothing k (table_at db k.table)
+
+abbrev pub IsReady : Db → List Changes → Kept → Type 0
+IsReady db cs k = LacksNothing k (table_at db k.table) × HasNew k (changes_at cs k.table)
+
+abbrev pub AreKept : Db → List Kept → Type 0
+AreKept db = AllByRecursion (IsKept db)
+
+abbrev pub AreReady : Db → List Changes → List Kept → Type 0
+AreReady db cs = AllByRecursion (IsReady db cs)

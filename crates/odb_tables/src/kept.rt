@@ -1,0 +1,156 @@
+//! What is kept beside the rows of a table, so that some of them are found without a walk.
+ghost use Rattle.std.specs.Prelude.{◌≡◌, true, IfOk, OnOk};
+ghost use Rattle.std.specs.List.{IsDistinct, list_any};
+ghost use Rattle.std.specs.Option.{option_copied};
+ghost use Rattle.std.specs.Ordering.{eq_by_cmp};
+ghost use Rattle.odb_atoms.specs.FinMap as finite;
+ghost use Rattle.odb_atoms.specs.Uuid as model_uuid;
+ghost use Rattle.odb_atoms.specs.Uuid.{uuid_cmp};
+ghost use Rattle.odb_tables.specs.Represented.Facet.{Cuts};
+ghost use Rattle.odb_tables.specs.Represented.Keeping as spec;
+ghost use Rattle.odb_tables.specs.Represented.Keeping.{CutsAll, IsOfSame, LacksNothing, Notes, NotesRow};
+ghost use Rattle.odb_tables.specs.Represented.Pairs.{Grows, has};
+
+use crate::facet::Facet;
+use crate::key::Key;
+use crate::pairs;
+use crate::row_change::RowChange;
+use crate::table_change::TableChange;
+use odb_atoms::Row;
+use std::alloc::{AllocError, Global};
+use std::collections::BTreeSet;
+
+/// A side of a change of a row.
+#[derive(Clone, Copy)]
+pub(crate) enum Side {
+    /// The row before.
+    Old,
+    /// The row after.
+    New,
+}
+
+/// The rows of a table by one facet. No row lacks a pair; a pair too many does no harm, since each row that
+/// is found so is tested.
+#[derive(Drop)]
+pub(crate) struct Kept {
+    /// The place of the table.
+    pub(crate) table: usize,
+    /// By what the rows are kept.
+    pub(crate) facet: Facet,
+    /// The tags of each row, with its key.
+    pub(crate) pairs: BTreeSet<(Key, Key)>,
+}
+
+impl Kept {
+    /// For a table without rows. O(1).
+    pub(crate) fn new(alloc: Global, table: usize, facet: Facet) -> Kept
+        ensures { LacksNothing result finite.empty }
+    {
+        Kept {
+            table,
+            facet,
+            pairs: BTreeSet::new(alloc),
+        }
+    }
+
+    /// Keeps the rows that are new by the change, and those that it changes under their new tags.
+    /// Where memory is refused some of that is done. O(log n) for each tag of a row changed and n pairs.
+    pub(crate) fn note(&mut self, change: &TableChange) -> Result<(), AllocError>
+        ensures same { IsOfSame self.old self.new }
+        ensures grows { Grows self.old.pairs self.new.pairs }
+        ensures ok { OnOk result (Notes self.old.facet self.old.pairs self.new.pairs change.now) }
+    {
+        note(&self.facet, &mut self.pairs, change)
+    }
+
+    /// Takes out the pairs of the side that goes, but for those of the other side. O(log n) for each tag of a
+    /// row changed and n pairs.
+    pub(crate) fn cut(&mut self, change: &TableChange, side: Side)
+        ensures same { IsOfSame self.old self.new }
+        ensures cuts { CutsAll self.old.facet self.old.pairs self.new.pairs side change.now }
+    {
+        cut(&self.facet, &mut self.pairs, change, side);
+    }
+
+    /// The keys of the rows that are kept under the tag, and perhaps of others, each of them once. O(log n)
+    /// for n pairs, and O(the keys).
+    pub(crate) fn under(&self, alloc: Global, tag: Key) -> Result<Vec<Key>, AllocError>
+        ensures all { IfOk result (λ keys. (u : model_uuid.Uuid) → has self.now.pairs tag u ≡ true
+            → list_any (eq_by_cmp uuid_cmp u) keys.items ≡ true) }
+        ensures distinct { IfOk result (λ keys. IsDistinct (eq_by_cmp uuid_cmp) keys.items) }
+    {
+        pairs::under(alloc, &self.pairs, tag)
+    }
+}
+
+fn note(
+    facet: &Facet,
+    pairs: &mut BTreeSet<(Key, Key)>,
+    change: &TableChange,
+) -> Result<(), AllocError>
+    ensures grows { Grows pairs.old pairs.new }
+    ensures ok { OnOk result (Notes facet.now pairs.old pairs.new change.now) }
+{
+    for row in change.rows() {
+        note_row(facet, pairs, row)?;
+    }
+    Ok(())
+}
+
+fn note_row(
+    facet: &Facet,
+    pairs: &mut BTreeSet<(Key, Key)>,
+    change: &RowChange,
+) -> Result<(), AllocError>
+    ensures grows { Grows pairs.old pairs.new }
+    ensures ok { OnOk result (NotesRow facet.now pairs.old pairs.new change.now.0 change.now.1) }
+{
+    let Some(new) = change.new() else {
+        return Ok(());
+    };
+    if facet.is_same(change.old(), new) {
+        return Ok(());
+    }
+    facet.add(pairs, Key::of(change.uuid()), new)
+}
+
+fn cut(facet: &Facet, pairs: &mut BTreeSet<(Key, Key)>, change: &TableChange, side: Side)
+    ensures { CutsAll facet.now pairs.old pairs.new side change.now }
+{
+    for row in change.rows() {
+        cut_row(facet, pairs, row, side);
+    }
+}
+
+fn cut_row(facet: &Facet, pairs: &mut BTreeSet<(Key, Key)>, change: &RowChange, side: Side)
+    ensures { Cuts facet.now pairs.old pairs.new change.now.0 (spec.stays side change.now.1) }
+{
+    let Some(row) = gone(change, side) else {
+        return;
+    };
+    let now = stays(change, side);
+    if facet.is_same(now, row) {
+        return;
+    }
+    facet.cut(pairs, Key::of(change.uuid()), row, now);
+}
+
+/// The side that goes.
+fn gone(change: &RowChange, side: Side) -> Option<&Row>
+    ensures { option_copied result ≡ spec.gone side change.now.1 }
+{
+    match side {
+        Side::Old => change.old(),
+        Side::New => change.new(),
+    }
+}
+
+/// The side that stays.
+fn stays(change: &RowChange, side: Side) -> Option<&Row>
+    ensures { option_copied result ≡ spec.stays side change.now.1 }
+{
+    match side {
+        Side::Old => change.new(),
+        Side::New => change.old(),
+    }
+}
