@@ -1,25 +1,26 @@
 -- The tags of rows: where two rows have the same, what a value's atoms add, and what may be cut.
-use Rattle.std.proofs.Common.{◌≡◌, ◌⊎◌, ℕ, true, false, List, ◌∷◌, map, slice_get, unwrap_or, Global, Vec, Option, Some, None, sym, ap, subst, ◌∙◌, Bor}
+use Rattle.std.proofs.Common.{◌≡◌, ◌⊎◌, ◌||◌, ℕ, true, false, not, List, [], ◌∷◌, map, slice_get, unwrap_or, Global, Vec, IfSome, Option, Some, None, refl, sym, ap, subst, ◌∙◌, Bor}
 use mathlib.Core.Bool.{true≢false}
 use mathlib.Core.Logic.{inl, inr}
+use Rattle.std.proofs.lemmas.Option.{none-some, same_Some}
 use Rattle.std.specs.Cmp.{unsigned_Decides}
 use Rattle.std.specs.List.{list_all, list_any}
 use Rattle.std.specs.declared.hash.RandomState.{RandomState}
-use Rattle.odb_atoms.specs.Atom.{Atom, same_atom, uuid}
+use Rattle.odb_atoms.specs.Atom.{Atom, boolean, integer, same_atom, text, uuid}
 use Rattle.odb_atoms.specs.Represented.Atom.{atom_of}
 use Rattle.odb_atoms.specs.Represented.Value as shown
 use Rattle.odb_atoms.specs.Represented.Value.{pair_of}
 use Rattle.odb_atoms.specs.Row.{Row, cell, declared}
 use Rattle.odb_atoms.specs.Uuid.{Uuid, same_number-same, same_uuid, zero_uuid}
-use Rattle.odb_atoms.specs.Value.{Value, map_of, set_of}
+use Rattle.odb_atoms.specs.Value.{Value, map_of, same_values, set_of}
 use Rattle.odb_atoms.specs.declared.atom.Atom as code
 use Rattle.odb_atoms.specs.declared.value.Entries.TheVariants as entries
 use Rattle.odb_atoms.proofs.Atoms.{atom_cmp-IsAntisymmetric}
-use Rattle.odb_atoms.proofs.Equal.{same_values-equal}
+use Rattle.odb_atoms.proofs.Equal.{same_atom-itself, same_values-equal}
 use Rattle.odb_atoms.proofs.FinMaps.{contains_key-keys, same_key}
-use Rattle.odb_atoms.proofs.Lists.{either}
+use Rattle.odb_atoms.proofs.Lists.{both, either}
 use Rattle.odb_atoms.proofs.Values.{same_value-equal}
-use Rattle.odb_tables.specs.Kept.{cells_at, mentions}
+use Rattle.odb_tables.specs.Kept.{cells_at, is_twin, mentions}
 use Rattle.odb_tables.specs.Represented.Digest.{digest}
 use Rattle.odb_tables.specs.Represented.Facet.{Cuts, identifier_in, is_tag, is_tag_now}
 use Rattle.odb_tables.specs.Represented.Kept.{have_same_at, is_in}
@@ -87,3 +88,35 @@ mentions-same f place r s is same tag = subst (λ g. is_tag g tag r ≡ is_tag g
 
 pub none-mentioned : (f : Facet) (place : ℕ) (r : Row) (tag : Uuid) → f ≡ Mentions place → slice_get r.columns place ≡ None → is_tag f tag r ≡ false
 none-mentioned f place r tag is none = ap (λ g. is_tag g tag r) is ∙ ap (λ o. mentions tag (unwrap_or o nothing_in)) none ∙ mentions-nothing tag
+
+pub values-tag : (f : Facet) (keys : RandomState) (places : Vec ℕ Global) (s : Row) (tag : Uuid) → f ≡ Values keys places → tag ≡ digest keys (cells_at places.items s) → is_tag f tag s ≡ true
+values-tag f keys places s tag is same = ap (λ g. is_tag g tag s) is ∙ ap (λ u. same_uuid u (digest keys (cells_at places.items s))) same ∙ itself (digest keys (cells_at places.items s))
+  where
+    itself : (u : Uuid) → same_uuid u u ≡ true
+    itself u = (unsigned_Decides u.number u.number).1 refl
+
+pub mentions-tag : (f : Facet) (place : ℕ) (s : Row) (tag : Uuid) → f ≡ Mentions place → mentions tag (cell zero_uuid s (declared place)) ≡ true → is_tag f tag s ≡ true
+mentions-tag f place s tag is there = ap (λ g. is_tag g tag s) is ∙ there
+
+pub twin-cells : (places : List ℕ) (u v : Uuid) (r s : Row) → is_twin places u r (v, s) ≡ true → cells_at places r ≡ cells_at places s
+twin-cells places u v r s e = same_values-equal (cells_at places r) (cells_at places s) (both (not (same_uuid u v)) (same_values (cells_at places r) (cells_at places s)) e).1
+
+-- ---- the first that a set mentions
+
+pub first-mentioned : (u : Uuid) (first : code.Atom) (elements : Bor (List code.Atom)) (v : Value) → shown.Lists (entries.Set elements) v → slice_get elements.now 0 ≡ Some first → identifier_in (atom_of first) ≡ Some u → mentions u v ≡ true
+first-mentioned u first elements (map_of m) listed at is = absurd listed
+first-mentioned u first elements (set_of s) listed at is = contains_key-keys s (uuid u) ∙ ap (list_any (same_atom (uuid u))) (sym listed) ∙ by elements.now at
+  where
+    the_atom : (a : Atom) → identifier_in a ≡ Some u → same_atom (uuid u) a ≡ true
+    the_atom (integer z) e = absurd (none-some u e)
+    the_atom (boolean b) e = absurd (none-some u e)
+    the_atom (text t) e = absurd (none-some u e)
+    the_atom (uuid w) e = ap (λ x. same_atom (uuid u) (uuid x)) (same_Some w u e) ∙ same_atom-itself (uuid u)
+
+    by : (es : List code.Atom) → slice_get es 0 ≡ Some first → list_any (same_atom (uuid u)) (map atom_of es) ≡ true
+    by [] e = absurd (none-some first e)
+    by (x ∷ es) e = ap (λ b. b || list_any (same_atom (uuid u)) (map atom_of es)) (ap (λ y. same_atom (uuid u) (atom_of y)) (same_Some x first e) ∙ the_atom (atom_of first) is)
+
+pub if_some : {P : Uuid → Type 0} (o : Option Uuid) → ((u : Uuid) → o ≡ Some u → P u) → IfSome o P
+if_some None h = tt
+if_some (Some u) h = h u refl

@@ -1,5 +1,5 @@
 -- What is kept beside the rows of tables, through a change of them.
-use Rattle.std.proofs.Common.{◌≡◌, ◌⊎◌, ℕ, zero, suc, ◌<◌, ◌≤◌, Bool, true, false, cond, List, [], ◌∷◌, length, get_or, slice_get, slice_set, Option, Some, None, unwrap_or, refl, sym, ap, subst, ◌∙◌, arith}
+use Rattle.std.proofs.Common.{◌≡◌, ◌⊎◌, ℕ, zero, suc, ◌<◌, ◌≤◌, Bool, true, false, cond, List, [], ◌∷◌, ◌++◌, length, replicate, get_or, slice_get, slice_set, Option, Some, None, unwrap_or, refl, sym, ap, subst, ◌∙◌, arith}
 use mathlib.Core.Logic.{inl, inr}
 use Rattle.std.proofs.lemmas.Option.{none-some, same_Some}
 use Rattle.std.specs.FinMap.Entries.{find}
@@ -15,7 +15,7 @@ use Rattle.odb_tables.specs.Database.{Db, Table, table_at}
 use Rattle.odb_tables.specs.Installing.{IsChangeOf}
 use Rattle.odb_tables.specs.Represented.Facet.{is_tag_now}
 use Rattle.odb_tables.specs.Represented.Key.{uuid_cmp_total}
-use Rattle.odb_tables.specs.Represented.Keeping.{CutsAll, HasNew, IsKept, IsOf, IsOfSame, IsReady, LacksNothing, Notes, NotesRow, changes_at}
+use Rattle.odb_tables.specs.Represented.Keeping.{AreForNoRows, AreKept, CutsAll, HasNew, IsKept, IsOf, IsOfSame, IsReady, LacksNothing, Notes, NotesRow, changes_at}
 use Rattle.odb_tables.specs.Represented.Pairs.{Grows, Pairs, has}
 use Rattle.odb_tables.specs.declared.facet.Facet.{Facet}
 use Rattle.odb_tables.specs.declared.kept.Kept.{Kept}
@@ -146,3 +146,18 @@ module _ {X : Type 0} (P : X → Type 0) where
   all-set [] i x p h = tt
   all-set (y ∷ xs) zero x p h = (p, h.1)
   all-set (y ∷ xs) (suc i) x p h = (h.0, all-set xs i x p h.1)
+
+-- ---- where no table has a row
+
+none_at : (n t : ℕ) → table_at (replicate n finite.empty) t ≡ finite.empty
+none_at zero t = refl
+none_at (suc n) zero = refl
+none_at (suc n) (suc t) = none_at n t
+
+pub no-rows-kept : (n : ℕ) (ks : List Kept) → AreForNoRows ks → AreKept (replicate n finite.empty) ks
+no-rows-kept n [] h = tt
+no-rows-kept n (k ∷ ks) h = (subst (LacksNothing k) (sym (none_at n k.table)) h.0, no-rows-kept n ks h.1)
+
+pub all-push : {X : Type 0} (P : X → Type 0) (xs : List X) (x : X) → AllByRecursion P xs → P x → AllByRecursion P (xs ++ x ∷ [])
+all-push P [] x h p = (p, tt)
+all-push P (y ∷ xs) x h p = (h.0, all-push P xs x h.1 p)

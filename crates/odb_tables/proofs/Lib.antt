@@ -1,3 +1,4 @@
+mod Candidates
 pub mod Changes
 mod Counts
 mod Digests

@@ -1,5 +1,5 @@
 //! Databases: the tables of a schema, in its order (RFC 7047, section 3.2). [P 2.1, 6.3]
-ghost use Rattle.std.specs.Prelude.{◌≡◌, IfErr, IfOk, OnErr, OnOk, length, replicate, slice_get};
+ghost use Rattle.std.specs.Prelude.{◌≡◌, IfErr, IfOk, IfSome, OnErr, OnOk, length, replicate, slice_get};
 ghost use Rattle.std.specs.Option.{option_copied};
 ghost use Rattle.odb_atoms.specs.FinMap as finite;
 ghost use Rattle.odb_atoms.specs.Represented.Atom.{uuid_of};
@@ -7,16 +7,19 @@ ghost use Rattle.odb_tables.specs.Change.{all_changed_by};
 ghost use Rattle.odb_tables.specs.Database as model;
 ghost use Rattle.odb_tables.specs.Database.{table_at};
 ghost use Rattle.odb_tables.specs.Installing.{IsChangeOf};
-ghost use Rattle.odb_tables.specs.Represented.Keeping.{AreKept, AreReady, IsKept, IsReady};
+ghost use Rattle.odb_tables.specs.Represented.Keeping.{AreKept, AreReady, IsKept, IsReady, Suffices};
 ghost use Rattle.odb_tables.specs.declared.kept.Side.TheVariants.{New, Old};
 ghost use Rattle.odb_tables.specs.Represented.Installed.{each_table, put_in, settled, taken_back};
 
 use crate::change_set::ChangeSet;
 use crate::kept::{Kept, Side};
+use crate::kept_for::kept_for;
+use crate::key::Key;
+use crate::row_test::Test;
 use crate::table::Table;
 use crate::table_change::TableChange;
 use odb_atoms::Row;
-use odb_schema::TableId;
+use odb_schema::{Schema, TableId};
 use std::alloc::{AllocError, AllocFailed, Global};
 use std::hash::RandomState;
 use std::marker::Model;
@@ -49,14 +52,27 @@ impl Db {
     pub fn new(alloc: Global, tables: usize, hashing: RandomState) -> Result<Db, AllocError>
         ensures { IfOk result (λ db. db ≡ replicate tables finite.empty) }
     {
-        let mut list = Vec::with_capacity(alloc, tables)?;
-        for _ in 0..tables {
-            list.push(Table::new(alloc, hashing))?;
-        }
         Ok(Db {
             hashing,
-            tables: list,
+            tables: without_rows(alloc, tables, hashing)?,
             kept: Vec::new(alloc),
+        })
+    }
+
+    /// A database of the schema's tables, all of them without rows, in which a table's rows are kept by each of
+    /// its `indexes` and by each column that refers to rows (RFC 7047, section 3.2), so that `Draft::has_twin`,
+    /// `Draft::referrers` and `Draft::matching` needn't walk over them. O(the schema).
+    pub fn for_schema(
+        alloc: Global,
+        schema: &Schema,
+        hashing: RandomState,
+    ) -> Result<Db, AllocError>
+        ensures { IfOk result (λ db. db ≡ replicate (length schema.now.tables) finite.empty) }
+    {
+        Ok(Db {
+            hashing,
+            tables: without_rows(alloc, schema.tables().len(), hashing)?,
+            kept: kept_for(alloc, schema, hashing)?,
         })
     }
 
@@ -84,6 +100,28 @@ impl Db {
         }
     }
 
+    /// The keys of the table's rows that may pass the test, each of them once, if something is kept that tells
+    /// them. O(what is kept), O(log n) for the n rows of the table, and O(the keys).
+    pub(crate) fn candidates<T: Test>(
+        &self,
+        alloc: Global,
+        table: TableId,
+        test: &T,
+    ) -> Result<Option<Vec<Key>>, AllocError>
+        ensures { IfOk result (λ found. IfSome found (λ keys. Suffices keys.items (T.passes test.now) (table_at self.now table))) }
+    {
+        for kept in &self.kept {
+            if kept.table != table.place() {
+                continue;
+            }
+            let found = kept.candidates(alloc, test)?;
+            if found.is_some() {
+                return Ok(found);
+            }
+        }
+        Ok(None)
+    }
+
     /// By what its tables hash. O(1).
     pub(crate) fn hashing(&self) -> RandomState {
         self.hashing
@@ -97,8 +135,8 @@ impl Db {
     }
 
     /// Makes the whole change, or none: where memory is refused the database is as it was, and the change
-    /// comes back. The old sides of the change have to be what the database has. O(rows changed) and
-    /// O(tables).
+    /// comes back. The old sides of the change have to be what the database has. O(rows changed), O(tables),
+    /// and O(log n) for each tag of a row changed and n pairs that are kept.
     pub fn install(&mut self, change: ChangeSet) -> Result<(), AllocFailed<ChangeSet>>
         requires { IsChangeOf self.old change }
         ensures ok { OnOk result (self.new ≡ all_changed_by self.old change) }
@@ -120,7 +158,7 @@ impl Db {
         Ok(())
     }
 
-    /// An equal database, whose rows are shared with this one. O(rows).
+    /// An equal database, whose rows are shared with this one, and which keeps nothing beside them. O(rows).
     pub fn try_copy(&self, alloc: Global) -> Result<Db, AllocError>
         ensures { IfOk result (λ copy. copy ≡ self.now) }
     {
@@ -134,6 +172,21 @@ impl Db {
             kept: Vec::new(alloc),
         })
     }
+}
+
+/// So many tables, all of them without rows.
+fn without_rows(
+    alloc: Global,
+    tables: usize,
+    hashing: RandomState,
+) -> Result<Vec<Table>, AllocError>
+    ensures { IfOk result (λ list. list.items ≡ replicate tables finite.empty) }
+{
+    let mut list = Vec::with_capacity(alloc, tables)?;
+    for _ in 0..tables {
+        list.push(Table::new(alloc, hashing))?;
+    }
+    Ok(list)
 }
 
 /// Keeps the rows that are new by the changes, and the changed ones under their new tags. Where memory is

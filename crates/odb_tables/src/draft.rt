@@ -14,7 +14,8 @@ ghost use Rattle.odb_cond.specs.Condition.{holds_all};
 ghost use Rattle.odb_tables.specs.Change.{all_changed_by, change_between};
 ghost use Rattle.odb_tables.specs.Database.{table_at};
 ghost use Rattle.odb_tables.specs.Represented.Draft.{overlaid, touched_at};
-ghost use Rattle.odb_tables.specs.Represented.Found.{Lists, passing};
+ghost use Rattle.odb_tables.specs.Represented.Found.{Appends, Lists, passing, untouched};
+ghost use Rattle.odb_tables.specs.Represented.Keeping.{Suffices};
 ghost use Rattle.odb_tables.specs.Represented.Overlay.{passes_now};
 ghost use Rattle.odb_tables.specs.Draft.{draft_of, removed_at, with_row, without_row};
 ghost use Rattle.odb_tables.specs.Installing.{IsChangeOf};
@@ -184,8 +185,11 @@ impl<'a> Draft<'a> {
     /// The identifiers of the rows, as they are now, of which all conditions hold, ascending (RFC 7047,
     /// section 5.2, `where`).
     ///
-    /// Where the conditions pin `_uuid` it looks that row up: O(the conditions). Else it tests each
-    /// row of the table once, and orders the m that it found: O(rows of the table) and O(m log m).
+    /// Where the conditions pin `_uuid` it looks that row up: O(the conditions). Where they ask by `==` a value
+    /// of each column of an index that the database keeps, or of a column of references that names a row,
+    /// it tests the rows that are kept under it, and those that were touched (as `has_twin` and `referrers`).
+    /// Else it tests each row of the table once: O(rows of the table). It orders the m that it found: O(m
+    /// log m).
     pub fn matching(&self, table: TableId, conditions: &Where) -> Result<Vec<Uuid>, AllocError>
         ensures { IfOk result (λ uuids. map uuid_of uuids.items
             ≡ finite.keys (matching conditions.now (table_at self.now.now table))) }
@@ -237,7 +241,6 @@ impl<'a> Draft<'a> {
     }
 
     /// The identifiers of the table's rows, as they are now, that pass the test, each of them once.
-    /// O(rows of the table).
     fn find<T: Test>(&self, table: TableId, test: &T) -> Result<Vec<Uuid>, AllocError>
         ensures { IfOk result (λ uuids. Lists (map uuid_of uuids.items)
             (passing (T.passes test.now) (table_at self.now.now table))) }
@@ -245,14 +248,17 @@ impl<'a> Draft<'a> {
         let Some(overlay) = self.overlays.get(table.place()) else {
             return Ok(Vec::new(self.alloc));
         };
+        let among = self.base.candidates(self.alloc, table, test)?;
         let base = &self.base.tables()[table.place()];
-        found_in(self.alloc, base, overlay, test)
+        found_in(self.alloc, base, among, overlay, test)
     }
 
     /// Whether the table has the row now, and another one with the same values in the columns at these
     /// places (RFC 7047, section 3.2, `indexes`).
     ///
-    /// O(rows of the table), times the values compared.
+    /// Where the database keeps the rows by these columns (`Db::for_schema`): O(what is kept), O(log n) for the
+    /// n rows of the table, O(rows of it that were touched), and O(rows with the same values). Else O(rows
+    /// of the table), times the values compared.
     pub fn has_twin(&self, table: TableId, places: &[usize], uuid: Uuid) -> Result<bool, AllocError>
         ensures { IfOk result (λ twin. twin ≡ kept.has_twin places.now (table_at self.now.now table) (uuid_of uuid)) }
     {
@@ -266,7 +272,9 @@ impl<'a> Draft<'a> {
     /// The identifiers of the table's rows, as they are now, whose value in the column at the place
     /// mentions this identifier, each of them once, in no order that is told.
     ///
-    /// O(rows of the table), times what a search in the value costs.
+    /// Where the database keeps the rows by this column (`Db::for_schema`): O(what is kept), O(log n) for the n
+    /// pairs of a row and an identifier that it mentions there, O(rows of the table that were touched), and
+    /// O(rows that mention it). Else O(rows of the table), times what a search in the value costs.
     pub fn referrers(
         &self,
         table: TableId,
@@ -330,20 +338,40 @@ fn touched(overlays: &[Overlay], table: TableId, uuid: Uuid) -> Option<Option<&R
     }
 }
 
-/// The identifiers of the rows that pass the test, each of them once.
+/// The identifiers of the rows that pass the test, each of them once. The untouched ones are looked for among
+/// these, where there are any, and else among all.
 fn found_in<T: Test>(
     alloc: Global,
     base: &Table,
+    among: Option<Vec<Key>>,
     overlay: &Overlay,
     test: &T,
 ) -> Result<Vec<Uuid>, AllocError>
-    ensures { IfOk result (λ uuids. Lists (map uuid_of uuids.items)
+    ensures { IfSome among (λ keys. Suffices keys.items (T.passes test.now) base.now)
+        → IfOk result (λ uuids. Lists (map uuid_of uuids.items)
         (passing (T.passes test.now) (overlaid base.now overlay.now))) }
 {
     let mut found = Vec::new(alloc);
-    base.find_untouched(overlay, test, &mut found)?;
+    find_untouched(base, among, overlay, test, &mut found)?;
     overlay.find(test, &mut found)?;
     Ok(found)
+}
+
+fn find_untouched<T: Test>(
+    base: &Table,
+    among: Option<Vec<Key>>,
+    overlay: &Overlay,
+    test: &T,
+    found: &mut Vec<Uuid>,
+) -> Result<(), AllocError>
+    ensures { IfSome among (λ keys. Suffices keys.items (T.passes test.now) base.now)
+        → OnOk result (Appends (map uuid_of found.old.items) (map uuid_of found.new.items)
+        (passing (T.passes test.now) (untouched overlay.now base.now))) }
+{
+    match among {
+        Some(keys) => base.find_among(keys.as_slice(), overlay, test, found),
+        None => base.find_untouched(overlay, test, found),
+    }
 }
 
 /// Puts the identifiers into their order. O(n log n).

@@ -1,20 +1,18 @@
 //! What is kept beside the rows of a table, so that some of them are found without a walk.
-ghost use Rattle.std.specs.Prelude.{◌≡◌, true, IfOk, OnOk};
-ghost use Rattle.std.specs.List.{IsDistinct, list_any};
+ghost use Rattle.std.specs.Prelude.{◌≡◌, IfOk, IfSome, OnOk};
 ghost use Rattle.std.specs.Option.{option_copied};
-ghost use Rattle.std.specs.Ordering.{eq_by_cmp};
 ghost use Rattle.odb_atoms.specs.FinMap as finite;
-ghost use Rattle.odb_atoms.specs.Uuid as model_uuid;
-ghost use Rattle.odb_atoms.specs.Uuid.{uuid_cmp};
+ghost use Rattle.odb_tables.specs.Database as model;
 ghost use Rattle.odb_tables.specs.Represented.Facet.{Cuts};
 ghost use Rattle.odb_tables.specs.Represented.Keeping as spec;
-ghost use Rattle.odb_tables.specs.Represented.Keeping.{CutsAll, IsOfSame, LacksNothing, Notes, NotesRow};
-ghost use Rattle.odb_tables.specs.Represented.Pairs.{Grows, has};
+ghost use Rattle.odb_tables.specs.Represented.Keeping.{CutsAll, IsOfSame, LacksNothing, Notes, NotesRow, Suffices};
+ghost use Rattle.odb_tables.specs.Represented.Pairs.{Grows};
 
 use crate::facet::Facet;
 use crate::key::Key;
 use crate::pairs;
 use crate::row_change::RowChange;
+use crate::row_test::Test;
 use crate::table_change::TableChange;
 use odb_atoms::Row;
 use std::alloc::{AllocError, Global};
@@ -72,14 +70,20 @@ impl Kept {
         cut(&self.facet, &mut self.pairs, change, side);
     }
 
-    /// The keys of the rows that are kept under the tag, and perhaps of others, each of them once. O(log n)
-    /// for n pairs, and O(the keys).
-    pub(crate) fn under(&self, alloc: Global, tag: Key) -> Result<Vec<Key>, AllocError>
-        ensures all { IfOk result (λ keys. (u : model_uuid.Uuid) → has self.now.pairs tag u ≡ true
-            → list_any (eq_by_cmp uuid_cmp u) keys.items ≡ true) }
-        ensures distinct { IfOk result (λ keys. IsDistinct (eq_by_cmp uuid_cmp) keys.items) }
+    /// The keys of the rows that may pass the test, each of them once, if the facet tells them. O(log n) for n
+    /// pairs, and O(the keys).
+    pub(crate) fn candidates<T: Test>(
+        &self,
+        alloc: Global,
+        test: &T,
+    ) -> Result<Option<Vec<Key>>, AllocError>
+        ensures { IfOk result (λ found. IfSome found (λ keys. (t : model.Table) → LacksNothing self.now t
+            → Suffices keys.items (T.passes test.now) t)) }
     {
-        pairs::under(alloc, &self.pairs, tag)
+        match test.tag(&self.facet) {
+            Some(tag) => Ok(Some(pairs::under(alloc, &self.pairs, tag)?)),
+            None => Ok(None),
+        }
     }
 }
 

@@ -10,6 +10,7 @@ mod digest;
 mod draft;
 mod facet;
 mod kept;
+mod kept_for;
 mod key;
 mod overlay;
 mod pairs;

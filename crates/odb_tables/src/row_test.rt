@@ -1,9 +1,10 @@
 //! Tests of rows: what rows of a table are looked for.
-ghost use Rattle.std.specs.Prelude.{◌≡◌, Bool};
+ghost use Rattle.std.specs.Prelude.{◌≡◌, Bool, true, IfSome, IsTrue};
 ghost use Rattle.odb_atoms.specs.FinSet as set;
 ghost use Rattle.std.specs.List.{list_all, list_any};
 ghost use Rattle.odb_atoms.specs.Represented.Atom.{atom_of, uuid_of};
 ghost use Rattle.odb_atoms.specs.Represented.Value.{pair_of};
+ghost use Rattle.odb_tables.specs.Represented.Facet.{identifier_in, is_tag};
 ghost use Rattle.odb_tables.specs.Represented.Kept.{have_same_at as same_at, is_in};
 ghost use Rattle.odb_atoms.specs.Row.{cell, declared};
 ghost use Rattle.odb_atoms.specs.Row as model_row;
@@ -14,6 +15,8 @@ ghost use Rattle.odb_tables.specs.Kept as kept;
 ghost use Rattle.odb_cond.specs.Condition.{holds_all};
 ghost use Rattle.odb_tables.specs.Kept.{is_twin};
 
+use crate::digest;
+use crate::facet::{Facet, identifier};
 use crate::key::Key;
 use odb_atoms::{Atom, Entries, Row, Value};
 use odb_cond::Where;
@@ -26,6 +29,11 @@ pub(crate) trait Test {
     /// Whether the row is one of them. O(the values compared).
     fn passes(&self, uuid: Uuid, row: &Row) -> bool
         ensures { result ≡ passes self.now (uuid_of uuid) row.now };
+
+    /// A tag that each row that passes has by the facet, if there is one.
+    fn tag(&self, facet: &Facet) -> Option<Key>
+        ensures { IfSome result (λ tag. (v : model_uuid.Uuid) (s : model_row.Row)
+            → passes self.now v s ≡ true → is_tag facet.now tag s ≡ true) };
 }
 
 /// Those of which the conditions hold.
@@ -34,6 +42,15 @@ impl Test for Where {
 
     fn passes(&self, uuid: Uuid, row: &Row) -> bool {
         self.holds(uuid, row)
+    }
+
+    fn tag(&self, facet: &Facet) -> Option<Key> {
+        match facet {
+            Facet::Values(hashing, places) => {
+                digest::of_matches(*hashing, places.as_slice(), self)
+            }
+            Facet::Mentions(place) => mentioned_by(self, *place),
+        }
     }
 }
 
@@ -51,6 +68,18 @@ impl Test for Twins<'_> {
     fn passes(&self, uuid: Uuid, row: &Row) -> bool {
         Key::of(self.uuid) != Key::of(uuid) && have_same(self.places, self.row, row)
     }
+
+    fn tag(&self, facet: &Facet) -> Option<Key> {
+        match facet {
+            Facet::Values(hashing, places) => {
+                if places.as_slice() != self.places {
+                    return None;
+                }
+                Some(digest::of_row(*hashing, self.places, self.row))
+            }
+            Facet::Mentions(_) => None,
+        }
+    }
 }
 
 /// Those whose value in the column at the place mentions the identifier.
@@ -65,6 +94,18 @@ impl Test for Referrers {
 
     fn passes(&self, _uuid: Uuid, row: &Row) -> bool {
         refers(row, self.place, self.uuid)
+    }
+
+    fn tag(&self, facet: &Facet) -> Option<Key> {
+        match facet {
+            Facet::Values(_, _) => None,
+            Facet::Mentions(place) => {
+                if *place != self.place {
+                    return None;
+                }
+                Some(Key::of(self.uuid))
+            }
+        }
     }
 }
 
@@ -121,4 +162,39 @@ fn is_in_pairs(pairs: &[(Atom, Atom)], atom: &Atom) -> bool
     ensures { result ≡ list_any (λ pair. is_in (atom_of atom.now) (pair_of pair)) pairs.now }
 {
     pairs.iter().any(|pair| pair.0 == *atom || pair.1 == *atom)
+}
+
+/// An identifier that each row that matches mentions in the column at the place, where the conditions ask a
+/// set of identifiers there by `==`.
+fn mentioned_by(conditions: &Where, place: usize) -> Option<Key>
+    ensures { IfSome result (λ tag. (u : model_uuid.Uuid) (r : model_row.Row)
+        → IsTrue (holds_all conditions.now u r) → kept.mentions tag (cell zero_uuid r (declared place)) ≡ true) }
+{
+    match conditions.required(place) {
+        Some(value) => first_mentioned(value),
+        None => None,
+    }
+}
+
+/// The first element of the set, if it is an identifier.
+fn first_mentioned(value: &Value) -> Option<Key>
+    ensures { IfSome result (λ tag. kept.mentions tag value.now ≡ true) }
+{
+    match value.entries() {
+        Entries::Set(elements) => match elements.first() {
+            Some(first) => key_of(first),
+            None => None,
+        },
+        Entries::Map(_) => None,
+    }
+}
+
+/// The key that the atom is, if it is an identifier.
+fn key_of(atom: &Atom) -> Option<Key>
+    ensures { result ≡ identifier_in (atom_of atom.now) }
+{
+    match identifier(atom) {
+        Some(uuid) => Some(Key::of(uuid)),
+        None => None,
+    }
 }

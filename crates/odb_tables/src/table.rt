@@ -1,5 +1,5 @@
 //! Tables: rows by their identifiers (RFC 7047, section 3.2). [P 2.1]
-ghost use Rattle.std.specs.Prelude.{◌≡◌, ◌&&◌, ◌<◌, ◌^◌, IfOk, OnOk, OnErr, IfErr, map, not, option_map};
+ghost use Rattle.std.specs.Prelude.{◌≡◌, ◌&&◌, ◌++◌, ◌<◌, ◌^◌, filter, IfOk, OnOk, OnErr, IfErr, map, not, option_map};
 ghost use Rattle.std.specs.Arc.{arc_value};
 ghost use Rattle.std.specs.List.{IsDistinct};
 ghost use Rattle.std.specs.Map.{keys_of};
@@ -8,7 +8,7 @@ ghost use Rattle.std.specs.Ordering.{eq_by_cmp};
 ghost use Rattle.odb_atoms.specs.FinMap as finite;
 ghost use Rattle.odb_atoms.specs.Represented.Atom.{uuid_of};
 ghost use Rattle.odb_atoms.specs.Uuid.{uuid_cmp};
-ghost use Rattle.odb_tables.specs.Represented.Found.{Appends, passing, untouched};
+ghost use Rattle.odb_tables.specs.Represented.Found.{Appends, is_there, passing, untouched};
 ghost use Rattle.odb_tables.specs.Represented.Installed.{each_row, one_row, put_in, settled, taken_back, with_row_at};
 ghost use Rattle.odb_tables.specs.Represented.Overlay.{row_of};
 ghost use Rattle.odb_tables.specs.Represented.Table.{listed};
@@ -224,6 +224,36 @@ impl Table {
             }
         }
         Ok(())
+    }
+
+    /// Appends those of the identifiers under which it has a row that passes the test and that the overlay
+    /// didn't touch. O(the keys).
+    pub(crate) fn find_among<T: Test>(
+        &self,
+        keys: &[Key],
+        overlay: &Overlay,
+        test: &T,
+        found: &mut Vec<Uuid>,
+    ) -> Result<(), AllocError>
+        ensures { OnOk result (map uuid_of found.new.items ≡ map uuid_of found.old.items
+            ++ filter (is_there (T.passes test.now) overlay.now self.now) keys.now) }
+    {
+        for key in keys {
+            if has_untouched(self, *key, overlay, test) {
+                found.push(key.uuid())?;
+            }
+        }
+        Ok(())
+    }
+}
+
+/// Whether the table has the row, it passes the test, and wasn't touched.
+fn has_untouched<T: Test>(table: &Table, key: Key, overlay: &Overlay, test: &T) -> bool
+    ensures { result ≡ is_there (T.passes test.now) overlay.now table.now key }
+{
+    match table.share(key) {
+        Some(row) => is_found(key, &**row, overlay, test),
+        None => false,
     }
 }
 

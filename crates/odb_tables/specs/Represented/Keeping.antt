@@ -1,12 +1,14 @@
 -- What is kept beside the rows of tables: that no pair is lacking, and what a change makes of that.
-use Rattle.std.specs.Prelude.{◌≡◌, ℕ, true, List, Option, Some, slice_get, unwrap_or}
-use Rattle.std.specs.List.{AllByRecursion}
+use Rattle.std.specs.Prelude.{◌≡◌, ℕ, Bool, true, List, Option, Some, slice_get, unwrap_or}
+use Rattle.std.specs.List.{AllByRecursion, IsDistinct, list_any}
+use Rattle.std.specs.Ordering.{eq_by_cmp}
 use Rattle.odb_atoms.specs.FinMap as map
 use Rattle.odb_atoms.specs.Row.{Row}
-use Rattle.odb_atoms.specs.Uuid.{Uuid}
+use Rattle.odb_atoms.specs.Uuid.{Uuid, uuid_cmp}
 use Rattle.odb_tables.specs.Change.{Changes, before}
 use Rattle.odb_tables.specs.Database.{Db, Table, table_at}
 use Rattle.odb_tables.specs.Represented.Facet.{HasTagsNow, is_tag_now}
+use Rattle.odb_tables.specs.Represented.Overlay.{passes_now}
 use Rattle.odb_tables.specs.Represented.Pairs.{Pairs, has}
 use Rattle.odb_tables.specs.declared.facet.Facet.{Facet}
 use Rattle.odb_tables.specs.declared.kept.Kept.{Kept}
@@ -50,6 +52,10 @@ stays New d = d.0
 abbrev pub CutsAll : Facet → Pairs → Pairs → Side → Changes → Type 0
 CutsAll f old new side c = (tag v : Uuid) → has old tag v ≡ true → ((d : Option Row × Option Row) → map.get c v ≡ Some d → is_tag_now f tag (stays side d) ≡ true) → has new tag v ≡ true
 
+-- each row of the table that passes is among them, and none twice
+abbrev pub Suffices : List Uuid → (Uuid → Row → Bool) → Table → Type 0
+Suffices keys p t = IsDistinct (eq_by_cmp uuid_cmp) keys × ((u : Uuid) → passes_now p u (map.get t u) ≡ true → list_any (eq_by_cmp uuid_cmp u) keys ≡ true)
+
 -- ---- a database
 
 abbrev pub changes_at : List Changes → ℕ → Changes
@@ -66,3 +72,7 @@ AreKept db = AllByRecursion (IsKept db)
 
 abbrev pub AreReady : Db → List Changes → List Kept → Type 0
 AreReady db cs = AllByRecursion (IsReady db cs)
+
+-- as it is where no table has a row
+abbrev pub AreForNoRows : List Kept → Type 0
+AreForNoRows = AllByRecursion (λ k. LacksNothing k map.empty)

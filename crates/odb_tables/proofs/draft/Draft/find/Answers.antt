@@ -1,10 +1,12 @@
-use Rattle.std.proofs.Common.{rules, ◌≡◌, ◌<◌, ◌≤◌, List, [], length, map, slice_index_or, IfOk, sym, ap, subst, ◌∙◌, arith}
+use Rattle.std.proofs.Common.{rules, ◌≡◌, ◌<◌, ◌≤◌, List, [], length, map, slice_index_or, IfOk, IfSome, sym, ap, subst, ◌∙◌, arith}
+use Rattle.std.proofs.lemmas.Option.{IfSome_then}
 use Rattle.odb_atoms.specs.FinMap as finite
 use Rattle.odb_atoms.specs.Represented.Atom.{uuid_of}
 use Rattle.odb_tables.specs.Database.{Db, Table, table_at}
 use Rattle.odb_tables.specs.Draft.{Draft}
 use Rattle.odb_tables.specs.Represented.Draft.{overlaid}
 use Rattle.odb_tables.specs.Represented.Found.{Lists, passing}
+use Rattle.odb_tables.specs.Represented.Keeping.{Suffices}
 use Rattle.odb_tables.specs.Represented.Overlay.{Touched}
 use Rattle.odb_tables.proofs.Found.{none-passes}
 use Rattle.odb_tables.proofs.Overlays.{at-all_overlaid, nothing-past, table-is, touched-is}
@@ -29,9 +31,13 @@ returns g c =
     let k = c.args.table in
     let t : Table = c.index-tables-place.result in
     let o : Touched = c.in-Some.overlay.now in
+    let p = g.T.Test.passes c.args.test.now in
     let long : length os ≡ length db = c.self.invariant in
     let inside : k < length os = search rules in
     let table : t ≡ slice_index_or db k t = search rules in
     let over : o ≡ slice_index_or os k o = search rules in
-    let whole : overlaid t o ≡ table_at c.args.self.now.now k = (λ i. overlaid (table-is db k t (omega (arith, long, inside)) table i) (touched-is os k o inside over i)) ∙ sym (at-all_overlaid db os k long) ∙ ap (λ (d : Draft). table_at d.now k) c.self.view_is in
-    subst (λ (u : Table). IfOk c.found_in.result (λ uuids. Lists (map uuid_of uuids.items) (passing (g.T.Test.passes c.args.test.now) u))) whole c.found_in.ensures
+    let here : t ≡ table_at db k = table-is db k t (omega (arith, long, inside)) table in
+    let whole : overlaid t o ≡ table_at c.args.self.now.now k = (λ i. overlaid (here i) (touched-is os k o inside over i)) ∙ sym (at-all_overlaid db os k long) ∙ ap (λ (d : Draft). table_at d.now k) c.self.view_is in
+    let among = c.in_ok-among.among in
+    let suffices : IfSome among (λ keys. Suffices keys.items p t) = IfSome_then among c.in_ok-among.ensures (λ keys h. subst (λ (u : Table). Suffices keys.items p u) (sym here) h) in
+    subst (λ (u : Table). IfOk c.found_in.result (λ uuids. Lists (map uuid_of uuids.items) (passing p u))) whole (c.found_in.ensures suffices)
