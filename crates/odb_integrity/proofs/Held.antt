@@ -4,13 +4,11 @@ use Rattle.std.specs.List.{list_all, list_any}
 use mathlib.Core.Path.{refl, sym, ap, subst, ◌∙◌}
 use mathlib.Core.Logic.{inl, inr}
 use mathlib.Core.Bool.{true≢false}
-use Rattle.odb_atoms.proofs.Lists.{Member, all_gives, any_gives, both, either}
+use Rattle.odb_atoms.proofs.Lists.{all_gives, any_gives, both, either}
 use Rattle.odb_atoms.specs.Row.{Row}
 use Rattle.odb_schema.specs.Schema.{Schema, is_root_at}
 use Rattle.odb_tables.specs.Database.{Db}
-use Rattle.odb_integrity.specs.References.{has_type, is_mixed}
-use Rattle.odb_integrity.specs.Settled.{IsSettled}
-use Rattle.odb_integrity.specs.Settlement.{IsSupported, RowId, has_support, is_kept, is_referred, is_there, kept, refers, row_ids, row_of, same_row, strong_of_row}
+use Rattle.odb_integrity.specs.Settlement.{RowId, has_support, is_kept, is_referred, is_there, kept, refers, row_of, same_row, strong_of_row}
 use Rattle.odb_integrity.specs.Touched.{SameBut, is_held}
 use Rattle.odb_integrity.proofs.Databases.{any-row_ids, each_row_same, there_inside}
 use Rattle.odb_integrity.proofs.Ids.{member}

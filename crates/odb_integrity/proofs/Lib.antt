@@ -12,6 +12,5 @@ pub mod Settled
 pub mod Settles
 pub mod Targets
 pub mod Touched
-pub mod Twins
 pub mod Unchanged
 pub mod Zipped

@@ -1,5 +1,5 @@
 -- Tests of all rows, by the ids of the rows.
-use Rattle.std.specs.Prelude.{◌≡◌, ℕ, suc, ◌+◌, Bool, true, false, cond, ◌||◌, T, List, [], ◌∷◌, length, unwrap_or, Option, Some, option_map}
+use Rattle.std.specs.Prelude.{◌≡◌, ℕ, suc, ◌+◌, Bool, false, cond, ◌||◌, T, List, [], ◌∷◌, unwrap_or, Option, Some, option_map}
 use Rattle.std.specs.List.{enumerate_from, list_any}
 use Rattle.std.specs.declared.cmp.Ordering.{Ordering}
 use Rattle.std.specs.Ordering.{eq_by_cmp, is_eq, ordering_reverse}
@@ -7,9 +7,8 @@ use Rattle.std.specs.Cmp.{IsTotalOrder, tied_itself}
 use Rattle.std.specs.FinMap.Entries.{below_all, find, is_sorted}
 use mathlib.Core.Path.{refl, sym, ap, ◌∙◌}
 use mathlib.Core.Logic.{inl, inr}
-use Rattle.std.proofs.Common.{◌<◌, ◌≤◌, arith, get_or, take}
-use Rattle.std.proofs.lemmas.List.{take_all}
-use Rattle.std.proofs.lemmas.List.Folds.{list_any-append, list_any_at}
+use Rattle.std.proofs.Common.{arith}
+use Rattle.std.proofs.lemmas.List.Folds.{list_any-append}
 use Rattle.odb_atoms.proofs.Lists.{Member, any-map}
 use Rattle.odb_atoms.proofs.Rising.{first, less, second}
 use Rattle.odb_atoms.specs.FinMap as map

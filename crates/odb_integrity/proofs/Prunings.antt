@@ -136,6 +136,10 @@ pub neither : (a b : Bool) → (a || b) ≡ false → (a ≡ false) × (b ≡ fa
 neither true b e = absurd (true≢false e)
 neither false b e = (refl, e)
 
+pub not_is : (b c : Bool) → b ≡ not c → (d : Bool) → b ≡ d → c ≡ not d
+not_is b true e d f = ap not (sym e ∙ f)
+not_is b false e d f = ap not (sym e ∙ f)
+
 pub not_found : {A : Type 0} (p : A → Bool) (xs : List A) → list_any p xs ≡ false → (x : A) → Member x xs → p x ≡ false
 not_found p [] e x m = absurd m
 not_found p (y ∷ ys) e x (inl h) = ap p h ∙ (neither _ _ e).0

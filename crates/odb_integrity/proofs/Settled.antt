@@ -1,21 +1,16 @@
 -- Settled databases: the order of the constraints, and that settlement keeps databases of their schema.
-use Rattle.std.specs.Prelude.{◌≡◌, ℕ, ◌+◌, ◌<◌, ◌≤◌, Bool, true, false, cond, not, nat_le, List, [], ◌∷◌, length, map as map_list, zip, Option, Some, None, option_and_then, sum_by}
+use Rattle.std.specs.Prelude.{◌≡◌, ℕ, Bool, true, false, cond, not, nat_le, zip, Option, Some, None, option_and_then}
 use Rattle.std.specs.List.{list_all, list_any}
-use mathlib.Core.Path.{refl, sym, ap, ◌∙◌}
-use Rattle.std.proofs.Common.{arith}
-use Rattle.std.proofs.lemmas.Bool.Decides.{nat_tests}
-use Rattle.std.proofs.lemmas.List.{length-append, length-map}
-use Rattle.std.proofs.lemmas.List.Sums.{sum_by-cons}
+use mathlib.Core.Path.{refl, sym, ◌∙◌}
 use Rattle.odb_atoms.specs.Error.{Error, constraint_violation, resources_exhausted}
 use Rattle.odb_atoms.specs.First.{Err, Ok, Result, demand, ◌>>◌}
-use Rattle.odb_atoms.specs.FinMap as map
 use Rattle.odb_atoms.specs.Row.{Row}
 use Rattle.odb_atoms.specs.Uuid.{Uuid}
 use Rattle.odb_schema.specs.Schema.{Schema, columns_at}
-use Rattle.odb_tables.specs.Database.{Db, Table}
+use Rattle.odb_tables.specs.Database.{Db}
 use Rattle.odb_tables.specs.Typed.{IsTyped, fits}
-use Rattle.odb_integrity.specs.Settlement.{RowId, any_row, constrained, has_duplicates, has_too_few, is_kept, kept, row_count, row_ids, row_of, within_max_rows}
-use Rattle.odb_integrity.proofs.Databases.{ids_at, ids_from, length-each_row, row_of-each_row}
+use Rattle.odb_integrity.specs.Settlement.{any_row, constrained, has_duplicates, has_too_few, is_kept, kept, row_count, row_of, within_max_rows}
+use Rattle.odb_integrity.proofs.Databases.{length-each_row, row_of-each_row}
 
 -- ---- the order of the constraints
 

@@ -1,11 +1,11 @@
 -- Databases that were changed in some rows alone: which tests these rows decide.
-use Rattle.std.specs.Prelude.{◌≡◌, ℕ, zero, suc, ◌+◌, ◌<◌, ◌≤◌, nat_lt, Bool, true, false, cond, not, ◌&&◌, ◌||◌, List, [], ◌∷◌, ◌++◌, length, map as map_list, zip, is_some, unwrap_or, Option, Some, None, option_map}
+use Rattle.std.specs.Prelude.{◌≡◌, ℕ, zero, suc, ◌+◌, ◌<◌, ◌≤◌, nat_lt, Bool, true, false, not, ◌&&◌, ◌||◌, List, [], ◌∷◌, ◌++◌, length, map as map_list, zip, is_some, unwrap_or, Option, Some, None, option_map}
 use Rattle.std.specs.List.{list_any}
 use Rattle.std.specs.Ordering.{eq_by_cmp}
 use Rattle.std.specs.Cmp.{unsigned_Decides, unsigned_tied}
 use mathlib.Core.Path.{refl, sym, ap, subst, ◌∙◌}
 use mathlib.Core.Bool.{true≢false}
-use Rattle.std.proofs.Common.{arith, get_or, take}
+use Rattle.std.proofs.Common.{arith, take}
 use Rattle.std.proofs.lemmas.Bool.Decides.{nat_tests}
 use Rattle.std.proofs.lemmas.List.{take_all}
 use Rattle.std.proofs.lemmas.List.Folds.{list_any-append}
@@ -20,8 +20,7 @@ use Rattle.odb_atoms.specs.Uuid.{Uuid, same_uuid, uuid_cmp}
 use Rattle.odb_atoms.specs.Value.{Value, map_of, set_of}
 use Rattle.odb_schema.specs.Schema.{Column, Schema, columns_at}
 use Rattle.odb_tables.specs.Database.{Db}
-use Rattle.odb_integrity.specs.Settled.{IsSettled}
-use Rattle.odb_integrity.specs.Settlement.{RowId, any_row, at_row, dangles, has_too_few, is_stale, is_there, referent, row_ids, row_of, same_row, weak_target}
+use Rattle.odb_integrity.specs.Settlement.{RowId, any_row, at_row, dangles, is_stale, is_there, referent, row_ids, row_of, same_row, weak_target}
 use Rattle.odb_integrity.specs.Steps.{has_stale, row_has_stale}
 use Rattle.odb_integrity.specs.Touched.{Covers, SameAt, SameBut}
 use Rattle.odb_integrity.proofs.Databases.{any-row_ids}

@@ -1,34 +1,49 @@
--- Tables whose touched rows have what they had in the columns of an index: no two agree in these, where no two did before.
-use Rattle.std.specs.Prelude.{◌≡◌, ◌⊎◌, ℕ, ◌+◌, ◌<◌, Bool, true, false, cond, ◌||◌, T, List, [], ◌∷◌, length, map as map_list, is_some, slice_get, unwrap_or, Option, Some, None}
+-- Tables of which some rows were changed: two rows agree in the columns of an index, where no two did before, only if one that was changed agrees with another.
+use Rattle.std.specs.Prelude.{◌≡◌, ◌⊎◌, ℕ, ◌+◌, ◌<◌, Bool, true, false, cond, not, ◌&&◌, ◌||◌, ◌==◌, T, List, [], ◌∷◌, length, map as map_list, is_some, slice_get, unwrap_or, Option, Some, None, option_map}
 use Rattle.std.specs.List.{list_all, list_any}
 use Rattle.std.specs.Ordering.{eq_by_cmp, is_eq}
-use Rattle.std.specs.Cmp.{tied_itself}
+use Rattle.std.specs.Cmp.{tied_itself, unsigned_tied}
 use Rattle.std.specs.FinMap.Entries.{find, is_sorted}
 use mathlib.Core.Path.{refl, sym, ap, subst, ◌∙◌}
 use mathlib.Core.Logic.{inl, inr}
 use mathlib.Core.Bool.{true≢false}
-use Rattle.std.proofs.Common.{get_or, take}
+use Rattle.std.proofs.Common.{arith, get_or, take}
+use Rattle.std.proofs.lemmas.Bool.Decides.{nat_tests}
 use Rattle.std.proofs.lemmas.List.Folds.{list_any_more}
 use Rattle.std.proofs.lemmas.Option.{same_Some}
 use Rattle.odb_atoms.specs.Represented.Atom.{uuid_of}
 use Rattle.odb_atoms.proofs.Atoms.{uuid_cmp-IsAntisymmetric}
+use Rattle.odb_atoms.proofs.Equal.{same_value-itself, same_values-equal}
 use Rattle.odb_atoms.proofs.FinMaps.{get-entries, same_key}
 use Rattle.odb_atoms.proofs.Lists.{Member, any-map, any_gives, both, either, gives_any, or_right}
 use Rattle.odb_atoms.proofs.Rising.{first, second}
 use Rattle.odb_atoms.proofs.Values.{same_value-equal}
 use Rattle.odb_atoms.specs.FinMap as map
 use Rattle.odb_atoms.specs.FinSet as set
-use Rattle.odb_atoms.specs.Row.{Row, cell, declared}
-use Rattle.odb_atoms.specs.Uuid.{Uuid, uuid_cmp, zero_uuid}
+use Rattle.odb_atoms.specs.Row.{Row}
+use Rattle.odb_atoms.specs.Uuid.{Uuid, same_uuid, uuid_cmp}
 use Rattle.odb_atoms.specs.Value.{Value, same_values, set_of}
 use Rattle.odb_tables.specs.Database.{Table}
+use Rattle.odb_tables.specs.Kept.{cells_at, has_twin, is_twin}
 use Rattle.odb_tables.specs.Represented.Key.{uuid_cmp_total}
 use Rattle.odb_integrity.specs.Settlement.{has_twins}
-use Rattle.odb_integrity.specs.Touched.{Alike, AlikeAt, cells_at, same_at, same_if_any}
+use Rattle.odb_integrity.specs.Touched.{AlikeAt, StaysApart, same_at, same_if_any}
 use Rattle.odb_integrity.proofs.Listings.{before_later, entry_found}
-use Rattle.odb_integrity.proofs.Twins.{same_values-turned}
 
 -- ---- two rows that agree
+
+same_values-itself : (vs : List Value) → same_values vs vs ≡ true
+same_values-itself [] = refl
+same_values-itself (v ∷ vs) = λ i. same_value-itself v i && same_values-itself vs i
+
+same_values-turned : (vs ws : List Value) → same_values vs ws ≡ same_values ws vs
+same_values-turned vs ws = by (same_values vs ws) (same_values ws vs) refl refl
+  where
+    by : (b c : Bool) → same_values vs ws ≡ b → same_values ws vs ≡ c → b ≡ c
+    by true true e f = refl
+    by false false e f = refl
+    by true false e f = sym (same_values-itself ws) ∙ ap (same_values ws) (sym (same_values-equal vs ws e)) ∙ f
+    by false true e f = sym e ∙ ap (same_values vs) (same_values-equal ws vs f) ∙ same_values-itself vs
 
 module _ (f : Row → List Value) where
   abbrev seen_in : List (Uuid × Row) → List (List Value)
@@ -65,19 +80,59 @@ module _ (f : Row → List Value) where
       by true t e rest = inl (λ i. (same_key uuid_cmp-IsAntisymmetric u d.0 t i, same_Some r d.1 (sym e) i))
       by false t e rest = inr (rest e)
 
-  -- two rows that agree now agreed before
-  pub none_still : (old now : Table) → Alike f old now → has_twins same_values (map_list f (map.values old)) ≡ false → has_twins same_values (map_list f (map.values now)) ≡ false
-  none_still old now alike none = by (has_twins same_values (seen_in now.entries)) refl
-    where
-      was : (d : Uuid × Row) → Member d now.entries → (q : Row) × (map.get old d.0 ≡ Some q) × (f d.1 ≡ f q)
-      was d m = alike d.0 d.1 (get-entries now d.0 ∙ entry_found uuid_cmp_total now.entries d now.sorted m)
+-- ---- tables in which rows were changed
 
-      by : (b : Bool) → has_twins same_values (seen_in now.entries) ≡ b → b ≡ false
-      by true e =
-          let w = two_found now.entries now.sorted e in
-          let p = was w.0 w.2 in
-          let q = was w.1 w.3 in
-          sym (two_make old.entries (w.0.0, p.0) (w.1.0, q.0) (found_in w.0.0 old.entries p.0 (sym (get-entries old w.0.0) ∙ p.1)) (found_in w.1.0 old.entries q.0 (sym (get-entries old w.1.0) ∙ q.1)) w.4 ((λ i. same_values (sym p.2 i) (sym q.2 i)) ∙ w.5)) ∙ none
+number_either_way : (m n : ℕ) → (m == n) ≡ (n == m)
+number_either_way m n = grind (arith, nat_tests)
+
+differs : (u v : Uuid) → eq_by_cmp uuid_cmp v u ≡ false → same_uuid u v ≡ false
+differs u v e = number_either_way u.number v.number ∙ sym (unsigned_tied v.number u.number) ∙ e
+
+differs_so : (u v : Uuid) → same_uuid u v ≡ false → eq_by_cmp uuid_cmp v u ≡ false
+differs_so u v e = unsigned_tied v.number u.number ∙ number_either_way v.number u.number ∙ e
+
+module _ (places : List ℕ) where
+  abbrev agrees : Row → Row → Bool
+  agrees q r = same_values (cells_at places q) (cells_at places r)
+
+  -- of two rows that agree the first has a twin
+  twin_of : (t : Table) (d e : Uuid × Row) → Member d t.entries → Member e t.entries → eq_by_cmp uuid_cmp e.0 d.0 ≡ false → agrees d.1 e.1 ≡ true → has_twin places t d.0 ≡ true
+  twin_of t d e m n apart same =
+      ap (λ o. unwrap_or (option_map (λ r. list_any (is_twin places d.0 r) (map.entries_of t)) o) false) (get-entries t d.0 ∙ entry_found uuid_cmp_total t.entries d t.sorted m)
+      ∙ gives_any (is_twin places d.0 d.1) t.entries e n (λ i. not (differs d.0 e.0 apart i) && same i)
+
+  -- a row with a twin
+  pub twin_makes : (t : Table) (u : Uuid) → has_twin places t u ≡ true → has_twins same_values (map_list (cells_at places) (map.values t)) ≡ true
+  twin_makes t u e = by (map.get t u) refl e
+    where
+      not_true : (b : Bool) → not b ≡ true → b ≡ false
+      not_true true e = sym e
+      not_true false e = refl
+
+      by : (o : Option Row) → map.get t u ≡ o → unwrap_or (option_map (λ r. list_any (is_twin places u r) (map.entries_of t)) o) false ≡ true → has_twins same_values (map_list (cells_at places) (map.values t)) ≡ true
+      by None there h = absurd (true≢false (sym h))
+      by (Some r) there h =
+          let w = any_gives (is_twin places u r) t.entries h in
+          let parts = both (not (same_uuid u w.0.0)) (agrees r w.0.1) w.2 in
+          two_make (cells_at places) t.entries (u, r) w.0 (found_in (cells_at places) u t.entries r (sym (get-entries t u) ∙ there)) w.1 (differs_so u w.0.0 (not_true (same_uuid u w.0.0) parts.0)) parts.1
+
+  -- where no two rows agreed, and each stays apart, no two do now
+  pub none_now : (old now : Table) → ((u : Uuid) → StaysApart places old now u) → has_twins same_values (map_list (cells_at places) (map.values old)) ≡ false → has_twins same_values (map_list (cells_at places) (map.values now)) ≡ false
+  none_now old now apart none = by (has_twins same_values (map_list (cells_at places) (map.values now))) refl
+    where
+      two_before : (w : TwoOf (cells_at places) now.entries) → AlikeAt (cells_at places) old now w.0.0 → AlikeAt (cells_at places) old now w.1.0 → has_twins same_values (map_list (cells_at places) (map.values old)) ≡ true
+      two_before w one two =
+          let p = one w.0.1 (get-entries now w.0.0 ∙ entry_found uuid_cmp_total now.entries w.0 now.sorted w.2) in
+          let q = two w.1.1 (get-entries now w.1.0 ∙ entry_found uuid_cmp_total now.entries w.1 now.sorted w.3) in
+          two_make (cells_at places) old.entries (w.0.0, p.0) (w.1.0, q.0) (found_in (cells_at places) w.0.0 old.entries p.0 (sym (get-entries old w.0.0) ∙ p.1)) (found_in (cells_at places) w.1.0 old.entries q.0 (sym (get-entries old w.1.0) ∙ q.1)) w.4 ((λ i. same_values (sym p.2 i) (sym q.2 i)) ∙ w.5)
+
+      cases : (w : TwoOf (cells_at places) now.entries) → StaysApart places old now w.0.0 → StaysApart places old now w.1.0 → true ≡ false
+      cases w (inl one) (inl two) = sym (two_before w one two) ∙ none
+      cases w (inr one) two = sym (twin_of now w.0 w.1 w.2 w.3 w.4 w.5) ∙ one
+      cases w (inl one) (inr two) = sym (twin_of now w.1 w.0 w.3 w.2 (unsigned_tied w.0.0.number w.1.0.number ∙ differs w.0.0 w.1.0 w.4) (same_values-turned (cells_at places w.1.1) (cells_at places w.0.1) ∙ w.5)) ∙ two
+
+      by : (b : Bool) → has_twins same_values (map_list (cells_at places) (map.values now)) ≡ b → b ≡ false
+      by true e = let w = two_found (cells_at places) now.entries now.sorted e in cases w (apart w.0.0) (apart w.1.0)
       by false e = refl
 
 -- ---- rows with the same values
@@ -104,15 +159,15 @@ alike_gone f old now u gone r there = absurd (true≢false (sym (ap is_some (sym
 pub alike_untouched : (f : Row → List Value) (old now : Table) (u : Uuid) → map.get now u ≡ map.get old u → AlikeAt f old now u
 alike_untouched f old now u same r there = (r, sym same ∙ there, refl)
 
--- a row that was touched, or wasn't
-pub alike_where : (f : Row → List Value) (old now : Table) (u : Uuid) (b : Bool) → (b ≡ true → AlikeAt f old now u) → (b ≡ false → map.get now u ≡ map.get old u) → AlikeAt f old now u
-alike_where f old now u true h k = h refl
-alike_where f old now u false h k = alike_untouched f old now u (k refl)
+-- what holds of each entry that is listed, and of each that isn't
+pub where_listed : (P : Uuid → Type 0) (u : Uuid) (b : Bool) → (b ≡ true → P u) → (b ≡ false → P u) → P u
+where_listed P u true h k = h refl
+where_listed P u false h k = k refl
 
--- one more that was touched
-pub alike_more : (f : Row → List Value) (old now : Table) (us : List (List ℕ)) (i : ℕ) (x : List ℕ) → i < length us → x ≡ get_or us i x → ((u : Uuid) → list_any (eq_by_cmp uuid_cmp u) (map_list uuid_of (take i us)) ≡ true → AlikeAt f old now u) → AlikeAt f old now (uuid_of x) → (u : Uuid) → list_any (eq_by_cmp uuid_cmp u) (map_list uuid_of (take (i + 1) us)) ≡ true → AlikeAt f old now u
-alike_more f old now us i x inside is before here u listed = by (either (list_any (λ v. eq_by_cmp uuid_cmp u (uuid_of v)) (take i us)) (eq_by_cmp uuid_cmp u (uuid_of (get_or us i x))) (sym (any-map (eq_by_cmp uuid_cmp u) uuid_of (take (i + 1) us) ∙ list_any_more (λ v. eq_by_cmp uuid_cmp u (uuid_of v)) us i x inside) ∙ listed))
+-- one entry more
+pub listed_more : (P : Uuid → Type 0) (us : List (List ℕ)) (i : ℕ) (x : List ℕ) → i < length us → x ≡ get_or us i x → ((u : Uuid) → list_any (eq_by_cmp uuid_cmp u) (map_list uuid_of (take i us)) ≡ true → P u) → P (uuid_of x) → (u : Uuid) → list_any (eq_by_cmp uuid_cmp u) (map_list uuid_of (take (i + 1) us)) ≡ true → P u
+listed_more P us i x inside is before here u listed = by (either (list_any (λ v. eq_by_cmp uuid_cmp u (uuid_of v)) (take i us)) (eq_by_cmp uuid_cmp u (uuid_of (get_or us i x))) (sym (any-map (eq_by_cmp uuid_cmp u) uuid_of (take (i + 1) us) ∙ list_any_more (λ v. eq_by_cmp uuid_cmp u (uuid_of v)) us i x inside) ∙ listed))
   where
-    by : (list_any (λ v. eq_by_cmp uuid_cmp u (uuid_of v)) (take i us) ≡ true) ⊎ (eq_by_cmp uuid_cmp u (uuid_of (get_or us i x)) ≡ true) → AlikeAt f old now u
+    by : (list_any (λ v. eq_by_cmp uuid_cmp u (uuid_of v)) (take i us) ≡ true) ⊎ (eq_by_cmp uuid_cmp u (uuid_of (get_or us i x)) ≡ true) → P u
     by (inl e) = before u (any-map (eq_by_cmp uuid_cmp u) uuid_of (take i us) ∙ e)
-    by (inr e) = subst (AlikeAt f old now) (sym (same_key uuid_cmp-IsAntisymmetric u (uuid_of x) (ap (λ y. eq_by_cmp uuid_cmp u (uuid_of y)) is ∙ e))) here
+    by (inr e) = subst P (sym (same_key uuid_cmp-IsAntisymmetric u (uuid_of x) (ap (λ y. eq_by_cmp uuid_cmp u (uuid_of y)) is ∙ e))) here

@@ -1,12 +1,14 @@
 -- What is known of a database that was changed in some rows alone, and which of its rows are to be tested.
-use Rattle.std.specs.Prelude.{◌≡◌, ℕ, Bool, true, false, ◌||◌, List, map as map_list, slice_get, Option, Some, None}
+use Rattle.std.specs.Prelude.{◌≡◌, ◌⊎◌, ℕ, Bool, true, false, ◌||◌, List, slice_get, Option, Some, None}
 use Rattle.std.specs.List.{list_all, list_any}
+use Rattle.std.specs.Ordering.{eq_by_cmp}
 use Rattle.odb_atoms.specs.FinMap as map
-use Rattle.odb_atoms.specs.Row.{Row, cell, declared}
-use Rattle.odb_atoms.specs.Uuid.{Uuid, zero_uuid}
+use Rattle.odb_atoms.specs.Row.{Row}
+use Rattle.odb_atoms.specs.Uuid.{Uuid, uuid_cmp}
 use Rattle.odb_atoms.specs.Value.{Value, same_value}
 use Rattle.odb_schema.specs.Schema.{Schema}
 use Rattle.odb_tables.specs.Database.{Db, Table}
+use Rattle.odb_tables.specs.Kept.{cells_at, has_twin}
 use Rattle.odb_integrity.specs.Settlement.{RowId, row_of, same_row, strong_of_row}
 
 -- rows that aren't listed are as they were
@@ -16,6 +18,10 @@ SameBut xs old now = (x : RowId) → list_any (same_row x) xs ≡ false → row_
 -- the same of the rows of one table
 abbrev pub SameAt : ℕ → List RowId → Db → Db → Type 0
 SameAt k xs old now = (u : Uuid) → list_any (same_row (k, u)) xs ≡ false → row_of now (k, u) ≡ row_of old (k, u)
+
+-- entries of a table that aren't listed are as they were
+abbrev pub SameEntries : List Uuid → Table → Table → Type 0
+SameEntries us old now = (u : Uuid) → list_any (eq_by_cmp uuid_cmp u) us ≡ false → map.get now u ≡ map.get old u
 
 -- p holds of listed rows alone
 abbrev pub Covers : (RowId → Row → Bool) → Db → List RowId → Type 0
@@ -27,10 +33,6 @@ is_held s has_support x None = has_support x
 is_held s has_support x (Some r) = list_all (λ y. same_row y x || has_support y) (strong_of_row s x r)
 
 -- ---- the columns of an index
-
--- what a row has at the places
-abbrev pub cells_at : List ℕ → Row → List Value
-cells_at places r = map_list (λ i. cell zero_uuid r (declared i)) places
 
 -- both values are there and the same, or neither is there
 abbrev pub same_if_any : Option Value → Option Value → Bool
@@ -46,5 +48,6 @@ same_at old r i = same_if_any (slice_get old.columns i) (slice_get r.columns i)
 abbrev pub AlikeAt : (Row → List Value) → Table → Table → Uuid → Type 0
 AlikeAt f old now u = (r : Row) → map.get now u ≡ Some r → (q : Row) × (map.get old u ≡ Some q) × (f r ≡ f q)
 
-abbrev pub Alike : (Row → List Value) → Table → Table → Type 0
-Alike f old now = (u : Uuid) → AlikeAt f old now u
+-- a row that has the same at the places as another one had the same there before
+abbrev pub StaysApart : List ℕ → Table → Table → Uuid → Type 0
+StaysApart places old now u = AlikeAt (cells_at places) old now u ⊎ (has_twin places now u ≡ false)

@@ -1,30 +1,26 @@
 //! Indexes (RFC 7047, section 3.2, `indexes`). [P 5]
-ghost use Rattle.std.specs.Prelude.{◌≡◌, false, filter_map, length, map, zip, IfOk, OnOk, ◌++◌, option_to_list, IsTrue};
+ghost use Rattle.std.specs.Prelude.{◌≡◌, ◌++◌, false, filter_map, length, map, option_to_list, true, zip, IfOk, IsTrue, OnOk};
 ghost use Rattle.std.specs.List.{list_all, list_any};
 ghost use Rattle.std.specs.Option.{option_copied};
 ghost use Rattle.odb_atoms.specs.FinMap as finite;
-ghost use Rattle.odb_atoms.specs.FinSet as set;
 ghost use Rattle.odb_atoms.specs.Represented.Atom.{uuid_of};
-ghost use Rattle.odb_atoms.specs.Row.{cell, declared};
-ghost use Rattle.odb_atoms.specs.Uuid.{zero_uuid};
-ghost use Rattle.odb_atoms.specs.Value.{same_values, set_of};
+ghost use Rattle.odb_atoms.specs.Value.{same_values};
 ghost use Rattle.odb_integrity.specs.Settlement as model;
-ghost use Rattle.odb_integrity.specs.Touched.{Alike, AlikeAt, cells_at, same_at, same_if_any};
+ghost use Rattle.odb_integrity.specs.Touched.{AlikeAt, SameEntries, StaysApart, same_at, same_if_any};
 ghost use Rattle.odb_schema.specs.Schema.{column_place};
 ghost use Rattle.odb_schema.specs.Represented.Names.{names_of};
 ghost use Rattle.odb_tables.specs.Database.{table_at};
+ghost use Rattle.odb_tables.specs.Kept.{cells_at, has_twin};
 
 use odb_atoms::{Row, Value};
 use odb_schema::{Schema, TableId, TableSchema};
 use odb_tables::Draft;
 use std::alloc::{AllocError, Global};
-use std::collections::BTreeSet;
 use uuid::Uuid;
 
-/// Whether two rows of a table have the same values in all columns of an index. Tables that weren't touched
-/// are passed over, since they were settled, and so are indexes in whose columns no touched row has
-/// another value. O(rows touched), and O(n log n) comparisons of those values for each other index of a
-/// table of n rows.
+/// Whether two rows of a table have the same values in all columns of an index. Since the tables were
+/// settled, only rows that are new, or have another value in a column of an index than before, may have
+/// the values of another row. O(rows touched, for each index of their table) and O(tables).
 pub(crate) fn has_duplicates(
     alloc: Global,
     draft: &Draft,
@@ -61,54 +57,52 @@ fn table_has_duplicates(
     if indexes.is_empty() {
         return Ok(false);
     }
+    let touched = draft.touched(alloc, id)?;
     for index in indexes {
         let places = places_of(alloc, table, index)?;
-        if has_twins_at(alloc, draft, id, &places)? {
+        if has_twins_at(draft, id, &places, &touched)? {
             return Ok(true);
         }
     }
     Ok(false)
 }
 
-/// Whether two rows of the table have the same values at the places, where no two had before. Where no
-/// touched row is new or has another value there, none have now.
+/// Whether two rows of the table have the same values at the places, where no two had before, and the
+/// rows that aren't listed are as they were.
 fn has_twins_at(
-    alloc: Global,
     draft: &Draft,
     id: TableId,
     places: &[usize],
+    touched: &[Uuid],
 ) -> Result<bool, AllocError>
-    requires { model.has_twins same_values (map (cells_at places.now) (finite.values (table_at draft.now.old id))) ≡ false }
+    requires none { model.has_twins same_values (map (cells_at places.now) (finite.values (table_at draft.now.old id))) ≡ false }
+    requires touched { SameEntries (map uuid_of touched.now) (table_at draft.now.old id) (table_at draft.now.now id) }
     ensures { IfOk result (λ twins. twins
         ≡ model.has_twins same_values (map (cells_at places.now) (finite.values (table_at draft.now.now id)))) }
 {
-    if are_alike(alloc, draft, id, places)? {
-        return Ok(false);
-    }
-    let rows = rows_in(alloc, draft, id)?;
-    has_twins(alloc, &rows, places)
-}
-
-/// Whether each row of the table that was touched, and is there, was there before with the same values at
-/// the places.
-fn are_alike(
-    alloc: Global,
-    draft: &Draft,
-    id: TableId,
-    places: &[usize],
-) -> Result<bool, AllocError>
-    ensures { IfOk result (λ alike. IsTrue alike
-        → Alike (cells_at places.now) (table_at draft.now.old id) (table_at draft.now.now id)) }
-{
-    let touched = draft.touched(alloc, id)?;
-    for uuid in &touched {
-        if !is_alike(draft, id, *uuid, places) {
-            return Ok(false);
+    for uuid in touched {
+        if gets_twin(draft, id, places, *uuid)? {
+            return Ok(true);
         }
     }
-    Ok(true)
+    Ok(false)
 }
 
+/// Whether the row is new or has another value at the places than before, and another row has the same
+/// values there.
+fn gets_twin(draft: &Draft, id: TableId, places: &[usize], uuid: Uuid) -> Result<bool, AllocError>
+    ensures twin { IfOk result (λ twin. IsTrue twin
+        → has_twin places.now (table_at draft.now.now id) (uuid_of uuid) ≡ true) }
+    ensures apart { IfOk result (λ twin. twin ≡ false
+        → StaysApart places.now (table_at draft.now.old id) (table_at draft.now.now id) (uuid_of uuid)) }
+{
+    if is_alike(draft, id, uuid, places) {
+        return Ok(false);
+    }
+    draft.has_twin(id, places, uuid)
+}
+
+/// Whether the row isn't there, or was there before with the same values at the places.
 fn is_alike(draft: &Draft, id: TableId, uuid: Uuid, places: &[usize]) -> bool
     ensures { IsTrue result → AlikeAt (cells_at places.now) (table_at draft.now.old id) (table_at draft.now.now id) (uuid_of uuid) }
 {
@@ -142,39 +136,6 @@ fn is_same(old: Option<&Value>, now: Option<&Value>) -> bool
     }
 }
 
-/// The rows of the table, by ascending identifier.
-fn rows_in<'a>(alloc: Global, draft: &'a Draft, table: TableId) -> Result<Vec<&'a Row>, AllocError>
-    ensures { IfOk result (λ rows.
-        map (λ row. row.now) rows.items ≡ finite.values (table_at draft.now.now table)) }
-{
-    let mut rows = Vec::new(alloc);
-    let uuids = draft.uuids(table)?;
-    for uuid in &uuids {
-        append_row(draft, table, *uuid, &mut rows)?;
-    }
-    Ok(rows)
-}
-
-fn append_row<'a>(
-    draft: &'a Draft,
-    table: TableId,
-    uuid: Uuid,
-    rows: &mut Vec<&'a Row>,
-) -> Result<(), AllocError>
-    ensures { OnOk result
-        (map (λ row. row.now) rows.new.items
-        ≡ map (λ row. row.now) rows.old.items
-        ++ option_to_list (finite.get (table_at draft.now.now table) (uuid_of uuid))) }
-{
-    match draft.get(table, uuid) {
-        Some(row) => {
-            rows.push(row)?;
-            Ok(())
-        }
-        None => Ok(()),
-    }
-}
-
 /// The places of the columns that the index names.
 fn places_of(
     alloc: Global,
@@ -202,50 +163,5 @@ fn append_place(table: &TableSchema, name: &str, places: &mut Vec<usize>) -> Res
             Ok(())
         }
         None => Ok(()),
-    }
-}
-
-/// Whether two of the rows have the same values at the places.
-fn has_twins(alloc: Global, rows: &[&Row], places: &[usize]) -> Result<bool, AllocError>
-    ensures { IfOk result (λ twins. twins
-        ≡ model.has_twins same_values (map (λ row. map (λ i. cell zero_uuid row.now (declared i)) places.now) rows.now)) }
-{
-    let empty = Value::empty_set(alloc);
-    let mut seen = BTreeSet::new(alloc);
-    for row in rows {
-        let cells = cells(alloc, row, places, &empty)?;
-        if !seen.insert(cells)? {
-            return Ok(true);
-        }
-    }
-    Ok(false)
-}
-
-/// The values of the row at the places.
-fn cells<'a>(
-    alloc: Global,
-    row: &'a Row,
-    places: &[usize],
-    empty: &'a Value,
-) -> Result<Vec<&'a Value>, AllocError>
-    requires { empty.now ≡ set_of set.empty }
-    ensures { IfOk result (λ cells.
-        map (λ value. value.now) cells.items
-        ≡ map (λ i. cell zero_uuid row.now (declared i)) places.now) }
-{
-    let mut cells = Vec::with_capacity(alloc, places.len())?;
-    for place in places {
-        cells.push(cell(row, *place, empty))?;
-    }
-    Ok(cells)
-}
-
-fn cell<'a>(row: &'a Row, place: usize, empty: &'a Value) -> &'a Value
-    requires { empty.now ≡ set_of set.empty }
-    ensures { result.now ≡ cell zero_uuid row.now (declared place) }
-{
-    match row.get(place) {
-        Some(value) => value,
-        None => empty,
     }
 }

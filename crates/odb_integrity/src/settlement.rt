@@ -36,10 +36,9 @@ use std::alloc::{AllocError, Global};
 /// put. The draft's rows have to be of the schema, and the database that it began with settled.
 ///
 /// What wasn't touched isn't looked at: O(rows touched, and the atoms in them, before and now), O(tables)
-/// and O(columns of the schema). Beyond that, with n rows in all,
+/// and O(columns of the schema), and for each index of a table what `Draft::has_twin` costs for each of its
+/// touched rows that is new or has another value there. Beyond that, with n rows in all,
 ///
-/// - O(m log m) over the m rows of a table for each of its indexes in whose columns a touched row has
-///   another value than before, or is new;
 /// - O(n log n) over all rows and their references, where a row went and the schema has references;
 /// - the same for each round of garbage collection, where the schema has tables that aren't root, and a row
 ///   went, or one that wasn't touched may have lost the strong reference that kept it, or a new one is

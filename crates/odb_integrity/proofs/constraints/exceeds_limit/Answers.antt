@@ -1,4 +1,4 @@
-use Rattle.std.proofs.Common.{rules, ◌≡◌, ◌<◌, ◌≤◌, length, sym, ap, ◌∙◌}
+use Rattle.std.proofs.Common.{rules, ◌≡◌, ◌<◌, length}
 use Rattle.odb_atoms.specs.FinMap as map
 use Rattle.odb_tables.specs.Database.{table_at}
 use Rattle.odb_integrity.proofs.Zipped.{above_limit, limit_left, within_limit}

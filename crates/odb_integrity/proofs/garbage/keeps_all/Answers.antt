@@ -1,11 +1,9 @@
-use Rattle.std.proofs.Common.{rules, ◌≡◌, ◌||◌, Bool, true, false, not, length, sym, ap, ◌∙◌}
-use Rattle.std.specs.BTreeSet.{contains}
+use Rattle.std.proofs.Common.{rules, ◌≡◌, false, not, sym, ap, ◌∙◌}
 use Rattle.std.specs.List.{list_all, list_any}
 use Rattle.std.proofs.lemmas.Result.{IfOk-weaker}
-use Rattle.odb_schema.specs.Schema.{is_root_at}
 use Rattle.odb_integrity.specs.References.{has_type, is_mixed}
-use Rattle.odb_integrity.specs.Represented.RowId.{row_id_cmp, supports}
-use Rattle.odb_integrity.specs.Settlement.{RowId, has_support, is_referred, is_there, row_of}
+use Rattle.odb_integrity.specs.Represented.RowId.{supports}
+use Rattle.odb_integrity.specs.Settlement.{RowId, has_support, is_there, row_of}
 use Rattle.odb_integrity.specs.Touched.{is_held}
 use Rattle.odb_integrity.proofs.Held.{all_root, held_agree, held_kept}
 use Rattle.odb_integrity.proofs.garbage.keeps_all.Goals as goal

@@ -1,7 +1,7 @@
-use Rattle.std.proofs.Common.{rules, ◌≡◌, ◌∙◌, true, Some, None, sym}
+use Rattle.std.proofs.Common.{rules, ◌≡◌, ◌∙◌, Some, None, sym}
 use Rattle.odb_atoms.specs.FinMap as finite
 use Rattle.odb_atoms.specs.Represented.Atom.{uuid_of}
-use Rattle.odb_integrity.specs.Touched.{cells_at}
+use Rattle.odb_tables.specs.Kept.{cells_at}
 use Rattle.odb_integrity.proofs.Unchanged.{alike_gone, alike_row}
 use Rattle.odb_tables.specs.Database.{table_at}
 use Rattle.odb_integrity.proofs.indexes.is_alike.Goals as goal

@@ -1,11 +1,14 @@
 use Rattle.std.proofs.Common.{rules, ◌≡◌, ◌<◌, ◌+◌, ◌||◌, List, ℕ, Bool, true, false, length, map, slice_index_or, take, String, Vec, refl, sym, ap, ◌∙◌}
 use Rattle.std.specs.declared.alloc.Global.{Global}
 use Rattle.std.specs.List.{list_any}
+use Rattle.std.specs.Ordering.{eq_by_cmp}
 use Rattle.std.proofs.lemmas.List.Folds.{list_any_at, list_any_more}
 use Rattle.odb_atoms.proofs.Lists.{any-map}
+use Rattle.odb_atoms.specs.Represented.Atom.{uuid_of}
+use Rattle.odb_atoms.specs.Uuid.{uuid_cmp}
 use Rattle.odb_atoms.specs.Value.{same_values}
 use Rattle.odb_integrity.specs.Settlement.{has_duplicates, has_twins, index_cells, rows_of}
-use Rattle.odb_integrity.specs.Touched.{cells_at}
+use Rattle.odb_tables.specs.Kept.{cells_at}
 use Rattle.odb_schema.specs.Represented.Names.{names_of}
 use Rattle.odb_schema.specs.Schema.{Column}
 use Rattle.odb_tables.specs.Database.{Table, table_at}
@@ -62,9 +65,9 @@ loop-index-preserved c =
 pub returns-then-is_untouched : goal.returns-then-is_untouched
 returns-then-is_untouched c = sym (ap (λ t. has_duplicates (c.args.table.now, t)) (c.is_untouched.ensures c.if-is_untouched.true) ∙ c.requires)
 
-pub has_twins_at-requires : goal.has_twins_at-requires
+pub has_twins_at-requires-clause-none : goal.has_twins_at-requires-clause-none
 unfolding twice
-has_twins_at-requires c =
+has_twins_at-requires-clause-none c =
     let cs = c.args.table.now.columns in
     let t = table_at c.args.draft.now.old c.args.id in
     let indexes = c.indexes-indexes.result.now in
@@ -74,3 +77,6 @@ has_twins_at-requires c =
     let is : x ≡ slice_index_or indexes i x = search rules in
     let places = c.deref.ensures.value ∙ c.in_ok-places.ensures in
     ap (λ ps. has_twins same_values (map (cells_at ps) (rows_of t))) places ∙ not_twice cs t indexes i x inside is (ap (list_any (twice cs t)) c.indexes-indexes.ensures ∙ c.requires)
+
+pub has_twins_at-requires-clause-touched : goal.has_twins_at-requires-clause-touched
+has_twins_at-requires-clause-touched c u absent = c.in_ok-touched.ensures.as_it_was u (ap (λ us. list_any (eq_by_cmp uuid_cmp u) (map uuid_of us)) (sym c.deref-in-loop-index.ensures.value) ∙ absent)

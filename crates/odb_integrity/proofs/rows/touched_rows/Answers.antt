@@ -1,4 +1,4 @@
-use Rattle.std.proofs.Common.{rules, ◌≡◌, ◌<◌, ◌≤◌, ◌+◌, ℕ, length, arith, sym, ◌∙◌}
+use Rattle.std.proofs.Common.{rules, ◌≡◌, arith, sym, ◌∙◌}
 use Rattle.odb_integrity.proofs.Touched.{same_by_tables, same_so_far}
 use Rattle.odb_integrity.proofs.rows.touched_rows.Goals as goal
 

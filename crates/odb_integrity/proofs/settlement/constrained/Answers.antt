@@ -4,7 +4,7 @@ use Rattle.odb_integrity.specs.Settlement.{any_row, has_duplicates, has_too_few,
 use Rattle.std.specs.Prelude.{nat_le}
 use Rattle.odb_integrity.proofs.Settled.{last_test}
 use Rattle.odb_integrity.proofs.Touched.{covers_old}
-use Rattle.odb_integrity.proofs.Twins.{not_is}
+use Rattle.odb_integrity.proofs.Prunings.{not_is}
 use Rattle.odb_integrity.proofs.settlement.constrained.Goals as goal
 
 pub has_too_few-requires : goal.has_too_few-requires

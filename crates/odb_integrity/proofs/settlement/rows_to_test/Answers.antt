@@ -1,8 +1,7 @@
-use Rattle.std.proofs.Common.{rules, ◌≡◌, false, sym, ap, ◌∙◌}
-use Rattle.std.specs.List.{list_any}
+use Rattle.std.proofs.Common.{rules, ◌≡◌, false}
 use Rattle.std.proofs.lemmas.Result.{IfOk-weaker}
 use Rattle.odb_integrity.specs.References.{has_reference, has_type}
-use Rattle.odb_integrity.specs.Settlement.{dangles, is_there}
+use Rattle.odb_integrity.specs.Settlement.{dangles}
 use Rattle.odb_integrity.specs.Steps.{row_has_stale}
 use Rattle.odb_integrity.proofs.Targets.{none_dangles, none_stale}
 use Rattle.odb_integrity.proofs.Touched.{covers_all, covers_dangling, covers_stale}
