@@ -32,7 +32,7 @@ ids_at k t = map_list (λ u. (k, u)) (map.keys t)
 abbrev pub ids_from : ℕ → Db → List RowId
 ids_from n db = flat_map (λ e. ids_at e.0 e.1) (enumerate_from n db)
 
-any_both : {A : Type 0} (b : Bool) (p : A → Bool) (xs : List A) → list_any (λ x. b && p x) xs ≡ (b && list_any p xs)
+pub any_both : {A : Type 0} (b : Bool) (p : A → Bool) (xs : List A) → list_any (λ x. b && p x) xs ≡ (b && list_any p xs)
 any_both true p xs = refl
 any_both false p [] = refl
 any_both false p (x ∷ xs) = any_both false p xs

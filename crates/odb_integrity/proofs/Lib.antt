@@ -1,3 +1,4 @@
+pub mod Concerned
 pub mod Databases
 pub mod Held
 pub mod Ids
@@ -7,7 +8,9 @@ pub mod Listings
 pub mod Named
 pub mod Prunings
 pub mod Referents
+pub mod Referring
 pub mod Rounds
+pub mod Sets
 pub mod Settled
 pub mod Settles
 pub mod Targets

@@ -63,7 +63,7 @@ module _ (p : RowId → Row → Bool) (db : Db) where
 
 -- ---- the rows to which values refer
 
-any-filter_map : {A B : Type 0} (p : B → Bool) (f : A → Option B) (xs : List A) → list_any p (filter_map f xs) ≡ list_any (λ x. unwrap_or (option_map p (f x)) false) xs
+pub any-filter_map : {A B : Type 0} (p : B → Bool) (f : A → Option B) (xs : List A) → list_any p (filter_map f xs) ≡ list_any (λ x. unwrap_or (option_map p (f x)) false) xs
 any-filter_map p f [] = refl
 any-filter_map {B = B} p f (x ∷ xs) = by (f x) (any-filter_map p f xs)
   where
@@ -71,7 +71,7 @@ any-filter_map {B = B} p f (x ∷ xs) = by (f x) (any-filter_map p f xs)
     by None rest = rest
     by (Some y) rest = ap (λ b. p y || b) rest
 
-any-flat_map : {A B : Type 0} (p : B → Bool) (f : A → List B) (xs : List A) → list_any p (flat_map f xs) ≡ list_any (λ x. list_any p (f x)) xs
+pub any-flat_map : {A B : Type 0} (p : B → Bool) (f : A → List B) (xs : List A) → list_any p (flat_map f xs) ≡ list_any (λ x. list_any p (f x)) xs
 any-flat_map p f [] = refl
 any-flat_map p f (x ∷ xs) = list_any-append p (f x) (flat_map f xs) ∙ ap (λ b. list_any p (f x) || b) (any-flat_map p f xs)
 

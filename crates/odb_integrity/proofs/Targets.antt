@@ -1,5 +1,5 @@
 -- Which references types of columns make, and what pruning leaves of strong ones.
-use Rattle.std.specs.Prelude.{◌≡◌, ◌⊎◌, ℕ, zero, suc, Bool, true, false, cond, not, ◌&&◌, ◌||◌, List, [], ◌∷◌, ◌++◌, filter_map, flat_map, map as map_list, slice_get, zip, is_some, unwrap_or, Option, Some, None, option_and_then, option_map}
+use Rattle.std.specs.Prelude.{◌≡◌, ◌⊎◌, ℕ, zero, suc, Bool, true, false, cond, not, ◌&&◌, ◌||◌, List, [], ◌∷◌, ◌++◌, filter_map, flat_map, map as map_list, slice_get, zip, unwrap_or, Option, Some, None, option_and_then, option_map}
 use Rattle.std.specs.List.{list_any}
 use mathlib.Core.Path.{refl, sym, ap, ◌∙◌}
 use mathlib.Core.Logic.{inl, inr}
@@ -12,9 +12,9 @@ use Rattle.odb_atoms.specs.Row.{Row}
 use Rattle.odb_atoms.specs.Value.{Value, map_of, set_of}
 use Rattle.odb_schema.specs.Schema.{Column, Schema, TableSchema, columns_at, table_place}
 use Rattle.odb_tables.specs.Database.{Db}
-use Rattle.odb_integrity.specs.References.{has_reference, has_type, is_mixed, is_strong}
-use Rattle.odb_integrity.specs.Settlement.{RowId, dangles, is_stale, is_there, is_weak, pruned_row, pruned_value, referent, strong_of_row, strong_of_value, strong_target, target, weak_target}
-use Rattle.odb_integrity.specs.Steps.{has_stale, row_has_stale}
+use Rattle.odb_integrity.specs.References.{has_type, is_mixed, is_strong}
+use Rattle.odb_integrity.specs.Settlement.{RowId, is_stale, is_weak, pruned_row, pruned_value, referent, strong_of_row, strong_of_value, strong_target, target, weak_target}
+use Rattle.odb_integrity.specs.Steps.{has_stale}
 use Rattle.odb_integrity.proofs.Named.{none_named}
 use Rattle.odb_integrity.proofs.Prunings.{neither, value_same}
 
@@ -44,13 +44,6 @@ weak_not_strong b e = by b.reference e
     by : (o : Option Reference) → unwrap_or (option_map (λ r. r.weak) o) false ≡ true → unwrap_or (option_map (λ r. not r.weak) o) false ≡ false
     by None e = refl
     by (Some r) e = ap not e
-
-neither_kind : (b : Base) → is_some b.reference ≡ false → (is_strong b ≡ false) × (is_weak b ≡ false)
-neither_kind b e = by b.reference e
-  where
-    by : (o : Option Reference) → is_some o ≡ false → (unwrap_or (option_map (λ r. not r.weak) o) false ≡ false) × (unwrap_or (option_map (λ r. r.weak) o) false ≡ false)
-    by None e = (refl, refl)
-    by (Some r) e = absurd (true≢false e)
 
 abbrev NoStrong : Schema → ColType → Type 0
 NoStrong s t = (strong_target s t.key ≡ None) × (strong_target s (value_base t) ≡ None)
@@ -119,26 +112,3 @@ module _ (s : Schema) (db : Db) where
   -- pruning leaves each strong reference, where no column is mixed
   pub row_strong : has_type is_mixed s ≡ false → (x : RowId) (r : Row) → strong_of_row s x (pruned_row s db x r) ≡ strong_of_row s x r
   row_strong e x r = cells_strong (columns_at s x.0) r.columns (none_at_table is_mixed s e x.0)
-
-  no_kind : (t : ColType) → has_reference t ≡ false → NoStrong s t × NoWeak s t
-  no_kind t e =
-      let h = neither (is_some t.key.reference) (is_some (value_base t).reference) e in
-      let key = neither_kind t.key h.0 in
-      let value = neither_kind (value_base t) h.1 in
-      ((strong_none s t.key key.0, strong_none s (value_base t) value.0), (weak_none s t.key key.1, weak_none s (value_base t) value.1))
-
-  cells_without : (cs : List Column) (vs : List Value) → list_any (λ c. has_reference c.type) cs ≡ false → (flat_map (λ e. strong_of_value s e.0.type e.1) (zip cs vs) ≡ []) × (list_any (λ e. has_stale s db e.0.type e.1) (zip cs vs) ≡ false)
-  cells_without [] vs h = (refl, refl)
-  cells_without (c ∷ cs) [] h = (refl, refl)
-  cells_without (c ∷ cs) (v ∷ vs) h =
-      let parts = neither (has_reference c.type) (list_any (λ c. has_reference c.type) cs) h in
-      let none = no_kind c.type parts.0 in
-      let rest = cells_without cs vs parts.1 in
-      ((λ i. no_strong s c.type none.0 v i ++ rest.0 i), (λ i. fresh_value s db c.type none.1 v i || rest.1 i))
-
-  -- rows of a schema without references
-  pub none_dangles : has_type has_reference s ≡ false → (x : RowId) (r : Row) → dangles s db x r ≡ false
-  none_dangles e x r = ap (list_any (λ y. not (is_there db y))) (cells_without (columns_at s x.0) r.columns (none_at_table has_reference s e x.0)).0
-
-  pub none_stale : has_type has_reference s ≡ false → (x : RowId) (r : Row) → row_has_stale s db x r ≡ false
-  none_stale e x r = (cells_without (columns_at s x.0) r.columns (none_at_table has_reference s e x.0)).1

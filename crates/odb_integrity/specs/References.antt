@@ -1,5 +1,5 @@
 -- Which references the types of columns make (RFC 7047, clause 3.2, `refTable` and `refType`).
-use Rattle.std.specs.Prelude.{Bool, false, not, ◌&&◌, ◌||◌, is_some, unwrap_or, option_map}
+use Rattle.std.specs.Prelude.{Bool, false, not, ◌&&◌, ◌||◌, unwrap_or, option_map}
 use Rattle.std.specs.List.{list_any}
 use Rattle.odb_atoms.specs.ColType.{Base, ColType, value_base}
 use Rattle.odb_schema.specs.Schema.{Schema}
@@ -7,10 +7,6 @@ use Rattle.odb_integrity.specs.Settlement.{is_weak}
 
 abbrev pub is_strong : Base → Bool
 is_strong b = unwrap_or (option_map (λ r. not r.weak) b.reference) false
-
--- a reference among keys or values
-abbrev pub has_reference : ColType → Bool
-has_reference t = is_some t.key.reference || is_some (value_base t).reference
 
 -- a pair of a weak reference and a strong one: it goes whole where the weak one is stale
 abbrev pub is_mixed : ColType → Bool

@@ -1,4 +1,5 @@
 -- What the answer of a settlement stands for.
+pub mod Reference
 pub mod RowId
 use Rattle.std.specs.Prelude.{Result, Ok, Err}
 use Rattle.odb_atoms.specs.Error as model

@@ -11,6 +11,7 @@ mod garbage;
 mod indexes;
 mod pruning;
 mod references;
+mod referrers;
 mod row_id;
 mod rows;
 mod settlement;

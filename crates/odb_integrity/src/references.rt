@@ -3,7 +3,7 @@ ghost use Rattle.std.specs.Prelude.{◌≡◌, ◌++◌, ◌&&◌, filter_map, m
 ghost use Rattle.std.specs.List.{list_any};
 ghost use Rattle.odb_atoms.specs.Represented.Atom.{atom_of};
 ghost use Rattle.odb_atoms.specs.Represented.ColType.{base_of, type_of};
-ghost use Rattle.odb_integrity.specs.References.{has_reference, has_type, is_mixed, is_strong};
+ghost use Rattle.odb_integrity.specs.References.{has_type, is_mixed, is_strong};
 ghost use Rattle.odb_integrity.specs.Settlement as model;
 ghost use Rattle.odb_atoms.specs.ColType as model_type;
 ghost use Rattle.odb_schema.specs.Schema.{columns_at};
@@ -110,31 +110,6 @@ pub(crate) fn value_base(column: &ColType) -> &Base
         Some(base) => base,
         None => &column.key,
     }
-}
-
-/// Whether the type of a column has references. O(columns of the schema).
-pub(crate) fn has_references(schema: &Schema) -> bool
-    ensures { result ≡ has_type has_reference schema.now }
-{
-    schema
-        .tables()
-        .iter()
-        .any(|table| table_has_references(table))
-}
-
-fn table_has_references(table: &TableSchema) -> bool
-    ensures { result ≡ list_any (λ column. has_reference column.type) table.now.columns }
-{
-    table
-        .columns()
-        .iter()
-        .any(|column| has_reference(column.column_type()))
-}
-
-fn has_reference(column: &ColType) -> bool
-    ensures { result ≡ has_reference (type_of column.now) }
-{
-    column.key.reference.is_some() || value_base(column).reference.is_some()
 }
 
 /// Whether a column pairs weak references with strong ones. O(columns of the schema).

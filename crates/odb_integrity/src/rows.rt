@@ -11,6 +11,7 @@ use crate::row_id::RowId;
 use odb_schema::TableId;
 use odb_tables::Draft;
 use std::alloc::{AllocError, Global};
+use std::collections::BTreeSet;
 
 /// The rows that the draft has now: table by table, in each by ascending identifier. O(n log n) for
 /// n rows.
@@ -61,6 +62,17 @@ fn append_touched(
         rows.push(RowId::new(table, *uuid))?;
     }
     Ok(())
+}
+
+/// The rows of the set, in its order. O(rows).
+pub(crate) fn in_order(alloc: Global, set: &BTreeSet<RowId>) -> Result<Vec<RowId>, AllocError>
+    ensures { IfOk result (λ rows. rows.items ≡ set.now.keys) }
+{
+    let mut rows = Vec::new(alloc);
+    for row in set {
+        rows.push(*row)?;
+    }
+    Ok(rows)
 }
 
 /// Takes the rows out of the draft. O(1) for each. After an error some may be out.

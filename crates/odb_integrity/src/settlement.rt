@@ -13,9 +13,9 @@ use crate::dangling::{has_dangling, is_one_missing};
 use crate::garbage::collect_garbage;
 use crate::indexes::has_duplicates;
 use crate::pruning::prune;
-use crate::references::has_references;
+use crate::referrers::{references_of, with_referrers};
 use crate::row_id::RowId;
-use crate::rows::{rows_of, touched_rows};
+use crate::rows::touched_rows;
 use odb_atoms::Error;
 use odb_schema::Schema;
 use odb_tables::Draft;
@@ -37,10 +37,11 @@ use std::alloc::{AllocError, Global};
 ///
 /// What wasn't touched isn't looked at: O(rows touched, and the atoms in them, before and now), O(tables)
 /// and O(columns of the schema), and for each index of a table what `Draft::has_twin` costs for each of its
-/// touched rows that is new or has another value there. Beyond that, with n rows in all,
+/// touched rows that is new or has another value there. Where a touched row isn't there any more, the rows
+/// that refer to it are looked at as well, which `Draft::referrers` lists for each column that refers to
+/// its table. Beyond that, with n rows in all,
 ///
-/// - O(n log n) over all rows and their references, where a row went and the schema has references;
-/// - the same for each round of garbage collection, where the schema has tables that aren't root, and a row
+/// - O(n log n) over all rows and their references for each round of garbage collection, where the schema has tables that aren't root, and a row
 ///   went, or one that wasn't touched may have lost the strong reference that kept it, or a new one is
 ///   referred to by no touched row, or a column pairs weak references with strong ones. There are as many
 ///   rounds as the longest chain of deleted rows has links.
@@ -68,11 +69,9 @@ pub fn settle(
     constrained(alloc, draft, schema, max_rows)
 }
 
-/// The rows that may have a reference to a row that isn't there. The rows of the base had none; so where
-/// no row went, these are among the rows that were touched.
-///
-/// O(rows touched) and O(tables), and O(columns of the schema) where a row went; O(n log n) for n rows
-/// where one went and the schema has a reference.
+/// The rows that may have a reference to a row that isn't there. The rows of the base had none; so these
+/// are among the rows that were touched and, where one of those isn't there any more, the rows that refer
+/// to it.
 fn rows_to_test(alloc: Global, draft: &Draft, schema: &Schema) -> Result<Vec<RowId>, AllocError>
     requires { IsSettled schema.now draft.now.old }
     ensures dangling { IfOk result (λ rows. Covers (dangles schema.now draft.now.now) draft.now.now rows.items) }
@@ -82,10 +81,8 @@ fn rows_to_test(alloc: Global, draft: &Draft, schema: &Schema) -> Result<Vec<Row
     if !is_one_missing(draft, &touched) {
         return Ok(touched);
     }
-    if !has_references(schema) {
-        return Ok(touched);
-    }
-    rows_of(alloc, draft)
+    let references = references_of(alloc, schema)?;
+    with_referrers(alloc, draft, &references, &touched)
 }
 
 /// The first constraint that the draft breaks, if it breaks one.

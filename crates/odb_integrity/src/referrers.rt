@@ -1,0 +1,189 @@
+//! The references that a schema makes, and the rows that mention a row by them. [P 5]
+ghost use Rattle.std.specs.Prelude.{◌≡◌, ◌++◌, ◌&&◌, ◌||◌, ◌==◌, flat_map, IfOk, OnOk};
+ghost use Rattle.std.specs.BTreeSet.{contains};
+ghost use Rattle.std.specs.List.{enumerate_from, list_any};
+ghost use Rattle.odb_atoms.specs.Represented.Atom.{uuid_of};
+ghost use Rattle.odb_atoms.specs.Represented.ColType.{base_of, type_of};
+ghost use Rattle.odb_integrity.specs.Represented.Reference.{base_references, column_references, is_concerned};
+ghost use Rattle.odb_integrity.specs.Represented.Reference.{mentions, mentions_by, references_of};
+ghost use Rattle.odb_integrity.specs.Represented.RowId.{row_id_cmp};
+ghost use Rattle.odb_integrity.specs.Settlement as model;
+ghost use Rattle.odb_integrity.specs.Settlement.{same_row};
+
+use crate::dangling::is_missing;
+use crate::row_id::RowId;
+use crate::rows::in_order;
+use odb_atoms::{Base, ColType};
+use odb_schema::{Schema, TableId, TableSchema};
+use odb_tables::Draft;
+use std::alloc::{AllocError, Global};
+use std::collections::BTreeSet;
+use uuid::Uuid;
+
+/// A reference that the type of a column makes (RFC 7047, section 3.2, `refTable` and `refType`).
+#[derive(Clone, Copy, Debug)]
+pub(crate) struct Reference {
+    /// The table to which it leads.
+    target: TableId,
+    /// The table and the place of the column.
+    table: TableId,
+    place: usize,
+    weak: bool,
+}
+
+/// The references that the columns of the schema make. O(columns of the schema), and O(log n) for each
+/// reference, with n tables.
+pub(crate) fn references_of(alloc: Global, schema: &Schema) -> Result<Vec<Reference>, AllocError>
+    ensures { IfOk result (λ references. references.items ≡ references_of schema.now) }
+{
+    let mut references = Vec::new(alloc);
+    for (place, table) in schema.tables().iter().enumerate() {
+        append_table(schema, TableId::at(place), table, &mut references)?;
+    }
+    Ok(references)
+}
+
+fn append_table(
+    schema: &Schema,
+    id: TableId,
+    table: &TableSchema,
+    references: &mut Vec<Reference>,
+) -> Result<(), AllocError>
+    ensures { OnOk result
+        (references.new.items
+        ≡ references.old.items
+        ++ flat_map (λ f. column_references schema.now id f.0 f.1.type) (enumerate_from 0 table.now.columns)) }
+{
+    for (place, column) in table.columns().iter().enumerate() {
+        append_column(schema, id, place, column.column_type(), references)?;
+    }
+    Ok(())
+}
+
+fn append_column(
+    schema: &Schema,
+    table: TableId,
+    place: usize,
+    column: &ColType,
+    references: &mut Vec<Reference>,
+) -> Result<(), AllocError>
+    ensures { OnOk result
+        (references.new.items
+        ≡ references.old.items ++ column_references schema.now table place (type_of column.now)) }
+{
+    append_base(schema, table, place, &column.key, references)?;
+    match &column.value {
+        Some(base) => append_base(schema, table, place, base, references),
+        None => Ok(()),
+    }
+}
+
+fn append_base(
+    schema: &Schema,
+    table: TableId,
+    place: usize,
+    base: &Base,
+    references: &mut Vec<Reference>,
+) -> Result<(), AllocError>
+    ensures { OnOk result
+        (references.new.items
+        ≡ references.old.items ++ base_references schema.now table place (base_of base.now)) }
+{
+    match &base.reference {
+        Some(reference) => match schema.table(reference.table.as_str()) {
+            Some(target) => {
+                references.push(Reference {
+                    target,
+                    table,
+                    place,
+                    weak: reference.weak,
+                })?;
+                Ok(())
+            }
+            None => Ok(()),
+        },
+        None => Ok(()),
+    }
+}
+
+/// The rows of the list, and those that mention one of them which isn't there by one of the references.
+/// O(rows), and for each that isn't there O(references) and O(log n) for each of the n rows that mention
+/// it.
+pub(crate) fn with_referrers(
+    alloc: Global,
+    draft: &Draft,
+    references: &[Reference],
+    rows: &[RowId],
+) -> Result<Vec<RowId>, AllocError>
+    ensures { IfOk result (λ all. (x : model.RowId)
+        → list_any (same_row x) all.items ≡ list_any (is_concerned references.now draft.now.now x) rows.now) }
+{
+    let mut all = BTreeSet::new(alloc);
+    for row in rows {
+        insert_with_referrers(draft, references, *row, &mut all)?;
+    }
+    in_order(alloc, &all)
+}
+
+fn insert_with_referrers(
+    draft: &Draft,
+    references: &[Reference],
+    row: RowId,
+    all: &mut BTreeSet<RowId>,
+) -> Result<(), AllocError>
+    ensures { OnOk result ((x : model.RowId)
+        → contains row_id_cmp all.new x
+        ≡ (contains row_id_cmp all.old x || is_concerned references.now draft.now.now x row)) }
+{
+    all.insert(row)?;
+    if is_missing(draft, row) {
+        return insert_referrers(draft, references, row, all);
+    }
+    Ok(())
+}
+
+/// Adds the rows that mention the row by one of the references.
+fn insert_referrers(
+    draft: &Draft,
+    references: &[Reference],
+    row: RowId,
+    rows: &mut BTreeSet<RowId>,
+) -> Result<(), AllocError>
+    ensures { OnOk result ((x : model.RowId)
+        → contains row_id_cmp rows.new x
+        ≡ (contains row_id_cmp rows.old x || mentions references.now draft.now.now x row)) }
+{
+    for reference in references {
+        insert_by(draft, reference, row, rows)?;
+    }
+    Ok(())
+}
+
+/// Adds the rows that mention the row by the reference.
+fn insert_by(
+    draft: &Draft,
+    reference: &Reference,
+    row: RowId,
+    rows: &mut BTreeSet<RowId>,
+) -> Result<(), AllocError>
+    ensures { OnOk result ((x : model.RowId)
+        → contains row_id_cmp rows.new x
+        ≡ (contains row_id_cmp rows.old x || mentions_by draft.now.now x row reference.now)) }
+{
+    if reference.target != row.table() {
+        return Ok(());
+    }
+    let uuids = draft.referrers(reference.table, reference.place, row.uuid())?;
+    insert_all(reference.table, &uuids, rows)
+}
+
+fn insert_all(table: TableId, uuids: &[Uuid], rows: &mut BTreeSet<RowId>) -> Result<(), AllocError>
+    ensures { OnOk result ((x : model.RowId)
+        → contains row_id_cmp rows.new x
+        ≡ (contains row_id_cmp rows.old x || list_any (λ uuid. same_row x (table, uuid_of uuid)) uuids.now)) }
+{
+    for uuid in uuids {
+        rows.insert(RowId::new(table, *uuid))?;
+    }
+    Ok(())
+}
