@@ -173,14 +173,6 @@ there_inside db x e = at db x.0 e
     at (t ∷ tables) zero e = omega arith
     at (t ∷ tables) (suc k) e = let rest = at tables k e in omega arith
 
--- two functions that agree on the rows that are there
-pub each_row_agree : (f g : RowId → Row → Option Row) (db : Db) → ((x : RowId) (r : Row) → row_of db x ≡ Some r → f x r ≡ g x r) → each_row f db ≡ each_row g db
-each_row_agree f g db h = same_db (each_row f db) (each_row g db) (length-each_row f db ∙ sym (length-each_row g db)) (λ x. row_of-each_row f db x ∙ by x (row_of db x) refl ∙ sym (row_of-each_row g db x))
-  where
-    by : (x : RowId) (o : Option Row) → row_of db x ≡ o → option_and_then (f x) o ≡ option_and_then (g x) o
-    by x None e = refl
-    by x (Some r) e = h x r e
-
 -- a function that keeps all rows as they are
 pub each_row_same : (f : RowId → Row → Option Row) (db : Db) → ((x : RowId) (r : Row) → row_of db x ≡ Some r → f x r ≡ Some r) → each_row f db ≡ db
 each_row_same f db h = same_db (each_row f db) db (length-each_row f db) (λ x. row_of-each_row f db x ∙ by x (row_of db x) refl)

@@ -1,19 +1,20 @@
--- Where each row that was touched left what supports as it was, each row is kept.
-use Rattle.std.specs.Prelude.{◌≡◌, ◌⊎◌, ℕ, ◌<◌, Bool, true, false, cond, not, ◌&&◌, ◌||◌, List, length, is_some, unwrap_or, Option, Some, None, option_map}
-use Rattle.std.specs.List.{list_all, list_any}
+-- Which rows have support after some were touched, and that all are kept where each has it.
+use Rattle.std.specs.Prelude.{◌≡◌, ◌⊎◌, ℕ, ◌<◌, Bool, true, false, cond, not, ◌&&◌, ◌||◌, List, [], filter, length, is_some, unwrap_or, Option, Some, None, option_map}
+use Rattle.std.specs.BTreeSet.{BTreeSet, contains}
+use Rattle.std.specs.List.{list_any}
 use mathlib.Core.Path.{refl, sym, ap, subst, ◌∙◌}
 use mathlib.Core.Logic.{inl, inr}
 use mathlib.Core.Bool.{true≢false}
-use Rattle.odb_atoms.proofs.Lists.{all_gives, any_gives, both, either}
+use Rattle.odb_atoms.proofs.Lists.{any_gives, both, either, gives_any, or_right}
 use Rattle.odb_atoms.specs.Row.{Row}
 use Rattle.odb_schema.specs.Schema.{Schema, is_root_at}
 use Rattle.odb_tables.specs.Database.{Db}
-use Rattle.odb_integrity.specs.Settlement.{RowId, has_support, is_kept, is_referred, is_there, kept, refers, row_of, same_row, strong_of_row}
-use Rattle.odb_integrity.specs.Touched.{SameBut, is_held}
+use Rattle.odb_integrity.specs.Represented.RowId.{row_id_cmp, supports}
+use Rattle.odb_integrity.specs.Settlement.{RowId, has_support, is_kept, is_referred, is_there, kept, refers, row_ids, row_of, same_row, strong_of_row}
+use Rattle.odb_integrity.specs.Touched.{SameBut, SupportedBut, depends}
 use Rattle.odb_integrity.proofs.Databases.{any-row_ids, each_row_same, there_inside}
-use Rattle.odb_integrity.proofs.Ids.{member}
+use Rattle.odb_integrity.proofs.Ids.{any-filter, member, own_row}
 use Rattle.odb_integrity.proofs.Kept.{kept_is_largest, kept_is_supported}
-use Rattle.odb_integrity.proofs.Touched.{still_there}
 
 -- where each row is kept, nothing goes
 pub all_kept : (s : Schema) (db : Db) → ((x : RowId) → is_there db x ≡ true → is_kept s db x ≡ true) → db ≡ kept s db
@@ -35,65 +36,87 @@ not_true : (b : Bool) → not b ≡ true → b ≡ false
 not_true true e = sym e
 not_true false e = refl
 
-module _ (s : Schema) (old now : Db) (xs : List RowId) (same : SameBut xs old now) (complete : list_any (λ x. not (is_there now x)) xs ≡ false)
-    (settled : (x : RowId) → is_there old x ≡ true → is_kept s old x ≡ true)
-    (held : list_all (λ x. is_held s (has_support s now xs) x (row_of old x)) xs ≡ true) where
-  abbrev Supported : RowId → Type 0
-  Supported x = (is_root_at s x.0 ≡ true) ⊎ ((y : RowId) × (is_there now y ≡ true) × (same_row x y ≡ false) × (refers s now y x ≡ true))
+not_false : (b : Bool) → not b ≡ false → b ≡ true
+not_false true e = refl
+not_false false e = absurd (true≢false e)
 
-  -- a row of the list refers to it
-  by_list : (x : RowId) → has_support s now xs x ≡ true → Supported x
-  by_list x e = by (either (is_root_at s x.0) (is_referred s now xs x) e)
+module _ (s : Schema) (db : Db) where
+  -- another row refers to it
+  pub supported_by : (x y : RowId) → same_row x y ≡ false → refers s db y x ≡ true → has_support s db (row_ids db) x ≡ true
+  supported_by x y apart e = or_right (is_root_at s x.0) _ (gives_any (λ y. not (same_row x y) && refers s db y x) (row_ids db) y (member y (row_ids db) (any-row_ids db y ∙ referrer_there s db y x e)) (λ i. not (apart i) && e i))
+
+  pub supported_root : (xs : List RowId) (x : RowId) → is_root_at s x.0 ≡ true → has_support s db xs x ≡ true
+  supported_root xs x root = ap (λ b. b || is_referred s db xs x) root
+
+  -- a row of the list that refers to it
+  pub supporter_in : (xs : List RowId) (x : RowId) → has_support s db xs x ≡ true → (is_root_at s x.0 ≡ true) ⊎ ((y : RowId) × (list_any (same_row y) xs ≡ true) × (same_row x y ≡ false) × (refers s db y x ≡ true))
+  supporter_in xs x e = by (either (is_root_at s x.0) (is_referred s db xs x) e)
     where
-      by : (is_root_at s x.0 ≡ true) ⊎ (is_referred s now xs x ≡ true) → Supported x
+      by : (is_root_at s x.0 ≡ true) ⊎ (is_referred s db xs x ≡ true) → (is_root_at s x.0 ≡ true) ⊎ ((y : RowId) × (list_any (same_row y) xs ≡ true) × (same_row x y ≡ false) × (refers s db y x ≡ true))
       by (inl root) = inl root
       by (inr one) =
-          let w = any_gives (λ y. not (same_row x y) && refers s now y x) xs one in
-          let h = both (not (same_row x w.0)) (refers s now w.0 x) w.2 in
-          inr (w.0, referrer_there s now w.0 x h.1, not_true (same_row x w.0) h.0, h.1)
+          let w = any_gives (λ y. not (same_row x y) && refers s db y x) xs one in
+          let h = both (not (same_row x w.0)) (refers s db w.0 x) w.2 in
+          inr (w.0, gives_any (same_row w.0) xs w.0 w.1 (own_row w.0), not_true (same_row x w.0) h.0, h.1)
 
-  held_at : (x : RowId) → list_any (same_row x) xs ≡ true → is_held s (has_support s now xs) x (row_of old x) ≡ true
-  held_at x e = all_gives (λ x. is_held s (has_support s now xs) x (row_of old x)) xs held x (member x xs e)
-
-  -- a row to which one that was touched referred
-  left : (x y : RowId) → list_any (same_row y) xs ≡ true → same_row x y ≡ false → refers s old y x ≡ true → has_support s now xs x ≡ true
-  left x y listed apart e = by (row_of old y) e (held_at y listed)
+  -- support by some rows is support
+  pub supported_among : (xs : List RowId) (x : RowId) → has_support s db xs x ≡ true → has_support s db (row_ids db) x ≡ true
+  supported_among xs x e = by (supporter_in xs x e)
     where
-      other : (b c : Bool) → b ≡ false → (b || c) ≡ true → c ≡ true
-      other true c e h = absurd (true≢false e)
-      other false c e h = h
+      by : (is_root_at s x.0 ≡ true) ⊎ ((y : RowId) × (list_any (same_row y) xs ≡ true) × (same_row x y ≡ false) × (refers s db y x ≡ true)) → has_support s db (row_ids db) x ≡ true
+      by (inl root) = supported_root (row_ids db) x root
+      by (inr v) = supported_by x v.0 v.2 v.3
 
-      by : (o : Option Row) → unwrap_or (option_map (λ r. list_any (same_row x) (strong_of_row s y r)) o) false ≡ true → is_held s (has_support s now xs) y o ≡ true → has_support s now xs x ≡ true
-      by None e h = absurd (true≢false (sym e))
-      by (Some r) e h = other (same_row x y) (has_support s now xs x) apart (all_gives (λ z. same_row z y || has_support s now xs z) (strong_of_row s y r) h x (member x (strong_of_row s y r) e))
-
-  supported : (x : RowId) → is_there now x ≡ true → Supported x
-  supported x there = at_old (is_there old x) refl
+  -- where each row has support, each is kept
+  pub supported_kept : ((x : RowId) → is_there db x ≡ true → has_support s db (row_ids db) x ≡ true) → db ≡ kept s db
+  supported_kept h = all_kept s db (kept_is_largest s db (is_there db) (λ x there. (any-row_ids db x ∙ there, by x (supporter_in (row_ids db) x (h x there)))))
     where
-      by_other : (y : RowId) → is_there old y ≡ true → same_row x y ≡ false → refers s old y x ≡ true → (b : Bool) → list_any (same_row y) xs ≡ b → Supported x
-      by_other y was apart e true listed = by_list x (left x y listed apart e)
-      by_other y was apart e false absent = inr (y, still_there old now xs same complete y was, apart, ap (λ o. unwrap_or (option_map (λ r. list_any (same_row x) (strong_of_row s y r)) o) false) (same y absent) ∙ e)
+      by : (x : RowId) → (is_root_at s x.0 ≡ true) ⊎ ((y : RowId) × (list_any (same_row y) (row_ids db) ≡ true) × (same_row x y ≡ false) × (refers s db y x ≡ true)) → (is_root_at s x.0 ≡ true) ⊎ ((y : RowId) × (is_there db y ≡ true) × (same_row x y ≡ false) × (refers s db y x ≡ true))
+      by x (inl root) = inl root
+      by x (inr v) = inr (v.0, referrer_there s db v.0 x v.3, v.2, v.3)
 
-      by_old : (is_root_at s x.0 ≡ true) ⊎ ((y : RowId) × (is_kept s old y ≡ true) × (same_row x y ≡ false) × (refers s old y x ≡ true)) → Supported x
-      by_old (inl root) = inl root
-      by_old (inr v) = by_other v.0 (referrer_there s old v.0 x v.3) v.2 v.3 (list_any (same_row v.0) xs) refl
+  -- no row but listed ones may lack it, and none is listed
+  pub none_waits : (waiting : List RowId) → SupportedBut s db waiting → waiting ≡ [] → db ≡ kept s db
+  none_waits waiting h e = supported_kept (λ x there. h x there (ap (list_any (same_row x)) e))
 
-      new : (b : Bool) → list_any (same_row x) xs ≡ b → (o : Option Row) → row_of old x ≡ o → is_some o ≡ false → Supported x
-      new true listed None none e = by_list x (ap (is_held s (has_support s now xs) x) (sym none) ∙ held_at x listed)
-      new true listed (Some r) none e = absurd (true≢false e)
-      new false absent o none e = absurd (true≢false (sym there ∙ ap is_some (same x absent ∙ none) ∙ e))
+  -- all rows are listed
+  pub all_wait : (rows : List RowId) → rows ≡ row_ids db → SupportedBut s db rows
+  all_wait rows all x there absent = absurd (true≢false (sym (ap (list_any (same_row x)) all ∙ any-row_ids db x ∙ there) ∙ absent))
 
-      at_old : (b : Bool) → is_there old x ≡ b → Supported x
-      at_old true was = by_old (kept_is_supported s old x (settled x was)).1
-      at_old false was = new (list_any (same_row x) xs) refl (row_of old x) refl was
+-- ---- the rows that may have lost support
 
-  pub held_kept : (x : RowId) → is_there now x ≡ true → is_kept s now x ≡ true
-  held_kept = kept_is_largest s now (is_there now) (λ x there. (any-row_ids now x ∙ there, supported x there))
+module _ (s : Schema) (old now : Db) (touched rows waiting : List RowId) (referred : BTreeSet RowId) (same : SameBut touched old now)
+    (settled : (x : RowId) → is_there old x ≡ true → is_kept s old x ≡ true)
+    (depending : (x : RowId) → list_any (same_row x) rows ≡ list_any (depends s old x) touched)
+    (referring : (x : RowId) → contains row_id_cmp referred x ≡ is_referred s now touched x)
+    (others : waiting ≡ filter (λ x. not (supports s referred x)) rows) where
+  -- one on which no row that was touched bears
+  untouched : (x y : RowId) → list_any (same_row x) rows ≡ false → depends s old x y ≡ true → list_any (same_row y) touched ≡ false
+  untouched x y absent e = by (list_any (same_row y) touched) refl
+    where
+      by : (b : Bool) → list_any (same_row y) touched ≡ b → b ≡ false
+      by true listed = sym (gives_any (depends s old x) touched y (member y touched listed) e) ∙ sym (depending x) ∙ absent
+      by false listed = refl
 
--- tests of support that agree
-pub held_agree : (s : Schema) (old : Db) (xs : List RowId) (p q : RowId → Bool) → ((x : RowId) → p x ≡ q x) → list_all (λ x. is_held s p x (row_of old x)) xs ≡ list_all (λ x. is_held s q x (row_of old x)) xs
-held_agree s old xs p q agree = (λ i. list_all (λ x. by x (row_of old x) i) xs)
-  where
-    by : (x : RowId) (o : Option Row) → is_held s p x o ≡ is_held s q x o
-    by x None = agree x
-    by x (Some r) = λ i. list_all (λ y. same_row y x || agree y i) (strong_of_row s x r)
+  supported_still : (x : RowId) → is_there now x ≡ true → list_any (same_row x) rows ≡ false → has_support s now (row_ids now) x ≡ true
+  supported_still x there absent = by (kept_is_supported s old x (settled x was)).1
+    where
+      was : is_there old x ≡ true
+      was = sym (ap is_some (same x (untouched x x absent (ap (λ b. b || refers s old x x) (own_row x))))) ∙ there
+
+      by : (is_root_at s x.0 ≡ true) ⊎ ((y : RowId) × (is_kept s old y ≡ true) × (same_row x y ≡ false) × (refers s old y x ≡ true)) → has_support s now (row_ids now) x ≡ true
+      by (inl root) = supported_root s now (row_ids now) x root
+      by (inr v) = supported_by s now x v.0 v.2 (ap (λ o. unwrap_or (option_map (λ r. list_any (same_row x) (strong_of_row s v.0 r)) o) false) (same v.0 (untouched x v.0 absent (or_right (same_row x v.0) _ v.3))) ∙ v.3)
+
+  pub supported_but : SupportedBut s now waiting
+  supported_but x there absent = by (list_any (same_row x) rows) refl
+    where
+      other : (b c : Bool) → (b && not c) ≡ false → b ≡ true → c ≡ true
+      other true c e h = not_false c e
+      other false c e h = absurd (true≢false (sym h))
+
+      by : (b : Bool) → list_any (same_row x) rows ≡ b → has_support s now (row_ids now) x ≡ true
+      by true listed =
+          let supported : supports s referred x ≡ true = other (list_any (same_row x) rows) (supports s referred x) (sym (any-filter (λ y. not (supports s referred y)) x rows) ∙ ap (list_any (same_row x)) (sym others) ∙ absent) listed in
+          supported_among s now touched x (sym (ap (λ b. is_root_at s x.0 || b) (referring x)) ∙ supported)
+      by false listed = supported_still x there listed

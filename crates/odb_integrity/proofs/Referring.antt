@@ -1,33 +1,44 @@
 -- Where a row refers to another one, it mentions it by a reference of the schema.
-use Rattle.std.specs.Prelude.{◌≡◌, ◌⊎◌, ℕ, zero, suc, ◌+◌, Bool, true, false, cond, not, ◌&&◌, ◌||◌, List, [], ◌∷◌, ◌++◌, filter_map, flat_map, slice_get, zip, unwrap_or, Option, Some, None, option_map, option_to_list}
+use Rattle.std.specs.Prelude.{◌≡◌, ◌⊎◌, ℕ, zero, suc, ◌+◌, ◌<◌, Bool, true, false, cond, not, ◌&&◌, ◌||◌, ◌==◌, List, [], ◌∷◌, ◌++◌, filter_map, flat_map, length, map as map_list, slice_get, take, zip, is_some, unwrap_or, Option, Some, None, option_map, option_to_list}
 use Rattle.std.specs.List.{enumerate_from, list_any}
-use Rattle.std.specs.Cmp.{unsigned_Decides}
+use Rattle.std.specs.Cmp.{unsigned_Decides, unsigned_tied}
+use Rattle.std.specs.Ordering.{eq_by_cmp}
+use denote.Ref.{Bor}
 use mathlib.Core.Path.{refl, sym, ap, subst, ◌∙◌}
 use mathlib.Core.Logic.{inl, inr}
 use mathlib.Core.Bool.{true≢false}
-use Rattle.std.proofs.Common.{arith}
+use Rattle.std.proofs.Common.{arith, get_or}
+use Rattle.std.proofs.lemmas.List.{take_more}
 use Rattle.std.proofs.lemmas.List.Folds.{list_any-append}
 use Rattle.std.proofs.lemmas.Option.{none-some, same_Some}
+use Rattle.odb_atoms.proofs.Atoms.{uuid_cmp-IsAntisymmetric}
 use Rattle.odb_atoms.proofs.Equal.{same_atom-itself}
-use Rattle.odb_atoms.proofs.FinMaps.{contains_key-keys}
-use Rattle.odb_atoms.proofs.Lists.{Member, any-map, any_gives, either, gives_any, or_right}
+use Rattle.odb_atoms.proofs.FinMaps.{contains_key-keys, same_key}
+use Rattle.odb_atoms.proofs.Lists.{Member, any-map, any_gives, both, either, gives_any, member-++, or_right}
 use Rattle.odb_atoms.specs.Atom.{Atom, atom_cmp, boolean, integer, same_atom, text, uuid}
 use Rattle.odb_atoms.specs.ColType.{Base, ColType, value_base}
 use Rattle.odb_atoms.specs.FinMap as map
 use Rattle.odb_atoms.specs.FinSet as set
+use Rattle.odb_atoms.specs.Members.{has}
+use Rattle.odb_atoms.specs.Represented.Atom.{atom_of, uuid_of}
+use Rattle.odb_atoms.specs.Represented.Value.{Lists, pair_of}
 use Rattle.odb_atoms.specs.Row.{Row, cell, declared}
-use Rattle.odb_atoms.specs.Uuid.{zero_uuid}
+use Rattle.odb_atoms.specs.Uuid.{uuid_cmp, zero_uuid}
 use Rattle.odb_atoms.specs.Value.{Value, map_of, set_of}
-use Rattle.std.specs.Ordering.{eq_by_cmp}
+use Rattle.odb_atoms.specs.declared.atom.Atom as declared_atom
+use Rattle.odb_atoms.specs.declared.value.Entries.TheVariants as entries
 use Rattle.odb_schema.specs.Schema.{Column, Schema, TableSchema, columns_at}
 use Rattle.odb_tables.specs.Database.{Db}
 use Rattle.odb_tables.specs.Kept.{mentions as value_mentions}
+use Rattle.odb_integrity.specs.References.{names}
 use Rattle.odb_integrity.specs.Represented.Reference.{base_references, column_references, mentions_by, references_of}
-use Rattle.odb_integrity.specs.Settlement.{RowId, is_stale, is_there, is_weak, referent, row_of, same_row, strong_of_row, strong_of_value, strong_target, target, weak_target}
+use Rattle.odb_integrity.specs.Settlement.{RowId, is_referred, is_stale, is_there, is_weak, referent, refers, row_ids, row_of, same_row, strong_of_row, strong_of_value, strong_target, target, weak_target}
 use Rattle.odb_integrity.specs.Steps.{has_stale, row_has_stale}
 use Rattle.odb_integrity.specs.declared.referrers.Reference.{Reference}
-use Rattle.odb_integrity.proofs.Ids.{same_row_equal}
-use Rattle.odb_integrity.proofs.Settles.{any-filter_map, any-flat_map}
+use Rattle.odb_integrity.proofs.Databases.{any-row_ids, any_both}
+use Rattle.odb_integrity.proofs.Ids.{member, same_row_equal}
+use Rattle.odb_integrity.proofs.Prunings.{not_found}
+use Rattle.odb_integrity.proofs.Settles.{any-filter_map, any-flat_map, none_found}
 
 -- ---- members of lists
 
@@ -237,3 +248,101 @@ module _ (s : Schema) where
 
   pub weak_found : (db : Db) (x y : RowId) (r : Row) → row_of db x ≡ Some r → Names (weak_target s) s x r y → (f : Reference) × Member f (references_of s) × (f.weak ≡ true) × (mentions_by db x y f ≡ true)
   weak_found = found (weak_target s) true weak_kind
+
+-- ---- who refers to a row
+
+-- the row y, another one than x, refers to x strongly
+abbrev pub other_refers : Schema → Db → RowId → RowId → Bool
+other_refers s db x y = not (same_row x y) && refers s db y x
+
+-- by the reference, where it is strong, no other row that mentions x refers to it strongly
+abbrev pub IsUnused : Schema → Db → RowId → Reference → Type 0
+IsUnused s db x f = f.weak ≡ false → (y : RowId) → mentions_by db y x f ≡ true → other_refers s db x y ≡ false
+
+module _ (s : Schema) (db : Db) (x : RowId) where
+  pub one_refers : (y : RowId) → other_refers s db x y ≡ true → is_referred s db (row_ids db) x ≡ true
+  one_refers y e = gives_any (other_refers s db x) (row_ids db) y (member y (row_ids db) (any-row_ids db y ∙ there (row_of db y) (both (not (same_row x y)) (refers s db y x) e).1)) e
+    where
+      there : (o : Option Row) → unwrap_or (option_map (λ r. list_any (same_row x) (strong_of_row s y r)) o) false ≡ true → is_some o ≡ true
+      there None e = absurd (true≢false (sym e))
+      there (Some r) e = refl
+
+  pub none_refers : ((f : Reference) → Member f (references_of s) → IsUnused s db x f) → is_referred s db (row_ids db) x ≡ false
+  none_refers h = none_found (other_refers s db x) (row_ids db) (λ y m. by y (row_of db y) refl)
+    where
+      never : (b c : Bool) → c ≡ false → (b && c) ≡ false
+      never true c e = e
+      never false c e = refl
+
+      tests : (y : RowId) (r : Row) → row_of db y ≡ Some r → (b : Bool) → list_any (same_row x) (strong_of_row s y r) ≡ b → other_refers s db x y ≡ false
+      tests y r there true e = let w = strong_found s db y x r there (strong_names s x y r e) in h w.0 w.1 w.2 y w.3
+      tests y r there false e = never (not (same_row x y)) (refers s db y x) (ap (λ o. unwrap_or (option_map (λ r. list_any (same_row x) (strong_of_row s y r)) o) false) there ∙ e)
+
+      by : (y : RowId) (o : Option Row) → row_of db y ≡ o → other_refers s db x y ≡ false
+      by y None there = never (not (same_row x y)) (refers s db y x) (ap (λ o. unwrap_or (option_map (λ r. list_any (same_row x) (strong_of_row s y r)) o) false) there)
+      by y (Some r) there = tests y r there (list_any (same_row x) (strong_of_row s y r)) refl
+
+-- a test that none of the rows of a table with these identifiers passes
+pub none_in_table : (p : RowId → Bool) (t : ℕ) (us : List (List ℕ)) → list_any (λ u. p (t, uuid_of u)) us ≡ false → (y : RowId) → (y.0 == t) ≡ true → list_any (eq_by_cmp uuid_cmp y.1) (map_list uuid_of us) ≡ true → p y ≡ false
+none_in_table p t us none y table listed =
+    let w = any_gives (λ u. eq_by_cmp uuid_cmp y.1 (uuid_of u)) us (sym (any-map (eq_by_cmp uuid_cmp y.1) uuid_of us) ∙ listed) in
+    (λ i. p ((unsigned_Decides y.0 t).0 table i, same_key uuid_cmp-IsAntisymmetric y.1 (uuid_of w.0) w.2 i)) ∙ not_found (λ u. p (t, uuid_of u)) us none w.0 w.1
+
+-- one item more
+pub each_more : {A : Type 0} (P : A → Type 0) (xs : List A) (i : ℕ) (x : A) → i < length xs → x ≡ get_or xs i x → ((y : A) → Member y (take i xs) → P y) → P x → (y : A) → Member y (take (i + 1) xs) → P y
+each_more P xs i x inside is before here y m = by (member-++ y (take i xs) (x ∷ []) (subst (Member y) (take_more xs i x inside ∙ ap (λ z. take i xs ++ z ∷ []) (sym is)) m))
+  where
+    by : Member y (take i xs) ⊎ Member y (x ∷ []) → P y
+    by (inl n) = before y n
+    by (inr (inl e)) = subst P (sym e) here
+    by (inr (inr n)) = absurd n
+
+-- ---- tests of values
+
+-- a set has the row
+pub set_refers : (s : Schema) (t : ColType) (e : Bor (List declared_atom.Atom)) (v : Value) → Lists (entries.Set e) v → (k : Option ℕ) → k ≡ strong_target s t.key → (y : RowId) → (unwrap_or (option_map (λ j. y.0 == j) k) false && has v (uuid y.1)) ≡ list_any (same_row y) (strong_of_value s t v)
+set_refers s t e (map_of m) is k key y = absurd is
+set_refers s t e (set_of v) is k key y = by k ∙ (λ i. list_any (passes (same_row y) (key i)) (set.items v)) ∙ sym (any-filter_map (same_row y) (referent (strong_target s t.key)) (set.items v))
+  where
+    never : (b : Bool) → false ≡ (b && false)
+    never true = refl
+    never false = refl
+
+    one : (j : ℕ) (a : Atom) → ((y.0 == j) && same_atom (uuid y.1) a) ≡ passes (same_row y) (Some j) a
+    one j (integer z) = sym (never (y.0 == j))
+    one j (boolean b) = sym (never (y.0 == j))
+    one j (text t) = sym (never (y.0 == j))
+    one j (uuid u) = λ i. (y.0 == j) && unsigned_tied y.1.number u.number i
+
+    nothing : (atoms : List Atom) → false ≡ list_any (passes (same_row y) None) atoms
+    nothing [] = refl
+    nothing (integer z ∷ atoms) = nothing atoms
+    nothing (boolean b ∷ atoms) = nothing atoms
+    nothing (text t ∷ atoms) = nothing atoms
+    nothing (uuid u ∷ atoms) = nothing atoms
+
+    by : (o : Option ℕ) → (unwrap_or (option_map (λ j. y.0 == j) o) false && set.contains v (uuid y.1)) ≡ list_any (passes (same_row y) o) (set.items v)
+    by None = nothing (set.items v)
+    by (Some j) = ap (λ b. (y.0 == j) && b) (contains_key-keys v (uuid y.1)) ∙ sym (any_both (y.0 == j) (same_atom (uuid y.1)) (set.items v)) ∙ (λ i. list_any (λ a. one j a i) (set.items v))
+
+any_or : {A : Type 0} (p q : A → Bool) (xs : List A) → list_any (λ x. p x || q x) xs ≡ (list_any p xs || list_any q xs)
+any_or p q [] = refl
+any_or p q (x ∷ xs) = ap (λ b. (p x || q x) || b) (any_or p q xs) ∙ mixed (p x) (q x) (list_any p xs) (list_any q xs)
+  where
+    mixed : (a b c d : Bool) → ((a || b) || (c || d)) ≡ ((a || c) || (b || d))
+    mixed true b c d = refl
+    mixed false true true d = refl
+    mixed false true false d = refl
+    mixed false false c d = refl
+
+-- a pair of a map names the row
+pub map_refers : (s : Schema) (t : ColType) (p : Bor (List (declared_atom.Atom × declared_atom.Atom))) (v : Value) → Lists (entries.Map p) v → (k w : Option ℕ) → k ≡ strong_target s t.key → w ≡ strong_target s (value_base t) → (y : RowId) → list_any (λ q. names k y (atom_of q.0) || names w y (atom_of q.1)) p.now ≡ list_any (same_row y) (strong_of_value s t v)
+unfolding map.keys
+map_refers s t p (set_of v) is k w key value y = absurd is
+map_refers s t p (map_of m) is k w key value y =
+    let both_named : Atom × Atom → Bool = λ e. names k y e.0 || names w y e.1 in
+    sym (any-map both_named pair_of p.now) ∙ ap (list_any both_named) is
+    ∙ any_or (λ (e : Atom × Atom). names k y e.0) (λ (e : Atom × Atom). names w y e.1) m.entries
+    ∙ (λ i. list_any (λ (e : Atom × Atom). names (key i) y e.0) m.entries || list_any (λ (e : Atom × Atom). names (value i) y e.1) m.entries)
+    ∙ (λ i. sym (any-filter_map (same_row y) (referent (strong_target s t.key)) (map.keys m) ∙ any-map (passes (same_row y) (strong_target s t.key)) (λ (e : Atom × Atom). e.0) m.entries) i || sym (any-filter_map (same_row y) (referent (strong_target s (value_base t))) (map.values m) ∙ any-map (passes (same_row y) (strong_target s (value_base t))) (λ (e : Atom × Atom). e.1) m.entries) i)
+    ∙ sym (list_any-append (same_row y) (filter_map (referent (strong_target s t.key)) (map.keys m)) (filter_map (referent (strong_target s (value_base t))) (map.values m)))

@@ -43,7 +43,7 @@ never : {A : Type 0} (xs : List A) → list_any (λ _. false) xs ≡ false
 never [] = refl
 never (x ∷ xs) = never xs
 
-none_found : {A : Type 0} (p : A → Bool) (xs : List A) → ((x : A) → Member x xs → p x ≡ false) → list_any p xs ≡ false
+pub none_found : {A : Type 0} (p : A → Bool) (xs : List A) → ((x : A) → Member x xs → p x ≡ false) → list_any p xs ≡ false
 none_found p xs h = any_agree p (λ _. false) xs h ∙ never xs
 
 -- ---- tests that no row passes

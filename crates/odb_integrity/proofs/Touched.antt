@@ -51,10 +51,6 @@ module _ (p : RowId → Row → Bool) (db : Db) where
       by x r there true e = sym (ap (λ o. unwrap_or (option_map (p x) o) false) there) ∙ not_found (at_row p db) rows (ap (list_any (at_row p db)) (sym (take_all i rows past)) ∙ none) x (member x rows e)
       by x r there false e = covers x r there e
 
-  -- all rows are listed
-  pub covers_all : (rows : List RowId) → rows ≡ row_ids db → Covers p db rows
-  covers_all rows all x r there absent = absurd (true≢false (sym (ap (list_any (same_row x)) all ∙ any-row_ids db x ∙ ap is_some there) ∙ absent))
-
 -- ---- rows that weren't touched
 
 module _ (old now : Db) (xs : List RowId) (same : SameBut xs old now) where

@@ -1,6 +1,6 @@
 -- What is known of a database that was changed in some rows alone, and which of its rows are to be tested.
-use Rattle.std.specs.Prelude.{◌≡◌, ◌⊎◌, ℕ, Bool, true, false, ◌||◌, List, slice_get, Option, Some, None}
-use Rattle.std.specs.List.{list_all, list_any}
+use Rattle.std.specs.Prelude.{◌≡◌, ◌⊎◌, ℕ, Bool, true, false, not, ◌&&◌, ◌||◌, List, slice_get, Option, Some, None}
+use Rattle.std.specs.List.{list_any}
 use Rattle.std.specs.Ordering.{eq_by_cmp}
 use Rattle.odb_atoms.specs.FinMap as map
 use Rattle.odb_atoms.specs.Row.{Row}
@@ -9,7 +9,7 @@ use Rattle.odb_atoms.specs.Value.{Value, same_value}
 use Rattle.odb_schema.specs.Schema.{Schema}
 use Rattle.odb_tables.specs.Database.{Db, Table}
 use Rattle.odb_tables.specs.Kept.{cells_at, has_twin}
-use Rattle.odb_integrity.specs.Settlement.{RowId, row_of, same_row, strong_of_row}
+use Rattle.odb_integrity.specs.Settlement.{RowId, has_support, is_there, refers, row_ids, row_of, same_row}
 
 -- rows that aren't listed are as they were
 abbrev pub SameBut : List RowId → Db → Db → Type 0
@@ -27,10 +27,19 @@ SameEntries us old now = (u : Uuid) → list_any (eq_by_cmp uuid_cmp u) us ≡ f
 abbrev pub Covers : (RowId → Row → Bool) → Db → List RowId → Type 0
 Covers p db xs = (x : RowId) (r : Row) → row_of db x ≡ Some r → list_any (same_row x) xs ≡ false → p x r ≡ false
 
--- What the row was leaves nothing without support: it had none itself, where it is new, and each other row to which it referred strongly has some now.
-abbrev pub is_held : Schema → (RowId → Bool) → RowId → Option Row → Bool
-is_held s has_support x None = has_support x
-is_held s has_support x (Some r) = list_all (λ y. same_row y x || has_support y) (strong_of_row s x r)
+-- ---- support
+
+-- x is the row y, or y has a strong reference to it
+abbrev pub depends : Schema → Db → RowId → RowId → Bool
+depends s db x y = same_row x y || refers s db y x
+
+-- a row that is there has no support by another one
+abbrev pub is_lost : Schema → Db → RowId → Bool
+is_lost s db x = is_there db x && not (has_support s db (row_ids db) x)
+
+-- each row that is there has it, but for listed ones
+abbrev pub SupportedBut : Schema → Db → List RowId → Type 0
+SupportedBut s db xs = (x : RowId) → is_there db x ≡ true → list_any (same_row x) xs ≡ false → has_support s db (row_ids db) x ≡ true
 
 -- ---- the columns of an index
 

@@ -1,26 +1,32 @@
 //! Garbage collection (RFC 7047, section 3.2, `isRoot`). [P 5]
-ghost use Rattle.std.specs.Prelude.{◌≡◌, ◌++◌, ◌&&◌, ◌||◌, ◌<◌, filter, length, not, true, ℕ, IfOk, IsTrue, OnOk};
+ghost use Rattle.std.specs.Prelude.{◌≡◌, ◌&&◌, ◌||◌, ◌<◌, false, filter, length, not, true, ℕ, IfOk, IsTrue, OnOk};
 ghost use Rattle.std.specs.BTreeSet.{contains};
-ghost use Rattle.std.specs.List.{list_all, list_any};
+ghost use Rattle.std.specs.List.{All, list_any};
+ghost use Rattle.odb_atoms.specs.Represented.Atom.{uuid_of};
 ghost use Rattle.odb_integrity.specs.Settled.{IsSettled};
 ghost use Rattle.odb_integrity.specs.Settlement as model;
-ghost use Rattle.odb_integrity.specs.Settlement.{is_kept, is_there, kept, refers, row_of, same_row};
+ghost use Rattle.odb_integrity.specs.Settlement.{kept, refers, row_ids, same_row};
+ghost use Rattle.odb_integrity.specs.Steps.{without_rows};
+ghost use Rattle.odb_integrity.specs.Represented.Reference.{mentions_by, references_of};
 ghost use Rattle.odb_integrity.specs.Represented.RowId.{row_id_cmp, supports};
-ghost use Rattle.odb_integrity.specs.Touched.{is_held};
+ghost use Rattle.odb_integrity.specs.Touched.{SupportedBut, depends, is_lost};
 ghost use Rattle.odb_schema.specs.Schema.{is_root_at};
 ghost use Rattle.odb_tables.specs.Typed.{IsTyped};
 
-use crate::dangling::is_one_missing;
-use crate::references::{has_mixed, strong_of_row};
+use crate::dangling::is_missing;
+use crate::references::{has_mixed, row_refers, strong_of_row};
+use crate::referrers::{Reference, references_of};
 use crate::row_id::RowId;
-use crate::rows::{remove_all, rows_of, touched_rows};
+use crate::rows::{in_order, remove_all, rows_of, touched_rows};
 use odb_schema::{Schema, TableId};
 use odb_tables::Draft;
 use std::alloc::{AllocError, Global};
 use std::collections::BTreeSet;
+use uuid::Uuid;
 
 /// Takes out the rows that nothing keeps: those that are neither of a root table nor strongly referenced
-/// by another row that is kept. Where it is plain that each row is kept, it looks at touched rows alone.
+/// by another row that is kept. Only rows that may have lost what kept them are looked at, and what a row
+/// that goes out referred to.
 pub(crate) fn collect_garbage(
     alloc: Global,
     draft: &mut Draft,
@@ -31,33 +37,15 @@ pub(crate) fn collect_garbage(
     ensures kept { OnOk result (draft.new.now ≡ kept schema.now draft.old.now) }
     ensures base { draft.new.old ≡ draft.old.old }
 {
-    if keeps_all(alloc, draft, schema)? {
+    if is_all_root(schema) {
         return Ok(());
     }
-    let lost = lost_rows(alloc, draft, schema)?;
-    remove_all(draft, &lost)
-}
-
-/// Whether it is plain that each row is kept: where all tables are root, or where no column pairs weak
-/// references with strong ones, no row went, and each touched row left what supports as it was.
-fn keeps_all(alloc: Global, draft: &Draft, schema: &Schema) -> Result<bool, AllocError>
-    requires typed { IsTyped schema.now draft.now.now }
-    requires settled { IsSettled schema.now draft.now.old }
-    ensures { IfOk result (λ keeps. IsTrue keeps
-        → (x : model.RowId) → is_there draft.now.now x ≡ true → is_kept schema.now draft.now.now x ≡ true) }
-{
-    if is_all_root(schema) {
-        return Ok(true);
+    let waiting = first_waiting(alloc, draft, schema)?;
+    if waiting.is_empty() {
+        return Ok(());
     }
-    if has_mixed(schema) {
-        return Ok(false);
-    }
-    let touched = touched_rows(alloc, draft)?;
-    if is_one_missing(draft, &touched) {
-        return Ok(false);
-    }
-    let referred = referred(alloc, draft, schema, &touched)?;
-    are_held(alloc, draft, schema, &touched, &referred)
+    let references = references_of(alloc, schema)?;
+    remove_lost(alloc, draft, schema, &references, waiting)
 }
 
 /// Whether each table is a root table. O(tables).
@@ -72,102 +60,246 @@ fn is_all_root(schema: &Schema) -> bool
     true
 }
 
-/// Whether each of the rows left nothing without support, where these rows are referred to now.
-fn are_held(
+/// The rows that may have lost what kept them: those that were touched, and those to which these had
+/// strong references, but for rows to which a touched row has one now. Where a column pairs weak
+/// references with strong ones, a row of a settled database may have lost it before, and all rows are
+/// listed.
+fn first_waiting(alloc: Global, draft: &Draft, schema: &Schema) -> Result<Vec<RowId>, AllocError>
+    requires { IsSettled schema.now draft.now.old }
+    ensures { IfOk result (λ waiting. SupportedBut schema.now draft.now.now waiting.items) }
+{
+    if has_mixed(schema) {
+        return rows_of(alloc, draft);
+    }
+    let touched = touched_rows(alloc, draft)?;
+    let rows = with_referents(alloc, draft, schema, &touched)?;
+    let referred = referred(alloc, draft, schema, &touched)?;
+    without_support(alloc, schema, &referred, &rows)
+}
+
+/// The rows of the list, and those to which these had strong references before.
+fn with_referents(
     alloc: Global,
     draft: &Draft,
     schema: &Schema,
     rows: &[RowId],
-    referred: &BTreeSet<RowId>,
-) -> Result<bool, AllocError>
-    ensures { IfOk result (λ held. held
-        ≡ list_all (λ x. is_held schema.now (supports schema.now referred.now) x (row_of draft.now.old x)) rows.now) }
+) -> Result<Vec<RowId>, AllocError>
+    ensures { IfOk result (λ all. (x : model.RowId)
+        → list_any (same_row x) all.items ≡ list_any (depends schema.now draft.now.old x) rows.now) }
 {
+    let mut all = BTreeSet::new(alloc);
     for row in rows {
-        if !is_held(alloc, draft, schema, *row, referred)? {
-            return Ok(false);
-        }
+        insert_with_referents(alloc, draft, schema, *row, &mut all)?;
     }
-    Ok(true)
+    in_order(alloc, &all)
 }
 
-fn is_held(
+fn insert_with_referents(
     alloc: Global,
     draft: &Draft,
     schema: &Schema,
     id: RowId,
-    referred: &BTreeSet<RowId>,
-) -> Result<bool, AllocError>
-    ensures { IfOk result (λ held. held
-        ≡ is_held schema.now (supports schema.now referred.now) id (row_of draft.now.old id)) }
+    all: &mut BTreeSet<RowId>,
+) -> Result<(), AllocError>
+    ensures { OnOk result ((x : model.RowId)
+        → contains row_id_cmp all.new x
+        ≡ (contains row_id_cmp all.old x || depends schema.now draft.now.old x id)) }
 {
+    all.insert(id)?;
     match draft.before(id.table(), id.uuid()) {
         Some(row) => {
             let referents = strong_of_row(alloc, schema, id, row)?;
-            Ok(have_support(schema, referred, id, &referents))
+            insert_rows(&referents, all)
         }
-        None => Ok(has_support(schema, referred, &id)),
+        None => Ok(()),
     }
 }
 
-/// Whether each of the rows but `id` has support.
-fn have_support(schema: &Schema, referred: &BTreeSet<RowId>, id: RowId, rows: &[RowId]) -> bool
-    ensures { result ≡ list_all (λ x. same_row x id || supports schema.now referred.now x) rows.now }
+fn insert_rows(rows: &[RowId], all: &mut BTreeSet<RowId>) -> Result<(), AllocError>
+    ensures { OnOk result ((x : model.RowId)
+        → contains row_id_cmp all.new x
+        ≡ (contains row_id_cmp all.old x || list_any (same_row x) rows.now)) }
 {
-    rows.iter()
-        .all(|row| *row == id || has_support(schema, referred, row))
-}
-
-/// The rows that nothing keeps. It scans the remaining rows again and again, and takes out those to
-/// which no other remaining row has a strong reference, until a scan takes out none: O(n log n) a
-/// round for n rows and their references.
-fn lost_rows(alloc: Global, draft: &Draft, schema: &Schema) -> Result<Vec<RowId>, AllocError>
-    ensures { IfOk result (λ lost. (x : model.RowId)
-        → list_any (same_row x) lost.items
-        ≡ (is_there draft.now.now x && not (is_kept schema.now draft.now.now x))) }
-{
-    let mut lost = Vec::new(alloc);
-    let mut left = rows_of(alloc, draft)?;
-    loop {
-        let supported = supported(alloc, draft, schema, &left, &mut lost)?;
-        if supported.len() == left.len() {
-            return Ok(lost);
-        }
-        left = supported;
-    }
-}
-
-/// The rows of the list that are of root tables, or to which another row of it has a strong reference.
-/// The others are added to `lost`.
-fn supported(
-    alloc: Global,
-    draft: &Draft,
-    schema: &Schema,
-    rows: &[RowId],
-    lost: &mut Vec<RowId>,
-) -> Result<Vec<RowId>, AllocError>
-    ensures supported { IfOk result (λ supported.
-        supported.items ≡ filter (model.has_support schema.now draft.now.now rows.now) rows.now) }
-    ensures lost { OnOk result
-        (lost.new.items
-        ≡ lost.old.items ++ filter (λ x. not (model.has_support schema.now draft.now.now rows.now x)) rows.now) }
-{
-    let referred = referred(alloc, draft, schema, rows)?;
-    let mut supported = Vec::new(alloc);
     for row in rows {
-        if has_support(schema, &referred, row) {
-            supported.push(*row)?;
-        } else {
-            lost.push(*row)?;
+        all.insert(*row)?;
+    }
+    Ok(())
+}
+
+/// Those of the rows that are neither of a root table nor among `referred`.
+fn without_support(
+    alloc: Global,
+    schema: &Schema,
+    referred: &BTreeSet<RowId>,
+    rows: &[RowId],
+) -> Result<Vec<RowId>, AllocError>
+    ensures { IfOk result (λ others.
+        others.items ≡ filter (λ x. not (supports schema.now referred.now x)) rows.now) }
+{
+    let mut others = Vec::new(alloc);
+    for row in rows {
+        if !has_support(schema, referred, row) {
+            others.push(*row)?;
         }
     }
-    Ok(supported)
+    Ok(others)
 }
 
 fn has_support(schema: &Schema, referred: &BTreeSet<RowId>, row: &RowId) -> bool
     ensures { result ≡ supports schema.now referred.now row.now }
 {
     schema.is_root(row.table()) || referred.contains(row)
+}
+
+/// Takes out the rows that nothing keeps, where the waiting ones are all that may have lost it: in turn
+/// those that are lost now, after which the rows wait to which these referred. Rows that refer to each
+/// other strongly keep each other, and none keeps itself.
+///
+/// For each row that waits it looks for one that refers to it: O(references), and O(n) for n rows that
+/// mention it where the last of them is the first that keeps it.
+fn remove_lost(
+    alloc: Global,
+    draft: &mut Draft,
+    schema: &Schema,
+    references: &[Reference],
+    mut waiting: Vec<RowId>,
+) -> Result<(), AllocError>
+    requires references { references.now ≡ references_of schema.now }
+    requires waiting { SupportedBut schema.now draft.old.now waiting.items }
+    ensures kept { OnOk result (draft.new.now ≡ kept schema.now draft.old.now) }
+    ensures base { draft.new.old ≡ draft.old.old }
+{
+    loop {
+        let lost = lost_of(alloc, draft, schema, references, &waiting)?;
+        if lost.is_empty() {
+            return Ok(());
+        }
+        let next = take_out(alloc, draft, schema, &lost)?;
+        waiting = next;
+    }
+}
+
+/// Takes the rows out, and lists the others to which they referred.
+fn take_out(
+    alloc: Global,
+    draft: &mut Draft,
+    schema: &Schema,
+    rows: &[RowId],
+) -> Result<Vec<RowId>, AllocError>
+    requires in_tables { All (λ x. x.0 < length draft.old.now) rows.now }
+    ensures removed { OnOk result (draft.new.now ≡ without_rows rows.now draft.old.now) }
+    ensures referents { IfOk result (λ referents. (x : model.RowId)
+        → list_any (same_row x) referents.items ≡ model.is_referred schema.now draft.old.now rows.now x) }
+    ensures base { draft.new.old ≡ draft.old.old }
+{
+    let referred = referred(alloc, draft, schema, rows)?;
+    let referents = in_order(alloc, &referred)?;
+    remove_all(draft, rows)?;
+    Ok(referents)
+}
+
+/// Those of the rows that are there, but neither of a root table nor strongly referenced by another row.
+fn lost_of(
+    alloc: Global,
+    draft: &Draft,
+    schema: &Schema,
+    references: &[Reference],
+    rows: &[RowId],
+) -> Result<Vec<RowId>, AllocError>
+    requires { references.now ≡ references_of schema.now }
+    ensures { IfOk result (λ lost. lost.items ≡ filter (is_lost schema.now draft.now.now) rows.now) }
+{
+    let mut lost = Vec::new(alloc);
+    for row in rows {
+        if is_lost(draft, schema, references, *row)? {
+            lost.push(*row)?;
+        }
+    }
+    Ok(lost)
+}
+
+fn is_lost(
+    draft: &Draft,
+    schema: &Schema,
+    references: &[Reference],
+    row: RowId,
+) -> Result<bool, AllocError>
+    requires { references.now ≡ references_of schema.now }
+    ensures { IfOk result (λ lost. lost ≡ is_lost schema.now draft.now.now row) }
+{
+    if is_missing(draft, row) {
+        return Ok(false);
+    }
+    if schema.is_root(row.table()) {
+        return Ok(false);
+    }
+    let referred = is_referred(draft, schema, references, row)?;
+    Ok(!referred)
+}
+
+/// Whether another row has a strong reference to the row.
+fn is_referred(
+    draft: &Draft,
+    schema: &Schema,
+    references: &[Reference],
+    row: RowId,
+) -> Result<bool, AllocError>
+    requires { references.now ≡ references_of schema.now }
+    ensures { IfOk result (λ referred. referred
+        ≡ model.is_referred schema.now draft.now.now (row_ids draft.now.now) row) }
+{
+    for reference in references {
+        if is_referred_by(draft, schema, reference, row)? {
+            return Ok(true);
+        }
+    }
+    Ok(false)
+}
+
+/// Whether the reference is strong, and another row that mentions the row by it refers to it strongly.
+fn is_referred_by(
+    draft: &Draft,
+    schema: &Schema,
+    reference: &Reference,
+    row: RowId,
+) -> Result<bool, AllocError>
+    ensures found { IfOk result (λ found. IsTrue found
+        → model.is_referred schema.now draft.now.now (row_ids draft.now.now) row ≡ true) }
+    ensures none { IfOk result (λ found. found ≡ false → reference.now.weak ≡ false
+        → (y : model.RowId) → mentions_by draft.now.now y row reference.now ≡ true
+        → (not (same_row row y) && refers schema.now draft.now.now y row) ≡ false) }
+{
+    if reference.is_weak() {
+        return Ok(false);
+    }
+    if reference.target() != row.table() {
+        return Ok(false);
+    }
+    let uuids = draft.referrers(reference.table(), reference.place(), row.uuid())?;
+    Ok(has_referrer(draft, schema, reference.table(), &uuids, row))
+}
+
+/// Whether one of these rows of the table, and not `row` itself, has a strong reference to it.
+fn has_referrer(draft: &Draft, schema: &Schema, table: TableId, uuids: &[Uuid], row: RowId) -> bool
+    ensures { result ≡ list_any (λ uuid. not (same_row row (table, uuid_of uuid))
+        && refers schema.now draft.now.now (table, uuid_of uuid) row) uuids.now }
+{
+    uuids.iter().any(|uuid| is_referrer(draft, schema, RowId::new(table, *uuid), row))
+}
+
+fn is_referrer(draft: &Draft, schema: &Schema, referrer: RowId, row: RowId) -> bool
+    ensures { result ≡ (not (same_row row referrer) && refers schema.now draft.now.now referrer row) }
+{
+    row != referrer && refers(draft, schema, referrer, row)
+}
+
+fn refers(draft: &Draft, schema: &Schema, id: RowId, referent: RowId) -> bool
+    ensures { result ≡ refers schema.now draft.now.now id referent }
+{
+    match draft.get(id.table(), id.uuid()) {
+        Some(row) => row_refers(schema, id, row, referent),
+        None => false,
+    }
 }
 
 /// The rows to which a row of the list, and not they themselves, has a strong reference.

@@ -1,10 +1,13 @@
 //! What rows refer to (RFC 7047, section 3.2, `refTable` and `refType`).
-ghost use Rattle.std.specs.Prelude.{◌≡◌, ◌++◌, ◌&&◌, filter_map, map, IfOk, OnOk, option_to_list, Some};
+ghost use Rattle.std.specs.Prelude.{◌≡◌, ◌++◌, ◌&&◌, ◌||◌, ◌==◌, false, filter_map, map, option_map, option_to_list, unwrap_or, IfOk, OnOk, Some};
 ghost use Rattle.std.specs.List.{list_any};
 ghost use Rattle.odb_atoms.specs.Represented.Atom.{atom_of};
 ghost use Rattle.odb_atoms.specs.Represented.ColType.{base_of, type_of};
-ghost use Rattle.odb_integrity.specs.References.{has_type, is_mixed, is_strong};
+ghost use Rattle.odb_integrity.specs.References.{has_type, is_mixed, is_strong, names};
 ghost use Rattle.odb_integrity.specs.Settlement as model;
+ghost use Rattle.odb_integrity.specs.Settlement.{same_row};
+ghost use Rattle.odb_atoms.specs.Atom.{uuid};
+ghost use Rattle.odb_atoms.specs.Members.{has};
 ghost use Rattle.odb_atoms.specs.ColType as model_type;
 ghost use Rattle.odb_schema.specs.Schema.{columns_at};
 
@@ -80,6 +83,71 @@ pub(crate) fn strong_of_row(
         append_value(schema, column.column_type(), value, &mut rows)?;
     }
     Ok(rows)
+}
+
+/// Whether the row has a strong reference to the referent. O(columns), and O(log n) comparisons for a set
+/// of n elements, O(n) for a map.
+pub(crate) fn row_refers(schema: &Schema, id: RowId, row: &Row, referent: RowId) -> bool
+    ensures { result ≡ list_any (same_row referent) (model.strong_of_row schema.now id row.now) }
+{
+    for (column, value) in columns_of(schema, id.table()).iter().zip(row.columns()) {
+        if value_refers(schema, column.column_type(), value, referent) {
+            return true;
+        }
+    }
+    false
+}
+
+fn value_refers(schema: &Schema, column: &ColType, value: &Value, referent: RowId) -> bool
+    ensures { result ≡ list_any (same_row referent) (model.strong_of_value schema.now (type_of column.now) value.now) }
+{
+    let keys = strong_target(schema, &column.key);
+    match value.entries() {
+        Entries::Set(_) => set_refers(keys, value, referent),
+        Entries::Map(pairs) => {
+            has_pair_for(
+                keys,
+                strong_target(schema, value_base(column)),
+                pairs,
+                referent,
+            )
+        }
+    }
+}
+
+/// Whether a set of atoms that refer to the target has the referent.
+fn set_refers(target: Option<TableId>, value: &Value, referent: RowId) -> bool
+    ensures { result ≡ (unwrap_or (option_map (λ k. referent.0 == k) target) false && has value.now (uuid referent.1)) }
+{
+    match target {
+        Some(table) => referent.table() == table && value.contains(&Atom::Uuid(referent.uuid())),
+        None => false,
+    }
+}
+
+/// Whether the key of one of the pairs, or its value, names the referent.
+fn has_pair_for(
+    keys: Option<TableId>,
+    values: Option<TableId>,
+    pairs: &[(Atom, Atom)],
+    referent: RowId,
+) -> bool
+    ensures { result
+        ≡ list_any (λ p. names keys referent (atom_of p.0) || names values referent (atom_of p.1)) pairs.now }
+{
+    pairs.iter().any(|pair| names(keys, &pair.0, referent) || names(values, &pair.1, referent))
+}
+
+fn names(target: Option<TableId>, atom: &Atom, row: RowId) -> bool
+    ensures { result ≡ names target row (atom_of atom.now) }
+{
+    let Some(table) = target else {
+        return false;
+    };
+    match referent(table, atom) {
+        Some(named) => row == named,
+        None => false,
+    }
 }
 
 fn append_value(

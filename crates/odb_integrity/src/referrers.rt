@@ -31,6 +31,36 @@ pub(crate) struct Reference {
     weak: bool,
 }
 
+impl Reference {
+    /// The table to which it leads. O(1).
+    pub(crate) fn target(&self) -> TableId
+        ensures { result ≡ self.now.target }
+    {
+        self.target
+    }
+
+    /// The table of the column. O(1).
+    pub(crate) fn table(&self) -> TableId
+        ensures { result ≡ self.now.table }
+    {
+        self.table
+    }
+
+    /// The place of the column. O(1).
+    pub(crate) fn place(&self) -> usize
+        ensures { result ≡ self.now.place }
+    {
+        self.place
+    }
+
+    /// Whether it is weak. O(1).
+    pub(crate) fn is_weak(&self) -> bool
+        ensures { result ≡ self.now.weak }
+    {
+        self.weak
+    }
+}
+
 /// The references that the columns of the schema make. O(columns of the schema), and O(log n) for each
 /// reference, with n tables.
 pub(crate) fn references_of(alloc: Global, schema: &Schema) -> Result<Vec<Reference>, AllocError>

@@ -35,16 +35,19 @@ use std::alloc::{AllocError, Global};
 /// A fault leaves the draft somewhere on this way: it is to be dropped then. Rows that don't change aren't
 /// put. The draft's rows have to be of the schema, and the database that it began with settled.
 ///
-/// What wasn't touched isn't looked at: O(rows touched, and the atoms in them, before and now), O(tables)
-/// and O(columns of the schema), and for each index of a table what `Draft::has_twin` costs for each of its
-/// touched rows that is new or has another value there. Where a touched row isn't there any more, the rows
-/// that refer to it are looked at as well, which `Draft::referrers` lists for each column that refers to
-/// its table. Beyond that, with n rows in all,
+/// It costs what the transaction touched: O(rows touched, and the atoms in them, before and now), O(tables)
+/// and O(columns of the schema). Beyond that it looks at these rows, and at no others:
 ///
-/// - O(n log n) over all rows and their references for each round of garbage collection, where the schema has tables that aren't root, and a row
-///   went, or one that wasn't touched may have lost the strong reference that kept it, or a new one is
-///   referred to by no touched row, or a column pairs weak references with strong ones. There are as many
-///   rounds as the longest chain of deleted rows has links.
+/// - for each index, the touched rows of its table that are new or have another value in its columns, at
+///   what `Draft::has_twin` costs;
+/// - where a touched row isn't there any more, the rows that refer to it, as `Draft::referrers` lists them
+///   for each column that refers to its table;
+/// - of tables that aren't root, the touched rows, and those to which a touched row had a strong reference
+///   before, but for rows to which a touched row has one now; and the rows to which rows that go out
+///   referred. For each the rows that refer to it are listed in the same way, and gone over until one is
+///   found that keeps it;
+/// - all rows in place of these, where the schema has tables that aren't root, and a column pairs weak
+///   references with strong ones.
 ///
 /// An error of the outer result says that memory was refused.
 #[tactic(auto, unfolding(crate::specs::Settlement::settle))]

@@ -1,0 +1,25 @@
+use Rattle.std.proofs.Common.{rules, ◌≡◌, false, filter, not, ap, ◌∙◌}
+use Rattle.std.specs.List.{list_any}
+use Rattle.std.proofs.lemmas.Result.{IfOk-weaker}
+use Rattle.odb_integrity.specs.References.{has_type, is_mixed}
+use Rattle.odb_integrity.specs.Represented.RowId.{supports}
+use Rattle.odb_integrity.specs.Settlement.{is_referred}
+use Rattle.odb_integrity.specs.Touched.{depends}
+use Rattle.odb_integrity.proofs.Held.{all_wait, supported_but}
+use Rattle.odb_integrity.proofs.garbage.first_waiting.Goals as goal
+
+pub returns-then-has_mixed : goal.returns-then-has_mixed
+returns-then-has_mixed c = IfOk-weaker c.rows_of.result _ _ (λ rows all. all_wait c.args.schema.now c.args.draft.now.now rows.items all) c.rows_of.ensures
+
+pub returns : goal.returns
+returns c =
+    let s = c.args.schema.now in
+    let old = c.args.draft.now.old in
+    let now = c.args.draft.now.now in
+    let touched = c.in_ok-touched.touched.items in
+    let referred = c.in_ok-referred.referred in
+    let plain : has_type is_mixed s ≡ false = search rules in
+    IfOk-weaker c.without_support.result _ _ (λ waiting is. supported_but s old now touched c.in_ok-rows.rows.items waiting.items referred c.in_ok-touched.ensures (c.requires.kept plain)
+    (λ x. c.in_ok-rows.ensures x ∙ ap (list_any (depends s old x)) c.deref.ensures.value)
+    (λ x. c.in_ok-referred.ensures x ∙ ap (λ xs. is_referred s now xs x) c.deref-2.ensures.value)
+    (is ∙ ap (filter (λ x. not (supports s referred x))) c.deref-3.ensures.value)) c.without_support.ensures
