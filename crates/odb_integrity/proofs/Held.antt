@@ -99,14 +99,18 @@ module _ (s : Schema) (old now : Db) (touched rows waiting : List RowId) (referr
       by false listed = refl
 
   supported_still : (x : RowId) → is_there now x ≡ true → list_any (same_row x) rows ≡ false → has_support s now (row_ids now) x ≡ true
-  supported_still x there absent = by (kept_is_supported s old x (settled x was)).1
+  supported_still x there absent = by (kept_is_supported s old x (settled x (was (is_there old x) refl))).1
     where
-      was : is_there old x ≡ true
-      was = sym (ap is_some (same x (untouched x x absent (ap (λ b. b || refers s old x x) (own_row x))))) ∙ there
+      -- it isn't new: a new one would be listed
+      was : (b : Bool) → is_there old x ≡ b → b ≡ true
+      was true e = refl
+      was false e = sym e ∙ sym (ap is_some (same x (untouched x x absent (ap (λ b. cond b (refers s old x x) (same_row x x)) e ∙ own_row x)))) ∙ there
 
       by : (is_root_at s x.0 ≡ true) ⊎ ((y : RowId) × (is_kept s old y ≡ true) × (same_row x y ≡ false) × (refers s old y x ≡ true)) → has_support s now (row_ids now) x ≡ true
       by (inl root) = supported_root s now (row_ids now) x root
-      by (inr v) = supported_by s now x v.0 v.2 (ap (λ o. unwrap_or (option_map (λ r. list_any (same_row x) (strong_of_row s v.0 r)) o) false) (same v.0 (untouched x v.0 absent (or_right (same_row x v.0) _ v.3))) ∙ v.3)
+      by (inr v) =
+          let depending : depends s old x v.0 ≡ true = ap (λ b. cond b (refers s old v.0 x) (same_row x v.0)) (referrer_there s old v.0 x v.3) ∙ v.3 in
+          supported_by s now x v.0 v.2 (ap (λ o. unwrap_or (option_map (λ r. list_any (same_row x) (strong_of_row s v.0 r)) o) false) (same v.0 (untouched x v.0 absent depending)) ∙ v.3)
 
   pub supported_but : SupportedBut s now waiting
   supported_but x there absent = by (list_any (same_row x) rows) refl

@@ -1,5 +1,5 @@
 -- Where a row refers to another one, it mentions it by a reference of the schema.
-use Rattle.std.specs.Prelude.{◌≡◌, ◌⊎◌, ℕ, zero, suc, ◌+◌, ◌<◌, Bool, true, false, cond, not, ◌&&◌, ◌||◌, ◌==◌, List, [], ◌∷◌, ◌++◌, filter_map, flat_map, length, map as map_list, slice_get, take, zip, is_some, unwrap_or, Option, Some, None, option_map, option_to_list}
+use Rattle.std.specs.Prelude.{◌≡◌, ◌⊎◌, ℕ, zero, suc, ◌+◌, ◌<◌, Bool, true, false, cond, not, ◌&&◌, ◌||◌, ◌==◌, List, [], ◌∷◌, ◌++◌, drop, filter_map, flat_map, length, map as map_list, slice_get, take, zip, is_some, unwrap_or, Option, Some, None, option_map, option_to_list}
 use Rattle.std.specs.List.{enumerate_from, list_any}
 use Rattle.std.specs.Cmp.{unsigned_Decides, unsigned_tied}
 use Rattle.std.specs.Ordering.{eq_by_cmp}
@@ -7,8 +7,8 @@ use denote.Ref.{Bor}
 use mathlib.Core.Path.{refl, sym, ap, subst, ◌∙◌}
 use mathlib.Core.Logic.{inl, inr}
 use mathlib.Core.Bool.{true≢false}
-use Rattle.std.proofs.Common.{arith, get_or}
-use Rattle.std.proofs.lemmas.List.{take_more}
+use Rattle.std.proofs.Common.{append_assoc, arith, get_or}
+use Rattle.std.proofs.lemmas.List.{drop_more, take_more}
 use Rattle.std.proofs.lemmas.List.Folds.{list_any-append}
 use Rattle.std.proofs.lemmas.Option.{none-some, same_Some}
 use Rattle.odb_atoms.proofs.Atoms.{uuid_cmp-IsAntisymmetric}
@@ -281,6 +281,16 @@ module _ (s : Schema) (db : Db) (x : RowId) where
       by : (y : RowId) (o : Option Row) → row_of db y ≡ o → other_refers s db x y ≡ false
       by y None there = never (not (same_row x y)) (refers s db y x) (ap (λ o. unwrap_or (option_map (λ r. list_any (same_row x) (strong_of_row s y r)) o) false) there)
       by y (Some r) there = tests y r there (list_any (same_row x) (strong_of_row s y r)) refl
+
+-- ---- loops over lists whose places count
+
+-- the parts of one item more
+pub parts_more : {X Y : Type 0} (f : ℕ × X → List Y) (done now all : List Y) (xs : List X) (k : ℕ) (x : X) → k < length xs → x ≡ get_or xs k x → done ++ flat_map f (enumerate_from k (drop k xs)) ≡ all → now ≡ done ++ f (k, x) → now ++ flat_map f (enumerate_from (k + 1) (drop (k + 1) xs)) ≡ all
+parts_more f done now all xs k x inside is before more =
+    ap (λ ys. ys ++ flat_map f (enumerate_from (k + 1) (drop (k + 1) xs))) more
+    ∙ append_assoc done (f (k, x)) (flat_map f (enumerate_from (k + 1) (drop (k + 1) xs)))
+    ∙ ap (λ ys. done ++ flat_map f (enumerate_from k ys)) (sym (drop_more xs k x inside ∙ ap (λ y. y ∷ drop (k + 1) xs) (sym is)))
+    ∙ before
 
 -- a test that none of the rows of a table with these identifiers passes
 pub none_in_table : (p : RowId → Bool) (t : ℕ) (us : List (List ℕ)) → list_any (λ u. p (t, uuid_of u)) us ≡ false → (y : RowId) → (y.0 == t) ≡ true → list_any (eq_by_cmp uuid_cmp y.1) (map_list uuid_of us) ≡ true → p y ≡ false

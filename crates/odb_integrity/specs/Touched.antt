@@ -1,5 +1,5 @@
 -- What is known of a database that was changed in some rows alone, and which of its rows are to be tested.
-use Rattle.std.specs.Prelude.{◌≡◌, ◌⊎◌, ℕ, Bool, true, false, not, ◌&&◌, ◌||◌, List, slice_get, Option, Some, None}
+use Rattle.std.specs.Prelude.{◌≡◌, ◌⊎◌, ℕ, Bool, true, false, cond, not, ◌&&◌, List, slice_get, Option, Some, None}
 use Rattle.std.specs.List.{list_any}
 use Rattle.std.specs.Ordering.{eq_by_cmp}
 use Rattle.odb_atoms.specs.FinMap as map
@@ -29,9 +29,9 @@ Covers p db xs = (x : RowId) (r : Row) → row_of db x ≡ Some r → list_any (
 
 -- ---- support
 
--- x is the row y, or y has a strong reference to it
+-- x is among those to which the row y has strong references, or is y, where that isn't there
 abbrev pub depends : Schema → Db → RowId → RowId → Bool
-depends s db x y = same_row x y || refers s db y x
+depends s db x y = cond (is_there db y) (refers s db y x) (same_row x y)
 
 -- a row that is there has no support by another one
 abbrev pub is_lost : Schema → Db → RowId → Bool

@@ -60,10 +60,9 @@ fn is_all_root(schema: &Schema) -> bool
     true
 }
 
-/// The rows that may have lost what kept them: those that were touched, and those to which these had
-/// strong references, but for rows to which a touched row has one now. Where a column pairs weak
-/// references with strong ones, a row of a settled database may have lost it before, and all rows are
-/// listed.
+/// The rows that may lack what keeps them: those that are new, and those to which touched rows had strong
+/// references before, but for rows to which a touched row has one now. Where a column pairs weak references
+/// with strong ones, a row of a settled database may lack it, and all rows are listed.
 fn first_waiting(alloc: Global, draft: &Draft, schema: &Schema) -> Result<Vec<RowId>, AllocError>
     requires { IsSettled schema.now draft.now.old }
     ensures { IfOk result (λ waiting. SupportedBut schema.now draft.now.now waiting.items) }
@@ -72,13 +71,13 @@ fn first_waiting(alloc: Global, draft: &Draft, schema: &Schema) -> Result<Vec<Ro
         return rows_of(alloc, draft);
     }
     let touched = touched_rows(alloc, draft)?;
-    let rows = with_referents(alloc, draft, schema, &touched)?;
+    let rows = dependents(alloc, draft, schema, &touched)?;
     let referred = referred(alloc, draft, schema, &touched)?;
     without_support(alloc, schema, &referred, &rows)
 }
 
-/// The rows of the list, and those to which these had strong references before.
-fn with_referents(
+/// The rows of the list that weren't there before, and those to which the others had strong references.
+fn dependents(
     alloc: Global,
     draft: &Draft,
     schema: &Schema,
@@ -89,12 +88,12 @@ fn with_referents(
 {
     let mut all = BTreeSet::new(alloc);
     for row in rows {
-        insert_with_referents(alloc, draft, schema, *row, &mut all)?;
+        insert_dependents(alloc, draft, schema, *row, &mut all)?;
     }
     in_order(alloc, &all)
 }
 
-fn insert_with_referents(
+fn insert_dependents(
     alloc: Global,
     draft: &Draft,
     schema: &Schema,
@@ -105,13 +104,15 @@ fn insert_with_referents(
         → contains row_id_cmp all.new x
         ≡ (contains row_id_cmp all.old x || depends schema.now draft.now.old x id)) }
 {
-    all.insert(id)?;
     match draft.before(id.table(), id.uuid()) {
         Some(row) => {
             let referents = strong_of_row(alloc, schema, id, row)?;
             insert_rows(&referents, all)
         }
-        None => Ok(()),
+        None => {
+            all.insert(id)?;
+            Ok(())
+        }
     }
 }
 

@@ -42,7 +42,7 @@ use std::alloc::{AllocError, Global};
 ///   what `Draft::has_twin` costs;
 /// - where a touched row isn't there any more, the rows that refer to it, as `Draft::referrers` lists them
 ///   for each column that refers to its table;
-/// - of tables that aren't root, the touched rows, and those to which a touched row had a strong reference
+/// - of tables that aren't root, the new rows, and those to which a touched row had a strong reference
 ///   before, but for rows to which a touched row has one now; and the rows to which rows that go out
 ///   referred. For each the rows that refer to it are listed in the same way, and gone over until one is
 ///   found that keeps it;

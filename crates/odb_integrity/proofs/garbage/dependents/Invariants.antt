@@ -4,7 +4,7 @@ use Rattle.std.specs.List.{list_any}
 use Rattle.odb_integrity.specs.Represented.RowId.{row_id_cmp}
 use Rattle.odb_integrity.specs.Settlement.{RowId}
 use Rattle.odb_integrity.specs.Touched.{depends}
-use Rattle.odb_integrity.proofs.garbage.with_referents.Given as goal
+use Rattle.odb_integrity.proofs.garbage.dependents.Given as goal
 
 abbrev pub invariant-loop-row : goal.invariant-loop-row
 invariant-loop-row l = (x : RowId) → contains row_id_cmp l.all x ≡ list_any (depends l.schema l.draft.old x) (take l.row-index l.rows)

@@ -5,7 +5,7 @@ use Rattle.std.proofs.lemmas.Result.{IfOk-weaker}
 use Rattle.odb_integrity.specs.Settlement.{same_row}
 use Rattle.odb_integrity.specs.Touched.{depends}
 use Rattle.odb_integrity.proofs.Sets.{any-keys}
-use Rattle.odb_integrity.proofs.garbage.with_referents.Goals as goal
+use Rattle.odb_integrity.proofs.garbage.dependents.Goals as goal
 
 pub returns : goal.returns
 returns c =
