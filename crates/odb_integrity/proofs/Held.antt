@@ -1,5 +1,5 @@
 -- Which rows have support after some were touched, and that all are kept where each has it.
-use Rattle.std.specs.Prelude.{◌≡◌, ◌⊎◌, ℕ, ◌<◌, Bool, true, false, cond, not, ◌&&◌, ◌||◌, List, [], filter, length, is_some, unwrap_or, Option, Some, None, option_map}
+use Rattle.std.specs.Prelude.{◌∷◌, flat_map, ◌≡◌, ◌⊎◌, ℕ, ◌<◌, Bool, true, false, cond, not, ◌&&◌, ◌||◌, List, [], filter, length, is_some, unwrap_or, Option, Some, None, option_map}
 use Rattle.std.specs.BTreeSet.{BTreeSet, contains}
 use Rattle.std.specs.List.{list_any}
 use mathlib.Core.Path.{refl, sym, ap, subst, ◌∙◌}
@@ -11,10 +11,11 @@ use Rattle.odb_schema.specs.Schema.{Schema, is_root_at}
 use Rattle.odb_tables.specs.Database.{Db}
 use Rattle.odb_integrity.specs.Represented.RowId.{row_id_cmp, supports}
 use Rattle.odb_integrity.specs.Settlement.{RowId, has_support, is_kept, is_referred, is_there, kept, refers, row_ids, row_of, same_row, strong_of_row}
-use Rattle.odb_integrity.specs.Touched.{SameBut, SupportedBut, depends}
+use Rattle.odb_integrity.specs.Touched.{SameBut, SupportedBut, hanging}
 use Rattle.odb_integrity.proofs.Databases.{any-row_ids, each_row_same, there_inside}
 use Rattle.odb_integrity.proofs.Ids.{any-filter, member, own_row}
 use Rattle.odb_integrity.proofs.Kept.{kept_is_largest, kept_is_supported}
+use Rattle.odb_integrity.proofs.Settles.{any-flat_map}
 
 -- where each row is kept, nothing goes
 pub all_kept : (s : Schema) (db : Db) → ((x : RowId) → is_there db x ≡ true → is_kept s db x ≡ true) → db ≡ kept s db
@@ -87,32 +88,40 @@ module _ (s : Schema) (db : Db) where
 
 module _ (s : Schema) (old now : Db) (touched rows waiting : List RowId) (referred : BTreeSet RowId) (same : SameBut touched old now)
     (settled : (x : RowId) → is_there old x ≡ true → is_kept s old x ≡ true)
-    (depending : (x : RowId) → list_any (same_row x) rows ≡ list_any (depends s old x) touched)
+    (all : rows ≡ flat_map (hanging s old) touched)
     (referring : (x : RowId) → contains row_id_cmp referred x ≡ is_referred s now touched x)
     (others : waiting ≡ filter (λ x. not (supports s referred x)) rows) where
-  -- one on which no row that was touched bears
-  untouched : (x y : RowId) → list_any (same_row x) rows ≡ false → depends s old x y ≡ true → list_any (same_row y) touched ≡ false
+  -- one that hangs on no row that was touched
+  untouched : (x y : RowId) → list_any (same_row x) rows ≡ false → list_any (same_row x) (hanging s old y) ≡ true → list_any (same_row y) touched ≡ false
   untouched x y absent e = by (list_any (same_row y) touched) refl
     where
       by : (b : Bool) → list_any (same_row y) touched ≡ b → b ≡ false
-      by true listed = sym (gives_any (depends s old x) touched y (member y touched listed) e) ∙ sym (depending x) ∙ absent
+      by true listed =
+          sym (gives_any (λ z. list_any (same_row x) (hanging s old z)) touched y (member y touched listed) e)
+          ∙ sym (any-flat_map (same_row x) (hanging s old) touched)
+          ∙ ap (list_any (same_row x)) (sym all)
+          ∙ absent
       by false listed = refl
 
   supported_still : (x : RowId) → is_there now x ≡ true → list_any (same_row x) rows ≡ false → has_support s now (row_ids now) x ≡ true
-  supported_still x there absent = by (kept_is_supported s old x (settled x (was (is_there old x) refl))).1
+  supported_still x there absent = by (kept_is_supported s old x (settled x (was (row_of old x) refl))).1
     where
       -- it isn't new: a new one would be listed
-      was : (b : Bool) → is_there old x ≡ b → b ≡ true
-      was true e = refl
-      was false e = sym e ∙ sym (ap is_some (same x (untouched x x absent (ap (λ b. cond b (refers s old x x) (same_row x x)) e ∙ own_row x)))) ∙ there
+      was : (o : Option Row) → row_of old x ≡ o → is_some o ≡ true
+      was None e =
+          let itself : list_any (same_row x) (hanging s old x) ≡ true = ap (λ o. list_any (same_row x) (unwrap_or (option_map (strong_of_row s x) o) (x ∷ []))) e ∙ ap (λ b. b || false) (own_row x) in
+          sym (ap is_some e) ∙ sym (ap is_some (same x (untouched x x absent itself))) ∙ there
+      was (Some r) e = refl
+
+      hangs : (y : RowId) (o : Option Row) → unwrap_or (option_map (λ r. list_any (same_row x) (strong_of_row s y r)) o) false ≡ true → list_any (same_row x) (unwrap_or (option_map (strong_of_row s y) o) (y ∷ [])) ≡ true
+      hangs y None e = absurd (true≢false (sym e))
+      hangs y (Some r) e = e
 
       by : (is_root_at s x.0 ≡ true) ⊎ ((y : RowId) × (is_kept s old y ≡ true) × (same_row x y ≡ false) × (refers s old y x ≡ true)) → has_support s now (row_ids now) x ≡ true
       by (inl root) = supported_root s now (row_ids now) x root
-      by (inr v) =
-          let depending : depends s old x v.0 ≡ true = ap (λ b. cond b (refers s old v.0 x) (same_row x v.0)) (referrer_there s old v.0 x v.3) ∙ v.3 in
-          supported_by s now x v.0 v.2 (ap (λ o. unwrap_or (option_map (λ r. list_any (same_row x) (strong_of_row s v.0 r)) o) false) (same v.0 (untouched x v.0 absent depending)) ∙ v.3)
+      by (inr v) = supported_by s now x v.0 v.2 (ap (λ o. unwrap_or (option_map (λ r. list_any (same_row x) (strong_of_row s v.0 r)) o) false) (same v.0 (untouched x v.0 absent (hangs v.0 (row_of old v.0) v.3))) ∙ v.3)
 
-  pub supported_but : SupportedBut s now waiting
+  supported_but : SupportedBut s now waiting
   supported_but x there absent = by (list_any (same_row x) rows) refl
     where
       other : (b c : Bool) → (b && not c) ≡ false → b ≡ true → c ≡ true
@@ -124,3 +133,7 @@ module _ (s : Schema) (old now : Db) (touched rows waiting : List RowId) (referr
           let supported : supports s referred x ≡ true = other (list_any (same_row x) rows) (supports s referred x) (sym (any-filter (λ y. not (supports s referred y)) x rows) ∙ ap (list_any (same_row x)) (sym others) ∙ absent) listed in
           supported_among s now touched x (sym (ap (λ b. is_root_at s x.0 || b) (referring x)) ∙ supported)
       by false listed = supported_still x there listed
+
+  -- the same rows in another list
+  pub supported_but_each : (each : List RowId) → ((x : RowId) → list_any (same_row x) each ≡ list_any (same_row x) waiting) → SupportedBut s now each
+  supported_but_each each alike x there absent = supported_but x there (sym (alike x) ∙ absent)

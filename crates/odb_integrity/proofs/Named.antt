@@ -1,9 +1,10 @@
 -- The rows that lists of atoms name.
-use Rattle.std.specs.Prelude.{◌≡◌, ℕ, ◌+◌, ◌<◌, List, [], ◌∷◌, ◌++◌, filter_map, length, map, take, Option, Some, None, option_to_list, refl}
+use Rattle.std.specs.Prelude.{◌≡◌, ℕ, ◌+◌, ◌<◌, List, [], ◌∷◌, ◌++◌, filter_map, flat_map, length, map, take, Option, Some, None, option_to_list, refl}
 use mathlib.Core.Path.{sym, ap, ◌∙◌}
 use Rattle.std.proofs.Common.{append_assoc, get_or}
 use Rattle.std.specs.List.{cons_option}
 use Rattle.std.proofs.lemmas.List.{append-nil, map-append, take_more}
+use Rattle.std.proofs.lemmas.List.Concat.{flat_map-append}
 use Rattle.std.proofs.lemmas.List.Elements.{filter_map-append}
 use Rattle.odb_atoms.specs.Atom.{Atom, boolean, integer, text, uuid}
 use mathlib.Core.Logic.{◌⊎◌, inl, inr}
@@ -78,3 +79,11 @@ filter_map-map h f (x ∷ xs) = ap (cons_option (h (f x))) (filter_map-map h f x
 
 pub filter_map_more : {X Y Z : Type 0} (f : X → Y) (h : Y → Option Z) (before now : List Z) (xs : List X) (i : ℕ) (x : X) → i < length xs → x ≡ get_or xs i x → before ≡ filter_map h (map f (take i xs)) → now ≡ before ++ option_to_list (h (f x)) → now ≡ filter_map h (map f (take (i + 1) xs))
 filter_map_more f h before now xs i x inside is done more = mapped_more (λ y. h (f y)) before now xs i x inside is (done ∙ filter_map-map h f (take i xs)) more ∙ sym (filter_map-map h f (take (i + 1) xs))
+
+-- the parts of one item more
+pub flat_more : {X Y : Type 0} (f : X → List Y) (before now : List Y) (xs : List X) (i : ℕ) (x : X) → i < length xs → x ≡ get_or xs i x → before ≡ flat_map f (take i xs) → now ≡ before ++ f x → now ≡ flat_map f (take (i + 1) xs)
+flat_more f before now xs i x inside is done more =
+    more ∙ ap (λ ys. ys ++ f x) done
+    ∙ ap (λ ys. flat_map f (take i xs) ++ ys) (sym (append-nil (f x)))
+    ∙ sym (flat_map-append f (take i xs) (x ∷ []))
+    ∙ ap (flat_map f) (ap (λ y. take i xs ++ y ∷ []) is ∙ sym (take_more xs i x inside))

@@ -33,6 +33,7 @@ use Rattle.odb_tables.specs.Kept.{mentions as value_mentions}
 use Rattle.odb_integrity.specs.References.{names}
 use Rattle.odb_integrity.specs.Represented.Reference.{base_references, column_references, mentions_by, references_of}
 use Rattle.odb_integrity.specs.Settlement.{RowId, is_referred, is_stale, is_there, is_weak, referent, refers, row_ids, row_of, same_row, strong_of_row, strong_of_value, strong_target, target, weak_target}
+use Rattle.odb_integrity.specs.Touched.{is_referrer}
 use Rattle.odb_integrity.specs.Steps.{has_stale, row_has_stale}
 use Rattle.odb_integrity.specs.declared.referrers.Reference.{Reference}
 use Rattle.odb_integrity.proofs.Databases.{any-row_ids, any_both}
@@ -251,34 +252,30 @@ module _ (s : Schema) where
 
 -- ---- who refers to a row
 
--- the row y, another one than x, refers to x strongly
-abbrev pub other_refers : Schema → Db → RowId → RowId → Bool
-other_refers s db x y = not (same_row x y) && refers s db y x
-
 -- by the reference, where it is strong, no other row that mentions x refers to it strongly
 abbrev pub IsUnused : Schema → Db → RowId → Reference → Type 0
-IsUnused s db x f = f.weak ≡ false → (y : RowId) → mentions_by db y x f ≡ true → other_refers s db x y ≡ false
+IsUnused s db x f = f.weak ≡ false → (y : RowId) → mentions_by db y x f ≡ true → is_referrer s db x y ≡ false
 
 module _ (s : Schema) (db : Db) (x : RowId) where
-  pub one_refers : (y : RowId) → other_refers s db x y ≡ true → is_referred s db (row_ids db) x ≡ true
-  one_refers y e = gives_any (other_refers s db x) (row_ids db) y (member y (row_ids db) (any-row_ids db y ∙ there (row_of db y) (both (not (same_row x y)) (refers s db y x) e).1)) e
+  pub one_refers : (y : RowId) → is_referrer s db x y ≡ true → is_referred s db (row_ids db) x ≡ true
+  one_refers y e = gives_any (is_referrer s db x) (row_ids db) y (member y (row_ids db) (any-row_ids db y ∙ there (row_of db y) (both (not (same_row x y)) (refers s db y x) e).1)) e
     where
       there : (o : Option Row) → unwrap_or (option_map (λ r. list_any (same_row x) (strong_of_row s y r)) o) false ≡ true → is_some o ≡ true
       there None e = absurd (true≢false (sym e))
       there (Some r) e = refl
 
   pub none_refers : ((f : Reference) → Member f (references_of s) → IsUnused s db x f) → is_referred s db (row_ids db) x ≡ false
-  none_refers h = none_found (other_refers s db x) (row_ids db) (λ y m. by y (row_of db y) refl)
+  none_refers h = none_found (is_referrer s db x) (row_ids db) (λ y m. by y (row_of db y) refl)
     where
       never : (b c : Bool) → c ≡ false → (b && c) ≡ false
       never true c e = e
       never false c e = refl
 
-      tests : (y : RowId) (r : Row) → row_of db y ≡ Some r → (b : Bool) → list_any (same_row x) (strong_of_row s y r) ≡ b → other_refers s db x y ≡ false
+      tests : (y : RowId) (r : Row) → row_of db y ≡ Some r → (b : Bool) → list_any (same_row x) (strong_of_row s y r) ≡ b → is_referrer s db x y ≡ false
       tests y r there true e = let w = strong_found s db y x r there (strong_names s x y r e) in h w.0 w.1 w.2 y w.3
       tests y r there false e = never (not (same_row x y)) (refers s db y x) (ap (λ o. unwrap_or (option_map (λ r. list_any (same_row x) (strong_of_row s y r)) o) false) there ∙ e)
 
-      by : (y : RowId) (o : Option Row) → row_of db y ≡ o → other_refers s db x y ≡ false
+      by : (y : RowId) (o : Option Row) → row_of db y ≡ o → is_referrer s db x y ≡ false
       by y None there = never (not (same_row x y)) (refers s db y x) (ap (λ o. unwrap_or (option_map (λ r. list_any (same_row x) (strong_of_row s y r)) o) false) there)
       by y (Some r) there = tests y r there (list_any (same_row x) (strong_of_row s y r)) refl
 

@@ -1,5 +1,5 @@
 -- What is known of a database that was changed in some rows alone, and which of its rows are to be tested.
-use Rattle.std.specs.Prelude.{◌≡◌, ◌⊎◌, ℕ, Bool, true, false, cond, not, ◌&&◌, List, slice_get, Option, Some, None}
+use Rattle.std.specs.Prelude.{◌≡◌, ◌⊎◌, ℕ, Bool, true, false, not, ◌&&◌, List, [], ◌∷◌, option_map, slice_get, unwrap_or, Option, Some, None}
 use Rattle.std.specs.List.{list_any}
 use Rattle.std.specs.Ordering.{eq_by_cmp}
 use Rattle.odb_atoms.specs.FinMap as map
@@ -9,7 +9,7 @@ use Rattle.odb_atoms.specs.Value.{Value, same_value}
 use Rattle.odb_schema.specs.Schema.{Schema}
 use Rattle.odb_tables.specs.Database.{Db, Table}
 use Rattle.odb_tables.specs.Kept.{cells_at, has_twin}
-use Rattle.odb_integrity.specs.Settlement.{RowId, has_support, is_there, refers, row_ids, row_of, same_row}
+use Rattle.odb_integrity.specs.Settlement.{RowId, has_support, is_there, refers, row_ids, row_of, same_row, strong_of_row}
 
 -- rows that aren't listed are as they were
 abbrev pub SameBut : List RowId → Db → Db → Type 0
@@ -29,9 +29,13 @@ Covers p db xs = (x : RowId) (r : Row) → row_of db x ≡ Some r → list_any (
 
 -- ---- support
 
--- x is among those to which the row y has strong references, or is y, where that isn't there
-abbrev pub depends : Schema → Db → RowId → RowId → Bool
-depends s db x y = cond (is_there db y) (refers s db y x) (same_row x y)
+-- the rows that hang on one: those to which it has strong references; itself, where it isn't there
+abbrev pub hanging : Schema → Db → RowId → List RowId
+hanging s db x = unwrap_or (option_map (strong_of_row s x) (row_of db x)) (x ∷ [])
+
+-- the row y, another one than x, has a strong reference to x
+abbrev pub is_referrer : Schema → Db → RowId → RowId → Bool
+is_referrer s db x y = not (same_row x y) && refers s db y x
 
 -- a row that is there has no support by another one
 abbrev pub is_lost : Schema → Db → RowId → Bool

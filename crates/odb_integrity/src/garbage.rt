@@ -1,5 +1,5 @@
 //! Garbage collection (RFC 7047, section 3.2, `isRoot`). [P 5]
-ghost use Rattle.std.specs.Prelude.{◌≡◌, ◌&&◌, ◌||◌, ◌<◌, false, filter, length, not, true, ℕ, IfOk, IsTrue, OnOk};
+ghost use Rattle.std.specs.Prelude.{◌≡◌, ◌++◌, ◌&&◌, ◌||◌, ◌<◌, false, filter, flat_map, length, not, true, ℕ, IfOk, IsTrue, OnOk};
 ghost use Rattle.std.specs.BTreeSet.{contains};
 ghost use Rattle.std.specs.List.{All, list_any};
 ghost use Rattle.odb_atoms.specs.Represented.Atom.{uuid_of};
@@ -9,12 +9,12 @@ ghost use Rattle.odb_integrity.specs.Settlement.{kept, refers, row_ids, same_row
 ghost use Rattle.odb_integrity.specs.Steps.{without_rows};
 ghost use Rattle.odb_integrity.specs.Represented.Reference.{mentions_by, references_of};
 ghost use Rattle.odb_integrity.specs.Represented.RowId.{row_id_cmp, supports};
-ghost use Rattle.odb_integrity.specs.Touched.{SupportedBut, depends, is_lost};
+ghost use Rattle.odb_integrity.specs.Touched.{SupportedBut, hanging, is_lost, is_referrer};
 ghost use Rattle.odb_schema.specs.Schema.{is_root_at};
 ghost use Rattle.odb_tables.specs.Typed.{IsTyped};
 
 use crate::dangling::is_missing;
-use crate::references::{has_mixed, row_refers, strong_of_row};
+use crate::references::{append_strong, has_mixed, row_refers, strong_of_row};
 use crate::referrers::{Reference, references_of};
 use crate::row_id::RowId;
 use crate::rows::{in_order, remove_all, rows_of, touched_rows};
@@ -71,60 +71,56 @@ fn first_waiting(alloc: Global, draft: &Draft, schema: &Schema) -> Result<Vec<Ro
         return rows_of(alloc, draft);
     }
     let touched = touched_rows(alloc, draft)?;
-    let rows = dependents(alloc, draft, schema, &touched)?;
+    let rows = hanging_on(alloc, draft, schema, &touched)?;
     let referred = referred(alloc, draft, schema, &touched)?;
-    without_support(alloc, schema, &referred, &rows)
+    let waiting = without_support(alloc, schema, &referred, &rows)?;
+    once_each(alloc, &waiting)
 }
 
 /// The rows of the list that weren't there before, and those to which the others had strong references.
-fn dependents(
+fn hanging_on(
     alloc: Global,
     draft: &Draft,
     schema: &Schema,
     rows: &[RowId],
 ) -> Result<Vec<RowId>, AllocError>
-    ensures { IfOk result (λ all. (x : model.RowId)
-        → list_any (same_row x) all.items ≡ list_any (depends schema.now draft.now.old x) rows.now) }
+    ensures { IfOk result (λ all. all.items ≡ flat_map (hanging schema.now draft.now.old) rows.now) }
 {
-    let mut all = BTreeSet::new(alloc);
+    let mut all = Vec::new(alloc);
     for row in rows {
-        insert_dependents(alloc, draft, schema, *row, &mut all)?;
+        append_hanging(draft, schema, *row, &mut all)?;
     }
-    in_order(alloc, &all)
+    Ok(all)
 }
 
-fn insert_dependents(
-    alloc: Global,
+fn append_hanging(
     draft: &Draft,
     schema: &Schema,
     id: RowId,
-    all: &mut BTreeSet<RowId>,
+    all: &mut Vec<RowId>,
 ) -> Result<(), AllocError>
-    ensures { OnOk result ((x : model.RowId)
-        → contains row_id_cmp all.new x
-        ≡ (contains row_id_cmp all.old x || depends schema.now draft.now.old x id)) }
+    ensures { OnOk result
+        (all.new.items ≡ all.old.items ++ hanging schema.now draft.now.old id) }
 {
     match draft.before(id.table(), id.uuid()) {
-        Some(row) => {
-            let referents = strong_of_row(alloc, schema, id, row)?;
-            insert_rows(&referents, all)
-        }
+        Some(row) => append_strong(schema, id, row, all),
         None => {
-            all.insert(id)?;
+            all.push(id)?;
             Ok(())
         }
     }
 }
 
-fn insert_rows(rows: &[RowId], all: &mut BTreeSet<RowId>) -> Result<(), AllocError>
-    ensures { OnOk result ((x : model.RowId)
-        → contains row_id_cmp all.new x
-        ≡ (contains row_id_cmp all.old x || list_any (same_row x) rows.now)) }
+/// The rows in order, each of them once. O(n log n).
+fn once_each(alloc: Global, rows: &[RowId]) -> Result<Vec<RowId>, AllocError>
+    ensures { IfOk result (λ each. (x : model.RowId)
+        → list_any (same_row x) each.items ≡ list_any (same_row x) rows.now) }
 {
+    let mut set = BTreeSet::new(alloc);
     for row in rows {
-        all.insert(*row)?;
+        set.insert(*row)?;
     }
-    Ok(())
+    in_order(alloc, &set)
 }
 
 /// Those of the rows that are neither of a root table nor among `referred`.
@@ -268,7 +264,7 @@ fn is_referred_by(
         → model.is_referred schema.now draft.now.now (row_ids draft.now.now) row ≡ true) }
     ensures none { IfOk result (λ found. found ≡ false → reference.now.weak ≡ false
         → (y : model.RowId) → mentions_by draft.now.now y row reference.now ≡ true
-        → (not (same_row row y) && refers schema.now draft.now.now y row) ≡ false) }
+        → is_referrer schema.now draft.now.now row y ≡ false) }
 {
     if reference.is_weak() {
         return Ok(false);
@@ -282,14 +278,13 @@ fn is_referred_by(
 
 /// Whether one of these rows of the table, and not `row` itself, has a strong reference to it.
 fn has_referrer(draft: &Draft, schema: &Schema, table: TableId, uuids: &[Uuid], row: RowId) -> bool
-    ensures { result ≡ list_any (λ uuid. not (same_row row (table, uuid_of uuid))
-        && refers schema.now draft.now.now (table, uuid_of uuid) row) uuids.now }
+    ensures { result ≡ list_any (λ uuid. is_referrer schema.now draft.now.now row (table, uuid_of uuid)) uuids.now }
 {
     uuids.iter().any(|uuid| is_referrer(draft, schema, RowId::new(table, *uuid), row))
 }
 
 fn is_referrer(draft: &Draft, schema: &Schema, referrer: RowId, row: RowId) -> bool
-    ensures { result ≡ (not (same_row row referrer) && refers schema.now draft.now.now referrer row) }
+    ensures { result ≡ is_referrer schema.now draft.now.now row referrer }
 {
     row != referrer && refers(draft, schema, referrer, row)
 }

@@ -78,11 +78,25 @@ pub(crate) fn strong_of_row(
     ensures { IfOk result (λ rows. rows.items ≡ model.strong_of_row schema.now id row.now) }
 {
     let mut rows = Vec::new(alloc);
+    append_strong(schema, id, row, &mut rows)?;
+    Ok(rows)
+}
+
+/// Appends the rows to which a row has strong references. O(atoms).
+pub(crate) fn append_strong(
+    schema: &Schema,
+    id: RowId,
+    row: &Row,
+    rows: &mut Vec<RowId>,
+) -> Result<(), AllocError>
+    ensures { OnOk result
+        (rows.new.items ≡ rows.old.items ++ model.strong_of_row schema.now id row.now) }
+{
     let columns = columns_of(schema, id.table());
     for (column, value) in columns.iter().zip(row.columns()) {
-        append_value(schema, column.column_type(), value, &mut rows)?;
+        append_value(schema, column.column_type(), value, rows)?;
     }
-    Ok(rows)
+    Ok(())
 }
 
 /// Whether the row has a strong reference to the referent. O(columns), and O(log n) comparisons for a set

@@ -6,7 +6,8 @@ use Rattle.odb_atoms.specs.Represented.Atom.{uuid_of}
 use Rattle.odb_atoms.specs.Uuid.{uuid_cmp}
 use Rattle.odb_tables.specs.Database.{table_at}
 use Rattle.odb_tables.specs.Kept.{refers_at}
-use Rattle.odb_integrity.proofs.Referring.{none_in_table, one_refers, other_refers}
+use Rattle.odb_integrity.specs.Touched.{is_referrer}
+use Rattle.odb_integrity.proofs.Referring.{none_in_table, one_refers}
 use Rattle.odb_integrity.proofs.garbage.is_referred_by.Goals as goal
 
 pub returns-clause-found : goal.returns-clause-found
@@ -15,7 +16,7 @@ returns-clause-found c e =
     let now = c.args.draft.now.now in
     let x = c.args.row in
     let t = c.table-3.result in
-    let w = any_gives (λ u. other_refers s now x (t, uuid_of u)) c.deref.result.now (sym c.has_referrer.ensures ∙ e) in
+    let w = any_gives (λ u. is_referrer s now x (t, uuid_of u)) c.deref.result.now (sym c.has_referrer.ensures ∙ e) in
     one_refers s now x (t, uuid_of w.0) w.2
 
 pub returns-clause-none : goal.returns-clause-none
@@ -37,4 +38,4 @@ returns-clause-none c none strong y m =
     ∙ c.in_ok-uuids.ensures.referrers y.1
     ∙ (λ i. refers_at (place i) (uuid i) (table_at now (first i)) y.1)
     ∙ k.1 in
-    none_in_table (other_refers s now x) t us (sym c.has_referrer.ensures ∙ none) y (ap (λ n. y.0 == n) (sym table) ∙ k.0) listed
+    none_in_table (is_referrer s now x) t us (sym c.has_referrer.ensures ∙ none) y (ap (λ n. y.0 == n) (sym table) ∙ k.0) listed

@@ -3,7 +3,7 @@ use Rattle.std.proofs.lemmas.List.{append-nil}
 use Rattle.std.proofs.lemmas.Slice.Zip.{either_empty_from_Zip}
 use Rattle.odb_integrity.specs.Settlement.{strong_of_value}
 use Rattle.odb_integrity.proofs.Named.{zip_done}
-use Rattle.odb_integrity.proofs.references.strong_of_row.Goals as goal
+use Rattle.odb_integrity.proofs.references.append_strong.Goals as goal
 
 pub returns : goal.returns
 returns c =

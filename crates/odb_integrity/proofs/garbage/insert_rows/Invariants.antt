@@ -1,9 +1,0 @@
-use Rattle.std.proofs.Common.{◌≡◌, ◌||◌, take}
-use Rattle.std.specs.BTreeSet.{contains}
-use Rattle.std.specs.List.{list_any}
-use Rattle.odb_integrity.specs.Represented.RowId.{row_id_cmp}
-use Rattle.odb_integrity.specs.Settlement.{RowId, same_row}
-use Rattle.odb_integrity.proofs.garbage.insert_rows.Given as goal
-
-abbrev pub invariant-loop-row : goal.invariant-loop-row
-invariant-loop-row l = (x : RowId) → contains row_id_cmp l.all x ≡ (contains row_id_cmp l.fn.all x || list_any (same_row x) (take l.row-index l.rows))
