@@ -158,7 +158,8 @@ impl Db {
         Ok(())
     }
 
-    /// An equal database, whose rows are shared with this one, and which keeps nothing beside them. O(rows).
+    /// An equal database, which keeps the same beside its rows. These are shared with this one. O(rows, and
+    /// the pairs that are kept).
     pub fn try_copy(&self, alloc: Global) -> Result<Db, AllocError>
         ensures { IfOk result (λ copy. copy ≡ self.now) }
     {
@@ -169,7 +170,7 @@ impl Db {
         Ok(Db {
             hashing: self.hashing,
             tables,
-            kept: Vec::new(alloc),
+            kept: self.kept.clone()?,
         })
     }
 }

@@ -5,7 +5,7 @@ ghost use Rattle.odb_atoms.specs.FinMap as finite;
 ghost use Rattle.odb_tables.specs.Database as model;
 ghost use Rattle.odb_tables.specs.Represented.Facet.{Cuts};
 ghost use Rattle.odb_tables.specs.Represented.Keeping as spec;
-ghost use Rattle.odb_tables.specs.Represented.Keeping.{CutsAll, IsOfSame, LacksNothing, Notes, NotesRow, Suffices};
+ghost use Rattle.odb_tables.specs.Represented.Keeping.{CutsAll, IsKept, IsOfSame, LacksNothing, Notes, NotesRow, Suffices};
 ghost use Rattle.odb_tables.specs.Represented.Pairs.{Grows};
 
 use crate::facet::Facet;
@@ -37,6 +37,19 @@ pub(crate) struct Kept {
     pub(crate) facet: Facet,
     /// The tags of each row, with its key.
     pub(crate) pairs: BTreeSet<(Key, Key)>,
+}
+
+impl Clone for Kept {
+    ghost is_clone = { λ x y. (db : model.Db) → IsKept db x → IsKept db y };
+
+    /// The same of the same table. O(pairs).
+    fn clone(&self) -> Result<Kept, AllocError> {
+        Ok(Kept {
+            table: self.table,
+            facet: self.facet.clone()?,
+            pairs: self.pairs.clone()?,
+        })
+    }
 }
 
 impl Kept {
