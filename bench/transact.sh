@@ -29,10 +29,8 @@ cp "$here/transact_bench.rt.txt" "$bench/src/main.rt"
 
 # A database without rows is one of the schema, and transactions keep it so.
 cat > "$bench/proofs/empty/Answers.antt" <<'END'
-use Rattle.std.proofs.Common.{List, length, replicate, ap, subst, sym, ◌∙◌}
+use Rattle.std.proofs.Common.{subst, sym}
 use Rattle.std.proofs.lemmas.Result.{IfOk-weaker}
-use Rattle.odb_atoms.specs.FinMap as finite
-use Rattle.odb_schema.specs.Schema.{TableSchema}
 use Rattle.odb_tables.specs.Typed.{IsTyped}
 use Rattle.odb_integrity.proofs.KeepsTyped.{empty_typed}
 use Rattle.transact_bench.proofs.empty.Goals as goal
@@ -40,7 +38,7 @@ use Rattle.transact_bench.proofs.empty.Goals as goal
 pub returns : goal.returns
 returns c =
     let s = c.args.schema.now in
-    IfOk-weaker c.new.result _ (IsTyped s) (λ db e. subst (IsTyped s) (sym (e ∙ ap (λ (ts : List TableSchema). replicate (length ts) finite.empty) c.tables.ensures)) (empty_typed s)) c.new.ensures
+    IfOk-weaker c.for_schema.result _ (IsTyped s) (λ db e. subst (IsTyped s) (sym e) (empty_typed s)) c.for_schema.ensures
 END
 cat > "$bench/proofs/grow_to/Invariants.antt" <<'END'
 use Rattle.transact_bench.proofs.grow_to.Given as goal
