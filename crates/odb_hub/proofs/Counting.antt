@@ -14,7 +14,7 @@ submits-append [] ys = omega arith
 submits-append (x ∷ xs) ys = let ih = submits-append xs ys in omega (arith, ih)
 
 -- an event that is no submit
-same_count : (total settled : ℕ) (es all : List Event) (e : Event) → total ≡ settled + submits es → all ≡ es ++ e ∷ [] → submits_in e ≡ 0 → total ≡ settled + submits all
+pub same_count : (total settled : ℕ) (es all : List Event) (e : Event) → total ≡ settled + submits es → all ≡ es ++ e ∷ [] → submits_in e ≡ 0 → total ≡ settled + submits all
 same_count total settled es all e count is none =
     let more : submits all ≡ submits es + (submits_in e + 0) = ap submits is ∙ submits-append es (e ∷ []) in
     omega (arith, count, more, none)
@@ -22,7 +22,7 @@ same_count total settled es all e count is none =
 pub took_counted : (e : Event) (k n : Kept) (total settled : ℕ) → submits_in e ≡ 0 → total ≡ settled + submits k.events → Takes e k n [] → total ≡ settled + submits n.events
 took_counted e k n total settled none count takes = same_count total settled k.events n.events e count takes.1 none
 
-same_events : (k n : Kept) (total settled : ℕ) → total ≡ settled + submits k.events → n.events ≡ k.events → total ≡ settled + submits n.events
+pub same_events : (k n : Kept) (total settled : ℕ) → total ≡ settled + submits k.events → n.events ≡ k.events → total ≡ settled + submits n.events
 same_events k n total settled count same = count ∙ ap (λ es. settled + submits es) (sym same)
 
 -- a call that is one such event, or changes nothing

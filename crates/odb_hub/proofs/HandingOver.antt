@@ -71,7 +71,7 @@ flushed_free a b (inl is) free = by b.held refl
     by (Some t) e = absurd (let f : false ≡ true = ap (λ (x : Option Text). not (is_some x)) (sym e) ∙ free in true≢false (sym f))
 flushed_free a b (inr is) free = ap (λ (r : Ring). r.sent) is
 
-flushed_holds : (a b : Ring) → IsFlushed a b → is_free b ≡ false → (is_some a.held ≡ true) × (b ≡ a)
+pub flushed_holds : (a b : Ring) → IsFlushed a b → is_free b ≡ false → (is_some a.held ≡ true) × (b ≡ a)
 flushed_holds a b (inl is) holds = (ap (λ (r : Ring). is_some r.held) (sym is) ∙ by (is_some b.held) refl, is)
   where
     by : (c : Bool) → is_some b.held ≡ c → c ≡ true

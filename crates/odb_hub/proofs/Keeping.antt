@@ -44,6 +44,17 @@ kept_on e old new outs kept takes told opens_so =
     let done : IsKept mid = ((given, history, tells), opens_so r went kept.1) in
     subst IsKept (λ i. let k : Kept = record { server = (is i).0; base = sym takes.2 i; events = sym takes.1 i; rings = new.rings } in k) done
 
+-- ---- a ring that was sent this beside
+
+abbrev pub Grows : List Text → Option Ring → Option Ring → Type 0
+Grows outs None o = o ≡ None
+Grows outs (Some a) o = (b : Ring) × (o ≡ Some b) × (texts b ≡ texts a ++ outs)
+
+pub grown : (listed : Bool) (outs : List Text) (o p : Option Ring) → IsServed listed outs o p → Grows outs o p
+grown listed outs None p k = k.2
+grown false outs (Some a) p k = (a, k.2, sym (append-nil (texts a)) ∙ ap (λ ts. texts a ++ ts) (sym k.1))
+grown true outs (Some a) p k = (k.0, k.1, ap (λ ts. ts ++ option_to_list k.0.held) k.3 ∙ append_assoc (texts a) k.2 (option_to_list k.0.held) ∙ ap (λ ts. texts a ++ ts) k.4)
+
 -- ---- the same rings
 
 same_told : (e : Event) (rings : Rings) → ((s : ℕ) → opens e s ≡ false) → Tellings e rings rings []
@@ -89,46 +100,43 @@ module _ (old new : Kept) (kept : IsKept old) where
       told : Tellings (opened s) old.rings (insert old.rings s x) []
       told t r is = by t r (s == t) (eq_by_cmp nat_cmp t s) refl refl (sym (get-insert old.rings s x t) ∙ is)
 
-  round_kept : (ss : List ℕ) (outs : List (ℕ × Text)) → Takes (round ss) old new outs → ((s : ℕ) → IsServed (is_in s ss) (texts_to s outs) (get old.rings s) (get new.rings s)) → IsKept new
-  round_kept ss outs takes serves =
-      kept_on (round ss) old new outs kept takes told (λ r went opens_so s. same s (is_in s ss) (get old.rings s) (get new.rings s) (serves s) ∙ open_round (served_by old.server.schema) old.rings old.server.world ss r went opens_so s)
+  pub round_kept : (ss : List ℕ) (outs : List (ℕ × Text)) → Takes (round ss) old new outs → ((s : ℕ) → Grows (texts_to s outs) (get old.rings s) (get new.rings s)) → IsKept new
+  round_kept ss outs takes grows =
+      kept_on (round ss) old new outs kept takes told (λ r went opens_so s. same s (get old.rings s) (get new.rings s) (grows s) ∙ open_round (served_by old.server.schema) old.rings old.server.world ss r went opens_so s)
     where
-      same : (s : ℕ) (b : Bool) (o p : Option Ring) → IsServed b (texts_to s outs) o p → is_some p ≡ is_some o
-      same s b None p k = ap is_some k.2
-      same s false (Some a) p k = ap is_some k.2
-      same s true (Some a) p k = ap is_some k.1
+      same : (s : ℕ) (o p : Option Ring) → Grows (texts_to s outs) o p → is_some p ≡ is_some o
+      same s None p k = ap is_some k
+      same s (Some a) p k = ap is_some k.1
 
       same_ring : (a b : Ring) → (let o : Option Ring = Some a in o) ≡ Some b → a ≡ b
       same_ring a b e = cc
 
-      by : (s : ℕ) (r : Ring) (b : Bool) (o p : Option Ring) → IsServed b (texts_to s outs) o p → p ≡ Some r → IsTold false (texts_to s outs) o r
-      by s r b None p k there = absurd (true≢false (sym (sym (ap is_some k.2) ∙ ap is_some there)))
-      by s r false (Some a) p k there =
-          (a, refl, ap texts (sym (same_ring a r (sym k.2 ∙ there))) ∙ sym (append-nil (texts a)) ∙ ap (λ ts. texts a ++ ts) (sym k.1))
-      by s r true (Some a) p k there = (
-        a,
-        refl,
-        ap texts (sym (same_ring k.0 r (sym k.1 ∙ there))) ∙ ap (λ ts. ts ++ option_to_list k.0.held) k.3 ∙ append_assoc (texts a) k.2 (option_to_list k.0.held) ∙ ap (λ ts. texts a ++ ts) k.4,
-      )
+      by : (s : ℕ) (r : Ring) (o p : Option Ring) → Grows (texts_to s outs) o p → p ≡ Some r → IsTold false (texts_to s outs) o r
+      by s r None p k there = absurd (true≢false (sym (sym (ap is_some k) ∙ ap is_some there)))
+      by s r (Some a) p k there = (a, refl, ap texts (sym (same_ring k.0 r (sym k.1 ∙ there))) ∙ k.2)
 
       told : Tellings (round ss) old.rings new.rings outs
-      told s r is = by s r (is_in s ss) (get old.rings s) (get new.rings s) (serves s) is
+      told s r is = by s r (get old.rings s) (get new.rings s) (grows s) is
 
   pub takes_round_kept : (count : ℕ) → TakesRound count old new → IsKept new
-  takes_round_kept count t = round_kept t.0 t.1 t.2 t.5
+  takes_round_kept count t = round_kept t.0 t.1 t.2 (λ s. grown (is_in s t.0) (texts_to s t.1) (get old.rings s) (get new.rings s) (t.5 s))
 
 -- ---- a round
 
-pub rooms : (m : Rings) (s t : Server) (outs : List (ℕ × Text)) → serve (round (free_of m)) s ≡ Ok (t, outs) → (q : ℕ) → HasRoom (get m q) (texts_to q outs)
-rooms m s t outs is q =
-    let o = step_of (round (free_of m)) s t outs is in
+-- a round gives a session one message at most, and none where it isn't listed
+pub most_texts : (ss : List ℕ) (s t : Server) (outs : List (ℕ × Text)) → serve (round ss) s ≡ Ok (t, outs) → (q : ℕ) → length (texts_to q outs) ≤ cond (is_in q ss) 1 0
+most_texts ss s t outs is q =
+    let o = step_of (round ss) s t outs is in
     let r : Step = o.0 in
-    let went : step (served_by s.schema) (round (free_of m)) s.world ≡ Ok r = o.1 in
+    let went : step (served_by s.schema) (round ss) s.world ≡ Ok r = o.1 in
     let same : map printed r.1 ≡ outs = ap (λ (p : Server × List (ℕ × List ℕ)). p.1) o.2 in
-    let took : take_each (served_by s.schema) (once (free_of m)) s.world ≡ r = ok_is _ r went in
-    let most : length (sent_to q r.1) ≤ cond (is_in q (free_of m)) 1 0 = subst (λ (p : Step). length (sent_to q p.1) ≤ cond (is_in q (free_of m)) 1 0) took (most_given (served_by s.schema) q (free_of m) s.world) in
+    let took : take_each (served_by s.schema) (once ss) s.world ≡ r = ok_is _ r went in
+    let most : length (sent_to q r.1) ≤ cond (is_in q ss) 1 0 = subst (λ (p : Step). length (sent_to q p.1) ≤ cond (is_in q ss) 1 0) took (most_given (served_by s.schema) q ss s.world) in
     let long : length (texts_to q outs) ≡ length (sent_to q r.1) = ap (λ os. length (texts_to q os)) (sym same) ∙ ap length (texts_printed q r.1) ∙ length-map (sent_to q r.1) text_of in
-    subst (λ n. n ≤ room_of (get m q)) (sym long) (subst (λ n. length (sent_to q r.1) ≤ n) (ap (λ b. cond b 1 0) (listed m q) ∙ room (get m q)) most)
+    subst (λ n. n ≤ cond (is_in q ss) 1 0) (sym long) most
+
+pub rooms : (m : Rings) (s t : Server) (outs : List (ℕ × Text)) → serve (round (free_of m)) s ≡ Ok (t, outs) → (q : ℕ) → HasRoom (get m q) (texts_to q outs)
+rooms m s t outs is q = subst (λ n. length (texts_to q outs) ≤ n) (ap (λ b. cond b 1 0) (listed m q) ∙ room (get m q)) (most_texts (free_of m) s t outs is q)
   where
     room : (o : Option Ring) → cond (is_free_at o) 1 0 ≡ room_of o
     room None = refl
@@ -174,12 +182,11 @@ none_there : (o : Option Ring) → is_some o ≡ false → o ≡ None
 none_there None e = refl
 none_there (Some x) e = absurd (true≢false e)
 
+pub unused_grown : (m k : Rings) (n : ℕ) (outs : ℕ → List Text) → ((s : ℕ) → Grows (outs s) (get m s) (get k s)) → AreUnused m n → AreUnused k n
+unused_grown m k n outs grows unused q above = subst (λ (o : Option Ring). Grows (outs q) o (get k q)) (unused q above) (grows q)
+
 pub unused_round : (old new : Kept) (n : ℕ) (count : ℕ) → TakesRound count old new → AreUnused old.rings n → AreUnused new.rings n
-unused_round old new n count t unused q above = by (is_in q t.0) (get old.rings q) (unused q above) (t.5 q)
-  where
-    by : (b : Bool) (o : Option Ring) → o ≡ None → IsServed b (texts_to q t.1) o (get new.rings q) → get new.rings q ≡ None
-    by b None e k = k.2
-    by b (Some a) e k = absurd (true≢false (ap is_some e))
+unused_round old new n count t unused = unused_grown old.rings new.rings n (λ s. texts_to s t.1) (λ s. grown (is_in s t.0) (texts_to s t.1) (get old.rings s) (get new.rings s) (t.5 s)) unused
 
 pub unused_flushed : (m k : Rings) (n : ℕ) → ((s : ℕ) → IsFlushedAt (get m s) (get k s)) → AreUnused m n → AreUnused k n
 unused_flushed m k n flushed unused q above = subst (λ (o : Option Ring). IsFlushedAt o (get k q)) (unused q above) (flushed q)

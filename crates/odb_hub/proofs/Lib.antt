@@ -5,6 +5,7 @@ pub mod Free
 pub mod FreeAmong
 pub mod HandingOver
 pub mod Keeping
+pub mod OwnRounds
 pub mod Putting
 pub mod RingsIn
 pub mod Stepping

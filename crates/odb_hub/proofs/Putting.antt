@@ -25,6 +25,9 @@ flushed_one old new key x y is changed flushed s = subst (λ (o : Option Ring). 
     by true tie = subst (λ (o : Option Ring). IsFlushedAt o (Some y)) (sym (ap (get (rings_in old)) (same_key s key tie) ∙ at_key old key x is)) (y, refl, flushed)
     by false _ = flushed_itself (get (rings_in old) s)
 
+pub others_stay : (old new : BTreeMap ℕ Ring) (key : ℕ) (y : Ring) → Updates old new key (Some y) → (s : ℕ) → (key == s) ≡ false → get (rings_in new) s ≡ get (rings_in old) s
+others_stay old new key y changed s e = there old new key y changed s ∙ ap (λ c. cond c (Some y) (get (rings_in old) s)) (apart_keys s key e)
+
 pub put_one : (old new : BTreeMap ℕ Ring) (key : ℕ) (text : Text) (x y : Ring) → tree.get nat_cmp old key ≡ Some x → Updates old new key (Some y) → IsPut text x y → (s : ℕ) → IsPutAt (key == s) text (get (rings_in old) s) (get (rings_in new) s)
 put_one old new key text x y is changed put s = subst (λ (o : Option Ring). IsPutAt (key == s) text (get (rings_in old) s) o) (sym (there old new key y changed s)) (by (key == s) refl)
   where

@@ -1,10 +1,11 @@
 -- What a batch of events makes of what the lock guards.
-use Rattle.std.specs.Prelude.{◌≡◌, List, [], ◌∷◌, ◌++◌}
+use Rattle.std.specs.Prelude.{◌≡◌, ℕ, List, [], ◌∷◌, ◌++◌, IfErr, Result}
 use Rattle.odb_service.specs.Run.{Event}
 use Rattle.odb_service.specs.Server.{Server, serve}
 use Rattle.odb_core.specs.declared.refused.Refused.{Refused}
 use Rattle.odb_core.specs.Represented.Reason.{IsReason}
 use Rattle.odb_hub.specs.Kept.{Kept, Takes}
+use Rattle.odb_hub.specs.Own.{GivesOwn}
 
 -- the events are taken in order, and nothing is sent
 abbrev pub TakesAll : List Event → Kept → Kept → Type 0
@@ -19,3 +20,7 @@ TakesUpTo events left old new = (taken : List Event) × (events ≡ taken ++ lef
 abbrev pub RefusesFirst : Refused → List Event → Server → Type 0
 RefusesFirst why [] server = ⊥
 RefusesFirst why (e ∷ es) server = IsReason why (serve e server)
+
+-- these events of a session are taken up to what is left, of which the first is refused for the reason of the result; then come rounds of the session alone
+abbrev pub Submits : {A : Type 0} → Result A Refused → ℕ → List Event → List Event → Kept → Kept → Type 0
+Submits result s events left old new = (taken : Kept) × TakesUpTo events left old taken × IfErr result (λ why. RefusesFirst why left taken.server) × GivesOwn s taken new

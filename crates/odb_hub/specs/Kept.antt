@@ -6,7 +6,7 @@ use Rattle.odb_atoms.specs.FinMap.{get}
 use Rattle.odb_service.specs.History.{IsHistory}
 use Rattle.odb_service.specs.Run.{Event, round}
 use Rattle.odb_service.specs.Server.{Server, serve, served_by, server_code}
-use Rattle.odb_service.specs.Session.{Out}
+use Rattle.odb_service.specs.Session.{Out, Session, take}
 use Rattle.odb_service.specs.World.{World}
 use Rattle.odb_service.specs.WorldCode.{world_code}
 use Rattle.odb_hub.specs.EventCode.{events_code}
@@ -45,6 +45,10 @@ AreOpen rings w = (s : ℕ) → is_some (get rings s) ≡ is_some (get w.session
 -- base and events are a legal history that ends in the server's state, and the rings end with what it gives
 abbrev pub IsKept : Kept → Type 0
 IsKept k = ((given : ℕ → List Out) × IsHistory (served_by k.server.schema) k.base k.events k.server.world given × AreTold k.rings given) × AreOpen k.rings k.server.world
+
+-- a taking of an open session gives nothing and changes nothing
+abbrev pub IsQuiet : Server → Type 0
+IsQuiet s = (q : ℕ) (x : Session) → get s.world.sessions q ≡ Some x → take (served_by s.schema) s.world.db x ≡ (None, x)
 
 -- no session has a ring under a number that is still to be given
 abbrev pub AreUnused : Rings → ℕ → Type 0

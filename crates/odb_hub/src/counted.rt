@@ -42,9 +42,10 @@ impl<L: Ledger> Counted<L> {
     ghost use Rattle.odb_atoms.specs.FinMap.{empty, get, insert};
     ghost use Rattle.odb_service.specs.Server.{serve};
     ghost use Rattle.odb_core.specs.Represented.Reason.{IsReason};
-    ghost use Rattle.odb_hub.specs.Batch.{RefusesFirst, TakesUpTo};
+    ghost use Rattle.odb_hub.specs.Batch.{Submits};
     ghost use Rattle.odb_hub.specs.Counted.{Closes, IsCounted, SameCount, submits};
-    ghost use Rattle.odb_hub.specs.Kept.{IsKept, Takes, TakesRound, counted};
+    ghost use Rattle.odb_hub.specs.Kept.{IsKept, IsQuiet, Takes, TakesRound, counted};
+    ghost use Rattle.odb_hub.specs.Own.{GivesOwn};
     ghost use Rattle.odb_hub.specs.Represented.Mailbox.{name_of, taken};
     ghost use Rattle.odb_hub.specs.Represented.Submission.{events_of};
     ghost use Rattle.odb_hub.specs.Rings.{fresh_ring, IsFlushedAt};
@@ -102,17 +103,18 @@ impl<L: Ledger> Counted<L> {
         ))
     }
 
-    /// Submits what stands in the batch as [`HubState::submit_all`] does. The seat is answered each submission that was
-    /// taken.
+    /// Submits what stands in the batch as [`HubState::submit_all`] does, and then gives the session what it is owed
+    /// ([`HubState::rounds_for`]); where memory is refused for that, it is owed it still. It returns whether a session may
+    /// be owed something then. The seat is answered each submission that was taken.
     pub fn submit_all(
         &mut self,
         seat: &mut Seat<L>,
         batch: &mut Vec<Submission>,
         now: u64,
-    ) -> Result<(), Refused>
-        ensures taken { TakesUpTo (events_of seat.old.session now batch.old.items) (events_of seat.old.session now batch.new.items) self.old.kept self.new.kept }
+    ) -> Result<bool, Refused>
+        ensures submits { Submits result seat.old.session (events_of seat.old.session now batch.old.items) (events_of seat.old.session now batch.new.items) self.old.kept self.new.kept }
         ensures all { OnOk result (batch.new.items ≡ []) }
-        ensures why { IfErr result (λ why. RefusesFirst why (events_of seat.old.session now batch.new.items) self.new.kept.server) }
+        ensures quiet { IfOk result (λ owes. owes ≡ false → IsQuiet self.new.kept.server) }
         ensures seat { seat.new ≡ record { session = seat.old.session; answered = seat.old.answered + (length batch.old.items - length batch.new.items) } }
         ensures answered { self.new.answered ≡ self.old.answered + (length batch.old.items - length batch.new.items) }
         ensures settled { self.new.settled ≡ self.old.settled }
@@ -121,7 +123,19 @@ impl<L: Ledger> Counted<L> {
         let submitted = self.state.submit_all(seat.session, batch, now);
         let answered = before.saturating_sub(batch.len());
         self.book.add(&mut seat.share, answered as u64);
-        submitted
+        drop(self.state.rounds_for(seat.session));
+        match submitted {
+            Ok(()) => Ok(self.state.owes()),
+            Err(why) => Err(why),
+        }
+    }
+
+    /// As [`HubState::rounds_for`].
+    pub fn rounds_for(&mut self, session: SessionId) -> Result<(), AllocError>
+        ensures rounds { GivesOwn session self.old.kept self.new.kept }
+        ensures count { SameCount self.old self.new }
+    {
+        self.state.rounds_for(session)
     }
 
     /// As [`HubState::tick`].

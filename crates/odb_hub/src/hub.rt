@@ -5,10 +5,21 @@ use crate::counted::Counted;
 use crate::mailbox::Mailbox;
 use crate::seat::Seat;
 use crate::submission::Submission;
-use odb_core::{Core, Refused};
+use odb_core::{Core, Refused, SessionId};
 use std::alloc::{AllocError, Global};
+use std::io;
 use std::sync::ledger::{Blank, Ledger};
 use std::sync::{Mutex, Wait};
+use std::time::{Clock, Duration, Instant};
+
+/// What a round did.
+#[derive(Clone, Copy)]
+pub struct Round {
+    /// How many messages were given.
+    pub given: usize,
+    /// How long it took from when it had the lock, zero where the clock can't be read.
+    pub took: Duration,
+}
 
 /// A server that many threads share. Each call takes the lock and makes one call of [`Counted`] under it, whose
 /// contracts say what it does: of a value under a lock only the facts of its type are known, here that the journal is
@@ -44,14 +55,16 @@ impl<L: Ledger> Hub<L> {
     }
 
     /// Submits what stands in the batch, from its last to its first, under one lock. At a refusal it stops, and the
-    /// submission that was refused is the last of the batch again. The seat is answered each submission that was taken.
+    /// submission that was refused is the last of the batch again. The seat is answered each submission that was taken. Then
+    /// its session, and no other, is given what it is owed, so that replies wait for nobody. It returns whether a session
+    /// may be owed something then: a round is to be run.
     pub fn submit_all<R: Wait>(
         &self,
         rt: &R,
         seat: &mut Seat<L>,
         batch: &mut Vec<Submission>,
         now: u64,
-    ) -> Result<(), Refused>
+    ) -> Result<bool, Refused>
         ensures all { OnOk result (batch.new.items ≡ []) }
         ensures seat { seat.new ≡ record { session = seat.old.session; answered = seat.old.answered + (length batch.old.items - length batch.new.items) } }
     {
@@ -63,9 +76,20 @@ impl<L: Ledger> Hub<L> {
         self.state.lock(rt).tick(now)
     }
 
-    /// Gives each session its next message, and returns how many there were.
-    pub fn round<R: Wait>(&self, rt: &R) -> Result<usize, AllocError> {
-        self.state.lock(rt).round()
+    /// Gives each session its next message.
+    pub fn round<R: Wait + Clock>(&self, rt: &R) -> Result<Round, AllocError> {
+        let mut state = self.state.lock(rt);
+        let begun = Instant::now(rt);
+        let given = state.round()?;
+        Ok(Round {
+            given,
+            took: time_since(rt, begun),
+        })
+    }
+
+    /// Gives a session, and no other, what it is owed, until its ring holds a message back: its ring has room again.
+    pub fn rounds_for<R: Wait>(&self, rt: &R, session: SessionId) -> Result<(), AllocError> {
+        self.state.lock(rt).rounds_for(session)
     }
 
     /// Begins a new journal, and returns how many events the old one had.
@@ -80,4 +104,11 @@ impl<L: Ledger> Hub<L> {
     {
         self.state.lock(rt).part(seat)
     }
+}
+
+fn time_since<R: Clock>(rt: &R, begun: io::Result<Instant>) -> Duration {
+    let Ok(begun) = begun else {
+        return Duration::from_millis(0);
+    };
+    begun.elapsed(rt).unwrap_or(Duration::from_millis(0))
 }

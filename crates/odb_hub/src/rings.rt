@@ -1,5 +1,5 @@
 //! The rings of all sessions.
-ghost use Rattle.std.specs.Prelude.{◌≡◌, ◌==◌, ℕ, [], ◌∷◌, Some, None, OnErr, OnOk, IfOk, IfErr, filter, map};
+ghost use Rattle.std.specs.Prelude.{◌≡◌, ◌==◌, ℕ, false, [], ◌∷◌, Some, None, OnErr, OnOk, IfOk, IfErr, filter, map};
 ghost use Rattle.std.specs.BTreeSet.{contains};
 ghost use Rattle.std.specs.Ordering.{nat_cmp};
 ghost use Rattle.odb_sessions.specs.Represented.Out.{sent_in, text_of_out};
@@ -90,8 +90,33 @@ impl Rings {
         Ok(())
     }
 
+    /// Sends what is held back for the session, if its ring has room now, and says whether nothing is held back then; it
+    /// makes room to note the session. O(log n), and O(k) where that is sent and k sessions have a message held back.
+    pub(crate) fn ready_for(&mut self, session: SessionId) -> Result<bool, AllocError>
+        ensures flushed { (s : ℕ) → IsFlushedAt (get self.old s) (get self.new s) }
+        ensures others { (s : ℕ) → (session == s) ≡ false → get self.new s ≡ get self.old s }
+        ensures ready { IfOk result (λ ready. ready ≡ is_free_at (get self.new session)) }
+    {
+        self.holding.reserve(1)?;
+        if self.is_free(session) {
+            return Ok(true);
+        }
+        self.flush_at(session);
+        self.forget(session);
+        self.note(session);
+        Ok(self.is_free(session))
+    }
+
+    /// The session isn't noted any more.
+    fn forget(&mut self, session: SessionId)
+        ensures { self.new ≡ self.old }
+    {
+        self.holding.retain(|holding| *holding != session);
+    }
+
     fn flush_at(&mut self, session: SessionId)
-        ensures { (s : ℕ) → IsFlushedAt (get self.old s) (get self.new s) }
+        ensures flushed { (s : ℕ) → IsFlushedAt (get self.old s) (get self.new s) }
+        ensures others { (s : ℕ) → (session == s) ≡ false → get self.new s ≡ get self.old s }
     {
         let Some(ring) = self.rings.get_mut(&session) else {
             return;

@@ -1,4 +1,5 @@
 //! The right to submit for a session.
+ghost use Rattle.std.specs.Prelude.{◌≡◌};
 
 use crate::bell::Bell;
 use odb_core::SessionId;
@@ -28,6 +29,13 @@ impl<L: Ledger> Model for Seat<L> {
 }
 
 impl<L: Ledger> Seat<L> {
+    /// The session.
+    pub fn session(&self) -> SessionId
+        ensures { result ≡ self.now.session }
+    {
+        self.session
+    }
+
     /// What wakes the threads of the session.
     pub fn bell(&self) -> &Bell {
         &*self.bell

@@ -1,5 +1,5 @@
 //! What the lock guards.
-ghost use Rattle.std.specs.Prelude.{◌≡◌, ◌≤◌, ◌⊎◌, ℕ, [], map, length, IfErr, IfOk, Ok, OnErr, OnOk};
+ghost use Rattle.std.specs.Prelude.{◌≡◌, ◌≤◌, ◌⊎◌, ℕ, false, [], map, length, IfErr, IfOk, Ok, OnErr, OnOk};
 ghost use Rattle.odb_atoms.specs.Represented.Atom.{uuid_of};
 ghost use Rattle.odb_wire.specs.Message.{inserts_of};
 ghost use Rattle.odb_wire.specs.Shown.{request_data};
@@ -51,7 +51,8 @@ impl HubState {
     ghost use Rattle.odb_service.specs.Server.{serve};
     ghost use Rattle.odb_core.specs.Represented.Reason.{IsReason};
     ghost use Rattle.odb_hub.specs.Batch.{RefusesFirst, TakesUpTo};
-    ghost use Rattle.odb_hub.specs.Kept.{IsKept, Takes, TakesRound, counted};
+    ghost use Rattle.odb_hub.specs.Kept.{IsKept, IsQuiet, Takes, TakesRound, counted};
+    ghost use Rattle.odb_hub.specs.Own.{FlushesOwn, GivesOwn, TakesOwnRound};
     ghost use Rattle.odb_hub.specs.Represented.Submission.{events_of};
     ghost use Rattle.odb_hub.specs.Represented.Mailbox.{name_of, taken};
     ghost use Rattle.odb_hub.specs.Rings.{fresh_ring, IsFlushedAt};
@@ -201,6 +202,47 @@ impl HubState {
         self.journal = self.journal.with(event);
         self.since_base = self.since_base.saturating_add(1);
         Ok(count)
+    }
+
+    /// Gives this session alone its next message, if it has one and none is held back for it. What is held back is sent
+    /// first, where its ring has room now. It returns how many messages there were. An error says that memory was refused:
+    /// then what was held back may have been sent, and nothing else changed. O(log n), and O(k) where k sessions have a
+    /// message held back, as this one had.
+    pub fn round_for(&mut self, session: SessionId) -> Result<usize, AllocError>
+        ensures ok { IfOk result (λ count. TakesOwnRound session count self.old self.new) }
+        ensures err { OnErr result (FlushesOwn session self.old self.new) }
+    {
+        let ready = self.rings.ready_for(session)?;
+        if !ready {
+            return Ok(0);
+        }
+        let outs = self.core.round(&[session])?;
+        let count = outs.len();
+        self.rings.hand_over(outs);
+        self.journal = self.journal.with(Happened::RoundOf(session));
+        self.since_base = self.since_base.saturating_add(1);
+        Ok(count)
+    }
+
+    /// Gives this session alone what it is owed, until it is owed nothing more or its ring holds one back. An error says that
+    /// memory was refused to the last of these rounds. It costs what the rounds cost.
+    pub fn rounds_for(&mut self, session: SessionId) -> Result<(), AllocError>
+        ensures { GivesOwn session self.old self.new }
+    {
+        for _ in 0..u64::MAX {
+            let given = self.round_for(session)?;
+            if given == 0 {
+                return Ok(());
+            }
+        }
+        Ok(())
+    }
+
+    /// Whether a session may be owed something. O(1).
+    pub fn owes(&self) -> bool
+        ensures { result ≡ false → IsQuiet self.now.server }
+    {
+        !self.core.owed().is_empty()
     }
 
     /// The base becomes the state that the server is in, and the journal empty: nothing is copied. It returns how many

@@ -6,8 +6,8 @@ use odb_wire::Request;
 use std::snapshot::Snapshot;
 use uuid::Uuid;
 
-/// An event of the service machine, a round by the rings as it found them: it lists each session for which nothing is
-/// held back. What it holds takes no memory.
+/// An event of the service machine. A round is noted by the rings as it found them, since it lists each session for which
+/// nothing is held back; one of a session alone by that session. What it holds takes no memory.
 #[derive(Drop)]
 pub(crate) enum Happened {
     Opened(SessionId),
@@ -15,4 +15,5 @@ pub(crate) enum Happened {
     Ticked(u64),
     Closed(SessionId),
     Round(Snapshot<Rings>),
+    RoundOf(SessionId),
 }

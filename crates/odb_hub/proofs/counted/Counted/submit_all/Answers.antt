@@ -1,14 +1,48 @@
-use Rattle.std.proofs.Common.{rules, ◌≡◌, ◌+◌, ◌-◌, length, arith}
-use Rattle.odb_hub.specs.Counted.{submits}
+use Rattle.std.proofs.Common.{rules, ◌≡◌, ℕ, ◌+◌, ◌-◌, length, Bool, List, Ok, Err, ap, subst, arith}
+use Rattle.std.specs.Prelude.{Result}
+use Rattle.odb_core.specs.declared.refused.Refused.{Refused}
+use Rattle.odb_hub.specs.Batch.{RefusesFirst, Submits}
+use Rattle.odb_hub.specs.Counted.{Counted, Seat, submits}
+use Rattle.odb_hub.specs.Kept.{Kept}
+use Rattle.odb_hub.specs.Represented.Submission.{events_of}
+use Rattle.odb_hub.specs.declared.submission.Submission.{Submission}
 use Rattle.odb_hub.proofs.Counting.{batch_counted}
+use Rattle.odb_hub.proofs.OwnRounds.{own_counted}
+use Rattle.odb_hub.proofs.counted.Counted.submit_all.Goals.{in-Ok, in-Err}
 use Rattle.odb_hub.proofs.counted.Counted.submit_all.Goals as goal
+
+abbrev Submitted : Result Bool Refused → ℕ → ℕ → List Submission → List Submission → Kept → Kept → Type 0
+Submitted r s now xs ys old new = Submits r s (events_of s now xs) (events_of s now ys) old new
 
 pub invariant_of-self : goal.invariant_of-self
 invariant_of-self g c =
     let i = c.self.inside in
     let xs = c.args.batch.now.items in
     let ys = c.submit_all-submitted.new.batch.items in
-    let grown : submits c.submit_all-submitted.new.self.events ≡ submits i.state.events + (length xs - length ys) = batch_counted c.seat.inside.session c.args.now xs ys i.state c.submit_all-submitted.new.self c.submit_all-submitted.ensures.taken in
-    let answered : c.add.new.self.total ≡ i.book.total + (length xs - length ys) = search rules in
+    let mid = c.submit_all-submitted.new.self in
+    let total = c.add.new.self.total in
+    let grown : submits mid.events ≡ submits i.state.events + (length xs - length ys) = batch_counted c.seat.inside.session c.args.now xs ys i.state mid c.submit_all-submitted.ensures.taken in
+    let answered : total ≡ i.book.total + (length xs - length ys) = search rules in
     let before = c.self.invariant.0 in
-    (omega (arith, grown, answered, before), c.self.invariant.1)
+    let counts : total ≡ i.settled.value.total + submits mid.events = omega (arith, grown, answered, before) in
+    (own_counted c.seat.inside.session mid c.rounds_for.new.self total i.settled.value.total counts c.rounds_for.ensures, c.self.invariant.1)
+
+pub returns-clause-submits : goal.returns-clause-submits
+returns-clause-submits g c =
+    let s : ℕ = c.seat.inside.session in
+    let xs = c.args.batch.now.items in
+    let ys = c.submit_all-submitted.new.batch.items in
+    let mid : Kept = c.submit_all-submitted.new.self in
+    let new : Kept = c.rounds_for.new.self in
+    let same_seat : s ≡ c.args.seat.now.session = ap (λ (x : Seat). x.session) c.seat.view_is in
+    let same_kept : c.self.inside.state ≡ c.args.self.now.kept = ap (λ (x : Counted). x.kept) c.self.view_is in
+    elim c.match-submitted.branch [
+      | in-Ok w ↦ rw (w.result-is) (
+        let r : Result Bool Refused = Ok w.owes.result in
+        subst (λ q. Submitted r q c.args.now xs ys c.args.self.now.kept new) same_seat
+        (subst (λ (k : Kept). Submitted r s c.args.now xs ys k new) same_kept (mid, c.submit_all-submitted.ensures.taken, tt, c.rounds_for.ensures)))
+      | in-Err w ↦ rw (w.result-is) (
+        let r : Result Bool Refused = Err w.in-Err.why in
+        subst (λ q. Submitted r q c.args.now xs ys c.args.self.now.kept new) same_seat
+        (subst (λ (k : Kept). Submitted r s c.args.now xs ys k new) same_kept (mid, c.submit_all-submitted.ensures.taken, search rules, c.rounds_for.ensures)))
+    ]
