@@ -2,7 +2,7 @@
 
 use crate::daemon::Daemon;
 use crate::deadlines::push_waits;
-use odb_core::Refused;
+use odb_core::{Refused, SessionId};
 use odb_hub::{Mailbox, Seat, Submission, write_outs};
 use odb_wire::{Framer, Message, Request};
 use rand::make_rng;
@@ -49,9 +49,10 @@ fn run_session<'s, E, L: Ledger + Send + Sync, R: Threads + Wait + Clock + Rando
     let Ok((mut seat, mailbox)) = daemon.hub.open(rt) else {
         return Ok(());
     };
+    let session = seat.session();
     let writer = Builder::new().stack_size(STACK).spawn_scoped(
         scope,
-        move || write_for_session(rt, daemon, mailbox, stream),
+        move || write_for_session(rt, daemon, session, mailbox, stream),
     );
     let Ok(writer) = writer else {
         part(rt, daemon, seat);
@@ -71,7 +72,7 @@ fn part<L: Ledger, R: Wait + Clock>(rt: &R, daemon: &Daemon<L>, seat: Seat<L>) {
         match daemon.hub.part(rt, seat) {
             Ok(()) => {
                 // Those who own its locks now are to be told.
-                daemon.wake_pump();
+                daemon.pace.tell();
                 return;
             }
             Err(back) => seat = back,
@@ -100,11 +101,12 @@ fn write_the_rest<L: Ledger>(
 fn write_for_session<L: Ledger, R: Wait>(
     rt: &R,
     daemon: &Daemon<L>,
+    session: SessionId,
     mailbox: Mailbox,
     stream: &TcpStream,
 ) -> Mailbox {
     let mut mailbox = mailbox;
-    if write_until_end(rt, daemon, &mut mailbox, stream).is_err() {
+    if write_until_end(rt, daemon, session, &mut mailbox, stream).is_err() {
         mailbox.bell().fail();
         drop(stream.shutdown(Shutdown::Both));
     }
@@ -114,6 +116,7 @@ fn write_for_session<L: Ledger, R: Wait>(
 fn write_until_end<L: Ledger, R: Wait>(
     rt: &R,
     daemon: &Daemon<L>,
+    session: SessionId,
     mailbox: &mut Mailbox,
     stream: &TcpStream,
 ) -> io::Result<()> {
@@ -122,12 +125,12 @@ fn write_until_end<L: Ledger, R: Wait>(
         let ended = mailbox.bell().has_ended();
         while_there_are_outs(mailbox, &mut writer)?;
         if mailbox.bell().held() {
-            daemon.wake_pump();
-        }
-        if ended {
+            daemon.refill(rt, session);
+        } else if ended {
             return Ok(());
+        } else {
+            mailbox.bell().wait_to_write(rt);
         }
-        mailbox.bell().wait_to_write(rt);
     }
     unreachable!()
 }
@@ -183,7 +186,7 @@ impl From<AllocError> for Stopped {
     }
 }
 
-/// Submits the messages, and what that gives goes into the rings.
+/// Submits the messages, and what that gives the session goes into its ring.
 fn submit_messages<L: Ledger, R: Wait + Clock>(
     rt: &R,
     daemon: &Daemon<L>,
@@ -228,7 +231,7 @@ fn submission_of(
     Ok(Submission::new(request, fresh))
 }
 
-/// Submits them all, and runs the rounds that this asks for. On Busy it sleeps until the session was given something.
+/// Submits them all. The pump tells the other sessions. On Busy it sleeps until the session was given something.
 fn submit_all<L: Ledger, R: Wait + Clock>(
     rt: &R,
     daemon: &Daemon<L>,
@@ -237,15 +240,16 @@ fn submit_all<L: Ledger, R: Wait + Clock>(
 ) -> Result<(), Stopped> {
     let mut submissions = submissions;
     let waits = waits_of(daemon.alloc, submissions.as_slice())?;
-    let rounds = submissions.len().saturating_add(1);
     for _ in rt.forever() {
         let submitted = daemon
             .hub
             .submit_all(rt, seat, &mut submissions, daemon.now(rt));
+        if !is_quiet(&submitted) {
+            daemon.pace.tell();
+        }
         keep_deadlines(rt, daemon, waits.as_slice())?;
-        daemon.run_rounds(rt, rounds)?;
         match submitted {
-            Ok(()) => return Ok(()),
+            Ok(_) => return Ok(()),
             Err(Refused::Busy) => seat.bell().wait_to_submit(rt),
             Err(_) => return Err(Stopped),
         }
@@ -254,6 +258,11 @@ fn submit_all<L: Ledger, R: Wait + Clock>(
         }
     }
     unreachable!()
+}
+
+/// Whether all was taken, and no session is owed anything.
+fn is_quiet(submitted: &Result<bool, Refused>) -> bool {
+    matches!(submitted, Ok(false))
 }
 
 fn waits_of(alloc: Global, submissions: &[Submission]) -> Result<Vec<u64>, AllocError> {
@@ -277,6 +286,6 @@ fn keep_deadlines<L: Ledger, R: Wait + Clock>(
     for wait in waits {
         daemon.deadlines.add(rt, now.saturating_add(*wait))?;
     }
-    daemon.wake_pump();
+    daemon.pace.wake();
     Ok(())
 }

@@ -1,20 +1,20 @@
 //! What all threads of the daemon share. [P 15.2]
 
 use crate::deadlines::Deadlines;
-use odb_core::Core;
+use crate::pace::Pace;
+use odb_core::{Core, SessionId};
 use odb_hub::Hub;
-use std::alloc::{AllocError, Global};
+use std::alloc::Global;
 use std::sync::Wait;
 use std::sync::atomic::{AtomicU64, Ordering};
 use std::sync::ledger::{Blank, Ledger};
-use std::thread::Parker;
 use std::time::{Clock, Duration, Instant};
 
 /// After how many turns of the pump the journal begins anew.
 const SETTLES: u64 = 65_536;
 
-/// How many rounds the pump runs in one turn, so that moments pass also where rounds never end.
-const ROUNDS: usize = 64;
+/// For how many milliseconds the pump rests after a round for which memory was refused.
+const REFUSED: u64 = 3;
 
 /// The server, the clock, and what the pump sleeps by.
 #[derive(Drop)]
@@ -22,8 +22,8 @@ pub(crate) struct Daemon<L: Ledger> {
     pub(crate) alloc: Global,
     pub(crate) hub: Hub<L>,
     pub(crate) deadlines: Deadlines,
+    pub(crate) pace: Pace,
     start: Instant,
-    pump: Parker,
     ended: AtomicU64,
 }
 
@@ -47,8 +47,8 @@ impl<L: Ledger> Daemon<L> {
             alloc,
             hub: Hub::new(alloc, core, blank, seats),
             deadlines: Deadlines::new(alloc),
+            pace: Pace::new(),
             start,
-            pump: Parker::new(),
             ended: AtomicU64::new(0),
         }
     }
@@ -61,31 +61,20 @@ impl<L: Ledger> Daemon<L> {
         }
     }
 
-    /// Wakes the pump.
-    pub(crate) fn wake_pump(&self) {
-        self.pump.unpark();
-    }
-
     /// The pump ends.
     pub(crate) fn end(&self) {
         self.ended.store(1, Ordering::SeqCst);
-        self.pump.unpark();
+        self.pace.wake();
     }
 
-    /// Rounds until one has nothing to give, at most so many; then the pump goes on.
-    pub(crate) fn run_rounds<R: Wait>(&self, rt: &R, most: usize) -> Result<(), AllocError> {
-        for _ in 0..most {
-            if self.hub.round(rt)? == 0 {
-                return Ok(());
-            }
+    /// Gives a session what it is owed, as its ring has room again. Where memory is refused the pump does it.
+    pub(crate) fn refill<R: Wait>(&self, rt: &R, session: SessionId) {
+        if self.hub.rounds_for(rt, session).is_err() {
+            self.pace.tell();
         }
-        self.wake_pump();
-        Ok(())
     }
 
-    /// What the pump does: it sleeps until a transaction that waits may be due, a ring that was full has room again, or
-    /// a thread leaves rounds to it. Where memory is refused it goes on: the next thread that runs a round does what is
-    /// left.
+    /// What the pump does until the daemon ends.
     pub(crate) fn pump<R: Wait + Clock>(&self, rt: &R) {
         let mut turns: u64 = 0;
         for _ in rt.forever() {
@@ -97,21 +86,27 @@ impl<L: Ledger> Daemon<L> {
                 self.hub.settle(rt);
                 turns = 0;
             }
-            let ticked = self.now(rt);
-            drop(self.hub.tick(rt, ticked));
-            drop(self.run_rounds(rt, ROUNDS));
-            self.sleep(rt, ticked);
+            self.turn(rt);
         }
     }
 
-    /// Sleeps until the earliest moment that no tick was told of, which may be over by now, or until the pump is woken.
-    fn sleep<R: Wait + Clock>(&self, rt: &R, ticked: u64) {
-        match self.deadlines.next_later(rt, ticked) {
-            Some(moment) => {
-                let left = moment.saturating_sub(self.now(rt));
-                self.pump.park_timeout(rt, Duration::from_millis(left))
-            }
-            None => self.pump.park(rt),
+    /// Tries the transactions that are due, gives each session its next message, and pauses: it rests where more may come,
+    /// and sleeps where nothing is owed until something may be, or a transaction may be due.
+    fn turn<R: Wait + Clock>(&self, rt: &R) {
+        self.pace.begin();
+        let ticked = self.now(rt);
+        drop(self.hub.tick(rt, ticked));
+        let round = self.hub.round(rt);
+        let left = self.left(rt, ticked);
+        match round {
+            Ok(round) => self.pace.pause(rt, round, left),
+            Err(_) => self.pace.rest(rt, Duration::from_millis(REFUSED), left),
         }
+    }
+
+    /// How long it is until the earliest moment that no tick was told of, which may be over by now.
+    fn left<R: Wait + Clock>(&self, rt: &R, ticked: u64) -> Option<Duration> {
+        let moment = self.deadlines.next_later(rt, ticked)?;
+        Some(Duration::from_millis(moment.saturating_sub(self.now(rt))))
     }
 }

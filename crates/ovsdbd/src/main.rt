@@ -10,6 +10,7 @@
 mod connection;
 mod daemon;
 mod deadlines;
+mod pace;
 mod serve;
 
 use crate::serve::{begin, serve_all};

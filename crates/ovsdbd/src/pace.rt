@@ -1,0 +1,90 @@
+//! When the pump runs a round, rests and sleeps. [P 15.2]
+
+use odb_hub::Round;
+use std::sync::Wait;
+use std::sync::atomic::{AtomicU64, Ordering};
+use std::thread::Parker;
+use std::time::Duration;
+
+/// How many times as long as its round took the pump rests.
+const REST: u32 = 3;
+
+/// For how many microseconds it rests at least.
+const BRIEF: u64 = 100;
+
+/// For how many milliseconds it rests at most, also where the processor was taken away in the midst of a round.
+const LONG: u64 = 100;
+
+/// What the pump sleeps by. One that sleeps begins at once when it is told that something may be owed. While it is awake it
+/// rests between rounds, so that it holds the lock and wakes writers for a part of the time, and replies have the rest.
+#[derive(Drop)]
+pub(crate) struct Pace {
+    pump: Parker,
+    awake: AtomicU64,
+    told: AtomicU64,
+}
+
+impl Pace {
+    /// The pump is awake, and was told nothing.
+    pub(crate) fn new() -> Pace {
+        Pace {
+            pump: Parker::new(),
+            awake: AtomicU64::new(1),
+            told: AtomicU64::new(0),
+        }
+    }
+
+    /// A session may be owed something: a round is run, at once if the pump sleeps, and when it has rested if it is awake.
+    pub(crate) fn tell(&self) {
+        self.told.store(1, Ordering::SeqCst);
+        if self.awake.load(Ordering::SeqCst) == 0 {
+            self.pump.unpark();
+        }
+    }
+
+    /// The pump goes on at once, also if it rests.
+    pub(crate) fn wake(&self) {
+        self.told.store(1, Ordering::SeqCst);
+        self.pump.unpark();
+    }
+
+    /// A turn begins. It meets what the pump was told by now.
+    pub(crate) fn begin(&self) {
+        self.awake.store(1, Ordering::SeqCst);
+        self.told.store(0, Ordering::SeqCst);
+    }
+
+    /// Rests if the round gave something or the pump was told something since the turn began, and sleeps else; either for no
+    /// longer than `left`.
+    pub(crate) fn pause<R: Wait>(&self, rt: &R, round: Round, left: Option<Duration>) {
+        if round.given > 0 || self.is_told() {
+            let rest = round.took.saturating_mul(REST);
+            self.rest(rt, rest.min(Duration::from_millis(LONG)), left);
+        } else {
+            self.sleep(rt, left);
+        }
+    }
+
+    /// Rests for so long, or briefly where that is longer, until `left` is over or the pump is woken.
+    pub(crate) fn rest<R: Wait>(&self, rt: &R, long: Duration, left: Option<Duration>) {
+        let rest = long.max(Duration::from_micros(BRIEF));
+        self.pump.park_timeout(rt, rest.min(left.unwrap_or(rest)));
+    }
+
+    /// Sleeps until the pump is told something or woken, or `left` is over.
+    fn sleep<R: Wait>(&self, rt: &R, left: Option<Duration>) {
+        self.awake.store(0, Ordering::SeqCst);
+        // Who told before that didn't wake the pump.
+        if self.is_told() {
+            return;
+        }
+        match left {
+            Some(left) => self.pump.park_timeout(rt, left),
+            None => self.pump.park(rt),
+        }
+    }
+
+    fn is_told(&self) -> bool {
+        self.told.load(Ordering::SeqCst) != 0
+    }
+}
