@@ -38,11 +38,11 @@ returns-clause-submits g c =
     let same_kept : c.self.inside.state ≡ c.args.self.now.kept = ap (λ (x : Counted). x.kept) c.self.view_is in
     elim c.match-submitted.branch [
       | in-Ok w ↦ rw (w.result-is) (
-        let r : Result Bool Refused = Ok w.owes.result in
-        subst (λ q. Submitted r q c.args.now xs ys c.args.self.now.kept new) same_seat
-        (subst (λ (k : Kept). Submitted r s c.args.now xs ys k new) same_kept (mid, c.submit_all-submitted.ensures.taken, tt, c.rounds_for.ensures)))
+          let r : Result Bool Refused = Ok w.owes.result in
+          subst (λ q. Submitted r q c.args.now xs ys c.args.self.now.kept new) same_seat
+          (subst (λ (k : Kept). Submitted r s c.args.now xs ys k new) same_kept (mid, c.submit_all-submitted.ensures.taken, tt, c.rounds_for.ensures)))
       | in-Err w ↦ rw (w.result-is) (
-        let r : Result Bool Refused = Err w.in-Err.why in
-        subst (λ q. Submitted r q c.args.now xs ys c.args.self.now.kept new) same_seat
-        (subst (λ (k : Kept). Submitted r s c.args.now xs ys k new) same_kept (mid, c.submit_all-submitted.ensures.taken, search rules, c.rounds_for.ensures)))
+          let r : Result Bool Refused = Err w.in-Err.why in
+          subst (λ q. Submitted r q c.args.now xs ys c.args.self.now.kept new) same_seat
+          (subst (λ (k : Kept). Submitted r s c.args.now xs ys k new) same_kept (mid, c.submit_all-submitted.ensures.taken, search rules, c.rounds_for.ensures)))
     ]
