@@ -66,7 +66,7 @@ impl Core {
         ensures ok { IfOk result (λ core. core ≡ new_server schema) }
         ensures err { IfErr result (λ back. (back.0 ≡ schema) × (back.1 ≡ hashing)) }
     {
-        let state = match State::new(alloc, schema.tables().len(), hashing) {
+        let state = match State::new(alloc, &schema, hashing) {
             Ok(state) => state,
             Err(refused) => return Err((schema, hashing, refused)),
         };

@@ -78,15 +78,15 @@ impl State {
     ghost use Rattle.odb_core.specs.Represented.Core.{empty_world};
     ghost use Rattle.odb_core.specs.Represented.Places.{split_at};
 
-    /// Empty tables, at moment 0, with no commit and no session.
+    /// Empty tables that keep what the schema asks for, at moment 0, with no commit and no session.
     pub(crate) fn new(
         alloc: Global,
-        tables: usize,
+        schema: &Schema,
         hashing: RandomState,
     ) -> Result<State, AllocError>
-        ensures { IfOk result (λ state. state ≡ empty_world tables) }
+        ensures { IfOk result (λ state. state ≡ empty_world (length schema.now.tables)) }
     {
-        let db = Db::new(alloc, tables, hashing)?;
+        let db = Db::for_schema(alloc, schema, hashing)?;
         Ok(State {
             alloc,
             commits: 0,
