@@ -2,6 +2,12 @@
 #![tactic(auto)]
 
 #[cfg(test)]
+mod mailboxes;
+#[cfg(test)]
+mod requests;
+#[cfg(test)]
+mod sharing;
+#[cfg(test)]
 mod sizes;
 #[cfg(test)]
 mod streams;
