@@ -1,8 +1,12 @@
+#!/usr/bin/env python3
 """Which crate is proved when, and by how many processors.
 
 The toolchain hands its idle processors out evenly among all that may begin, so that a crate on which all others wait is
 proved by one. Here each choice is the one that ends the whole soonest, by what the proofs took when they were last
 measured (`tests/costs`, in seconds of one processor). Edits fill what the proofs leave free.
+
+Usage: tests/plan.py WORD..    what `rt` does with these words, without the sums over all crates below that it makes again and
+                               again: seconds to minutes less at each call, in the upper crates
 """
 
 import importlib.machinery
@@ -11,6 +15,7 @@ import itertools
 import os
 import shutil
 import sys
+import threading
 import time
 from concurrent.futures import FIRST_COMPLETED, ThreadPoolExecutor, wait
 
@@ -26,7 +31,25 @@ def toolchain():
     loader = importlib.machinery.SourceFileLoader("rt", os.path.realpath(shutil.which("rt")))
     rt = importlib.util.module_from_spec(importlib.util.spec_from_loader("rt", loader))
     loader.exec_module(rt)
+    sum_once(rt.rtlib.Crate)
     return rt
+
+
+def sum_once(crates):
+    """Lets the sum over a crate and all below it sum each of them up once, and not once for each way that leads to it."""
+    whole, local = crates.stamp, threading.local()
+
+    def stamp(crate):
+        outer = getattr(local, "known", None)
+        known = local.known = {} if outer is None else outer
+        try:
+            if crate.folder not in known:
+                known[crate.folder] = whole(crate)
+            return known[crate.folder]
+        finally:
+            local.known = outer
+
+    crates.stamp = stamp
 
 
 def measured():
@@ -138,3 +161,7 @@ class Plan:
             return
         minutes, seconds = divmod(int(time.time() - self.start), 60)
         print(f"prove: {minutes}:{seconds:02} {text}", flush=True)
+
+
+if __name__ == "__main__":
+    sys.exit(toolchain().main(sys.argv[1:]))
