@@ -18,3 +18,7 @@ pub mod OwedSessions
 pub mod QuietRounds
 pub mod QuietSessions
 pub mod Crossing
+pub mod AlikeDrafts
+pub mod PutChanges
+pub mod RetriedOnce
+pub mod ToldOutcomes

@@ -6,3 +6,5 @@ pub mod Places
 pub mod Reason
 pub mod Requests
 pub mod Sessions
+pub mod Foreseen
+pub mod Spared

@@ -4,6 +4,7 @@
 //! unless its own page says otherwise. A call whose result has no such error takes no memory.
 #![tactic(auto)]
 
+mod foreseen;
 mod locking;
 mod monitors;
 mod refused;

@@ -24,7 +24,7 @@ ghost use Rattle.odb_tables.specs.Change.{all_changed_by};
 ghost use Rattle.odb_tables.specs.Installing.{IsChangeOf};
 ghost use Rattle.odb_wire.specs.Message.{has_left_out, id_of};
 ghost use Rattle.odb_wire.specs.Shown.{request_data};
-ghost use Rattle.odb_core.specs.Represented.Sessions.{AreNoted, AreOwed};
+ghost use Rattle.odb_core.specs.Represented.Sessions.{ended_with, posted_with, AreNoted, AreOwed};
 
 use odb_locks::SessionId;
 use odb_queue::{Finished, Post};
@@ -161,6 +161,45 @@ impl Sessions {
     {
         self.owed.insert(session)?;
         self.book.post_end(session, reply)
+    }
+
+    /// Makes a change of the database, and posts the reply of the transaction that made it as `post_end` does, and
+    /// then these posts; or does nothing. The costs are those of `post_end`, `post_all` and `install`.
+    pub(crate) fn commit(
+        &mut self,
+        session: SessionId,
+        reply: Finished,
+        posts: Vec<Post>,
+        change: ChangeSet,
+    ) -> Result<(), AllocError>
+        requires { IsChangeOf self.old.db change }
+        ensures ok { OnOk result ((schema : Schema) → self.new ≡ ended_with schema session (item_of reply) (map post_of posts.items) change self.old) }
+        ensures err { OnErr result (self.new ≡ self.old) }
+    {
+        let posted_to = self.post_end(session, reply)?;
+        match self.post_and_install(posts, change) {
+            Ok(()) => Ok(()),
+            Err(_) => {
+                self.take_back(posted_to);
+                Err(AllocError)
+            }
+        }
+    }
+
+    /// Makes a change of the database and posts each item to its session, or does nothing.
+    fn post_and_install(&mut self, posts: Vec<Post>, change: ChangeSet) -> Result<(), AllocError>
+        requires { IsChangeOf self.old.db change }
+        ensures ok { OnOk result (self.new ≡ posted_with (map post_of posts.items) change self.old) }
+        ensures err { OnErr result (self.new ≡ self.old) }
+    {
+        let queued_for = self.post_all(posts)?;
+        match self.install(change) {
+            Ok(()) => Ok(()),
+            Err(_) => {
+                self.take_back(queued_for);
+                Err(AllocError)
+            }
+        }
     }
 
     /// Makes the whole change of the database, or none. The costs are those of `odb_sessions::Sessions::install`

@@ -20,10 +20,14 @@ ghost use Rattle.odb_service.specs.Run.{take_each};
 ghost use Rattle.odb_service.specs.Service.{Service};
 ghost use Rattle.odb_service.specs.Server.{printed, served_by};
 ghost use Rattle.odb_service.specs.Session.{say, to};
+ghost use Rattle.odb_sessions.specs.Asked.{ended_in};
 ghost use Rattle.odb_sessions.specs.Planned.{AreOnce};
+ghost use Rattle.odb_sessions.specs.Posts.{at_number};
 ghost use Rattle.odb_sessions.specs.Represented.Out.{sent_in};
+ghost use Rattle.odb_core.specs.Represented.Foreseen.{committed, reply_with, standing};
 ghost use Rattle.odb_core.specs.Represented.Waiting.{left_waiting, outcome_in, waiting_as, IsDone};
 
+use crate::foreseen::Foreseen;
 use crate::sessions::Sessions;
 use crate::submitted::Submitted;
 use crate::waiting::{Tried, Waiting};
@@ -75,6 +79,7 @@ impl State {
     ghost use Rattle.odb_service.specs.World.{attempt, end_transaction, is_untried, post, retry_all};
     ghost use Rattle.odb_service.specs.World.{run_transaction, try_due, try_one, untried};
     ghost use Rattle.odb_queue.specs.Represented.Item.{item_of};
+    ghost use Rattle.odb_queue.specs.Represented.Post.{post_of};
     ghost use Rattle.odb_core.specs.Represented.Core.{empty_world};
     ghost use Rattle.odb_core.specs.Represented.Places.{split_at};
 
@@ -290,8 +295,8 @@ impl State {
 
     /// A new transaction (RFC 7047, section 4.1.3): it ends, or waits after the others. Where
     /// memory is refused nothing changes, and it comes back. It costs what its operations and its
-    /// settlement do, by the rows touched where these suffice; a commit while others wait works on
-    /// a copy, O(rows + bytes queued).
+    /// settlement do, by the rows touched where these suffice; a commit while others wait costs their
+    /// tries too, and works on a copy, O(rows + bytes queued), where one of them may change the database.
     pub(crate) fn transact(
         &mut self,
         schema: &Schema,
@@ -343,10 +348,80 @@ impl State {
             self.commit(asked, results, change)?;
             return Ok(());
         }
+        self.commit_beside(schema, asked, results, change)?;
+        Ok(())
+    }
+
+    /// Makes the change as the next commit beside transactions that wait, queues the reply, and tries these again.
+    fn commit_beside(
+        &mut self,
+        schema: &Schema,
+        asked: &Submitted,
+        results: Vec<Value>,
+        change: ChangeSet,
+    ) -> Result<(), AllocError>
+        requires sound { IsSound schema.now self.old.db }
+        requires tried { (h : Service) → untried h self.old ≡ None }
+        requires float { has_float (array_of (results_of results)) ≡ false }
+        requires change { IsChangeOf self.old.db change }
+        requires changed { IsSound schema.now (all_changed_by self.old.db change) }
+        ensures ok { OnOk result (retry_all (served_by schema.now) (end_transaction (served_by schema.now) asked.now.session (request_data asked.now.request) (array_of (results_of results)) (Some (all_changed_by self.old.db change)) self.old) ≡ self.new) }
+        ensures sound { IsSound schema.now self.new.db }
+        ensures tried { (h : Service) → untried h self.new ≡ None }
+        ensures err { OnErr result (self.new ≡ self.old) }
+    {
+        match self.foresee(schema, &change)? {
+            Some(foreseen) => self.commit_foreseen(asked, results, change, foreseen),
+            None => self.commit_on_copy(schema, asked, results, change),
+        }
+    }
+
+    /// The same on a copy of all, where a transaction that waits may change the database too. O(rows + bytes
+    /// queued), and what the tries cost.
+    fn commit_on_copy(
+        &mut self,
+        schema: &Schema,
+        asked: &Submitted,
+        results: Vec<Value>,
+        change: ChangeSet,
+    ) -> Result<(), AllocError>
+        requires sound { IsSound schema.now self.old.db }
+        requires tried { (h : Service) → untried h self.old ≡ None }
+        requires float { has_float (array_of (results_of results)) ≡ false }
+        requires change { IsChangeOf self.old.db change }
+        requires changed { IsSound schema.now (all_changed_by self.old.db change) }
+        ensures ok { OnOk result (retry_all (served_by schema.now) (end_transaction (served_by schema.now) asked.now.session (request_data asked.now.request) (array_of (results_of results)) (Some (all_changed_by self.old.db change)) self.old) ≡ self.new) }
+        ensures sound { IsSound schema.now self.new.db }
+        ensures tried { (h : Service) → untried h self.new ≡ None }
+        ensures err { OnErr result (self.new ≡ self.old) }
+    {
         let mut copy = self.try_copy()?;
         copy.commit(asked, results, change)?;
         copy.retry_all(schema)?;
         *self = copy;
+        Ok(())
+    }
+
+    /// The same, where it is foreseen what becomes of those that wait. What `commit` costs, and O(log n) for each
+    /// reply.
+    fn commit_foreseen(
+        &mut self,
+        asked: &Submitted,
+        results: Vec<Value>,
+        change: ChangeSet,
+        foreseen: Foreseen,
+    ) -> Result<(), AllocError>
+        requires float { has_float (array_of (results_of results)) ≡ false }
+        requires change { IsChangeOf self.old.db change }
+        ensures ok { OnOk result ((s : Schema) → self.new ≡ standing foreseen.left.items (map post_of foreseen.posts.items) (at_number (ended_in s (reply_with asked.now results)) self.old.sessions asked.now.session) (committed change self.old)) }
+        ensures err { OnErr result (self.new ≡ self.old) }
+    {
+        let commits = self.commits.checked_add(1).ok_or(AllocError)?;
+        let reply = replied(self.alloc, &asked.request, &Value::from(results))?;
+        let Foreseen { left, posts } = foreseen;
+        self.sessions.commit(asked.session, reply, posts, change)?;
+        self.commits = commits;
+        self.waiting = left;
         Ok(())
     }
 

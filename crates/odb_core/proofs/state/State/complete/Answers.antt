@@ -2,12 +2,14 @@ use Rattle.std.proofs.Common.{rules, ◌≡◌, true, false, length, [], Option,
 use Rattle.std.proofs.lemmas.List.{nil_from_length}
 use Rattle.odb_ops.specs.Represented.Ran.{results_of}
 use Rattle.odb_schema.specs.Json.{array_of}
+use Rattle.odb_commit.specs.Sound.{IsSound}
 use Rattle.odb_tables.specs.Change.{all_changed_by}
+use Rattle.odb_tables.specs.Installing.{IsChangeOf}
 use Rattle.odb_wire.specs.Shown.{request_data}
 use Rattle.odb_service.specs.Server.{served_by}
 use Rattle.odb_service.specs.World.{Waiting, World, attempt, end_transaction, is_untried, split_first, untried}
-use Rattle.odb_core.specs.Represented.Waiting.{waiting_as}
-use Rattle.odb_core.proofs.Attempts.{done_as, done_whole_results, has_rows}
+use Rattle.odb_core.specs.Represented.Waiting.{outcome_in, waiting_as}
+use Rattle.odb_core.proofs.Attempts.{done_as, done_is, done_whole_results, has_rows}
 use Rattle.odb_core.proofs.HandledRequests.{runs_alone, runs_ended}
 use Rattle.odb_core.proofs.state.State.complete.Goals as goal
 
@@ -17,8 +19,15 @@ reply-requires c = done_whole_results c.args.schema.now c.args.self.now c.args.a
 pub commit-requires-clause-float : goal.commit-requires-clause-float
 commit-requires-clause-float c = done_whole_results c.args.schema.now c.args.self.now c.args.asked.now c.args.results c.args.change c.requires.outcome
 
-pub commit-requires-2-clause-float : goal.commit-requires-2-clause-float
-commit-requires-2-clause-float c = done_whole_results c.args.schema.now c.args.self.now c.args.asked.now c.args.results c.args.change c.requires.outcome
+pub commit_beside-requires-clause-float : goal.commit_beside-requires-clause-float
+commit_beside-requires-clause-float c = done_whole_results c.args.schema.now c.args.self.now c.args.asked.now c.args.results c.args.change c.requires.outcome
+
+pub commit_beside-requires-clause-changed : goal.commit_beside-requires-clause-changed
+commit_beside-requires-clause-changed c =
+    let s = c.args.schema.now in
+    let w : World = c.args.self.now in
+    let is : IsChangeOf w.db c.args.change × IsSound s (all_changed_by w.db c.args.change) = done_is s w.db c.args.results c.args.change (outcome_in s w c.args.asked.now) c.requires.outcome in
+    is.1
 
 pub returns-then-not-changes_rows-clause-tried : goal.returns-then-not-changes_rows-clause-tried
 returns-then-not-changes_rows-clause-tried c = λ h. ap (untried h) c.reply.ensures.rest ∙ c.requires.tried h
@@ -56,21 +65,13 @@ returns-then-is_empty-clause-ok c =
 pub returns-in_err-reply-clause-tried : goal.returns-in_err-reply-clause-tried
 returns-in_err-reply-clause-tried c = λ h. ap (untried h) c.in_err-reply.ensures.err ∙ c.requires.tried h
 
-pub returns-clause-tried : goal.returns-clause-tried
-returns-clause-tried c = λ h. ap (untried h) c.copy-2.view_is ∙ c.in_ok-retry_all.ensures.tried h
-
 pub returns-clause-ok : goal.returns-clause-ok
 returns-clause-ok c =
     let s = c.args.schema.now in
     let w : World = c.args.self.now in
     let a = c.args.asked.now in
     let h = served_by s in
-    let v : World = c.commit-2.new.self in
     let some : has_rows s w a None w.commits c.args.change ≡ true = search rules in
-    let same : c.in_ok-copy.copy ≡ w = search rules in
-    let ended : end_transaction h a.session (request_data a.request) (array_of (results_of c.args.results)) (Some (all_changed_by w.db c.args.change)) w ≡ v =
-    ap (λ (u : World). end_transaction h a.session (request_data a.request) (array_of (results_of c.args.results)) (Some (all_changed_by u.db c.args.change)) u) (sym same) ∙ c.in_ok-commit-2.ensures.ok s
-    in
-    runs_ended h (waiting_as a None w.commits) w v
-    (done_as s w a None w.commits c.args.results c.args.change true some c.requires.outcome ∙ (λ i. let t : World × Option Waiting = (ended i, None) in t))
-    ∙ c.in_ok-retry_all.ensures.ok ∙ sym c.copy-2.view_is
+    let v : World = end_transaction h a.session (request_data a.request) (array_of (results_of c.args.results)) (Some (all_changed_by w.db c.args.change)) w in
+    runs_ended h (waiting_as a None w.commits) w v (done_as s w a None w.commits c.args.results c.args.change true some c.requires.outcome)
+    ∙ c.in_ok-commit_beside.ensures.ok

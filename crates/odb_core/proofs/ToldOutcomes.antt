@@ -1,0 +1,86 @@
+-- What a transaction comes to on a draft is what it comes to in the world that has the draft's database.
+use Rattle.std.proofs.Common.{◌≡◌, ℕ, suc, ◌+◌, false, List, [], ◌∷◌, length, Option, refl, sym, ap, subst, ◌∙◌, arith}
+use Rattle.std.specs.Prelude.{Vec}
+use Rattle.std.specs.declared.alloc.Global.{Global}
+use Rattle.serde_json.specs.Written.{has_float}
+use Rattle.serde_json.specs.declared.value.Value.{Value}
+use Rattle.odb_atoms.specs.Uuid.{zero_uuid}
+use Rattle.odb_commit.proofs.NoFloats.{refused_whole}
+use Rattle.odb_commit.specs.Transaction as transaction
+use Rattle.odb_commit.specs.Transaction.{outcome, transact}
+use Rattle.odb_ops.specs.Execution.{Context, Ran, draft_of, failed, finished, run, waiting}
+use Rattle.odb_ops.specs.Represented.Draft.{begun}
+use Rattle.odb_ops.specs.Represented.Ran.{Answers, results_of}
+use Rattle.odb_ops.specs.declared.execution.Ran.TheVariants as ran
+use Rattle.odb_rpc.specs.Message.{operations_of}
+use Rattle.odb_schema.specs.Json.{Data, array_of}
+use Rattle.odb_schema.specs.Schema.{Schema}
+use Rattle.odb_service.specs.Service.{max_rows, outcome_of}
+use Rattle.odb_service.specs.World.{World}
+use Rattle.odb_tables.specs.Change.{Changes, all_changed_by}
+use Rattle.odb_tables.specs.Database.{Db}
+use Rattle.odb_tables.specs.Draft as tables
+use Rattle.odb_tables.specs.Draft.{Draft}
+use Rattle.odb_wire.specs.Shown.{request_data}
+use Rattle.odb_core.specs.declared.foreseen.Told.TheVariants as told
+use Rattle.odb_core.specs.declared.submitted.Submitted.{Submitted}
+use Rattle.odb_core.specs.Represented.Foreseen.{Tells, over}
+use Rattle.odb_core.specs.Represented.Spared.{AreSpared, IsSpared}
+use Rattle.odb_core.specs.Represented.Waiting.{context_in, outcome_in}
+use Rattle.odb_core.proofs.AlikeDrafts.{RanAlike, length-none, runs_begun}
+
+transact_is : (s : Schema) (max number : ℕ) (c : Context) (db : Db) (ops : List Data) (r : Ran) → run s c (draft_of db) ops ≡ r → transact s max number c db ops ≡ outcome s max number db r
+unfolding transact
+transact_is s max number c db ops r e = ap (outcome s max number db) e
+
+module _ (s : Schema) (w : World) (a : Submitted) (d : Draft) (long : length d.removed ≡ length d.now) (zero_spared : IsSpared d.removed zero_uuid) (spared : AreSpared d.removed (context_in w a).fresh) where
+  abbrev ops : List Data
+  ops = operations_of (request_data a.request)
+
+  abbrev there : Ran
+  there = run s (context_in w a) (draft_of d.now) ops
+
+  alike : RanAlike (run s (context_in w a) (begun d) ops) there
+  alike = runs_begun s (context_in w a) d.now d.removed ops long zero_spared spared
+
+  pub tells_failed : (results : Vec Value Global) (new : Db) → Answers (ran.Failed results) new (run s (context_in w a) (begun d) ops) → (n : ℕ) → Tells s (over d.now n w) a (told.Ends results)
+  tells_failed results new answers n = by (run s (context_in w a) (begun d) ops) there refl answers alike
+    where
+      by : (x y : Ran) → there ≡ y → Answers (ran.Failed results) new x → RanAlike x y → Tells s (over d.now n w) a (told.Ends results)
+      by (finished f rs) y e k h = absurd k
+      by (waiting m) y e k h = absurd k
+      by (failed rs) (finished f qs) e k h = absurd h
+      by (failed rs) (waiting m) e k h = absurd h
+      by (failed rs) (failed qs) e k h =
+          let is : outcome_in s (over d.now n w) a ≡ transaction.refused qs = transact_is s max_rows (n + 1) (context_in w a) d.now ops (failed qs) e in
+          let same : qs ≡ results_of results = sym h ∙ k in (
+            subst (λ r. has_float (array_of r) ≡ false) same (refused_whole s max_rows (n + 1) (context_in w a) d.now ops qs is),
+            ap (outcome_of d.now) (is ∙ ap transaction.refused same),
+          )
+
+  pub tells_waiting : (deadline : Option ℕ) (new : Db) → Answers (ran.Waiting deadline) new (run s (context_in w a) (begun d) ops) → (n : ℕ) → Tells s (over d.now n w) a (told.Waits deadline)
+  tells_waiting deadline new answers n = by (run s (context_in w a) (begun d) ops) there refl answers alike
+    where
+      by : (x y : Ran) → there ≡ y → Answers (ran.Waiting deadline) new x → RanAlike x y → Tells s (over d.now n w) a (told.Waits deadline)
+      by (finished f rs) y e k h = absurd k
+      by (failed rs) y e k h = absurd k
+      by (waiting m) (finished f qs) e k h = absurd h
+      by (waiting m) (failed qs) e k h = absurd h
+      by (waiting m) (waiting moment) e k h =
+          ap (outcome_of d.now) (transact_is s max_rows (n + 1) (context_in w a) d.now ops (waiting moment) e ∙ ap transaction.waiting (sym h ∙ k))
+
+-- a change leaves as many tables
+pub length-changed : (db : Db) (cs : List Changes) → length cs ≡ length db → length (all_changed_by db cs) ≡ length db
+length-changed [] cs long = none cs
+  where
+    none : (cs : List Changes) → length (all_changed_by [] cs) ≡ 0
+    none [] = refl
+    none (c ∷ cs) = refl
+length-changed (t ∷ db) [] long = absurd (omega (arith, long))
+length-changed (t ∷ db) (c ∷ cs) long = ap suc (length-changed db cs (omega (arith, long)))
+
+-- a draft into which a change was put
+pub as_long : (db : Db) (cs : List Changes) (d new : Draft) → length cs ≡ length db → d ≡ tables.draft_of db → length new.removed ≡ length d.removed → new.now ≡ all_changed_by d.now cs → length new.removed ≡ length new.now
+as_long db cs d new long begun removed now =
+    removed ∙ ap (λ (e : Draft). length e.removed) begun ∙ length-none (length db)
+    ∙ sym (ap length now ∙ ap (λ (e : Draft). length (all_changed_by e.now cs)) begun ∙ length-changed db cs long)

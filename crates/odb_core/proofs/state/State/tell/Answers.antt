@@ -1,0 +1,35 @@
+use Rattle.std.proofs.Common.{rules, ◌≡◌, ap, subst, ◌∙◌}
+use Rattle.odb_atoms.specs.Represented.Atom.{uuid_of}
+use Rattle.odb_atoms.specs.Uuid.{zero_uuid}
+use Rattle.odb_atoms.proofs.Represented.Atoms.{nil_uuid}
+use Rattle.odb_service.specs.World.{World}
+use Rattle.odb_tables.specs.Draft.{Draft, draft_of}
+use Rattle.odb_core.specs.Represented.Spared.{IsSpared}
+use Rattle.odb_core.proofs.ToldOutcomes.{as_long}
+use Rattle.odb_core.proofs.state.State.tell.Goals as goal
+
+pub is_removed-requires : goal.is_removed-requires
+is_removed-requires c =
+    let w : World = c.args.self.now in
+    let d : Draft = c.in_ok-draft.draft in
+    let made : d ≡ draft_of w.db = search rules in
+    as_long w.db c.args.change.now d c.put_change.new.draft c.requires.change.0 made c.put_change.ensures.removed c.in_ok-put_change.ensures.now
+
+pub is_one_removed-requires : goal.is_one_removed-requires
+is_one_removed-requires c =
+    let w : World = c.args.self.now in
+    let d : Draft = c.in_ok-draft.draft in
+    let made : d ≡ draft_of w.db = search rules in
+    as_long w.db c.args.change.now d c.put_change.new.draft c.requires.change.0 made c.put_change.ensures.removed c.in_ok-put_change.ensures.now
+
+pub tell_on-requires-clause-long : goal.tell_on-requires-clause-long
+tell_on-requires-clause-long c =
+    let w : World = c.args.self.now in
+    let d : Draft = c.in_ok-draft.draft in
+    let made : d ≡ draft_of w.db = search rules in
+    as_long w.db c.args.change.now d c.put_change.new.draft c.requires.change.0 made c.put_change.ensures.removed c.in_ok-put_change.ensures.now
+
+pub tell_on-requires-clause-zero : goal.tell_on-requires-clause-zero
+tell_on-requires-clause-zero c =
+    let nil : uuid_of c.nil.result ≡ zero_uuid = ap uuid_of c.nil.ensures ∙ nil_uuid in
+    subst (IsSpared c.put_change.new.draft.removed) nil (c.is_removed.ensures c.if-is_removed.false)

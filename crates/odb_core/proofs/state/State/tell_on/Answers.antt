@@ -1,0 +1,30 @@
+use Rattle.std.proofs.Common.{rules}
+use Rattle.odb_ops.specs.Execution.{run}
+use Rattle.odb_ops.specs.Represented.Draft.{begun}
+use Rattle.odb_ops.specs.Represented.Ran.{Answers}
+use Rattle.odb_ops.specs.declared.execution.Ran.TheVariants as ran
+use Rattle.odb_rpc.specs.Message.{operations_of}
+use Rattle.odb_service.specs.World.{World}
+use Rattle.odb_tables.specs.Draft.{Draft}
+use Rattle.odb_wire.specs.Shown.{request_data}
+use Rattle.odb_core.specs.Represented.Waiting.{context_in}
+use Rattle.odb_core.proofs.ToldOutcomes.{tells_failed, tells_waiting}
+use Rattle.odb_core.proofs.state.State.tell_on.Goals as goal
+
+pub returns-in-Failed : goal.returns-in-Failed
+returns-in-Failed c = λ n.
+    let s = c.args.schema.now in
+    let w : World = c.args.self.now in
+    let a = c.args.asked.now in
+    let d : Draft = c.args.draft.now in
+    let answers : Answers (ran.Failed c.in-Failed.results) c.run.new.draft.now (run s (context_in w a) (begun d) (operations_of (request_data a.request))) = search rules in
+    tells_failed s w a d c.requires.long c.requires.zero c.requires.fresh c.in-Failed.results c.run.new.draft.now answers n
+
+pub returns : goal.returns
+returns c = λ n.
+    let s = c.args.schema.now in
+    let w : World = c.args.self.now in
+    let a = c.args.asked.now in
+    let d : Draft = c.args.draft.now in
+    let answers : Answers (ran.Waiting c.in-Waiting.deadline) c.run.new.draft.now (run s (context_in w a) (begun d) (operations_of (request_data a.request))) = search rules in
+    tells_waiting s w a d c.requires.long c.requires.zero c.requires.fresh c.in-Waiting.deadline c.run.new.draft.now answers n

@@ -1,0 +1,281 @@
+//! What becomes of the transactions that wait where a change is made, told by reading alone before it is made
+//! (RFC 7047, section 5.2.6). [P 12.2]
+
+ghost use Rattle.std.specs.Prelude.{◌≡◌, ◌<◌, ℕ, false, length, map, slice_set, true, IfOk, IfSome, None, OnOk};
+ghost use Rattle.odb_atoms.specs.Represented.Atom.{uuid_of};
+ghost use Rattle.odb_atoms.specs.Uuid.{zero_uuid};
+ghost use Rattle.odb_commit.specs.Sound.{IsSound};
+ghost use Rattle.odb_queue.specs.Represented.Post.{post_of};
+ghost use Rattle.odb_service.specs.Service.{Service};
+ghost use Rattle.odb_service.specs.World.{untried};
+ghost use Rattle.odb_tables.specs.Change.{all_changed_by, changed_by};
+ghost use Rattle.odb_tables.specs.Database.{table_at};
+ghost use Rattle.odb_tables.specs.Installing.{IsChangeOf};
+ghost use Rattle.odb_tables.specs.Typed.{IsTyped};
+ghost use Rattle.odb_core.specs.declared.foreseen.Told.TheVariants as told;
+ghost use Rattle.odb_core.specs.Represented.Spared.{AreSpared, IsSpared};
+ghost use Rattle.odb_core.specs.Represented.Foreseen.{committed, over, with_side, with_sides, IsForeseen, IsPrintable, Notes, Tells};
+
+use crate::state::State;
+use crate::submitted::Submitted;
+use crate::waiting::Waiting;
+use odb_ops::{Context, Ran, run};
+use odb_queue::{Post, replied};
+use odb_schema::{Schema, TableId};
+use odb_tables::{ChangeSet, Draft, RowChange, TableChange};
+use serde_json::Value;
+use std::alloc::{AllocError, Global};
+use uuid::Uuid;
+
+/// What can be told of a transaction without making a change.
+#[derive(Drop)]
+pub(crate) enum Told {
+    /// Nothing: it may change the database.
+    Nothing,
+    /// It ends with these results, and changes nothing.
+    Ends { results: Vec<Value> },
+    /// It waits until this moment, in milliseconds, or for ever.
+    Waits { deadline: Option<u64> },
+}
+
+/// What becomes of all that wait, where none of them changes the database: those that wait again, in their
+/// order, and the replies of those that end.
+#[derive(Drop)]
+pub(crate) struct Foreseen {
+    pub(crate) left: Vec<Waiting>,
+    pub(crate) posts: Vec<Post>,
+}
+
+impl Foreseen {
+    /// Notes what is told of one more; `false` where nothing is.
+    pub(crate) fn note(
+        &mut self,
+        alloc: Global,
+        waiting: &Waiting,
+        told: Told,
+        commits: u64,
+    ) -> Result<bool, AllocError>
+        requires { IsPrintable told }
+        ensures { IfOk result (λ noted. noted ≡ true → Notes told waiting.now commits self.old.left.items self.new.left.items (map post_of self.old.posts.items) (map post_of self.new.posts.items)) }
+    {
+        match told {
+            Told::Nothing => Ok(false),
+            Told::Ends { results } => self.end(alloc, waiting, results),
+            Told::Waits { deadline } => self.keep(waiting, deadline, commits),
+        }
+    }
+
+    /// One ends: its reply is posted.
+    fn end(
+        &mut self,
+        alloc: Global,
+        waiting: &Waiting,
+        results: Vec<Value>,
+    ) -> Result<bool, AllocError>
+        requires { IsPrintable (told.Ends results) }
+        ensures { IfOk result (λ noted. Notes (told.Ends results) waiting.now 0 self.old.left.items self.new.left.items (map post_of self.old.posts.items) (map post_of self.new.posts.items)) }
+    {
+        let asked = waiting.submitted();
+        let item = replied(alloc, &asked.request, &Value::from(results))?;
+        let session = asked.session;
+        self.posts.push(Post { session, item })?;
+        Ok(true)
+    }
+
+    /// One waits again.
+    fn keep(
+        &mut self,
+        waiting: &Waiting,
+        deadline: Option<u64>,
+        commits: u64,
+    ) -> Result<bool, AllocError>
+        ensures { IfOk result (λ noted. Notes (told.Waits deadline) waiting.now commits self.old.left.items self.new.left.items (map post_of self.old.posts.items) (map post_of self.new.posts.items)) }
+    {
+        let waiting = waiting.clone()?;
+        self.left.push(waiting.tried_again(deadline, commits))?;
+        Ok(true)
+    }
+}
+
+impl State {
+    /// What becomes of those that wait where the change is the next commit; `None` where one of them may change
+    /// the database. For each: what its operations cost, and O(tables) and a copy of the rows of the change.
+    pub(crate) fn foresee(
+        &self,
+        schema: &Schema,
+        change: &ChangeSet,
+    ) -> Result<Option<Foreseen>, AllocError>
+        requires change { IsChangeOf self.now.db change.now }
+        requires sound { IsSound schema.now (all_changed_by self.now.db change.now) }
+        requires tried { (h : Service) → untried h self.now ≡ None }
+        ensures { IfOk result (λ found. IfSome found (λ f. IsForeseen schema.now (committed change.now self.entry.now) f.left.items (map post_of f.posts.items))) }
+    {
+        let commits = self.commits.checked_add(1).ok_or(AllocError)?;
+        let mut foreseen = Foreseen {
+            left: Vec::with_capacity(self.alloc, self.waiting.len())?,
+            posts: Vec::new(self.alloc),
+        };
+        for waiting in &self.waiting {
+            let told = self.tell(schema, change, waiting.submitted())?;
+            if !foreseen.note(self.alloc, waiting, told, commits)? {
+                return Ok(None);
+            }
+        }
+        Ok(Some(foreseen))
+    }
+
+    /// What is told of a transaction where the change is the next commit.
+    fn tell(
+        &self,
+        schema: &Schema,
+        change: &ChangeSet,
+        asked: &Submitted,
+    ) -> Result<Told, AllocError>
+        requires change { IsChangeOf self.now.db change.now }
+        requires sound { IsSound schema.now (all_changed_by self.now.db change.now) }
+        ensures { IfOk result (λ told. Tells schema.now (committed change.now self.entry.now) asked.now told) }
+    {
+        let mut draft = Draft::new(self.alloc, self.sessions.db())?;
+        put_change(self.alloc, &mut draft, change)?;
+        if is_removed(&draft, Uuid::nil()) {
+            return Ok(Told::Nothing);
+        }
+        if is_one_removed(&draft, asked.fresh.as_slice()) {
+            return Ok(Told::Nothing);
+        }
+        self.tell_on(schema, &mut draft, asked)
+    }
+
+    /// What is told of a transaction on the database as a draft has it.
+    fn tell_on(
+        &self,
+        schema: &Schema,
+        draft: &mut Draft<'_>,
+        asked: &Submitted,
+    ) -> Result<Told, AllocError>
+        requires typed { IsTyped schema.now draft.old.now }
+        requires long { length draft.old.removed ≡ length draft.old.now }
+        requires zero { IsSpared draft.old.removed zero_uuid }
+        requires fresh { AreSpared draft.old.removed (map uuid_of asked.now.fresh.items) }
+        ensures { IfOk result (λ told. (n : ℕ) → Tells schema.now (over draft.old.now n self.entry.now) asked.now told) }
+    {
+        let owned = self.locks.owned(self.alloc, asked.session)?;
+        let context = Context {
+            fresh: asked.fresh.as_slice(),
+            arrival: asked.arrival,
+            now: self.now,
+            owned: owned.as_slice(),
+        };
+        match run(self.alloc, draft, schema, asked.operations(), &context)? {
+            Ran::Finished(_) => Ok(Told::Nothing),
+            Ran::Failed(results) => Ok(Told::Ends { results }),
+            Ran::Waiting(deadline) => Ok(Told::Waits { deadline }),
+        }
+    }
+}
+
+/// Whether a row of this identifier was taken out of the draft. O(tables).
+fn is_removed(draft: &Draft<'_>, uuid: Uuid) -> bool
+    requires { length draft.now.removed ≡ length draft.now.now }
+    ensures { result ≡ false → IsSpared draft.now.removed (uuid_of uuid) }
+{
+    for place in 0..draft.len() {
+        if draft.was_removed(TableId::at(place), uuid) {
+            return true;
+        }
+    }
+    false
+}
+
+/// Whether a row of one of these identifiers was taken out of the draft. O(tables) for each.
+fn is_one_removed(draft: &Draft<'_>, uuids: &[Uuid]) -> bool
+    requires { length draft.now.removed ≡ length draft.now.now }
+    ensures { result ≡ false → AreSpared draft.now.removed (map uuid_of uuids.now) }
+{
+    for uuid in uuids {
+        if is_removed(draft, *uuid) {
+            return true;
+        }
+    }
+    false
+}
+
+/// Puts the change into the draft. O(tables), and a copy of the rows that it has.
+fn put_change(alloc: Global, draft: &mut Draft<'_>, change: &ChangeSet) -> Result<(), AllocError>
+    requires base { length draft.old.now ≡ length draft.old.old }
+    requires long { length change.now ≡ length draft.old.now }
+    ensures now { OnOk result (draft.new.now ≡ all_changed_by draft.old.now change.now) }
+    ensures removed { length draft.new.removed ≡ length draft.old.removed }
+{
+    put_tables(alloc, draft, change.tables())
+}
+
+/// Puts the changes of the tables into the draft.
+fn put_tables(
+    alloc: Global,
+    draft: &mut Draft<'_>,
+    tables: &[TableChange],
+) -> Result<(), AllocError>
+    requires base { length draft.old.now ≡ length draft.old.old }
+    requires long { length tables.now ≡ length draft.old.now }
+    ensures now { OnOk result (draft.new.now ≡ all_changed_by draft.old.now tables.now) }
+    ensures removed { length draft.new.removed ≡ length draft.old.removed }
+{
+    for place in 0..tables.len() {
+        put_table(alloc, draft, TableId::at(place), &tables[place])?;
+    }
+    Ok(())
+}
+
+/// Puts the change of a table into the draft.
+fn put_table(
+    alloc: Global,
+    draft: &mut Draft<'_>,
+    table: TableId,
+    change: &TableChange,
+) -> Result<(), AllocError>
+    requires base { table < length draft.old.old }
+    requires table { table < length draft.old.now }
+    ensures now { OnOk result (draft.new.now ≡ slice_set draft.old.now table (changed_by (table_at draft.old.now table) change.now)) }
+    ensures old { draft.new.old ≡ draft.old.old }
+    ensures removed { length draft.new.removed ≡ length draft.old.removed }
+{
+    put_rows(alloc, draft, table, change.rows())
+}
+
+/// Puts rows after their changes into the draft, or takes them out, one after another.
+fn put_rows(
+    alloc: Global,
+    draft: &mut Draft<'_>,
+    table: TableId,
+    rows: &[RowChange],
+) -> Result<(), AllocError>
+    requires base { table < length draft.old.old }
+    requires table { table < length draft.old.now }
+    ensures now { OnOk result (draft.new.now ≡ slice_set draft.old.now table (with_sides (table_at draft.old.now table) rows.now)) }
+    ensures old { draft.new.old ≡ draft.old.old }
+    ensures removed { length draft.new.removed ≡ length draft.old.removed }
+{
+    for row in rows {
+        put_row(alloc, draft, table, row)?;
+    }
+    Ok(())
+}
+
+/// Puts a row after its change into the draft, or takes it out.
+fn put_row(
+    alloc: Global,
+    draft: &mut Draft<'_>,
+    table: TableId,
+    change: &RowChange,
+) -> Result<(), AllocError>
+    requires { table < length draft.old.old }
+    ensures now { OnOk result (draft.new.now ≡ slice_set draft.old.now table (with_side (table_at draft.old.now table) change.now.0 change.now.1.1)) }
+    ensures old { draft.new.old ≡ draft.old.old }
+    ensures removed { length draft.new.removed ≡ length draft.old.removed }
+{
+    match change.new() {
+        Some(row) => draft.put(table, change.uuid(), row.try_copy(alloc)?),
+        None => draft.remove(table, change.uuid()),
+    }
+}
