@@ -465,6 +465,34 @@ pub selected_rows_and_columns : Plays operations (
 unfolding shows
 selected_rows_and_columns = refl
 
+-- Several insertions into one set in one operation
+pub several_insertions_into_one_set_in_one_operation : Plays operations (
+    codes "> A transact 1 {\"op\":\"insert\",\"table\":\"A\",\"row\":{\"i\":1,\"s\":1}},{\"op\":\"insert\",\"table\":\"B\",\"row\":{\"z\":\"a\"}}"
+    ∷ codes "< A reply 1 [{\"uuid\":[\"uuid\",\"U1\"]},{\"uuid\":[\"uuid\",\"U2\"]}]"
+    ∷ codes "> A transact 2 {\"op\":\"mutate\",\"table\":\"A\",\"where\":[],\"mutations\":[[\"s\",\"insert\",2],[\"s\",\"insert\",[\"set\",[2,3]]]]},{\"op\":\"select\",\"table\":\"A\",\"where\":[],\"columns\":[\"s\"]}"
+    ∷ codes "< A reply 2 [{\"count\":1},{\"rows\":[{\"s\":[\"set\",[1,2,3]]}]}]"
+    ∷ codes "> A transact 3 {\"op\":\"mutate\",\"table\":\"A\",\"where\":[],\"mutations\":[[\"s\",\"delete\",3],[\"s\",\"insert\",4],[\"s\",\"insert\",[\"set\",[1,4]]]]},{\"op\":\"select\",\"table\":\"A\",\"where\":[],\"columns\":[\"s\"]}"
+    ∷ codes "< A reply 3 [{\"count\":1},{\"rows\":[{\"s\":[\"set\",[1,2,4]]}]}]"
+    ∷ codes "> A transact 4 {\"op\":\"mutate\",\"table\":\"A\",\"where\":[],\"mutations\":[[\"s\",\"insert\",[\"set\",[]]],[\"s\",\"insert\",4],[\"i\",\"+=\",1],[\"s\",\"insert\",2]]},{\"op\":\"select\",\"table\":\"A\",\"where\":[],\"columns\":[\"i\",\"s\"]}"
+    ∷ codes "< A reply 4 [{\"count\":1},{\"rows\":[{\"i\":2,\"s\":[\"set\",[1,2,4]]}]}]"
+    ∷ codes "> A transact 5 {\"op\":\"mutate\",\"table\":\"A\",\"where\":[],\"mutations\":[[\"s\",\"insert\",1],[\"s\",\"insert\",7],[\"s\",\"delete\",7]]}"
+    ∷ codes "< A reply 5 [{\"error\":\"constraint violation\"}]"
+    ∷ codes "> A transact 6 {\"op\":\"mutate\",\"table\":\"A\",\"where\":[],\"mutations\":[[\"s\",\"delete\",1],[\"s\",\"insert\",4],[\"s\",\"insert\",10]]}"
+    ∷ codes "< A reply 6 [{\"error\":\"constraint violation\"}]"
+    ∷ codes "> A transact 7 {\"op\":\"mutate\",\"table\":\"A\",\"where\":[],\"mutations\":[[\"s\",\"insert\",4],[\"s\",\"insert\",5],[\"i\",\"/=\",0]]}"
+    ∷ codes "< A reply 7 [{\"error\":\"constraint violation\"}]"
+    ∷ codes "> A transact 8 {\"op\":\"mutate\",\"table\":\"A\",\"where\":[],\"mutations\":[[\"s\",\"insert\",4],[\"i\",\"/=\",0],[\"s\",\"insert\",5]]}"
+    ∷ codes "< A reply 8 [{\"error\":\"domain error\"}]"
+    ∷ codes "> A transact 9 {\"op\":\"mutate\",\"table\":\"B\",\"where\":[],\"mutations\":[[\"z\",\"insert\",\"b\"],[\"z\",\"insert\",\"c\"]]}"
+    ∷ codes "< A reply 9 [{\"error\":\"constraint violation\"}]"
+    ∷ codes "> A transact 10 {\"op\":\"mutate\",\"table\":\"B\",\"where\":[],\"mutations\":[[\"z\",\"insert\",\"b\"],[\"z\",\"insert\",\"a\"]]},{\"op\":\"select\",\"table\":\"B\",\"where\":[],\"columns\":[\"z\"]}"
+    ∷ codes "< A reply 10 [{\"count\":1},{\"rows\":[{\"z\":[\"set\",[\"a\",\"b\"]]}]}]"
+    ∷ codes "> A transact 11 {\"op\":\"select\",\"table\":\"A\",\"where\":[],\"columns\":[\"s\"]}"
+    ∷ codes "< A reply 11 [{\"rows\":[{\"s\":[\"set\",[1,2,4]]}]}]"
+    ∷ [])
+unfolding shows
+several_insertions_into_one_set_in_one_operation = refl
+
 -- The first fault of several rows, by its kind
 pub the_first_fault_of_several_rows_by_its_kind : Plays operations (
     codes "> A transact 1 {\"op\":\"insert\",\"table\":\"A\",\"row\":{\"i\":9223372036854775807,\"s\":1}},{\"op\":\"insert\",\"table\":\"A\",\"row\":{\"i\":1,\"s\":9}}"

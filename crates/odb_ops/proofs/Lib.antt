@@ -3,6 +3,7 @@ pub mod Deletes
 pub mod Drafts
 pub mod Faults
 pub mod Fits
+pub mod Insertions
 pub mod Inserts
 pub mod Loops
 pub mod Mutates
@@ -13,4 +14,5 @@ pub mod Rows
 pub mod Runs
 pub mod Selected
 pub mod Typed
+pub mod Unions
 pub mod Written

@@ -12,6 +12,7 @@ mod delete;
 mod execution;
 mod fresh;
 mod insert;
+mod merging;
 mod mutate;
 mod names;
 mod operation;

@@ -6,6 +6,7 @@ use Rattle.odb_atoms.specs.Represented.Atom.{uuid_of}
 use Rattle.odb_atoms.specs.Uuid.{Uuid}
 use Rattle.odb_mutate.specs.Represented.Mutation.{error_of}
 use Rattle.odb_ops.specs.Execution.{first_fault, mutated}
+use Rattle.odb_ops.specs.Represented.Merged.{all_of}
 use Rattle.odb_ops.specs.Represented.Parts.{AllFit, all_faults, all_rewritten, rewritten, row_fault}
 use Rattle.odb_ops.proofs.Faults.{first_more}
 use Rattle.odb_ops.proofs.Mutates.{made, rewritten_fit}
@@ -16,7 +17,7 @@ use Rattle.odb_ops.proofs.mutate.mutate_all.Goals as goal
 pub loop-uuid-preserved : goal.loop-uuid-preserved
 loop-uuid-preserved c =
     let cs = c.args.target.now.columns.now in
-    let ms = c.args.mutations.now in
+    let ms = (all_of c.args.runs.now) in
     let t = c.args.target.now.table in
     let d : Draft = c.loop-uuid.draft in
     let new : Draft = c.mutate_one.new.draft in

@@ -6,6 +6,7 @@ use Rattle.odb_atoms.specs.Represented.Atom.{uuid_of}
 use Rattle.odb_atoms.specs.Row.{Row}
 use Rattle.odb_mutate.specs.Represented.Mutation.{error_of}
 use Rattle.odb_ops.specs.Execution.{mutated}
+use Rattle.odb_ops.specs.Represented.Merged.{all_of}
 use Rattle.odb_ops.proofs.Rewrites.{none_rewritten, there_rewritten}
 use Rattle.odb_tables.specs.Database.{table_at}
 use Rattle.odb_tables.specs.Draft.{removed_at, with_row}
@@ -16,7 +17,7 @@ returns-in_default-clause-row c =
     let d = c.args.draft.now in
     let t = c.args.target.now.table in
     let u = uuid_of c.args.uuid in
-    let f = λ (r : Row). result_ok (mutated c.args.target.now.columns.now c.args.mutations.now r) in
+    let f = λ (r : Row). result_ok (mutated c.args.target.now.columns.now (all_of c.args.runs.now) r) in
     let absent : None ≡ finite.get (table_at d.now t) u = search rules in
     none_rewritten f t u d (sym (ap (option_and_then f) absent))
 
@@ -25,12 +26,12 @@ returns-in_ok-put-in-Ok-clause-row c =
     let d = c.args.draft.now in
     let t = c.args.target.now.table in
     let u = uuid_of c.args.uuid in
-    let f = λ (r : Row). result_ok (mutated c.args.target.now.columns.now c.args.mutations.now r) in
+    let f = λ (r : Row). result_ok (mutated c.args.target.now.columns.now (all_of c.args.runs.now) r) in
     let old : Row = c.in-Some.row.now in
     let new : Row = c.in-Ok.row in
     let there : Some old ≡ finite.get (table_at d.now t) u = search rules in
     let kept : set.contains (removed_at d t) u ≡ false = search rules in
-    let made : mutated c.args.target.now.columns.now c.args.mutations.now old ≡ Ok new = search rules in
+    let made : mutated c.args.target.now.columns.now (all_of c.args.runs.now) old ≡ Ok new = search rules in
     let put : c.put.new.self ≡ with_row t u new d = search rules in
     put ∙ there_rewritten f t u d old new there kept (ap result_ok made)
 
@@ -39,8 +40,8 @@ returns-in-Err-clause-row c =
     let d = c.args.draft.now in
     let t = c.args.target.now.table in
     let u = uuid_of c.args.uuid in
-    let f = λ (r : Row). result_ok (mutated c.args.target.now.columns.now c.args.mutations.now r) in
+    let f = λ (r : Row). result_ok (mutated c.args.target.now.columns.now (all_of c.args.runs.now) r) in
     let old : Row = c.in-Some.row.now in
     let there : Some old ≡ finite.get (table_at d.now t) u = search rules in
-    let made : mutated c.args.target.now.columns.now c.args.mutations.now old ≡ Err (error_of c.in-Err.fault) = search rules in
+    let made : mutated c.args.target.now.columns.now (all_of c.args.runs.now) old ≡ Err (error_of c.in-Err.fault) = search rules in
     none_rewritten f t u d (sym (ap (option_and_then f) there) ∙ ap result_ok made)
