@@ -12,6 +12,7 @@ pub mod Crossing
 mod Endings
 mod Firsts
 mod Leading
+mod Loops
 mod Moved
 mod Moves
 mod NamedReplays

@@ -1,6 +1,8 @@
-use Rattle.std.proofs.Common.{rules, ◌≡◌, ◌<◌, List, length, slice_index_or, subst, sym}
-use Rattle.odb_sessions.specs.Composed.{IsKnown}
+use Rattle.std.proofs.Common.{rules, ◌≡◌, ◌+◌, ◌++◌, ◌<◌, ◌≤◌, List, [], ◌∷◌, arith, length, map, slice_index_or, subst, sym, ◌∙◌}
+use Rattle.odb_monitor.specs.Job.{Part}
+use Rattle.odb_sessions.specs.Composed.{IsKnown, first_part}
 use Rattle.odb_sessions.specs.Held.{Watched}
+use Rattle.odb_sessions.proofs.Loops.{twice_more}
 use Rattle.odb_sessions.proofs.composing.first_parts_of.Goals as goal
 
 pub first_part-requires : goal.first_part-requires
@@ -11,3 +13,15 @@ first_part-requires c =
     let inside : i < length ws = search rules in
     let is : y ≡ slice_index_or ws i y = search rules in
     subst (IsKnown c.args.chains.now) (sym is) (c.requires i y inside)
+
+pub loop-owed-preserved : goal.loop-owed-preserved
+loop-owed-preserved c =
+    let db = c.args.chains.now.db in
+    let ws : List Watched = c.args.tables.now in
+    let i = c.loop-owed.owed-index in
+    let y : Watched = c.owed-item.result in
+    let inside : i < length ws = search rules in
+    let is : y ≡ slice_index_or ws i y = search rules in
+    let part : Part = first_part db y.request in
+    let items : c.push_reserved.new.self.items ≡ c.loop-owed.parts.items ++ part ∷ [] = search rules in
+    (items ∙ (λ j. c.loop-owed.invariant.0 j ++ part ∷ []) ∙ sym (twice_more (first_part db) (λ (w : Watched). w.request) ws i y inside is), search rules, search rules)
