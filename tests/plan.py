@@ -23,6 +23,7 @@ ROOT = os.path.dirname(os.path.dirname(os.path.realpath(__file__)))
 SPEED = [0, 1, 1.75, 2.4, 2.9]  # of a proof, by the processors that it has
 LOADING = 15  # the seconds in which a proof loads the libraries below it, on one processor
 MEMORY = 0.5  # of the toolchain's estimate: a proof was never seen to take half of it
+MORE = 1  # lanes than processors, since a proof loads libraries and writes its own on one processor, whatever it has
 FILLS = ("edits", "again", "sound", "seed")
 
 
@@ -63,7 +64,7 @@ class Plan:
 
     def __init__(self, rt, tasks, says=True):
         self.says = says
-        self.tasks, self.lanes, self.memory, self.start = tasks, rt.processors(), 0.85 * rt.free(), time.time()
+        self.tasks, self.lanes, self.memory, self.start = tasks, rt.processors() + MORE, 0.85 * rt.free(), time.time()
         self.left, self.running, self.given = list(tasks), {}, {}
         costs = measured()
         self.cost = {key: self.cost_of(key, costs) for key in tasks}
