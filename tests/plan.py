@@ -23,7 +23,8 @@ ROOT = os.path.dirname(os.path.dirname(os.path.realpath(__file__)))
 SPEED = [0, 1, 1.75, 2.4, 2.9]  # of a proof, by the processors that it has
 LOADING = 15  # the seconds in which a proof loads the libraries below it, on one processor
 MEMORY = 0.5  # of the toolchain's estimate: a proof was never seen to take half of it
-MORE = 1  # lanes than processors, since a proof loads libraries and writes its own on one processor, whatever it has
+MORE = 2  # lanes than processors, since a proof loads libraries and writes its own on one processor, whatever it has
+FILLING = 2  # edits at once, at most, while proofs are left; they have what processor time these leave
 FILLS = ("edits", "again", "sound", "seed")
 
 
@@ -59,11 +60,17 @@ def measured():
         return {name: int(seconds) for name, seconds in (line.split() for line in file if not line.startswith("#"))}
 
 
+def give_way():
+    """Lets this thread, and the checks that it starts, have what processor time others leave."""
+    os.setpriority(os.PRIO_PROCESS, threading.get_native_id(), 19)
+
+
 class Plan:
     """What is left to do, what runs, and what was given."""
 
     def __init__(self, rt, tasks, says=True):
         self.says = says
+        self.aside = None  # where edits are tried
         self.tasks, self.lanes, self.memory, self.start = tasks, rt.processors() + MORE, 0.85 * rt.free(), time.time()
         self.left, self.running, self.given = list(tasks), {}, {}
         costs = measured()
@@ -85,7 +92,8 @@ class Plan:
         return self.memory - sum(needs for _, needs, _, _ in self.running.values())
 
     def idle(self):
-        return self.lanes - sum(jobs for _, _, jobs, _ in self.running.values())
+        """The lanes that no proof has. Edits have none: a proof that may begin waits for none of them."""
+        return self.lanes - sum(jobs for key, _, jobs, _ in self.running.values() if key[1] not in FILLS)
 
     def needs(self, key, jobs):
         return MEMORY * self.tasks[key][2] * (1 + 0.6 * (jobs - 1))
@@ -117,6 +125,7 @@ class Plan:
         return chosen or {}
 
     def begin(self, pool, key, jobs):
+        pool = self.aside if key[1] in FILLS else pool
         self.left.remove(key)
         if self.cost[key]:
             self.say(f"{key[0]}{' (its tests)' if key[1] == 'tests' else ''} begins, by {jobs}")
@@ -133,14 +142,14 @@ class Plan:
             if jobs:
                 self.begin(pool, key, jobs)
         for key in [key for key in ready if key[1] in FILLS]:
-            if self.idle() > 0 and self.may_fill() and (self.needs(key, 1) <= self.room() or not self.running):
+            if self.may_fill() and (self.needs(key, 1) <= self.room() or not self.running):
                 self.begin(pool, key, 1)
 
     def may_fill(self):
-        """While proofs are left, edits get half of the processors: each of them is done by one, and they can wait."""
+        """While proofs are left, edits are few at once: each of them is done by one, and they can wait."""
         filling = sum(key[1] in FILLS for key, _, _, _ in self.running.values())
         proving = len(self.running) > filling or any(key[1] not in FILLS for key in self.left)
-        return filling < max(1, self.lanes // 2) or not proving
+        return filling < (FILLING if proving else self.lanes - MORE)
 
     def finish(self, done):
         key, _, jobs, begun = self.running.pop(done)
@@ -150,7 +159,7 @@ class Plan:
             self.say(f"{key[0]}{' (its tests)' if key[1] == 'tests' else ''} ended: {took:.0f} s by {jobs}")
 
     def run(self):
-        with ThreadPoolExecutor(self.lanes) as pool:
+        with ThreadPoolExecutor(self.lanes) as pool, ThreadPoolExecutor(self.lanes, initializer=give_way) as self.aside:
             while self.left or self.running:
                 self.begin_all(pool)
                 for done in wait(self.running, return_when=FIRST_COMPLETED).done:
