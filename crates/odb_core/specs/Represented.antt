@@ -5,6 +5,7 @@ pub mod Waiting
 pub mod Places
 pub mod Reason
 pub mod Requests
+pub mod Rounds
 pub mod Sessions
 pub mod Foreseen
 pub mod Spared

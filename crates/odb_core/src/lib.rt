@@ -5,6 +5,7 @@
 #![tactic(auto)]
 
 mod foreseen;
+mod jobs;
 mod locking;
 mod monitors;
 mod refused;
@@ -15,7 +16,8 @@ mod state;
 mod submitted;
 mod waiting;
 
+pub use jobs::{Jobs, Prepared};
 pub use odb_locks::SessionId;
-pub use odb_sessions::Out;
+pub use odb_sessions::{Job, Out};
 pub use refused::Refused;
 pub use server::Core;

@@ -1,6 +1,6 @@
 //! The server as a machine over events. [P 10.3, 13.1, 14]
 
-ghost use Rattle.std.specs.Prelude.{◌≡◌, ◌≤◌, ◌↔◌, [], map, length, Ok, OnOk, OnErr, IfOk, IfErr, IsErrOf};
+ghost use Rattle.std.specs.Prelude.{◌≡◌, ◌≤◌, ◌↔◌, ℕ, List, [], flat_map, map, length, Ok, OnOk, OnErr, IfOk, IfErr, IsErrOf};
 ghost use Rattle.odb_atoms.specs.FinMap.{len};
 ghost use Rattle.odb_atoms.specs.Represented.Atom.{uuid_of};
 ghost use Rattle.odb_wire.specs.Message.{inserts_of};
@@ -8,6 +8,7 @@ ghost use Rattle.odb_wire.specs.Shown.{request_data};
 ghost use Rattle.odb_service.specs.Run.{closed, max_sessions, once, opened, round, submitted, ticked};
 ghost use Rattle.odb_core.specs.declared.refused.Refused.TheVariants as refused;
 
+use crate::jobs::{Jobs, Prepared};
 use crate::refused::Refused;
 use crate::state::State;
 use odb_locks::SessionId;
@@ -53,6 +54,9 @@ impl Model for Core {
 impl Core {
     ghost use Rattle.odb_service.specs.Server.{serve};
     ghost use Rattle.odb_core.specs.Represented.Core.{IsQuietBut, new_server};
+    ghost use Rattle.odb_core.specs.Represented.Rounds.{AreRound, AreRoundOf, book_in};
+    ghost use Rattle.odb_sessions.specs.Jobs.{AreOfJobs};
+    ghost use Rattle.odb_sessions.specs.Taken.{given_by, sessions_in};
     ghost use Rattle.odb_sessions.specs.Represented.Out.{sent_in};
     ghost use Rattle.odb_core.specs.Represented.Reason.{IsReason};
 
@@ -174,6 +178,29 @@ impl Core {
     {
         let listed = once(self.alloc, ready)?;
         self.state.round(listed.as_slice())
+    }
+
+    /// What `round` gives these sessions, as it is planned: the jobs that are to be composed for it, those that are alike
+    /// once. Nothing is composed, and nothing is taken. O(k log k + k log n) for a list of k sessions, and what deciding
+    /// whether something is sent costs.
+    pub fn jobs(&self, ready: &[SessionId]) -> Result<Jobs<'_>, AllocError>
+        ensures round { IfOk result (λ jobs. AreRoundOf ready.now self.now jobs.takings) }
+        ensures jobs { IfOk result (λ jobs. AreOfJobs jobs.jobs jobs.takings) }
+    {
+        let listed = once(self.alloc, ready)?;
+        let jobs = self.state.jobs(listed.as_slice())?;
+        Ok(Jobs::new(listed, jobs))
+    }
+
+    /// Carries out a round that was planned for this core as it is, and of which everything is composed: then it is a
+    /// `round` of these sessions. It takes no memory, and can't be refused. O(k log n) for k sessions.
+    pub fn accept(&mut self, prepared: Prepared) -> Vec<Out>
+        requires { AreRound self.old prepared }
+        ensures round { (ready : List ℕ) → sessions_in prepared ≡ once ready → serve (round ready) self.old
+            ≡ Ok (self.new, map sent_in result.items) }
+        ensures texts { map sent_in result.items ≡ flat_map (given_by (book_in self.old.world)) prepared }
+    {
+        self.state.accept(prepared)
     }
 
     /// The sessions that may be owed something. A round gives nothing to any other, and changes nothing of it. O(1).

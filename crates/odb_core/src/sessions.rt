@@ -1,6 +1,6 @@
 //! The database and the sessions of a core. [P 10.1, 10.3]
 
-ghost use Rattle.std.specs.Prelude.{◌≡◌, ◌+◌, ◌&&◌, [], false, is_some, nat_lt, not, map, option_map, None, IfOk, OnErr, OnOk};
+ghost use Rattle.std.specs.Prelude.{◌≡◌, ◌+◌, ◌&&◌, [], false, is_some, nat_lt, not, flat_map, map, option_map, None, IfOk, OnErr, OnOk};
 ghost use Rattle.odb_atoms.specs.FinMap as finite;
 ghost use Rattle.odb_queue.specs.Represented.Answer.{call_at};
 ghost use Rattle.odb_queue.specs.Represented.Item.{item_of};
@@ -14,18 +14,21 @@ ghost use Rattle.odb_service.specs.Session.{replies_in};
 ghost use Rattle.odb_service.specs.World.{World, asked_of, watched};
 ghost use Rattle.odb_sessions.specs.Asked.{ended_in};
 ghost use Rattle.odb_sessions.specs.Book.{book_of, fresh_session};
+ghost use Rattle.odb_sessions.specs.Jobs.{AreOfJobs};
 ghost use Rattle.odb_sessions.specs.Named.{named};
 ghost use Rattle.odb_sessions.specs.Planned.{AreOnce};
 ghost use Rattle.odb_sessions.specs.Posts.{all_posted, at_number, posted, unposted};
 ghost use Rattle.odb_sessions.specs.Represented.Out.{sent_in};
 ghost use Rattle.odb_sessions.specs.Started.{AreApart, AreOfTables, started};
 ghost use Rattle.odb_sessions.specs.Stopped.{changed_in, stopped_in};
+ghost use Rattle.odb_sessions.specs.Taken.{AreOf, given_by, sessions_in};
 ghost use Rattle.odb_tables.specs.Change.{all_changed_by};
 ghost use Rattle.odb_tables.specs.Installing.{IsChangeOf};
 ghost use Rattle.odb_wire.specs.Message.{has_left_out, id_of};
 ghost use Rattle.odb_wire.specs.Shown.{request_data};
 ghost use Rattle.odb_core.specs.Represented.Sessions.{ended_with, posted_with, AreNoted, AreOwed};
 
+use crate::jobs::Prepared;
 use odb_locks::SessionId;
 use odb_queue::{Finished, Post};
 use odb_rpc::Printable;
@@ -298,6 +301,43 @@ impl Sessions {
         ensures err { OnErr result (self.new ≡ self.old) }
     {
         self.book.round(listed)
+    }
+
+    /// A round of these sessions, as it is planned: nothing is composed, and nothing is taken.
+    pub(crate) fn jobs(&self, listed: &[SessionId]) -> Result<book::Jobs<'_>, AllocError>
+        ensures sessions { IfOk result (λ jobs. sessions_in jobs.takings ≡ listed.now) }
+        ensures ready { IfOk result (λ jobs. AreOf self.now jobs.takings) }
+        ensures jobs { IfOk result (λ jobs. AreOfJobs jobs.jobs jobs.takings) }
+    {
+        self.book.jobs(listed)
+    }
+
+    /// Carries out a round that was planned for the sessions as they are, and of which everything is composed. It can't be
+    /// refused.
+    pub(crate) fn accept(&mut self, prepared: Prepared) -> Vec<Out>
+        requires once { AreOnce (sessions_in prepared) }
+        requires ready { AreOf self.old prepared }
+        ensures round { (schema : Schema) (w : World) → w.db ≡ self.old.db → w.sessions ≡ self.old.sessions
+            → (let r = take_each (served_by schema) (sessions_in prepared) w in (r.0 ≡ record w { sessions = self.new.sessions }) × (map printed r.1 ≡ map sent_in result.items)) }
+        ensures texts { map sent_in result.items ≡ flat_map (given_by self.old) prepared }
+        ensures database { self.new.db ≡ self.old.db }
+    {
+        let Prepared { listed, takings } = prepared;
+        let outs = self.accept_all(takings);
+        self.forget_resting(listed.as_slice());
+        outs
+    }
+
+    /// Carries such a round out; who may be owed something stays.
+    fn accept_all(&mut self, prepared: book::Prepared) -> Vec<Out>
+        requires once { AreOnce (sessions_in prepared) }
+        requires ready { AreOf self.old prepared }
+        ensures round { (schema : Schema) (w : World) → w.db ≡ self.old.db → w.sessions ≡ self.old.sessions
+            → (let r = take_each (served_by schema) (sessions_in prepared) w in (r.0 ≡ record w { sessions = self.new.sessions }) × (map printed r.1 ≡ map sent_in result.items)) }
+        ensures texts { map sent_in result.items ≡ flat_map (given_by self.old) prepared }
+        ensures database { self.new.db ≡ self.old.db }
+    {
+        self.book.accept(prepared)
     }
 
     /// Forgets those of the listed sessions that rest.

@@ -1,6 +1,6 @@
 //! The state of the service: what it does with requests, moments and sessions that close. [P 6.3, 12.1, 12.2, 12.3, 14]
 
-ghost use Rattle.std.specs.Prelude.{◌≡◌, ◌↔◌, IsOk, ◌+◌, ◌++◌, ◌==◌, [], ◌∷◌, false, length, map, max, nat_lt, replicate, IfErr, IfOk, None, Option, Some, OnErr, OnOk};
+ghost use Rattle.std.specs.Prelude.{◌≡◌, ◌↔◌, IsOk, ◌+◌, ◌++◌, ◌==◌, [], ◌∷◌, false, flat_map, length, map, max, nat_lt, replicate, IfErr, IfOk, None, Option, Some, OnErr, OnOk};
 ghost use Rattle.std.specs.List.{list_any};
 ghost use Rattle.serde_json.specs.Written.{has_float};
 ghost use Rattle.serde_json.specs.View.{view};
@@ -21,13 +21,17 @@ ghost use Rattle.odb_service.specs.Service.{Service};
 ghost use Rattle.odb_service.specs.Server.{printed, served_by};
 ghost use Rattle.odb_service.specs.Session.{say, to};
 ghost use Rattle.odb_sessions.specs.Asked.{ended_in};
+ghost use Rattle.odb_sessions.specs.Jobs.{AreOfJobs};
 ghost use Rattle.odb_sessions.specs.Planned.{AreOnce};
 ghost use Rattle.odb_sessions.specs.Posts.{at_number};
 ghost use Rattle.odb_sessions.specs.Represented.Out.{sent_in};
+ghost use Rattle.odb_sessions.specs.Taken.{AreOf, given_by, sessions_in};
 ghost use Rattle.odb_core.specs.Represented.Foreseen.{committed, reply_with, standing};
+ghost use Rattle.odb_core.specs.Represented.Rounds.{book_in};
 ghost use Rattle.odb_core.specs.Represented.Waiting.{left_waiting, outcome_in, waiting_as, IsDone};
 
 use crate::foreseen::Foreseen;
+use crate::jobs::Prepared;
 use crate::sessions::Sessions;
 use crate::submitted::Submitted;
 use crate::waiting::{Tried, Waiting};
@@ -37,6 +41,7 @@ use odb_ops::Context;
 use odb_queue::{Finished, Post, failed, notices, replied};
 use odb_rpc::{Failure, Printable};
 use odb_schema::Schema;
+use odb_sessions as book;
 use odb_sessions::Out;
 use odb_tables::{ChangeSet, Db, TableChange};
 use odb_wire::Request;
@@ -453,6 +458,27 @@ impl State {
         ensures err { OnErr result (self.new ≡ self.old) }
     {
         self.sessions.round(listed)
+    }
+
+    /// A round of these sessions, as it is planned: nothing is composed, and nothing is taken.
+    pub(crate) fn jobs(&self, listed: &[SessionId]) -> Result<book::Jobs<'_>, AllocError>
+        ensures sessions { IfOk result (λ jobs. sessions_in jobs.takings ≡ listed.now) }
+        ensures ready { IfOk result (λ jobs. AreOf (book_in self.entry.now) jobs.takings) }
+        ensures jobs { IfOk result (λ jobs. AreOfJobs jobs.jobs jobs.takings) }
+    {
+        self.sessions.jobs(listed)
+    }
+
+    /// Carries out a round that was planned for this state, and of which everything is composed. It can't be refused.
+    pub(crate) fn accept(&mut self, prepared: Prepared) -> Vec<Out>
+        requires once { AreOnce (sessions_in prepared) }
+        requires ready { AreOf (book_in self.old) prepared }
+        ensures ok { (schema : Schema)
+            → (let r = take_each (served_by schema) (sessions_in prepared) self.old in (r.0 ≡ self.new) × (map printed r.1 ≡ map sent_in result.items)) }
+        ensures texts { map sent_in result.items ≡ flat_map (given_by (book_in self.old)) prepared }
+        ensures rest { self.new ≡ record (self.old) { sessions = self.new.sessions } }
+    {
+        self.sessions.accept(prepared)
     }
 
     /// An equal state. O(rows + waiting transactions + claims + bytes queued).

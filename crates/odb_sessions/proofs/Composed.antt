@@ -1,6 +1,5 @@
 -- What is composed from parts is what the machine sends.
 use Rattle.std.proofs.Common.{◌≡◌, ℕ, Bool, true, false, cond, not, List, [], ◌∷◌, map, Option, Some, None, refl, sym, ap, ◌∙◌}
-use Rattle.std.proofs.lemmas.Option.{none-some, same_Some}
 use Rattle.serde_json.specs.Written.{compact_text}
 use Rattle.std.specs.Prelude.{option_map}
 use Rattle.odb_monitor.specs.Job.{Part, updates_of}
@@ -88,17 +87,6 @@ parts_sent h db i n rs qs V ps asked told now =
     ∙ ap (option_map out_text) (update_given h db qs (monitor_so i n rs V))
     ∙ option_twice out_text (out_of h db) (update_of h db qs (monitor_so i n rs V))
 
--- nothing is sent
-pub none_sent : (n : Notation) (i : Data) (o : Option Data) → None ≡ option_map compact_text o → None ≡ option_map (notified_text n i) o
-none_sent n i None e = refl
-none_sent n i (Some d) e = absurd (none-some (compact_text d) e)
-
--- this body is sent, with this text around it
-pub body_sent : (n : Notation) (i : Data) (body text : List ℕ) (o : Option Data) → Some body ≡ option_map compact_text o
-    → ((d : Data) → body ≡ compact_text d → text ≡ notified_text n i d) → Some text ≡ option_map (notified_text n i) o
-body_sent n i body text None e around = absurd (none-some body (sym e))
-body_sent n i body text (Some d) e around = ap Some (around d (same_Some body (compact_text d) e))
-
 -- ---- first replies
 
 first_asked : (db : Db) (qs : List Request) → map (λ (p : Part). p.request) (map (first_part db) qs) ≡ qs
@@ -113,10 +101,3 @@ first_now db qs = mapped_twice (λ (p : Part). p.asked) (first_part db) qs
 -- something is always sent
 pub first_composed : (db : Db) (n : Notation) (qs : List Request) → updates_of (first_job db n qs) ≡ Some (first_updates db n qs)
 first_composed db n qs = λ j. Some (table_updates n true (shapes (first_asked db qs j)) (shown true (first_asked db qs j) (delta (first_told db qs j) (first_now db qs j))))
-
--- a first reply has a body
-pub first_body : (db : Db) (n : Notation) (qs : List Request) (body : List ℕ) → Some body ≡ option_map compact_text (updates_of (first_job db n qs)) → body ≡ compact_text (first_updates db n qs)
-first_body db n qs body is = same_Some body (compact_text (first_updates db n qs)) (is ∙ ap (option_map compact_text) (first_composed db n qs))
-
-pub first_is : (db : Db) (n : Notation) (qs : List Request) → None ≡ option_map compact_text (updates_of (first_job db n qs)) → ⊥
-first_is db n qs none = none-some (compact_text (first_updates db n qs)) (none ∙ ap (option_map compact_text) (first_composed db n qs))

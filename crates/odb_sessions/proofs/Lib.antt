@@ -19,6 +19,8 @@ mod NamedReplays
 mod Newest
 mod Numbers
 mod OtherFilters
+mod Pendings
+mod Places
 mod PlannedTexts
 pub mod Plans
 mod Posts
@@ -40,3 +42,4 @@ mod Unconcerned
 mod Updates
 mod Used
 mod Watches
+mod Ways

@@ -2,12 +2,15 @@
 use Rattle.std.proofs.Common.{◌≡◌, ℕ, suc, ◌+◌, ◌≤◌, arith, true, false, List, [], ◌∷◌, drop, is_some, length, map, Option, Some, None, refl, sym, ap, ◌∙◌, true≢false}
 use Rattle.std.specs.Prelude.{option_map}
 use Rattle.std.proofs.lemmas.List.{drop_all}
+use Rattle.odb_chain.specs.Chains.{Chains}
+use Rattle.odb_request.specs.Request.{Request}
 use Rattle.odb_service.specs.Service.{Service}
-use Rattle.odb_service.specs.Session.{Monitor}
+use Rattle.odb_service.specs.Session.{Monitor, refilter}
 use Rattle.odb_tables.specs.Database.{Db}
 use Rattle.odb_sessions.specs.Foreseen.{Ahead, due_text, seen_ahead, update_text}
 use Rattle.odb_sessions.specs.Held.{watch_of}
 use Rattle.odb_sessions.specs.Planned.{Due, Plan, from_monitor, plan_rest, update_of}
+use Rattle.odb_sessions.proofs.Updates.{refilter_none}
 
 -- a plan of which these monitors were found to be owed nothing
 abbrev pub after_none : ℕ → Plan → Plan
@@ -25,6 +28,12 @@ owed_to h db x = update_of h db (watch_of x.held).requests (seen_ahead db x)
 
 abbrev pub text_to : Service → Db → Ahead → Option (List ℕ)
 text_to h db x = update_text h db (watch_of x.held).requests (seen_ahead db x)
+
+-- the same text, at the same chains, as it is found out under no other filters
+pub text_at : (h : Service) (k n : Chains) (x : Ahead) → k ≡ n → update_text h k.db (refilter [] (watch_of x.held).requests) (seen_ahead k.db x) ≡ text_to h n.db x
+text_at h k n x same =
+    ap (λ (m : Chains). update_text h m.db (refilter [] (watch_of x.held).requests) (seen_ahead m.db x)) same
+    ∙ ap (λ (qs : List Request). update_text h n.db qs (seen_ahead n.db x)) (refilter_none (watch_of x.held).requests)
 
 pub is_mapped : {A B : Type 0} (f : A → B) (o : Option A) → is_some (option_map f o) ≡ is_some o
 is_mapped f None = refl

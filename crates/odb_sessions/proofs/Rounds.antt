@@ -1,6 +1,6 @@
 -- Takings that are ready, carried out one after the other, are a round.
 use Rattle.std.proofs.Common.{◌≡◌, ℕ, zero, suc, ◌==◌, ◌||◌, Bool, true, false, cond, List, [], ◌∷◌, ◌++◌, map, Option, Some, None, refl, sym, ap, append_assoc, subst, ◌∙◌, true≢false}
-use Rattle.std.specs.Prelude.{option_and_then, option_map, option_to_list, slice_get}
+use Rattle.std.specs.Prelude.{flat_map, option_and_then, option_map, option_to_list, slice_get}
 use Rattle.std.proofs.lemmas.List.{map-append}
 use Rattle.std.specs.Ordering.{eq_by_cmp, nat_cmp}
 use Rattle.serde_json.specs.Written.{compact_text}
@@ -20,10 +20,8 @@ use Rattle.odb_sessions.specs.Carried.{finished_in, last_finished, used_by}
 use Rattle.odb_sessions.specs.Foreseen.{due_text, finished_text, last_used}
 use Rattle.odb_sessions.specs.Planned.{AreOnce, Due, Plan, applied, is_listed, out_of, plan}
 use Rattle.odb_sessions.specs.Posts.{at_number}
-use Rattle.odb_sessions.specs.Represented.Ready.{AreReady, ready_of}
 use Rattle.odb_sessions.specs.Taken as model
-use Rattle.odb_sessions.specs.Taken.{IsReadyFor, Text, last_text, text_from, text_taken}
-use Rattle.odb_sessions.specs.declared.ready.Ready.{Ready}
+use Rattle.odb_sessions.specs.Taken.{AreReady, IsReadyFor, Pending, Text, given_by, last_text, sessions_in, text_from, text_taken}
 use Rattle.odb_sessions.proofs.Plans.{planned_takes}
 use Rattle.odb_sessions.proofs.Posts.{at_open, at_shut}
 
@@ -144,67 +142,109 @@ neither : (a b : Bool) → (a || b) ≡ false → (a ≡ false) × (b ≡ false)
 neither true b e = absurd (true≢false e)
 neither false b e = (refl, e)
 
-stays_ready : (s : Schema) (b : Book) (n : ℕ) (x : Session) (rs : List Ready) → is_listed n (map (λ (r : Ready). r.session) rs) ≡ false → AreReady s b rs → AreReady s (record b { sessions = insert b.sessions n x }) rs
+stays_ready : (s : Schema) (b : Book) (n : ℕ) (x : Session) (ps : List Pending) → is_listed n (sessions_in ps) ≡ false → AreReady s b ps → AreReady s (record b { sessions = insert b.sessions n x }) ps
 stays_ready s b n x [] e h = tt
-stays_ready s b n x (r ∷ rs) e h =
-    let k : (r.session == n ≡ false) × (is_listed n (map (λ (r : Ready). r.session) rs) ≡ false) = neither (r.session == n) (is_listed n (map (λ (r : Ready). r.session) rs)) e in
-    let same : get (insert b.sessions n x) r.session ≡ get b.sessions r.session =
-    get-insert b.sessions n x r.session ∙ ap (λ c. cond c (Some x) (get b.sessions r.session)) (apart_keys r.session n (sym (eq_turned r.session n) ∙ k.0))
+stays_ready s b n x (p ∷ ps) e h =
+    let k : (p.0 == n ≡ false) × (is_listed n (sessions_in ps) ≡ false) = neither (p.0 == n) (is_listed n (sessions_in ps)) e in
+    let same : get (insert b.sessions n x) p.0 ≡ get b.sessions p.0 =
+    get-insert b.sessions n x p.0 ∙ ap (λ c. cond c (Some x) (get b.sessions p.0)) (apart_keys p.0 n (sym (eq_turned p.0 n) ∙ k.0))
     in
-    (subst (λ o. IsReadyFor s b.db o (ready_of r)) (sym same) h.0, stays_ready s b n x rs k.1 h.1)
+    (subst (λ o. IsReadyFor s b.db o p.1) (sym same) h.0, stays_ready s b n x ps k.1 h.1)
 
-pub still_ready : (s : Schema) (b : Book) (n : ℕ) (f : Session → Session) (rs : List Ready) → is_listed n (map (λ (r : Ready). r.session) rs) ≡ false → AreReady s b rs → AreReady s (record b { sessions = at_number f b.sessions n }) rs
-still_ready s b n f rs e h = by (get b.sessions n) refl
+pub still_ready : (s : Schema) (b : Book) (n : ℕ) (f : Session → Session) (ps : List Pending) → is_listed n (sessions_in ps) ≡ false → AreReady s b ps → AreReady s (record b { sessions = at_number f b.sessions n }) ps
+still_ready s b n f ps e h = by (get b.sessions n) refl
   where
-    by : (o : Option Session) → get b.sessions n ≡ o → AreReady s (record b { sessions = at_number f b.sessions n }) rs
-    by None there = subst (λ (m : Sessions). AreReady s (record b { sessions = m }) rs) (sym (at_shut f b.sessions n there)) h
-    by (Some x) there = subst (λ (m : Sessions). AreReady s (record b { sessions = m }) rs) (sym (at_open f b.sessions n x there)) (stays_ready s b n (f x) rs e h)
+    by : (o : Option Session) → get b.sessions n ≡ o → AreReady s (record b { sessions = at_number f b.sessions n }) ps
+    by None there = subst (λ (m : Sessions). AreReady s (record b { sessions = m }) ps) (sym (at_shut f b.sessions n there)) h
+    by (Some x) there = subst (λ (m : Sessions). AreReady s (record b { sessions = m }) ps) (sym (at_open f b.sessions n x there)) (stays_ready s b n (f x) ps e h)
 
--- as many are ready as were listed, each for its session
-pub ready-append : (s : Schema) (b : Book) (rs : List Ready) (r : Ready) → AreReady s b rs → IsReadyFor s b.db (get b.sessions r.session) (ready_of r) → AreReady s b (rs ++ r ∷ [])
-ready-append s b [] r h k = (k, tt)
-ready-append s b (q ∷ rs) r h k = (h.0, ready-append s b rs r h.1 k)
+-- one more is ready
+pub ready-append : (s : Schema) (b : Book) (ps : List Pending) (p : Pending) → AreReady s b ps → IsReadyFor s b.db (get b.sessions p.0) p.1 → AreReady s b (ps ++ p ∷ [])
+ready-append s b [] p h k = (k, tt)
+ready-append s b (q ∷ ps) p h k = (h.0, ready-append s b ps p h.1 k)
 
 -- ---- a round that goes on
-
-abbrev sessions_of : List Ready → List ℕ
-sessions_of rs = map (λ (r : Ready). r.session) rs
 
 abbrev then_with : World → Sessions → World
 then_with w m = record w { sessions = m }
 
 -- what the round of these makes of the world, and what was sent so far
-abbrev pub GoesOn : Schema → List ℕ → World → Sessions → List Ready → List (ℕ × List ℕ) → Type 0
-GoesOn s listed w m rs given =
-    ((take_each (served_by s) listed w).0 ≡ (take_each (served_by s) (map (λ (r : Ready). r.session) rs) (record w { sessions = m })).0)
-    × (map printed (take_each (served_by s) listed w).1 ≡ given ++ map printed (take_each (served_by s) (map (λ (r : Ready). r.session) rs) (record w { sessions = m })).1)
+abbrev pub GoesOn : Schema → List ℕ → World → Sessions → List Pending → List (ℕ × List ℕ) → Type 0
+GoesOn s listed w m ps given =
+    ((take_each (served_by s) listed w).0 ≡ (take_each (served_by s) (sessions_in ps) (record w { sessions = m })).0)
+    × (map printed (take_each (served_by s) listed w).1 ≡ given ++ map printed (take_each (served_by s) (sessions_in ps) (record w { sessions = m })).1)
 
-pub goes_on : (s : Schema) (listed : List ℕ) (w : World) (b c : Book) (r : Ready) (rs : List Ready) (given : List (ℕ × List ℕ)) (out : Option (ℕ × List ℕ)) → w.db ≡ b.db → GoesOn s listed w b.sessions (r ∷ rs) given
-    → c ≡ record b { sessions = at_number (λ x. (take (served_by s) b.db x).1) b.sessions r.session }
-    → out ≡ option_map (λ t. let p : ℕ × List ℕ = (r.session, t) in p) (text_taken (served_by s) b.db (get b.sessions r.session))
-    → GoesOn s listed w c.sessions rs (given ++ option_to_list out)
-goes_on s listed w b c r rs given out same before is said =
+pub goes_on : (s : Schema) (listed : List ℕ) (w : World) (b c : Book) (p : Pending) (ps : List Pending) (given : List (ℕ × List ℕ)) (out : Option (ℕ × List ℕ)) → w.db ≡ b.db → GoesOn s listed w b.sessions (p ∷ ps) given
+    → c ≡ record b { sessions = at_number (λ x. (take (served_by s) b.db x).1) b.sessions p.0 }
+    → out ≡ option_map (λ t. let q : ℕ × List ℕ = (p.0, t) in q) (text_taken (served_by s) b.db (get b.sessions p.0))
+    → GoesOn s listed w c.sessions ps (given ++ option_to_list out)
+goes_on s listed w b c p ps given out same before is said =
     let h : Service = served_by s in
-    let n = r.session in
+    let n = p.0 in
     let u : World = then_with w b.sessions in
     let v : World = then_with w c.sessions in
     let left : then_with u (at_number (λ x. (take h u.db x).1) u.sessions n) ≡ v =
     ap (λ d. then_with w (at_number (λ x. (take h d x).1) b.sessions n)) same ∙ ap (λ (d : Book). then_with w d.sessions) (sym is)
     in
-    let one = round_on s n (sessions_of rs) u v (text_taken h u.db (get u.sessions n)) left refl in
+    let one = round_on s n (sessions_in ps) u v (text_taken h u.db (get u.sessions n)) left refl in
     let told : option_to_list out ≡ as_sent s n (text_taken h u.db (get u.sessions n)) =
     ap option_to_list said ∙ ap (λ d. as_sent s n (text_taken h d (get b.sessions n))) (sym same)
     in (
       before.0 ∙ one.0,
       before.1 ∙ ap (λ os. given ++ os) one.1
-          ∙ ap (λ os. given ++ (os ++ map printed (take_each h (sessions_of rs) v).1)) (sym told)
-          ∙ sym (append_assoc given (option_to_list out) (map printed (take_each h (sessions_of rs) v).1)),
+          ∙ ap (λ os. given ++ (os ++ map printed (take_each h (sessions_in ps) v).1)) (sym told)
+          ∙ sym (append_assoc given (option_to_list out) (map printed (take_each h (sessions_in ps) v).1)),
     )
 
 -- those left are ready after one was carried out
-pub left_ready : (s : Schema) (b c : Book) (r : Ready) (rs : List Ready) → AreOnce (sessions_of (r ∷ rs)) → AreReady s b (r ∷ rs) → c ≡ record b { sessions = at_number (λ x. (take (served_by s) b.db x).1) b.sessions r.session } → AreReady s c rs
-left_ready s b c r rs once h is = subst (λ (d : Book). AreReady s d rs) (sym is) (still_ready s b r.session (λ x. (take (served_by s) b.db x).1) rs once.0 h.1)
+pub left_ready : (s : Schema) (b c : Book) (p : Pending) (ps : List Pending) → AreOnce (sessions_in (p ∷ ps)) → AreReady s b (p ∷ ps) → c ≡ record b { sessions = at_number (λ x. (take (served_by s) b.db x).1) b.sessions p.0 } → AreReady s c ps
+left_ready s b c p ps once h is = subst (λ (d : Book). AreReady s d ps) (sym is) (still_ready s b p.0 (λ x. (take (served_by s) b.db x).1) ps once.0 h.1)
 
 -- a schema, where it matters not which
 pub no_schema : Schema
 no_schema = record { name = []; version = []; cksum = None; tables = [] }
+
+-- ---- the messages of a round
+
+abbrev message_of : Book → Pending → Option Session → List (ℕ × List ℕ)
+message_of b p o = option_to_list (option_map (λ t. let q : ℕ × List ℕ = (p.0, t) in q) (text_from p.1.text (option_and_then (λ x. last_used p.1.items x.queue) o)))
+
+-- what another session becomes changes no message
+stays_given : (b : Book) (n : ℕ) (x : Session) (ps : List Pending) → is_listed n (sessions_in ps) ≡ false → flat_map (given_by b) ps ≡ flat_map (given_by (record b { sessions = insert b.sessions n x })) ps
+stays_given b n x [] e = refl
+stays_given b n x (p ∷ ps) e =
+    let k : (p.0 == n ≡ false) × (is_listed n (sessions_in ps) ≡ false) = neither (p.0 == n) (is_listed n (sessions_in ps)) e in
+    let same : get (insert b.sessions n x) p.0 ≡ get b.sessions p.0 =
+    get-insert b.sessions n x p.0 ∙ ap (λ c. cond c (Some x) (get b.sessions p.0)) (apart_keys p.0 n (sym (eq_turned p.0 n) ∙ k.0))
+    in
+    let rest : flat_map (given_by b) ps ≡ flat_map (given_by (record b { sessions = insert b.sessions n x })) ps = stays_given b n x ps k.1 in
+    λ i. message_of b p (sym same i) ++ rest i
+
+abbrev given_with : Book → List Pending → Sessions → List (ℕ × List ℕ)
+given_with b ps m = flat_map (given_by (record b { sessions = m })) ps
+
+still_given : (b : Book) (n : ℕ) (f : Session → Session) (ps : List Pending) → is_listed n (sessions_in ps) ≡ false → flat_map (given_by b) ps ≡ flat_map (given_by (record b { sessions = at_number f b.sessions n })) ps
+still_given b n f ps e = by (get b.sessions n) refl
+  where
+    by : (o : Option Session) → get b.sessions n ≡ o → flat_map (given_by b) ps ≡ flat_map (given_by (record b { sessions = at_number f b.sessions n })) ps
+    by None there = sym (ap (given_with b ps) (at_shut f b.sessions n there))
+    by (Some x) there = stays_given b n (f x) ps e ∙ sym (ap (given_with b ps) (at_open f b.sessions n x there))
+
+-- what is sent are the texts that are ready, in their order
+pub all_given : (s : Schema) (b : Book) (w : World) (ps : List Pending) → w.db ≡ b.db → w.sessions ≡ b.sessions → AreOnce (sessions_in ps) → AreReady s b ps
+    → map printed (take_each (served_by s) (sessions_in ps) w).1 ≡ flat_map (given_by b) ps
+all_given s b w [] db sessions once h = refl
+all_given s b w (p ∷ ps) db sessions once h =
+    let f : Session → Session = λ x. (take (served_by s) b.db x).1 in
+    let c : Book = record b { sessions = at_number f b.sessions p.0 } in
+    let v : World = then_with w c.sessions in
+    let text : Option (List ℕ) = text_from p.1.text (option_and_then (λ x. last_used p.1.items x.queue) (get b.sessions p.0)) in
+    let left : then_with w (at_number (λ x. (take (served_by s) w.db x).1) w.sessions p.0) ≡ v =
+    λ i. let d : Db = db i in then_with w (at_number (λ x. (take (served_by s) d x).1) (sessions i) p.0)
+    in
+    let said : text ≡ text_taken (served_by s) w.db (get w.sessions p.0) =
+    text_ready s b.db (get b.sessions p.0) p.1 h.0 ∙ (λ i. text_taken (served_by s) (sym db i) (get (sym sessions i) p.0))
+    in
+    let ready : AreReady s c ps = still_ready s b p.0 f ps once.0 h.1 in
+    (round_on s p.0 (sessions_in ps) w v text left said).1
+    ∙ ap (λ os. message_of b p (get b.sessions p.0) ++ os) (all_given s c v ps db refl once.1 ready ∙ sym (still_given b p.0 f ps once.0))

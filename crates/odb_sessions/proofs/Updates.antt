@@ -1,17 +1,15 @@
 -- What is composed for a monitor is what the machine sends, whatever was foreseen of it and under whichever filters.
-use Rattle.std.proofs.Common.{◌≡◌, ℕ, List, [], ◌∷◌, map, Some, None, refl, ap, ◌∙◌}
+use Rattle.std.proofs.Common.{◌≡◌, List, [], ◌∷◌, map, Some, refl, ap, ◌∙◌}
 use Rattle.std.specs.Prelude.{option_map}
-use Rattle.serde_json.specs.Written.{compact_text}
 use Rattle.odb_monitor.specs.Job.{Part, updates_of}
 use Rattle.odb_monitor.specs.View.{query, selected}
-use Rattle.odb_request.specs.Request.{Notation, Request}
-use Rattle.odb_schema.specs.Json.{Data}
+use Rattle.odb_request.specs.Request.{Request}
 use Rattle.odb_service.specs.Service.{Service}
 use Rattle.odb_service.specs.Session.{refilter}
-use Rattle.odb_sessions.specs.Composed.{all_asked_as, asked_of, later_job, notified_text, part_to, updates_for}
+use Rattle.odb_sessions.specs.Composed.{asked_of, later_job, notified_text, part_to}
 use Rattle.odb_sessions.specs.Foreseen.{Ahead, Filters, all_parts_again, asked_under, seen_ahead, update_text}
 use Rattle.odb_sessions.specs.Held.{Held, Watched, monitor_of, view_of, watch_of}
-use Rattle.odb_sessions.proofs.Composed.{body_sent, none_sent, parts_asked, parts_now, parts_sent, parts_told}
+use Rattle.odb_sessions.proofs.Composed.{parts_asked, parts_now, parts_sent, parts_told}
 use Rattle.odb_sessions.proofs.OtherFilters.{same_asked, same_view, under}
 use Rattle.odb_tables.specs.Database.{Db, table_at}
 
@@ -21,13 +19,13 @@ refilter_none (q ∷ qs) = ap (λ (rs : List Request). q ∷ rs) (refilter_none 
 
 -- ---- nothing was foreseen
 
-sent_asked : (h : Service) (db : Db) (x : Held)
+pub sent_asked : (h : Service) (db : Db) (x : Held)
     → option_map (notified_text x.notation x.id) (updates_of (later_job x.notation (map (part_to db) x.tables))) ≡ update_text h db (watch_of x).requests (monitor_of x)
 sent_asked h db x =
     parts_sent h db x.id x.notation (watch_of x).requests (asked_of x.tables) (view_of x) (map (part_to db) x.tables)
     (parts_asked db x.tables) (parts_told db x.id x.notation x.tables) (parts_now db x.tables)
 
-sent_under : (h : Service) (db : Db) (fs : Filters) (x : Held)
+pub sent_under : (h : Service) (db : Db) (fs : Filters) (x : Held)
     → option_map (notified_text x.notation x.id) (updates_of (later_job x.notation (map (part_to db) (under fs x.tables)))) ≡ update_text h db (refilter fs (watch_of x).requests) (monitor_of x)
 sent_under h db fs x =
     let vs : List Watched = under fs x.tables in
@@ -51,26 +49,8 @@ again_now db gs fs (w ∷ ws) = ap (λ V. selected (asked_under fs w.request) (t
 abbrev pub told_as : Held → Filters → Ahead
 told_as x gs = record { held = x; told = Some gs }
 
-sent_again : (h : Service) (db : Db) (gs fs : Filters) (x : Held)
+pub sent_again : (h : Service) (db : Db) (gs fs : Filters) (x : Held)
     → option_map (notified_text x.notation x.id) (updates_of (later_job x.notation (all_parts_again db gs x.tables (refilter fs (asked_of x.tables))))) ≡ update_text h db (refilter fs (watch_of x).requests) (seen_ahead db (told_as x gs))
 sent_again h db gs fs x =
     parts_sent h db x.id x.notation (watch_of x).requests (refilter fs (asked_of x.tables)) (query db (refilter gs (asked_of x.tables))) (all_parts_again db gs x.tables (refilter fs (asked_of x.tables)))
     (again_asked db gs fs x.tables) (again_told db gs fs x.tables) (again_now db gs fs x.tables)
-
--- ---- as the code names it
-
-pub none_owed : (h : Service) (db : Db) (x : Held) → None ≡ updates_for db x → None ≡ update_text h db (watch_of x).requests (monitor_of x)
-none_owed h db x none = none_sent x.notation x.id (updates_of (later_job x.notation (map (part_to db) x.tables))) none ∙ sent_asked h db x
-
-pub body_owed : (h : Service) (db : Db) (x : Held) (i : Data) (n : Notation) (body text : List ℕ) → i ≡ x.id → n ≡ x.notation → Some body ≡ updates_for db x
-    → ((d : Data) → body ≡ compact_text d → text ≡ notified_text n i d) → Some text ≡ update_text h db (watch_of x).requests (monitor_of x)
-body_owed h db x i n body text id notation is around =
-    body_sent x.notation x.id body text (updates_of (later_job x.notation (map (part_to db) x.tables))) is (λ d e. around d e ∙ (λ j. notified_text (notation j) (id j) d)) ∙ sent_asked h db x
-
-pub under_is : (h : Service) (db : Db) (fs : Filters) (x : Held) (i : Data) (n : Notation) (ps : List Part) → i ≡ x.id → n ≡ x.notation → ps ≡ map (part_to db) (all_asked_as x.tables (refilter fs (asked_of x.tables)))
-    → option_map (notified_text n i) (updates_of (later_job n ps)) ≡ update_text h db (refilter fs (watch_of x).requests) (monitor_of x)
-under_is h db fs x i n ps id notation parts = (λ j. option_map (notified_text (notation j) (id j)) (updates_of (later_job (notation j) (parts j)))) ∙ sent_under h db fs x
-
-pub again_is : (h : Service) (db : Db) (gs fs : Filters) (x : Held) (i : Data) (n : Notation) (ps : List Part) → i ≡ x.id → n ≡ x.notation → ps ≡ all_parts_again db gs x.tables (refilter fs (asked_of x.tables))
-    → option_map (notified_text n i) (updates_of (later_job n ps)) ≡ update_text h db (refilter fs (watch_of x).requests) (seen_ahead db (told_as x gs))
-again_is h db gs fs x i n ps id notation parts = (λ j. option_map (notified_text (notation j) (id j)) (updates_of (later_job (notation j) (parts j)))) ∙ sent_again h db gs fs x

@@ -11,8 +11,7 @@ use Rattle.odb_rpc.specs.Message.{notification}
 use Rattle.odb_rpc.specs.Represented.Shared.{update_method}
 use Rattle.odb_schema.specs.Json.{Data}
 use Rattle.odb_service.specs.Session.{Monitor, shapes}
-use Rattle.odb_sessions.specs.Held.{Held, Watched, marks_in, monitor_of}
-use Rattle.odb_sessions.specs.Tied.{AreLive}
+use Rattle.odb_sessions.specs.Held.{Held, Watched, monitor_of}
 use Rattle.odb_tables.specs.Database.{Db, table_at}
 
 -- what the client was told is kept, and it is a content of the table that is asked for
@@ -55,15 +54,6 @@ later_job n ps = record { notation = n; first = false; parts = ps }
 -- the text of the table updates that the client of this monitor is owed, without its id, if something is sent
 abbrev pub updates_for : Db → Held → Option (List ℕ)
 updates_for db x = option_map compact_text (updates_of (later_job x.notation (map (part_to db) x.tables)))
-
--- a monitor, and the text of what is composed for its client
-pub record Composition : Type 0 where
-  pub held : Held
-  pub updates : Option (List ℕ)
-
--- what the client was told is kept, and the text is that of what it is owed
-abbrev pub IsComposed : Chains → Composition → Type 0
-IsComposed k c = AreLive k (marks_in c.held) × (c.updates ≡ updates_for k.db c.held)
 
 abbrev pub first_job : Db → Notation → List Request → Job
 first_job db n qs = record { notation = n; first = true; parts = map (first_part db) qs }

@@ -3,7 +3,7 @@ use Rattle.std.specs.Prelude.{ℕ, zero, suc, List, [], ◌∷◌, Option, Some,
 use Rattle.serde_json.specs.Written.{compact_text}
 use Rattle.odb_chain.specs.Chains.{Chains, Mark}
 use Rattle.odb_cond.specs.Filter.{Filter}
-use Rattle.odb_monitor.specs.Job.{Part}
+use Rattle.odb_monitor.specs.Job.{Job, Part}
 use Rattle.odb_monitor.specs.View.{View, query, selected}
 use Rattle.odb_request.specs.Request.{Request}
 use Rattle.odb_rpc.specs.Message.{reply}
@@ -18,9 +18,10 @@ use Rattle.odb_wire.specs.Message.{id_of}
 abbrev pub Filters : Type 0
 Filters = List (List ℕ × Filter)
 
--- the database with its past, and a session's monitors once so much of its queue was taken
+-- the database with its past, the jobs so far, and a session's monitors once so much of its queue was taken
 pub record Foreseen : Type 0 where
   pub chains : Chains
+  pub jobs : List Job
   pub monitors : List Monitor
 
 -- a monitor: its client has what it was told, or what its tables are now under these filters

@@ -6,6 +6,7 @@ pub mod Composed
 pub mod Concerned
 pub mod Foreseen
 pub mod Held
+pub mod Jobs
 pub mod Moved
 pub mod Named
 pub mod Planned

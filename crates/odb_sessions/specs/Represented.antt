@@ -1,5 +1,6 @@
 pub mod Codes
 pub mod Composed
+pub mod Job
 pub mod Origin
 pub mod Out
 pub mod Queued

@@ -8,15 +8,17 @@ ghost use Rattle.odb_sessions.specs.Asked.{is_same};
 ghost use Rattle.odb_sessions.specs.Foreseen.{as_told, due_text, marks_ahead, seen_ahead, update_text};
 ghost use Rattle.odb_sessions.specs.Held.{marks_in, monitor_of, watch_of};
 ghost use Rattle.odb_sessions.specs.Planned.{due, plan_rest};
-ghost use Rattle.odb_sessions.specs.Represented.Composed.{text_in};
+ghost use Rattle.odb_sessions.specs.Jobs.{Keeps};
+ghost use Rattle.odb_sessions.specs.Represented.Composed.{Tells};
 ghost use Rattle.odb_sessions.specs.Represented.Under.{filters_in, item_in};
 ghost use Rattle.odb_sessions.specs.Tied.{AreLive};
 
-use crate::composer::Composer;
 use crate::composing::Message;
 use crate::id::Id;
+use crate::job::Job;
 use crate::monitor::Monitor;
 use crate::under::Under;
+use crate::wanted::Wanted;
 use odb_chain::Chains;
 use std::alloc::{AllocError, Global};
 use std::marker::Model;
@@ -57,18 +59,19 @@ impl<'a> Ahead<'a> {
     /// those of `Monitor::update`.
     fn update(
         &self,
-        composer: &mut Composer<'a>,
+        wanted: &mut Wanted<'a>,
         under: Under<'a>,
     ) -> Result<Option<Message>, AllocError>
-        requires { AreLive composer.old (marks_in self.now.held) }
-        ensures text { IfOk result (λ message. (h : Service) → option_map text_in message
-            ≡ update_text h composer.old.db (refilter (filters_in under.entry) (watch_of self.now.held).requests) (seen_ahead composer.old.db self.now)) }
-        ensures chains { composer.new ≡ composer.old }
+        requires { AreLive wanted.old.chains (marks_in self.now.held) }
+        ensures text { IfOk result (λ message. (h : Service) → Tells wanted.new.jobs message
+            (update_text h wanted.old.chains.db (refilter (filters_in under.entry) (watch_of self.now.held).requests) (seen_ahead wanted.old.chains.db self.now))) }
+        ensures jobs { Keeps wanted.old.jobs wanted.new.jobs }
+        ensures chains { wanted.new.chains ≡ wanted.old.chains }
     {
         let monitor = self.monitor;
         match self.told {
-            None => monitor.update(composer, under),
-            Some(told) => { monitor.update_again(composer.alloc(), composer.chains(), told, under) }
+            None => monitor.update(wanted, under),
+            Some(told) => monitor.update_again(wanted, told, under),
         }
     }
 
@@ -110,23 +113,24 @@ fn place_of(monitors: &[Ahead<'_>], id: &Id) -> Option<usize>
 
 /// The first of these that has the id, once it is brought to now under these filters, and what its client is sent.
 fn pass<'a>(
-    composer: &mut Composer<'a>,
+    wanted: &mut Wanted<'a>,
     monitors: &mut Vec<Ahead<'a>>,
     id: &Id,
     under: Under<'a>,
 ) -> Result<Option<Message>, AllocError>
-    requires { AreLive composer.old (marks_ahead monitors.old.items) }
-    ensures text { IfOk result (λ message. (s : Schema) → option_map text_in message
-        ≡ option_map (due_text (served_by s) composer.old.db) (due (served_by s) composer.old.db (item_in id.now under.entry) (map (seen_ahead composer.old.db) monitors.old.items))) }
-    ensures passed { OnOk result ((s : Schema) → map (seen_ahead composer.old.db) monitors.new.items
-        ≡ leaves (served_by s) composer.old.db (item_in id.now under.entry) (map (seen_ahead composer.old.db) monitors.old.items)) }
-    ensures chains { composer.new ≡ composer.old }
-    ensures live { AreLive composer.old (marks_ahead monitors.new.items) }
+    requires { AreLive wanted.old.chains (marks_ahead monitors.old.items) }
+    ensures text { IfOk result (λ message. (s : Schema) → Tells wanted.new.jobs message
+        (option_map (due_text (served_by s) wanted.old.chains.db) (due (served_by s) wanted.old.chains.db (item_in id.now under.entry) (map (seen_ahead wanted.old.chains.db) monitors.old.items)))) }
+    ensures passed { OnOk result ((s : Schema) → map (seen_ahead wanted.old.chains.db) monitors.new.items
+        ≡ leaves (served_by s) wanted.old.chains.db (item_in id.now under.entry) (map (seen_ahead wanted.old.chains.db) monitors.old.items)) }
+    ensures jobs { Keeps wanted.old.jobs wanted.new.jobs }
+    ensures chains { wanted.new.chains ≡ wanted.old.chains }
+    ensures live { AreLive wanted.old.chains (marks_ahead monitors.new.items) }
 {
     let Some(place) = place_of(monitors.as_slice(), id) else {
         return Ok(None);
     };
-    let message = monitors[place].update(composer, under)?;
+    let message = monitors[place].update(wanted, under)?;
     monitors[place] = monitors[place].brought(under);
     Ok(message)
 }
@@ -141,16 +145,17 @@ pub(crate) struct Rest {
 
 /// What these monitors have due. The costs are those of `Ahead::update` for each monitor up to the first that is
 /// owed something.
-fn rest_due<'a>(composer: &mut Composer<'a>, monitors: &[Ahead<'a>]) -> Result<Rest, AllocError>
-    requires { AreLive composer.old (marks_ahead monitors.now) }
+fn rest_due<'a>(wanted: &mut Wanted<'a>, monitors: &[Ahead<'a>]) -> Result<Rest, AllocError>
+    requires { AreLive wanted.old.chains (marks_ahead monitors.now) }
     ensures monitors { IfOk result (λ rest. (h : Service)
-        → rest.monitors ≡ (plan_rest h composer.old.db (map (seen_ahead composer.old.db) monitors.now)).monitors) }
-    ensures text { IfOk result (λ rest. (h : Service) → option_map text_in rest.message
-        ≡ option_map (due_text h composer.old.db) (plan_rest h composer.old.db (map (seen_ahead composer.old.db) monitors.now)).out) }
-    ensures chains { composer.new ≡ composer.old }
+        → rest.monitors ≡ (plan_rest h wanted.old.chains.db (map (seen_ahead wanted.old.chains.db) monitors.now)).monitors) }
+    ensures text { IfOk result (λ rest. (h : Service) → Tells wanted.new.jobs rest.message
+        (option_map (due_text h wanted.old.chains.db) (plan_rest h wanted.old.chains.db (map (seen_ahead wanted.old.chains.db) monitors.now)).out)) }
+    ensures jobs { Keeps wanted.old.jobs wanted.new.jobs }
+    ensures chains { wanted.new.chains ≡ wanted.old.chains }
 {
     for place in 0..monitors.len() {
-        let message = monitors[place].update(composer, Under::Asked)?;
+        let message = monitors[place].update(wanted, Under::Asked)?;
         if message.is_some() {
             return Ok(Rest {
                 monitors: place + 1,
@@ -164,10 +169,10 @@ fn rest_due<'a>(composer: &mut Composer<'a>, monitors: &[Ahead<'a>]) -> Result<R
     })
 }
 
-/// The database with its past, the last compositions, and what a plan foresees of a session's monitors.
+/// The database with its past, the jobs so far, and what a plan foresees of a session's monitors.
 #[derive(Drop)]
 pub(crate) struct Planner<'a> {
-    pub(crate) composer: Composer<'a>,
+    pub(crate) wanted: Wanted<'a>,
     monitors: Vec<Ahead<'a>>,
 }
 
@@ -182,18 +187,18 @@ impl<'a> Model for Planner<'a> {
 
     ghost coded = { foreseen_code };
 
-    ghost view = { λ p. record { chains = p.composer; monitors = map (seen_ahead p.composer.db) p.monitors.items } };
+    ghost view = { λ p. record { chains = p.wanted.chains; jobs = p.wanted.jobs; monitors = map (seen_ahead p.wanted.chains.db) p.monitors.items } };
 
-    ghost invariant = { λ p. AreLive p.composer (marks_ahead p.monitors.items) };
+    ghost invariant = { λ p. AreLive p.wanted.chains (marks_ahead p.monitors.items) };
 }
 
 impl<'a> Planner<'a> {
-    /// No monitors. O(1).
+    /// No jobs, and no monitors. O(1).
     pub(crate) fn new(alloc: Global, chains: &'a Chains) -> Planner<'a>
-        ensures { result ≡ record { chains = chains.now; monitors = [] } }
+        ensures { result ≡ record { chains = chains.now; jobs = []; monitors = [] } }
     {
         Planner {
-            composer: Composer::new(alloc, chains),
+            wanted: Wanted::new(alloc, chains),
             monitors: Vec::new(alloc),
         }
     }
@@ -202,9 +207,10 @@ impl<'a> Planner<'a> {
     pub(crate) fn turn_to(&mut self, monitors: &'a [Monitor]) -> Result<(), AllocError>
         requires { AreLive self.old.chains (flat_map marks_in monitors.now) }
         ensures monitors { OnOk result (self.new.monitors ≡ map monitor_of monitors.now) }
+        ensures jobs { self.new.jobs ≡ self.old.jobs }
         ensures chains { self.new.chains ≡ self.old.chains }
     {
-        let ahead = all_ahead(self.composer.alloc(), monitors)?;
+        let ahead = all_ahead(self.wanted.alloc(), monitors)?;
         self.monitors = ahead;
         Ok(())
     }
@@ -212,13 +218,14 @@ impl<'a> Planner<'a> {
     /// What the client of the monitor with this id is sent to be brought to now under these filters; `None` where
     /// that is nothing. From then on it is foreseen so. The costs are those of `Monitor::update`.
     pub(crate) fn pass(&mut self, id: &Id, under: Under<'a>) -> Result<Option<Message>, AllocError>
-        ensures text { IfOk result (λ message. (s : Schema) → option_map text_in message
-            ≡ option_map (due_text (served_by s) self.old.chains.db) (due (served_by s) self.old.chains.db (item_in id.now under.entry) self.old.monitors)) }
+        ensures text { IfOk result (λ message. (s : Schema) → Tells self.new.jobs message
+            (option_map (due_text (served_by s) self.old.chains.db) (due (served_by s) self.old.chains.db (item_in id.now under.entry) self.old.monitors))) }
         ensures passed { OnOk result ((s : Schema) → self.new.monitors
             ≡ leaves (served_by s) self.old.chains.db (item_in id.now under.entry) self.old.monitors) }
+        ensures jobs { Keeps self.old.jobs self.new.jobs }
         ensures chains { self.new.chains ≡ self.old.chains }
     {
-        pass(&mut self.composer, &mut self.monitors, id, under)
+        pass(&mut self.wanted, &mut self.monitors, id, under)
     }
 
     /// What its monitors have due once the queue is empty. The costs are those of `Monitor::update` for each
@@ -226,10 +233,19 @@ impl<'a> Planner<'a> {
     pub(crate) fn rest(&mut self) -> Result<Rest, AllocError>
         ensures monitors { IfOk result (λ rest. (h : Service)
             → rest.monitors ≡ (plan_rest h self.old.chains.db self.old.monitors).monitors) }
-        ensures text { IfOk result (λ rest. (h : Service) → option_map text_in rest.message
-            ≡ option_map (due_text h self.old.chains.db) (plan_rest h self.old.chains.db self.old.monitors).out) }
+        ensures text { IfOk result (λ rest. (h : Service) → Tells self.new.jobs rest.message
+            (option_map (due_text h self.old.chains.db) (plan_rest h self.old.chains.db self.old.monitors).out)) }
+        ensures jobs { Keeps self.old.jobs self.new.jobs }
         ensures chains { self.new.chains ≡ self.old.chains }
     {
-        rest_due(&mut self.composer, self.monitors.as_slice())
+        rest_due(&mut self.wanted, self.monitors.as_slice())
+    }
+
+    /// The jobs.
+    pub(crate) fn into_jobs(self) -> Vec<Job<'a>>
+        ensures { result.items ≡ self.entry.jobs }
+    {
+        let Planner { wanted, .. } = self;
+        wanted.into_jobs()
     }
 }

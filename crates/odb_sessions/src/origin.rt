@@ -1,9 +1,11 @@
 //! Replies that are begun, and wait for their results. [P 7.3, 10.1]
-ghost use Rattle.std.specs.Prelude.{◌≡◌, false, IfOk};
+ghost use Rattle.std.specs.Prelude.{◌≡◌, false, IfOk, List, Some};
 ghost use Rattle.serde_json.specs.Data.{Data};
 ghost use Rattle.serde_json.specs.Written.{compact_text};
+ghost use Rattle.odb_monitor.specs.Job as model_job;
 ghost use Rattle.odb_rpc.specs.Message.{reply};
-ghost use Rattle.odb_sessions.specs.Represented.Composed.{text_in};
+ghost use Rattle.odb_sessions.specs.Jobs.{composition_at};
+ghost use Rattle.odb_sessions.specs.Represented.Composed.{text_under};
 ghost use Rattle.odb_wire.specs.Message.{has_left_out, id_of};
 ghost use Rattle.odb_wire.specs.Shown.{request_data};
 
@@ -13,7 +15,6 @@ use odb_rpc::{after_result, before_result, reply_id};
 use odb_wire::Request;
 use std::alloc::{AllocError, Global};
 use std::marker::Model;
-use std::sync::Arc;
 
 /// A request whose reply is due, with the text with which that begins. Contracts see the request.
 #[derive(Drop)]
@@ -47,18 +48,14 @@ impl Origin {
         Ok(Origin { before, request })
     }
 
-    /// The reply, with the result whose text this is. O(n) for an id of n bytes.
-    pub(crate) fn reply(&self, alloc: Global, body: Vec<u8>) -> Result<Message, AllocError>
-        ensures { IfOk result (λ message. (d : Data) → body.items ≡ compact_text d
-            → text_in message ≡ compact_text (reply (id_of self.now) d)) }
+    /// The reply, with the result that is composed of the job. O(n) for an id of n bytes.
+    pub(crate) fn reply(&self, alloc: Global, job: usize) -> Result<Message, AllocError>
+        ensures { IfOk result (λ message. (all : List model_job.Job) (d : Data) → composition_at all job ≡ Some (compact_text d)
+            → text_under all message ≡ compact_text (reply (id_of self.now) d)) }
     {
         let before = self.before.clone()?;
         let after = Vec::from_slice(alloc, after_result())?;
-        Ok(Message {
-            before,
-            body: Arc::new(alloc, body)?,
-            after,
-        })
+        Ok(Message { before, job, after })
     }
 
     /// An equal one. O(bytes).

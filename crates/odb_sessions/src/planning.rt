@@ -1,23 +1,26 @@
-//! What is due to the client of a monitor, composed. [P 9.5, 10.1]
-ghost use Rattle.std.specs.Prelude.{◌≡◌, true, IfOk, Some, length, map, option_map};
+//! What is due to the client of a monitor, as it is planned. [P 9.5, 10.1]
+ghost use Rattle.std.specs.Prelude.{◌≡◌, true, IfOk, List, Option, Some, length, map, option_map};
 ghost use Rattle.std.specs.List.{All};
+ghost use Rattle.serde_json.specs.Data.{Data};
 ghost use Rattle.serde_json.specs.Written.{compact_text};
 ghost use Rattle.odb_chain.specs.Chains as model;
+ghost use Rattle.odb_monitor.specs.Job as model_job;
 ghost use Rattle.odb_service.specs.Service.{Service};
 ghost use Rattle.odb_service.specs.Session.{refilter};
-ghost use Rattle.odb_sessions.specs.Composed.{AreNow, IsKnown, all_asked_as, first_updates, part_to};
+ghost use Rattle.odb_sessions.specs.Composed.{AreNow, IsKnown, all_asked_as, notified_text, part_to};
 ghost use Rattle.odb_sessions.specs.Foreseen.{as_told, seen_ahead, update_text};
 ghost use Rattle.odb_sessions.specs.Held.{marks_in, monitor_of, watch_of};
-ghost use Rattle.odb_sessions.specs.Represented.Composed.{text_in};
+ghost use Rattle.odb_sessions.specs.Jobs.{Keeps, certainly, composition_at};
+ghost use Rattle.odb_sessions.specs.Represented.Composed.{Tells, text_under};
 ghost use Rattle.odb_sessions.specs.Represented.Under.{filters_in};
 ghost use Rattle.odb_sessions.specs.Tied.{AreLive};
 
-use crate::again::parts_again;
-use crate::composer::Composer;
-use crate::composing::{Message, around_updates, compose_first, compose_update, parts_of};
+use crate::composing::{Message, around_updates, parts_of};
 use crate::monitor::{Monitor, Watching};
 use crate::owed::{Owed, all_owed, all_owed_as};
-use crate::under::{Under, requests_under};
+use crate::under::Under;
+use crate::wanted::Wanted;
+use crate::way::Way;
 use odb_chain::Chains;
 use odb_monitor::Part;
 use odb_request::Request;
@@ -32,97 +35,89 @@ impl Monitor {
         all_owed(alloc, self.tables.as_slice())
     }
 
-    /// What its first reply tells. The costs are those of `compose_first`.
-    pub(crate) fn first_updates<'a>(
-        &'a self,
-        alloc: Global,
-        chains: &'a Chains,
-    ) -> Result<Vec<u8>, AllocError>
-        requires { AreLive chains.now (marks_in self.now) }
-        ensures { IfOk result (λ body. body.items
-            ≡ compact_text (first_updates chains.now.db self.now.notation (watch_of self.now).requests)) }
-    {
-        let tables = self.owed(alloc)?;
-        compose_first(alloc, chains, self.kind, tables.as_slice())
-    }
-
     /// The update that its client is owed under these filters, where nothing of it was foreseen; `None` where it
-    /// is owed nothing. The costs are those of `Composer::updates` under what it asks, and else those of
-    /// `compose_update` and, for each table, of `odb_chain::Chains::since`.
+    /// is owed nothing. The costs are those of `Wanted::updates` under what it asks, and else those of
+    /// `Wanted::want`.
     pub(crate) fn update<'a>(
         &'a self,
-        composer: &mut Composer<'a>,
+        wanted: &mut Wanted<'a>,
         under: Under<'a>,
     ) -> Result<Option<Message>, AllocError>
-        requires { AreLive composer.old (marks_in self.now) }
-        ensures text { IfOk result (λ message. (h : Service) → option_map text_in message
-            ≡ update_text h composer.old.db (refilter (filters_in under.entry) (watch_of self.now).requests) (seen_ahead composer.old.db (as_told self.now))) }
-        ensures chains { composer.new ≡ composer.old }
+        requires { AreLive wanted.old.chains (marks_in self.now) }
+        ensures text { IfOk result (λ message. (h : Service) → Tells wanted.new.jobs message
+            (update_text h wanted.old.chains.db (refilter (filters_in under.entry) (watch_of self.now).requests) (seen_ahead wanted.old.chains.db (as_told self.now)))) }
+        ensures jobs { Keeps wanted.old.jobs wanted.new.jobs }
+        ensures chains { wanted.new.chains ≡ wanted.old.chains }
     {
         match under {
-            Under::Asked => self.update_asked(composer),
-            Under::Changed(_) => self.update_under(composer.alloc(), composer.chains(), under),
+            Under::Asked => self.update_asked(wanted),
+            Under::Changed(_) => self.update_under(wanted, under),
         }
     }
 
     /// The update that its client is owed.
-    fn update_asked<'a>(
-        &'a self,
-        composer: &mut Composer<'a>,
-    ) -> Result<Option<Message>, AllocError>
-        requires { AreLive composer.old (marks_in self.now) }
-        ensures text { IfOk result (λ message. (h : Service) → option_map text_in message
-            ≡ update_text h composer.old.db (watch_of self.now).requests (monitor_of self.now)) }
-        ensures chains { composer.new ≡ composer.old }
+    fn update_asked<'a>(&'a self, wanted: &mut Wanted<'a>) -> Result<Option<Message>, AllocError>
+        requires { AreLive wanted.old.chains (marks_in self.now) }
+        ensures text { IfOk result (λ message. (h : Service) → Tells wanted.new.jobs message
+            (update_text h wanted.old.chains.db (watch_of self.now).requests (monitor_of self.now))) }
+        ensures jobs { Keeps wanted.old.jobs wanted.new.jobs }
+        ensures chains { wanted.new.chains ≡ wanted.old.chains }
     {
-        if are_now(self.tables.as_slice(), composer.chains()) {
+        if are_now(self.tables.as_slice(), wanted.chains()) {
             return Ok(None);
         }
-        let updates = composer.updates(self)?;
-        let Some(body) = updates else {
-            return Ok(None);
-        };
-        Ok(Some(around_updates(composer.alloc(), self.kind, &self.id, body)?))
+        let place = wanted.updates(self)?;
+        self.notification(wanted.alloc(), place)
     }
 
     /// The update that its client is owed under these filters.
     fn update_under<'a>(
         &'a self,
-        alloc: Global,
-        chains: &'a Chains,
+        wanted: &mut Wanted<'a>,
         under: Under<'a>,
     ) -> Result<Option<Message>, AllocError>
-        requires { AreLive chains.now (marks_in self.now) }
-        ensures { IfOk result (λ message. (h : Service) → option_map text_in message
-            ≡ update_text h chains.now.db (refilter (filters_in under.entry) (watch_of self.now).requests) (monitor_of self.now)) }
+        requires { AreLive wanted.old.chains (marks_in self.now) }
+        ensures text { IfOk result (λ message. (h : Service) → Tells wanted.new.jobs message
+            (update_text h wanted.old.chains.db (refilter (filters_in under.entry) (watch_of self.now).requests) (monitor_of self.now))) }
+        ensures jobs { Keeps wanted.old.jobs wanted.new.jobs }
+        ensures chains { wanted.new.chains ≡ wanted.old.chains }
     {
-        let requests = requests_under(alloc, self.tables.as_slice(), under)?;
-        let parts = parts_under(alloc, chains, self.tables.as_slice(), requests.as_slice())?;
-        compose_update(alloc, self.kind, &self.id, parts)
+        let place = wanted.want(self, Way::Changed(under))?;
+        self.notification(wanted.alloc(), place)
     }
 
     /// The update that its client is owed under these filters, where it was told of its tables as they are now
-    /// under the filters told. The costs are those of `compose_update`.
+    /// under the filters told. The costs are those of `Wanted::want`.
     pub(crate) fn update_again<'a>(
         &'a self,
-        alloc: Global,
-        chains: &'a Chains,
+        wanted: &mut Wanted<'a>,
         told: Under<'a>,
         under: Under<'a>,
     ) -> Result<Option<Message>, AllocError>
-        requires { AreLive chains.now (marks_in self.now) }
-        ensures { IfOk result (λ message. (h : Service) → option_map text_in message
-            ≡ update_text h chains.now.db (refilter (filters_in under.entry) (watch_of self.now).requests) (seen_ahead chains.now.db (record { held = self.now; told = Some (filters_in told.entry) }))) }
+        requires { AreLive wanted.old.chains (marks_in self.now) }
+        ensures text { IfOk result (λ message. (h : Service) → Tells wanted.new.jobs message
+            (update_text h wanted.old.chains.db (refilter (filters_in under.entry) (watch_of self.now).requests) (seen_ahead wanted.old.chains.db (record { held = self.now; told = Some (filters_in told.entry) })))) }
+        ensures jobs { Keeps wanted.old.jobs wanted.new.jobs }
+        ensures chains { wanted.new.chains ≡ wanted.old.chains }
     {
-        let requests = requests_under(alloc, self.tables.as_slice(), under)?;
-        let parts = parts_again(
-            alloc,
-            chains,
-            self.tables.as_slice(),
-            told,
-            requests.as_slice(),
-        )?;
-        compose_update(alloc, self.kind, &self.id, parts)
+        let place = wanted.want(self, Way::Again(told, under))?;
+        self.notification(wanted.alloc(), place)
+    }
+
+    /// The notification to its client with what is composed of the job at this place; none where there is no place.
+    fn notification(
+        &self,
+        alloc: Global,
+        place: Option<usize>,
+    ) -> Result<Option<Message>, AllocError>
+        ensures { IfOk result (λ message. (all : List model_job.Job) (o : Option Data)
+            → option_map (composition_at all) place ≡ option_map certainly (option_map compact_text o)
+            → option_map (text_under all) message ≡ option_map (notified_text self.now.notation self.now.id) o) }
+    {
+        let Some(job) = place else {
+            return Ok(None);
+        };
+        Ok(Some(around_updates(alloc, self.kind, &self.id, job)?))
     }
 }
 
@@ -153,7 +148,7 @@ pub(crate) fn are_now(tables: &[Watching], chains: &Chains) -> bool
 }
 
 /// The parts for these tables, as if these were the requests.
-fn parts_under<'a>(
+pub(crate) fn parts_under<'a>(
     alloc: Global,
     chains: &'a Chains,
     tables: &'a [Watching],

@@ -1,20 +1,20 @@
-//! Takings that are ready: what they were to take memory for is done. [P 10.3]
-ghost use Rattle.std.specs.Prelude.{◌≡◌, List, Option};
-ghost use Rattle.odb_sessions.specs.Foreseen.{last_used};
+//! Takings that are ready to be carried out: what they were to take memory for is done. [P 10.3]
+ghost use Rattle.std.specs.Prelude.{◌≡◌, IfOk, List, map, option_and_then, slice_get};
+ghost use Rattle.odb_monitor.specs.Job as model_job;
+ghost use Rattle.odb_sessions.specs.Jobs.{composition, composition_at};
+ghost use Rattle.odb_sessions.specs.Represented.Composed.{bytes_in};
 ghost use Rattle.odb_sessions.specs.Represented.Out.{text_of_out};
-ghost use Rattle.odb_sessions.specs.Represented.Ready.{ready_of, text_coming};
-ghost use Rattle.odb_sessions.specs.Represented.Taking.{coming_text, taking_text};
-ghost use Rattle.odb_sessions.specs.Represented.Composed.{text_in};
-ghost use Rattle.odb_sessions.specs.Taken.{no_text, text_from};
-ghost use Rattle.odb_service.specs.Session.{Item};
+ghost use Rattle.odb_sessions.specs.Represented.Ready.{text_coming};
+ghost use Rattle.odb_sessions.specs.Represented.Taking.{text_planned};
+ghost use Rattle.odb_sessions.specs.Taken.{composed_text, whole_text};
 
 use crate::composing::Message;
 use crate::out::Out;
 use crate::taking;
-use crate::taking::Taking;
 use odb_locks::SessionId;
 use odb_queue::Finished;
-use std::alloc::Global;
+use std::alloc::{AllocError, Global};
+use std::sync::Arc;
 
 /// What comes of a taking.
 #[derive(Drop)]
@@ -24,16 +24,24 @@ pub(crate) enum Coming {
     /// The text of the last item that is used up.
     Queued,
     /// A text that was composed.
-    Composed(Message),
+    Composed(Text),
 }
 
-impl Message {
+/// A composed text, whose three parts stand in order. Other texts may have its body too.
+#[derive(Drop)]
+pub(crate) struct Text {
+    pub(crate) before: Vec<u8>,
+    pub(crate) body: Option<Arc<Vec<u8>>>,
+    pub(crate) after: Vec<u8>,
+}
+
+impl Text {
     /// It, for a session.
     pub(crate) fn out(self, session: SessionId) -> Out
         ensures session { result.session ≡ session }
-        ensures text { text_of_out result ≡ text_in self }
+        ensures text { text_of_out result ≡ whole_text self.before.items (bytes_in self.body) self.after.items }
     {
-        let Message {
+        let Text {
             before,
             body,
             after,
@@ -41,7 +49,7 @@ impl Message {
         Out {
             session,
             before,
-            body: Some(body),
+            body,
             after,
         }
     }
@@ -57,50 +65,68 @@ pub(crate) struct Ready {
     pub(crate) coming: Coming,
 }
 
-impl Ready {
-    /// Of no session that is open nothing comes.
-    pub(crate) fn none(session: SessionId) -> Ready
-        ensures session { result.session ≡ session }
-        ensures coming { text_coming result.coming ≡ no_text }
+impl Message {
+    /// Its text, with one of these bodies: that of its job. O(1).
+    fn with_body(self, bodies: &[Option<Arc<Vec<u8>>>]) -> Result<Text, AllocError>
+        ensures { IfOk result (λ text. (js : List model_job.Job) → map bytes_in bodies.now ≡ map composition js
+            → composed_text text.before.items (bytes_in text.body) text.after.items
+            ≡ composed_text self.before.items (composition_at js self.job) self.after.items) }
     {
-        Ready {
-            session,
-            items: 0,
-            monitors: 0,
-            coming: Coming::Nothing,
-        }
-    }
-
-    /// The taking, for a session.
-    pub(crate) fn new(session: SessionId, taking: Taking) -> Ready
-        ensures session { result.session ≡ session }
-        ensures items { result.items ≡ taking.items }
-        ensures monitors { result.monitors ≡ taking.monitors }
-        ensures text { (is : List Item) → text_from (ready_of result).text (last_used taking.items is) ≡ taking_text taking is }
-    {
-        let Taking {
-            items,
-            monitors,
-            coming,
-        } = taking;
-        Ready {
-            session,
-            items,
-            monitors,
-            coming: all_that_comes(coming),
-        }
+        let Message { before, job, after } = self;
+        let body = body_at(bodies, job)?;
+        Ok(Text {
+            before,
+            body,
+            after,
+        })
     }
 }
 
-/// What comes, where that may be nothing.
-fn all_that_comes(coming: Option<taking::Coming>) -> Coming
-    ensures { (last : Option Item) → text_from (text_coming result) last ≡ coming_text coming last }
+/// The body at a place, for one message more; `None` where there is none.
+fn body_at(
+    bodies: &[Option<Arc<Vec<u8>>>],
+    place: usize,
+) -> Result<Option<Arc<Vec<u8>>>, AllocError>
+    ensures { IfOk result (λ body. bytes_in body ≡ option_and_then bytes_in (slice_get bodies.now place)) }
+{
+    match bodies.get(place) {
+        Some(body) => shared(body),
+        None => Ok(None),
+    }
+}
+
+/// The same body once more.
+fn shared(body: &Option<Arc<Vec<u8>>>) -> Result<Option<Arc<Vec<u8>>>, AllocError>
+    ensures { IfOk result (λ again. bytes_in again ≡ bytes_in body.now) }
+{
+    match body {
+        Some(body) => Ok(Some(body.clone()?)),
+        None => Ok(None),
+    }
+}
+
+/// What comes, with these bodies.
+pub(crate) fn with_bodies(
+    coming: Option<taking::Coming>,
+    bodies: &[Option<Arc<Vec<u8>>>],
+) -> Result<Coming, AllocError>
+    ensures { IfOk result (λ ready. (js : List model_job.Job) → map bytes_in bodies.now ≡ map composition js
+        → text_coming ready ≡ text_planned js coming) }
 {
     match coming {
-        None => Coming::Nothing,
-        Some(taking::Coming::Queued) => Coming::Queued,
-        Some(taking::Coming::Composed(message)) => Coming::Composed(message),
+        None => Ok(Coming::Nothing),
+        Some(taking::Coming::Queued) => Ok(Coming::Queued),
+        Some(taking::Coming::Composed(message)) => composed(message, bodies),
     }
+}
+
+/// The message comes, with these bodies.
+fn composed(message: Message, bodies: &[Option<Arc<Vec<u8>>>]) -> Result<Coming, AllocError>
+    ensures { IfOk result (λ ready. (js : List model_job.Job) → map bytes_in bodies.now ≡ map composition js
+        → text_coming ready ≡ composed_text message.before.items (composition_at js message.job) message.after.items) }
+{
+    let text = message.with_body(bodies)?;
+    Ok(Coming::Composed(text))
 }
 
 /// The message for a session that a finished text is.

@@ -1,21 +1,25 @@
 //! Rounds: each listed session is given its next message, if it has one. All are planned, and composed, before one is
 //! carried out, which takes no memory. [P 10.3]
-ghost use Rattle.std.specs.Prelude.{◌≡◌, map, option_to_list, option_map, IfOk, OnErr};
+ghost use Rattle.std.specs.Prelude.{◌≡◌, ◌≤◌, [], List, flat_map, map, length, option_map, vec_capacity, IfOk, OnErr};
 ghost use Rattle.odb_atoms.specs.FinMap as finite;
+ghost use Rattle.odb_monitor.specs.Job as model_job;
 ghost use Rattle.odb_schema.specs.Schema.{Schema};
 ghost use Rattle.odb_service.specs.Run.{take_each};
 ghost use Rattle.odb_service.specs.Server.{printed, served_by};
 ghost use Rattle.odb_service.specs.Session.{take};
 ghost use Rattle.odb_service.specs.World.{World};
 ghost use Rattle.odb_sessions.specs.Held.{all_seen, seen};
+ghost use Rattle.odb_sessions.specs.Jobs.{AreOfJobs, Keeps};
 ghost use Rattle.odb_sessions.specs.Planned.{AreOnce};
 ghost use Rattle.odb_sessions.specs.Posts.{at_number};
 ghost use Rattle.odb_sessions.specs.Represented.Out.{sent_in};
-ghost use Rattle.odb_sessions.specs.Represented.Ready.{AreReady, ready_of};
-ghost use Rattle.odb_sessions.specs.Taken.{IsReadyFor, text_taken};
+ghost use Rattle.odb_sessions.specs.Represented.Ready.{pending_of, ready_of};
+ghost use Rattle.odb_sessions.specs.Represented.Taking.{pending_by, ready_by};
+ghost use Rattle.odb_sessions.specs.Taken.{AreOf, AreReady, IsReadyFor, given_by, sessions_in, text_taken};
 ghost use Rattle.odb_sessions.specs.Tied.{AreAllLive};
 
 use crate::foreseen::Planner;
+use crate::jobs::{Jobs, Planned, Prepared};
 use crate::numbered::Numbered;
 use crate::out::Out;
 use crate::ready::{Coming, Ready, finished};
@@ -29,18 +33,19 @@ fn taking_at<'a>(
     sessions: &'a Numbered,
     session: SessionId,
     planner: &mut Planner<'a>,
-) -> Result<Ready, AllocError>
+) -> Result<Planned, AllocError>
     requires { AreAllLive planner.old.chains sessions.now }
-    ensures session { IfOk result (λ ready. ready.session ≡ session) }
-    ensures ready { IfOk result (λ ready. (s : Schema)
-        → IsReadyFor s planner.old.chains.db (option_map seen (finite.get sessions.now session)) (ready_of ready)) }
+    ensures session { IfOk result (λ planned. planned.session ≡ session) }
+    ensures ready { IfOk result (λ planned. (s : Schema) (all : List model_job.Job) → Keeps planner.new.jobs all
+        → IsReadyFor s planner.old.chains.db (option_map seen (finite.get sessions.now session)) (ready_by all planned.taking)) }
+    ensures jobs { Keeps planner.old.jobs planner.new.jobs }
     ensures chains { planner.new.chains ≡ planner.old.chains }
 {
     let Some(of) = sessions.get(session) else {
-        return Ok(Ready::none(session));
+        return Ok(Planned::none(session));
     };
     let taking = of.taking(planner)?;
-    Ok(Ready::new(session, taking))
+    Ok(Planned { session, taking })
 }
 
 /// What is taken for each of these sessions.
@@ -49,11 +54,11 @@ fn takings_at<'a>(
     sessions: &'a Numbered,
     listed: &[SessionId],
     planner: &mut Planner<'a>,
-) -> Result<Vec<Ready>, AllocError>
+) -> Result<Vec<Planned>, AllocError>
     requires { AreAllLive planner.old.chains sessions.now }
-    ensures sessions { IfOk result (λ ready. map (λ r. r.session) ready.items ≡ listed.now) }
-    ensures ready { IfOk result (λ ready. (s : Schema)
-        → AreReady s (record { db = planner.old.chains.db; sessions = all_seen sessions.now }) ready.items) }
+    ensures sessions { IfOk result (λ planned. map (λ p. p.session) planned.items ≡ listed.now) }
+    ensures ready { IfOk result (λ planned. (s : Schema) (all : List model_job.Job) → Keeps planner.new.jobs all
+        → AreReady s (record { db = planner.old.chains.db; sessions = all_seen sessions.now }) (map (pending_by all) planned.items)) }
 {
     let mut takings = Vec::with_capacity(alloc, listed.len())?;
     for session in listed {
@@ -63,13 +68,26 @@ fn takings_at<'a>(
 }
 
 impl Sessions {
-    /// What is taken for each of these sessions. What clients of several are owed alike is composed once.
-    fn takings(&self, listed: &[SessionId]) -> Result<Vec<Ready>, AllocError>
-        ensures sessions { IfOk result (λ ready. map (λ r. r.session) ready.items ≡ listed.now) }
-        ensures ready { IfOk result (λ ready. (s : Schema) → AreReady s self.now ready.items) }
+    /// A round of these sessions, as it is planned: nothing is composed, and nothing is taken. What clients of several
+    /// are owed alike is one job.
+    pub fn jobs(&self, listed: &[SessionId]) -> Result<Jobs<'_>, AllocError>
+        ensures sessions { IfOk result (λ jobs. sessions_in jobs.takings ≡ listed.now) }
+        ensures ready { IfOk result (λ jobs. AreOf self.now jobs.takings) }
+        ensures jobs { IfOk result (λ jobs. AreOfJobs jobs.jobs jobs.takings) }
     {
         let mut planner = Planner::new(self.alloc, self.past.chains());
-        takings_at(self.alloc, &self.sessions, listed, &mut planner)
+        let takings = takings_at(self.alloc, &self.sessions, listed, &mut planner)?;
+        Ok(Jobs::new(self.alloc, planner.into_jobs(), takings))
+    }
+
+    /// The same, composed.
+    fn prepared(&self, listed: &[SessionId]) -> Result<Prepared, AllocError>
+        ensures sessions { IfOk result (λ prepared. sessions_in prepared ≡ listed.now) }
+        ensures ready { IfOk result (λ prepared. AreOf self.now prepared) }
+    {
+        let jobs = self.jobs(listed)?;
+        let bodies = jobs.compose()?;
+        jobs.finish(bodies.as_slice())
     }
 
     /// Carries a taking out, and returns the message that comes, if one does. It can't be refused.
@@ -92,6 +110,40 @@ impl Sessions {
         }
     }
 
+    /// Carries takings out, in their order, and adds the messages that come to these, for which there is room. It can't be
+    /// refused.
+    fn take_all(&mut self, takings: Vec<Ready>, outs: Vec<Out>) -> Vec<Out>
+        requires once { AreOnce (sessions_in (map pending_of takings.items)) }
+        requires ready { AreOf self.old (map pending_of takings.items) }
+        requires none { outs.items ≡ [] }
+        requires room { length takings.items ≤ vec_capacity outs }
+        ensures round { (schema : Schema) (w : World) → w.db ≡ self.old.db → w.sessions ≡ self.old.sessions
+            → (let r = take_each (served_by schema) (sessions_in (map pending_of takings.items)) w in (r.0 ≡ record w { sessions = self.new.sessions }) × (map printed r.1 ≡ map sent_in result.items)) }
+        ensures database { self.new.db ≡ self.old.db }
+    {
+        let mut sent = outs;
+        for ready in takings {
+            if let Some(out) = self.take(ready) {
+                sent.push_reserved(out);
+            }
+        }
+        sent
+    }
+
+    /// Carries a round out that was planned for these sessions as they are, and of which everything is composed: it gives
+    /// each of its sessions that is open its next message, if it has one, in their order. It can't be refused.
+    pub fn accept(&mut self, prepared: Prepared) -> Vec<Out>
+        requires once { AreOnce (sessions_in prepared) }
+        requires ready { AreOf self.old prepared }
+        ensures round { (schema : Schema) (w : World) → w.db ≡ self.old.db → w.sessions ≡ self.old.sessions
+            → (let r = take_each (served_by schema) (sessions_in prepared) w in (r.0 ≡ record w { sessions = self.new.sessions }) × (map printed r.1 ≡ map sent_in result.items)) }
+        ensures texts { map sent_in result.items ≡ flat_map (given_by self.old) prepared }
+        ensures database { self.new.db ≡ self.old.db }
+    {
+        let Prepared { takings, outs } = prepared;
+        self.take_all(takings, outs)
+    }
+
     /// Gives each listed session that is open its next message, if it has one, in the order of the list. Where
     /// memory is refused nothing was taken.
     pub fn round(&mut self, listed: &[SessionId]) -> Result<Vec<Out>, AllocError>
@@ -101,13 +153,7 @@ impl Sessions {
         ensures database { self.new.db ≡ self.old.db }
         ensures err { OnErr result (self.new ≡ self.old) }
     {
-        let takings = self.takings(listed)?;
-        let mut outs = Vec::with_capacity(self.alloc, takings.len())?;
-        for ready in takings {
-            if let Some(out) = self.take(ready) {
-                outs.push_reserved(out);
-            }
-        }
-        Ok(outs)
+        let prepared = self.prepared(listed)?;
+        Ok(self.accept(prepared))
     }
 }

@@ -1,6 +1,7 @@
 //! Takings as they are planned: what they use up, and the text that comes. Nothing changes by them. [P 10.1]
 ghost use Rattle.std.specs.Prelude.{◌≡◌, true, false, IfOk, IfSome, List, OnOk, Option, Some, flat_map, is_some, map, option_map};
 ghost use Rattle.serde_json.specs.Written.{compact_text};
+ghost use Rattle.odb_monitor.specs.Job as model_job;
 ghost use Rattle.odb_schema.specs.Schema.{Schema};
 ghost use Rattle.odb_service.specs.Server.{served_by};
 ghost use Rattle.odb_service.specs.Service.{Service};
@@ -9,9 +10,10 @@ ghost use Rattle.odb_service.specs.Session.{first_out, leaves};
 ghost use Rattle.odb_sessions.specs.Foreseen.{due_text, finished_text};
 ghost use Rattle.odb_sessions.specs.Held.{item_seen, marks_due, marks_in, marks_of, seen, watch_of};
 ghost use Rattle.odb_sessions.specs.Planned.{due, first_due, plan, plan_from};
-ghost use Rattle.odb_sessions.specs.Represented.Composed.{text_in};
+ghost use Rattle.odb_sessions.specs.Jobs.{Keeps};
+ghost use Rattle.odb_sessions.specs.Represented.Composed.{text_under};
 ghost use Rattle.odb_sessions.specs.Represented.Queued.{queued_of};
-ghost use Rattle.odb_sessions.specs.Represented.Taking.{coming_text, taking_text};
+ghost use Rattle.odb_sessions.specs.Represented.Taking.{Comes, Gives, coming_text, taking_text};
 ghost use Rattle.odb_sessions.specs.Represented.Under.{item_in};
 ghost use Rattle.odb_sessions.specs.Tied.{AreLive};
 ghost use Rattle.odb_tables.specs.Database as model_db;
@@ -23,8 +25,8 @@ use crate::item::{Item, Start};
 use crate::queue::Queue;
 use crate::session::Session;
 use crate::under::Under;
-use odb_chain::Chains;
-use std::alloc::{AllocError, Global};
+use crate::wanted::Wanted;
+use std::alloc::AllocError;
 use std::collections::VecDeque;
 
 /// What comes of a taking.
@@ -32,7 +34,7 @@ use std::collections::VecDeque;
 pub(crate) enum Coming {
     /// The text of the last item that is used up. It is moved out of the queue when the taking is carried out.
     Queued,
-    /// A text that was composed.
+    /// A composition, with what stands around it.
     Composed(Message),
 }
 
@@ -48,7 +50,7 @@ pub(crate) struct Taking {
 /// A message comes, if there is one.
 fn composed(message: Option<Message>) -> Option<Coming>
     ensures comes { is_some result ≡ is_some message }
-    ensures text { (last : Option machine.Item) → coming_text result last ≡ option_map text_in message }
+    ensures text { (all : List model_job.Job) (last : Option machine.Item) → coming_text all result last ≡ option_map (text_under all) message }
 {
     match message {
         Some(message) => Some(Coming::Composed(message)),
@@ -57,14 +59,16 @@ fn composed(message: Option<Message>) -> Option<Coming>
 }
 
 impl Start {
-    /// The first reply. The costs are those of `Monitor::first_updates`.
-    fn first_reply(&self, alloc: Global, chains: &Chains) -> Result<Message, AllocError>
-        requires { AreLive chains.now (marks_in self.now.monitor) }
-        ensures { IfOk result (λ message. (h : Service)
-            → text_in message ≡ compact_text (first_out h chains.now.db self.now.origin (watch_of self.now.monitor)).message) }
+    /// The first reply. The costs are those of `Wanted::first_reply` and, for an id of n bytes, O(n).
+    fn first_reply<'a>(&'a self, wanted: &mut Wanted<'a>) -> Result<Message, AllocError>
+        requires { AreLive wanted.old.chains (marks_in self.now.monitor) }
+        ensures text { IfOk result (λ message. (h : Service) (all : List model_job.Job) → Keeps wanted.new.jobs all
+            → text_under all message ≡ compact_text (first_out h wanted.old.chains.db self.now.origin (watch_of self.now.monitor)).message) }
+        ensures jobs { Keeps wanted.old.jobs wanted.new.jobs }
+        ensures chains { wanted.new.chains ≡ wanted.old.chains }
     {
-        let body = self.monitor.first_updates(alloc, chains)?;
-        self.origin.reply(alloc, body)
+        let job = wanted.first_reply(&self.monitor)?;
+        self.origin.reply(wanted.alloc(), job)
     }
 }
 
@@ -86,13 +90,15 @@ impl Item {
 
 impl<'a> Planner<'a> {
     /// The first reply, which comes.
-    fn begin(&self, start: &Start) -> Result<Option<Coming>, AllocError>
-        requires { AreLive self.now.chains (marks_in start.now.monitor) }
+    fn begin(&mut self, start: &'a Start) -> Result<Option<Coming>, AllocError>
+        requires { AreLive self.old.chains (marks_in start.now.monitor) }
         ensures comes { IfOk result (λ coming. is_some coming ≡ true) }
-        ensures text { IfOk result (λ coming. (h : Service) (last : Option machine.Item) → coming_text coming last
-            ≡ Some (due_text h self.now.chains.db (first_due start.now.origin (watch_of start.now.monitor)))) }
+        ensures text { IfOk result (λ coming. (h : Service) (last : Option machine.Item) → Comes self.new.jobs coming last
+            (Some (due_text h self.old.chains.db (first_due start.now.origin (watch_of start.now.monitor))))) }
+        ensures jobs { Keeps self.old.jobs self.new.jobs }
+        ensures chains { self.new.chains ≡ self.old.chains }
     {
-        let message = start.first_reply(self.composer.alloc(), self.composer.chains())?;
+        let message = start.first_reply(&mut self.wanted)?;
         Ok(composed(Some(message)))
     }
 
@@ -100,10 +106,11 @@ impl<'a> Planner<'a> {
     fn bring(&mut self, id: &Id, under: Under<'a>) -> Result<Option<Coming>, AllocError>
         ensures comes { IfOk result (λ coming. (s : Schema) → is_some coming
             ≡ is_some (due (served_by s) self.old.chains.db (item_in id.now under.entry) self.old.monitors)) }
-        ensures text { IfOk result (λ coming. (s : Schema) (last : Option machine.Item) → coming_text coming last
-            ≡ option_map (due_text (served_by s) self.old.chains.db) (due (served_by s) self.old.chains.db (item_in id.now under.entry) self.old.monitors)) }
+        ensures text { IfOk result (λ coming. (s : Schema) (last : Option machine.Item) → Comes self.new.jobs coming last
+            (option_map (due_text (served_by s) self.old.chains.db) (due (served_by s) self.old.chains.db (item_in id.now under.entry) self.old.monitors))) }
         ensures passed { OnOk result ((s : Schema)
             → self.new.monitors ≡ leaves (served_by s) self.old.chains.db (item_in id.now under.entry) self.old.monitors) }
+        ensures jobs { Keeps self.old.jobs self.new.jobs }
         ensures chains { self.new.chains ≡ self.old.chains }
     {
         let message = self.pass(id, under)?;
@@ -116,10 +123,11 @@ impl<'a> Planner<'a> {
         requires { AreLive self.old.chains (marks_due (queued_of item.now)) }
         ensures comes { IfOk result (λ coming. (s : Schema) → is_some coming
             ≡ is_some (due (served_by s) self.old.chains.db (item_seen (queued_of item.now)) self.old.monitors)) }
-        ensures text { IfOk result (λ coming. (s : Schema) → coming_text coming (Some (item_seen (queued_of item.now)))
-            ≡ option_map (due_text (served_by s) self.old.chains.db) (due (served_by s) self.old.chains.db (item_seen (queued_of item.now)) self.old.monitors)) }
+        ensures text { IfOk result (λ coming. (s : Schema) → Comes self.new.jobs coming (Some (item_seen (queued_of item.now)))
+            (option_map (due_text (served_by s) self.old.chains.db) (due (served_by s) self.old.chains.db (item_seen (queued_of item.now)) self.old.monitors))) }
         ensures passed { IfOk result (λ coming. is_some coming ≡ false → (s : Schema)
             → self.new.monitors ≡ leaves (served_by s) self.old.chains.db (item_seen (queued_of item.now)) self.old.monitors) }
+        ensures jobs { Keeps self.old.jobs self.new.jobs }
         ensures chains { self.new.chains ≡ self.old.chains }
     {
         match item {
@@ -139,8 +147,8 @@ fn at_once(items: &VecDeque<Item>) -> Option<Taking>
         ≡ (plan_from (served_by s) db (map item_seen (map queued_of items.now.items)) ms).items) }
     ensures monitors { IfSome result (λ taking. (s : Schema) (db : model_db.Db) (ms : List machine.Monitor) → taking.monitors
         ≡ (plan_from (served_by s) db (map item_seen (map queued_of items.now.items)) ms).monitors) }
-    ensures text { IfSome result (λ taking. (s : Schema) (db : model_db.Db) (ms : List machine.Monitor)
-        → taking_text taking (map item_seen (map queued_of items.now.items))
+    ensures text { IfSome result (λ taking. (s : Schema) (db : model_db.Db) (ms : List machine.Monitor) (all : List model_job.Job)
+        → taking_text all taking (map item_seen (map queued_of items.now.items))
         ≡ option_map (due_text (served_by s) db) (plan_from (served_by s) db (map item_seen (map queued_of items.now.items)) ms).out) }
 {
     let first = items.front()?;
@@ -162,9 +170,10 @@ fn taking_of<'a>(items: &'a VecDeque<Item>, planner: &mut Planner<'a>) -> Result
         ≡ (plan_from (served_by s) planner.old.chains.db (map item_seen (map queued_of items.now.items)) planner.old.monitors).items) }
     ensures monitors { IfOk result (λ taking. (s : Schema) → taking.monitors
         ≡ (plan_from (served_by s) planner.old.chains.db (map item_seen (map queued_of items.now.items)) planner.old.monitors).monitors) }
-    ensures text { IfOk result (λ taking. (s : Schema) → taking_text taking (map item_seen (map queued_of items.now.items))
-        ≡ option_map (due_text (served_by s) planner.old.chains.db)
-        (plan_from (served_by s) planner.old.chains.db (map item_seen (map queued_of items.now.items)) planner.old.monitors).out) }
+    ensures text { IfOk result (λ taking. (s : Schema) → Gives planner.new.jobs taking (map item_seen (map queued_of items.now.items))
+        (option_map (due_text (served_by s) planner.old.chains.db)
+        (plan_from (served_by s) planner.old.chains.db (map item_seen (map queued_of items.now.items)) planner.old.monitors).out)) }
+    ensures jobs { Keeps planner.old.jobs planner.new.jobs }
     ensures chains { planner.new.chains ≡ planner.old.chains }
 {
     for place in 0..items.len() {
@@ -194,8 +203,9 @@ impl Session {
             → taking.items ≡ (plan (served_by s) planner.old.chains.db (seen self.now)).items) }
         ensures monitors { IfOk result (λ taking. (s : Schema)
             → taking.monitors ≡ (plan (served_by s) planner.old.chains.db (seen self.now)).monitors) }
-        ensures text { IfOk result (λ taking. (s : Schema) → taking_text taking (seen self.now).queue
-            ≡ option_map (due_text (served_by s) planner.old.chains.db) (plan (served_by s) planner.old.chains.db (seen self.now)).out) }
+        ensures text { IfOk result (λ taking. (s : Schema) → Gives planner.new.jobs taking (seen self.now).queue
+            (option_map (due_text (served_by s) planner.old.chains.db) (plan (served_by s) planner.old.chains.db (seen self.now)).out)) }
+        ensures jobs { Keeps planner.old.jobs planner.new.jobs }
         ensures chains { planner.new.chains ≡ planner.old.chains }
     {
         if let Some(taking) = self.queue.at_once() {
@@ -214,8 +224,8 @@ impl Queue {
             → taking.items ≡ (plan_from (served_by s) db (map item_seen self.now) ms).items) }
         ensures monitors { IfSome result (λ taking. (s : Schema) (db : model_db.Db) (ms : List machine.Monitor)
             → taking.monitors ≡ (plan_from (served_by s) db (map item_seen self.now) ms).monitors) }
-        ensures text { IfSome result (λ taking. (s : Schema) (db : model_db.Db) (ms : List machine.Monitor)
-            → taking_text taking (map item_seen self.now)
+        ensures text { IfSome result (λ taking. (s : Schema) (db : model_db.Db) (ms : List machine.Monitor) (all : List model_job.Job)
+            → taking_text all taking (map item_seen self.now)
             ≡ option_map (due_text (served_by s) db) (plan_from (served_by s) db (map item_seen self.now) ms).out) }
     {
         at_once(&self.items)
@@ -228,9 +238,10 @@ impl Queue {
             → taking.items ≡ (plan_from (served_by s) planner.old.chains.db (map item_seen self.now) planner.old.monitors).items) }
         ensures monitors { IfOk result (λ taking. (s : Schema)
             → taking.monitors ≡ (plan_from (served_by s) planner.old.chains.db (map item_seen self.now) planner.old.monitors).monitors) }
-        ensures text { IfOk result (λ taking. (s : Schema) → taking_text taking (map item_seen self.now)
-            ≡ option_map (due_text (served_by s) planner.old.chains.db)
-            (plan_from (served_by s) planner.old.chains.db (map item_seen self.now) planner.old.monitors).out) }
+        ensures text { IfOk result (λ taking. (s : Schema) → Gives planner.new.jobs taking (map item_seen self.now)
+            (option_map (due_text (served_by s) planner.old.chains.db)
+            (plan_from (served_by s) planner.old.chains.db (map item_seen self.now) planner.old.monitors).out)) }
+        ensures jobs { Keeps planner.old.jobs planner.new.jobs }
         ensures chains { planner.new.chains ≡ planner.old.chains }
     {
         taking_of(&self.items, planner)

@@ -1,5 +1,5 @@
 -- The codes of what contracts see of the code's types.
-use Rattle.std.specs.Prelude.{◌≡◌, ◌⊎◌, ℕ, List, Option, refl}
+use Rattle.std.specs.Prelude.{◌≡◌, ◌⊎◌, ℕ, List, Option, Some, None, refl}
 use mathlib.Core.Logic.{inl, inr}
 use Rattle.std.specs.Ordering.{nat_cmp}
 use Rattle.std.specs.Coded.{Coded, code_by, coded×, coded⊎, coded_ℕ, coded_list, coded_option}
@@ -7,6 +7,8 @@ use Rattle.odb_atoms.specs.FinMap as map
 use Rattle.odb_chain.specs.Chains.{Chains, Mark}
 use Rattle.odb_chain.specs.Represented.Codes.{chains_code, mark_code}
 use Rattle.odb_cond.specs.Filter.{Filter}
+use Rattle.odb_monitor.specs.Job.{Job}
+use Rattle.odb_monitor.specs.Represented.Part.{job_code}
 use Rattle.odb_request.specs.Request.{Notation, Request, Shape}
 use Rattle.odb_request.specs.Represented.Codes.{filter_code, notation_code, request_code, shape_code}
 use Rattle.odb_schema.specs.Json.{Data}
@@ -15,12 +17,13 @@ use Rattle.odb_service.specs.Session.{Item, Monitor, Session, Watch}
 use Rattle.odb_service.specs.WorldCode.{item_code, monitor_code, session_code, watch_code}
 use Rattle.odb_tables.specs.Database.{Db, db_code}
 use Rattle.odb_sessions.specs.Book.{Book}
-use Rattle.odb_sessions.specs.Composed.{Composition}
 use Rattle.odb_sessions.specs.Foreseen.{Ahead, Filters, Foreseen}
 use Rattle.odb_sessions.specs.Held.{Held, Kept, Queued, Sessions, Watched, due, plain}
+use Rattle.odb_sessions.specs.Jobs.{Decision, Round, Wanted}
 use Rattle.odb_sessions.specs.Named.{Named}
 use Rattle.odb_sessions.specs.Started.{Starting}
 use Rattle.odb_sessions.specs.Stopped.{Changing}
+use Rattle.odb_sessions.specs.Taken.{Pending, Ready, Text, composed_text, last_text, no_text}
 
 abbrev pub watched_code : Coded Watched
 watched_code = code_by (Request × (Filter × Mark)) (coded× request_code (coded× filter_code mark_code)) (λ w. (w.request, (w.told, w.mark))) (λ p. record { request = p.0; told = p.1.0; mark = p.1.1 }) (λ w. refl)
@@ -64,7 +67,9 @@ abbrev pub named_code : Coded Named
 named_code = code_by (Data × (Notation × List Shape)) (coded× data_code (coded× notation_code (coded_list shape_code))) (λ n. (n.id, (n.notation, n.shapes))) (λ p. record { id = p.0; notation = p.1.0; shapes = p.1.1 }) (λ n. refl)
 
 abbrev pub foreseen_code : Coded Foreseen
-foreseen_code = code_by (Chains × List Monitor) (coded× chains_code (coded_list monitor_code)) (λ f. (f.chains, f.monitors)) (λ p. record { chains = p.0; monitors = p.1 }) (λ f. refl)
+foreseen_code =
+    code_by (Chains × (List Job × List Monitor)) (coded× chains_code (coded× (coded_list job_code) (coded_list monitor_code)))
+    (λ f. (f.chains, (f.jobs, f.monitors))) (λ p. record { chains = p.0; jobs = p.1.0; monitors = p.1.1 }) (λ f. refl)
 
 abbrev pub filters_code : Coded Filters
 filters_code = coded_list (coded× (coded_list coded_ℕ) filter_code)
@@ -72,5 +77,42 @@ filters_code = coded_list (coded× (coded_list coded_ℕ) filter_code)
 abbrev pub ahead_code : Coded Ahead
 ahead_code = code_by (Held × Option Filters) (coded× held_code (coded_option filters_code)) (λ a. (a.held, a.told)) (λ p. record { held = p.0; told = p.1 }) (λ a. refl)
 
-abbrev pub composition_code : Coded Composition
-composition_code = code_by (Held × Option (List ℕ)) (coded× held_code (coded_option (coded_list coded_ℕ))) (λ c. (c.held, c.updates)) (λ p. record { held = p.0; updates = p.1 }) (λ c. refl)
+abbrev pub decision_code : Coded Decision
+decision_code = code_by (Held × Option ℕ) (coded× held_code (coded_option coded_ℕ)) (λ d. (d.held, d.place)) (λ p. record { held = p.0; place = p.1 }) (λ d. refl)
+
+abbrev pub wanted_code : Coded Wanted
+wanted_code = code_by (Chains × List Job) (coded× chains_code (coded_list job_code)) (λ w. (w.chains, w.jobs)) (λ p. record { chains = p.0; jobs = p.1 }) (λ w. refl)
+
+-- ---- takings
+
+abbrev Parts : Type 0
+Parts = List ℕ × (Option (List ℕ) × List ℕ)
+
+abbrev text_parts : Text → Option (Option Parts)
+text_parts no_text = None
+text_parts last_text = Some None
+text_parts (composed_text before body after) = Some (Some (before, (body, after)))
+
+abbrev text_of_parts : Option (Option Parts) → Text
+text_of_parts None = no_text
+text_of_parts (Some None) = last_text
+text_of_parts (Some (Some p)) = composed_text p.0 p.1.0 p.1.1
+
+pub text_of_parts-text_parts : (t : Text) → text_of_parts (text_parts t) ≡ t
+text_of_parts-text_parts no_text = refl
+text_of_parts-text_parts last_text = refl
+text_of_parts-text_parts (composed_text before body after) = refl
+
+abbrev pub text_code : Coded Text
+text_code =
+    code_by (Option (Option Parts)) (coded_option (coded_option (coded× (coded_list coded_ℕ) (coded× (coded_option (coded_list coded_ℕ)) (coded_list coded_ℕ)))))
+    text_parts text_of_parts text_of_parts-text_parts
+
+abbrev pub ready_code : Coded Ready
+ready_code = code_by (ℕ × (ℕ × Text)) (coded× coded_ℕ (coded× coded_ℕ text_code)) (λ r. (r.items, (r.monitors, r.text))) (λ p. record { items = p.0; monitors = p.1.0; text = p.1.1 }) (λ r. refl)
+
+abbrev pub pendings_code : Coded (List Pending)
+pendings_code = coded_list (coded× coded_ℕ ready_code)
+
+abbrev pub round_code : Coded Round
+round_code = code_by (List Job × List Pending) (coded× (coded_list job_code) pendings_code) (λ r. (r.jobs, r.takings)) (λ p. record { jobs = p.0; takings = p.1 }) (λ r. refl)

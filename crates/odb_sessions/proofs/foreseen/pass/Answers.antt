@@ -5,17 +5,18 @@ use Rattle.odb_sessions.specs.Foreseen.{Ahead, due_text}
 use Rattle.odb_sessions.specs.Held.{marks_in}
 use Rattle.odb_sessions.specs.Tied.{AreLive}
 use Rattle.odb_sessions.proofs.Aheads.{due_found, due_nowhere, leaves_found, leaves_nowhere, live_ahead, same_marks}
+use Rattle.odb_sessions.proofs.Places.{keeps_itself}
 use Rattle.odb_sessions.proofs.foreseen.pass.Goals as goal
 
 pub returns-in_default-clause-text : goal.returns-in_default-clause-text
-returns-in_default-clause-text c = λ s.
+returns-in_default-clause-text c = λ s all kept.
     let none : position (λ (a : Ahead). is_same c.args.id.now a.held.id) c.args.monitors.now.items ≡ None = search rules in
-    sym (ap (option_map (due_text (served_by s) c.args.composer.now.db)) (due_nowhere s c.args.composer.now.db c.args.id.now c.args.under c.args.monitors.now.items none))
+    sym (ap (option_map (due_text (served_by s) c.args.wanted.now.chains.db)) (due_nowhere s c.args.wanted.now.chains.db c.args.id.now c.args.under c.args.monitors.now.items none))
 
 pub returns-in_default-clause-passed : goal.returns-in_default-clause-passed
 returns-in_default-clause-passed c = λ s.
     let none : position (λ (a : Ahead). is_same c.args.id.now a.held.id) c.args.monitors.now.items ≡ None = search rules in
-    sym (leaves_nowhere s c.args.composer.now.db c.args.id.now c.args.under c.args.monitors.now.items none)
+    sym (leaves_nowhere s c.args.wanted.now.chains.db c.args.id.now c.args.under c.args.monitors.now.items none)
 
 pub update-requires : goal.update-requires
 update-requires c =
@@ -24,17 +25,17 @@ update-requires c =
     let x : Ahead = c.index.result.now in
     let low : k < length xs = search rules in
     let at : x ≡ slice_index_or xs k x = search rules in
-    subst (λ (y : Ahead). AreLive c.args.composer.now (marks_in y.held)) (sym at) (live_ahead c.args.composer.now xs k x low c.requires)
+    subst (λ (y : Ahead). AreLive c.args.wanted.now.chains (marks_in y.held)) (sym at) (live_ahead c.args.wanted.now.chains xs k x low c.requires)
 
 pub returns-clause-text : goal.returns-clause-text
-returns-clause-text c = λ s.
-    let db = c.args.composer.now.db in
+returns-clause-text c = λ s all kept.
+    let db = c.args.wanted.now.chains.db in
     let xs : List Ahead = c.args.monitors.now.items in
     let k = c.in-Some.place in
     let x : Ahead = c.index.result.now in
     let some : position (λ (a : Ahead). is_same c.args.id.now a.held.id) xs ≡ Some k = search rules in
     let at : x ≡ slice_index_or xs k x = search rules in
-    c.in_ok-message.ensures.text (served_by s) ∙ sym (ap (option_map (due_text (served_by s) db)) (due_found s db c.args.id.now c.args.under xs x k some at))
+    c.in_ok-message.ensures.text (served_by s) all kept ∙ sym (ap (option_map (due_text (served_by s) db)) (due_found s db c.args.id.now c.args.under xs x k some at))
 
 pub returns-clause-passed : goal.returns-clause-passed
 returns-clause-passed c = λ s.
@@ -43,7 +44,7 @@ returns-clause-passed c = λ s.
     let x : Ahead = c.index-2.result.now in
     let some : position (λ (a : Ahead). is_same c.args.id.now a.held.id) xs ≡ Some k = search rules in
     let at : x ≡ slice_index_or xs k x = search rules in
-    sym (leaves_found s c.args.composer.now.db c.args.id.now c.args.under xs x c.brought.result k some at c.brought.ensures)
+    sym (leaves_found s c.args.wanted.now.chains.db c.args.id.now c.args.under xs x c.brought.result k some at c.brought.ensures)
 
 pub returns-clause-live : goal.returns-clause-live
 returns-clause-live c =
@@ -52,4 +53,10 @@ returns-clause-live c =
     let x : Ahead = c.index-2.result.now in
     let low : k < length xs = search rules in
     let at : x ≡ slice_index_or xs k x = search rules in
-    subst (AreLive c.args.composer.now) (sym (same_marks xs k x c.brought.result low (ap (λ (a : Ahead). a.held) c.brought.ensures ∙ ap (λ (a : Ahead). a.held) at))) c.requires
+    subst (AreLive c.args.wanted.now.chains) (sym (same_marks xs k x c.brought.result low (ap (λ (a : Ahead). a.held) c.brought.ensures ∙ ap (λ (a : Ahead). a.held) at))) c.requires
+
+pub returns-in_default-clause-jobs : goal.returns-in_default-clause-jobs
+returns-in_default-clause-jobs c = keeps_itself c.args.wanted.now.jobs
+
+pub returns-clause-jobs : goal.returns-clause-jobs
+returns-clause-jobs c = c.update.ensures.jobs

@@ -1,28 +1,28 @@
 use Rattle.std.proofs.Common.{rules, ◌≡◌, ◌+◌, ◌<◌, ◌≤◌, arith, true, false, List, [], ◌∷◌, drop, is_some, length, option_map, slice_index_or, refl, subst, sym, ap, ◌∙◌}
 use Rattle.std.proofs.lemmas.List.{drop_more}
 use Rattle.odb_chain.specs.Chains.{Chains}
-use Rattle.odb_request.specs.Request.{Request}
-use Rattle.odb_service.specs.Session.{refilter}
-use Rattle.odb_sessions.specs.Foreseen.{Ahead, due_text, seen_ahead, update_text}
-use Rattle.odb_sessions.specs.Held.{marks_in, watch_of}
+use Rattle.odb_monitor.specs.Job.{Job}
+use Rattle.odb_sessions.specs.Foreseen.{Ahead, due_text}
+use Rattle.odb_sessions.specs.Held.{marks_in}
 use Rattle.odb_sessions.specs.Planned.{Plan}
-use Rattle.odb_sessions.specs.Represented.Composed.{text_in}
+use Rattle.odb_sessions.specs.Represented.Composed.{text_under}
 use Rattle.odb_sessions.specs.Tied.{AreLive}
 use Rattle.odb_sessions.proofs.Aheads.{live_ahead}
-use Rattle.odb_sessions.proofs.Rests.{found_monitors, found_out, is_mapped, none_yet, rest_done, rest_none, rest_of}
-use Rattle.odb_sessions.proofs.Updates.{refilter_none}
+use Rattle.odb_sessions.proofs.Places.{keeps_itself, keeps_on}
+use Rattle.odb_sessions.proofs.Rests.{found_monitors, found_out, is_mapped, none_yet, rest_done, rest_none, rest_of, text_at, text_to}
 use Rattle.odb_sessions.proofs.foreseen.rest_due.Goals as goal
 
 pub loop-place-init : goal.loop-place-init
 loop-place-init c = record {
   chains = refl;
+  jobs = keeps_itself c.args.wanted.now.jobs;
   within = omega arith;
-  rest = λ h. none_yet (rest_of h c.args.composer.now.db c.args.monitors.now);
+  rest = λ h. none_yet (rest_of h c.args.wanted.now.chains.db c.args.monitors.now);
 }
 
 pub update-requires : goal.update-requires
 update-requires c =
-    let k : Chains = c.args.composer.now in
+    let k : Chains = c.args.wanted.now.chains in
     let xs : List Ahead = c.args.monitors.now in
     let i = c.loop-place.place in
     let x : Ahead = c.index-monitors-place.result in
@@ -33,65 +33,77 @@ update-requires c =
 
 pub loop-place-preserved : goal.loop-place-preserved
 loop-place-preserved c =
-    let db = c.args.composer.now.db in
+    let db = c.args.wanted.now.chains.db in
     let xs : List Ahead = c.args.monitors.now in
     let i = c.loop-place.place in
     let x : Ahead = c.index-monitors-place.result in
     let low : i < length xs = search rules in
     let at : x ≡ slice_index_or xs i x = search rules in
     let step : drop i xs ≡ x ∷ drop (i + 1) xs = drop_more xs i x low ∙ ap (λ (y : Ahead). y ∷ drop (i + 1) xs) (sym at) in
-    let text = option_map text_in c.in_ok-message.message in
+    let js : List Job = c.update.new.wanted.jobs in
+    let text = option_map (text_under js) c.in_ok-message.message in
     let none : is_some c.in_ok-message.message ≡ false = search rules in
     record {
       chains = c.update.ensures.chains ∙ c.loop-place.invariant.chains;
+      jobs = keeps_on c.args.wanted.now.jobs c.loop-place.wanted.jobs js c.loop-place.invariant.jobs c.update.ensures.jobs;
       within = omega (arith, low);
       rest = λ h. c.loop-place.invariant.rest h
-          ∙ rest_none h db xs i x step text (c.in_ok-message.ensures.text h ∙ ap (λ (k : Chains). update_text h k.db (refilter [] (watch_of x.held).requests) (seen_ahead k.db x)) c.loop-place.invariant.chains ∙ ap (λ (qs : List Request). update_text h db qs (seen_ahead db x)) (refilter_none (watch_of x.held).requests)) (is_mapped text_in c.in_ok-message.message ∙ none);
+          ∙ rest_none h db xs i x step text (c.in_ok-message.ensures.text h js (keeps_itself js) ∙ text_at h c.loop-place.wanted.chains c.args.wanted.now.chains x c.loop-place.invariant.chains) (is_mapped (text_under js) c.in_ok-message.message ∙ none);
     }
 
 pub returns-then-is_some-clause-monitors : goal.returns-then-is_some-clause-monitors
 returns-then-is_some-clause-monitors c = λ h.
-    let db = c.args.composer.now.db in
+    let db = c.args.wanted.now.chains.db in
     let xs : List Ahead = c.args.monitors.now in
     let i = c.loop-place.place in
     let x : Ahead = c.index-monitors-place.result in
     let low : i < length xs = search rules in
     let at : x ≡ slice_index_or xs i x = search rules in
     let step : drop i xs ≡ x ∷ drop (i + 1) xs = drop_more xs i x low ∙ ap (λ (y : Ahead). y ∷ drop (i + 1) xs) (sym at) in
-    let text = option_map text_in c.in_ok-message.message in
+    let js : List Job = c.update.new.wanted.jobs in
+    let text = option_map (text_under js) c.in_ok-message.message in
     let some : is_some c.in_ok-message.message ≡ true = search rules in
     sym (ap (λ (p : Plan). p.monitors) (c.loop-place.invariant.rest h)
-    ∙ found_monitors h db xs i x step text (c.in_ok-message.ensures.text h ∙ ap (λ (k : Chains). update_text h k.db (refilter [] (watch_of x.held).requests) (seen_ahead k.db x)) c.loop-place.invariant.chains ∙ ap (λ (qs : List Request). update_text h db qs (seen_ahead db x)) (refilter_none (watch_of x.held).requests)) (is_mapped text_in c.in_ok-message.message ∙ some))
+    ∙ found_monitors h db xs i x step text (c.in_ok-message.ensures.text h js (keeps_itself js) ∙ text_at h c.loop-place.wanted.chains c.args.wanted.now.chains x c.loop-place.invariant.chains) (is_mapped (text_under js) c.in_ok-message.message ∙ some))
 
 pub returns-then-is_some-clause-text : goal.returns-then-is_some-clause-text
-returns-then-is_some-clause-text c = λ h.
-    let db = c.args.composer.now.db in
+returns-then-is_some-clause-text c = λ h all kept.
+    let db = c.args.wanted.now.chains.db in
     let xs : List Ahead = c.args.monitors.now in
     let i = c.loop-place.place in
     let x : Ahead = c.index-monitors-place.result in
     let low : i < length xs = search rules in
     let at : x ≡ slice_index_or xs i x = search rules in
     let step : drop i xs ≡ x ∷ drop (i + 1) xs = drop_more xs i x low ∙ ap (λ (y : Ahead). y ∷ drop (i + 1) xs) (sym at) in
-    let text = option_map text_in c.in_ok-message.message in
+    let text = option_map (text_under all) c.in_ok-message.message in
     let some : is_some c.in_ok-message.message ≡ true = search rules in
     sym (ap (λ (p : Plan). option_map (due_text h db) p.out) (c.loop-place.invariant.rest h)
-    ∙ found_out h db xs i x step text (c.in_ok-message.ensures.text h ∙ ap (λ (k : Chains). update_text h k.db (refilter [] (watch_of x.held).requests) (seen_ahead k.db x)) c.loop-place.invariant.chains ∙ ap (λ (qs : List Request). update_text h db qs (seen_ahead db x)) (refilter_none (watch_of x.held).requests)) (is_mapped text_in c.in_ok-message.message ∙ some))
+    ∙ found_out h db xs i x step text (c.in_ok-message.ensures.text h all kept ∙ text_at h c.loop-place.wanted.chains c.args.wanted.now.chains x c.loop-place.invariant.chains) (is_mapped (text_under all) c.in_ok-message.message ∙ some))
+
+pub returns-then-is_some-clause-jobs : goal.returns-then-is_some-clause-jobs
+returns-then-is_some-clause-jobs c = keeps_on c.args.wanted.now.jobs c.loop-place.wanted.jobs c.update.new.wanted.jobs c.loop-place.invariant.jobs c.update.ensures.jobs
+
+pub returns-then-is_some-clause-chains : goal.returns-then-is_some-clause-chains
+returns-then-is_some-clause-chains c = c.update.ensures.chains ∙ c.loop-place.invariant.chains
+
+pub returns-in_err-message-clause-jobs : goal.returns-in_err-message-clause-jobs
+returns-in_err-message-clause-jobs c = keeps_on c.args.wanted.now.jobs c.loop-place.wanted.jobs c.update.new.wanted.jobs c.loop-place.invariant.jobs c.update.ensures.jobs
 
 pub returns-clause-monitors : goal.returns-clause-monitors
 returns-clause-monitors c = λ h.
     let xs : List Ahead = c.args.monitors.now in
     let past : length xs ≤ c.loop-place.place = search rules in
-    sym (ap (λ (p : Plan). p.monitors) (c.loop-place.invariant.rest h ∙ rest_done h c.args.composer.now.db xs c.loop-place.place _ past c.loop-place.invariant.within (search rules)))
+    sym (ap (λ (p : Plan). p.monitors) (c.loop-place.invariant.rest h ∙ rest_done h c.args.wanted.now.chains.db xs c.loop-place.place _ past c.loop-place.invariant.within (search rules)))
 
 pub returns-clause-text : goal.returns-clause-text
-returns-clause-text c = λ h.
+returns-clause-text c = λ h all kept.
     let xs : List Ahead = c.args.monitors.now in
     let past : length xs ≤ c.loop-place.place = search rules in
     let within : c.loop-place.place ≤ length xs = c.loop-place.invariant.within in
-    sym (ap (λ (p : Plan). option_map (due_text h c.args.composer.now.db) p.out) (c.loop-place.invariant.rest h ∙ rest_done h c.args.composer.now.db xs c.loop-place.place c.loop-place.place past within (omega (arith, past, within))))
+    sym (ap (λ (p : Plan). option_map (due_text h c.args.wanted.now.chains.db) p.out) (c.loop-place.invariant.rest h ∙ rest_done h c.args.wanted.now.chains.db xs c.loop-place.place c.loop-place.place past within (omega (arith, past, within))))
 
-pub returns-then-is_some-clause-chains : goal.returns-then-is_some-clause-chains
-returns-then-is_some-clause-chains c = c.update.ensures.chains ∙ c.loop-place.invariant.chains
+pub returns-clause-jobs : goal.returns-clause-jobs
+returns-clause-jobs c = c.loop-place.invariant.jobs
 
 pub returns-clause-chains : goal.returns-clause-chains
 returns-clause-chains c = c.loop-place.invariant.chains

@@ -1,11 +1,13 @@
 use Rattle.std.proofs.Common.{◌≡◌, ◌≤◌, drop, length}
 use Rattle.odb_service.specs.Service.{Service}
+use Rattle.odb_sessions.specs.Jobs.{Keeps}
 use Rattle.odb_sessions.proofs.Rests.{after_none, rest_of}
 use Rattle.odb_sessions.proofs.foreseen.rest_due.Given as goal
 
 abbrev pub invariant-loop-place : goal.invariant-loop-place
 invariant-loop-place l = record {
-  chains : l.composer ≡ l.initial.composer;
+  chains : l.wanted.chains ≡ l.initial.wanted.chains;
+  jobs : Keeps l.initial.wanted.jobs l.wanted.jobs;
   within : l.place ≤ length l.monitors;
-  rest : (h : Service) → rest_of h l.initial.composer.db l.monitors ≡ after_none l.place (rest_of h l.initial.composer.db (drop l.place l.monitors));
+  rest : (h : Service) → rest_of h l.initial.wanted.chains.db l.monitors ≡ after_none l.place (rest_of h l.initial.wanted.chains.db (drop l.place l.monitors));
 }

@@ -23,7 +23,7 @@ returns-clause-monitors c = λ s db ms.
     first_monitors s db ms xs x low at e
 
 pub returns-clause-text : goal.returns-clause-text
-returns-clause-text c = λ s db ms.
+returns-clause-text c = λ s db ms all.
     let xs : List Item = c.args.items.now.items in
     let x : Item = c.in_ok-first.first.now in
     let low : 0 < length xs = search rules in

@@ -11,6 +11,7 @@ use Rattle.odb_sessions.specs.Represented.Taking.{coming_text}
 use Rattle.odb_sessions.specs.Tied.{AreLive}
 use Rattle.odb_sessions.specs.declared.item.Item.{Item}
 use Rattle.odb_sessions.proofs.Leading.{at_end, ended, goes_on, last_at, live_due, none_used, plan_at, seen_item}
+use Rattle.odb_sessions.proofs.Places.{keeps_itself, keeps_on}
 use Rattle.odb_sessions.proofs.taking.taking_of.Goals as goal
 use Rattle.odb_tables.specs.Database.{Db}
 
@@ -18,6 +19,7 @@ pub loop-place-init : goal.loop-place-init
 loop-place-init c = record {
   within = omega arith;
   chains = refl;
+  jobs = keeps_itself c.args.planner.now.jobs;
   rest = λ s. none_used (plan_at s c.args.planner.now.chains.db c.args.items.now.items c.args.planner.now.monitors);
 }
 
@@ -47,6 +49,7 @@ loop-place-preserved c =
     record {
       within = omega (arith, low);
       chains = c.give.ensures.chains ∙ c.loop-place.invariant.chains;
+      jobs = keeps_on c.args.planner.now.jobs c.loop-place.planner.jobs c.give.new.self.jobs c.loop-place.invariant.jobs c.give.ensures.jobs;
       rest = λ s. c.loop-place.invariant.rest s
           ∙ goes_on s db xs i x step ms c.give.new.self.monitors
           (ap (λ (d : Db). is_some (due (served_by s) d (seen_item x) ms)) (sym same) ∙ sym (c.in_ok-coming.ensures.comes s) ∙ none)
@@ -84,7 +87,7 @@ returns-then-is_some-clause-monitors c = λ s.
     ∙ ended s db xs i x step ms (ap (λ (d : Db). is_some (due (served_by s) d (seen_item x) ms)) (sym same) ∙ sym (c.in_ok-coming.ensures.comes s) ∙ some)))
 
 pub returns-then-is_some-clause-text : goal.returns-then-is_some-clause-text
-returns-then-is_some-clause-text c = λ s.
+returns-then-is_some-clause-text c = λ s all kept.
     let db : Db = c.args.planner.now.chains.db in
     let ms : List Monitor = c.loop-place.planner.monitors in
     let xs : List Item = c.args.items.now.items in
@@ -95,8 +98,8 @@ returns-then-is_some-clause-text c = λ s.
     let step : drop i xs ≡ x ∷ drop (i + 1) xs = drop_more xs i x low ∙ ap (λ (y : Item). y ∷ drop (i + 1) xs) (sym at) in
     let same : c.loop-place.planner.chains.db ≡ db = ap (λ (k : Chains). k.db) c.loop-place.invariant.chains in
     let some : is_some c.in_ok-coming.coming ≡ true = search rules in
-    ap (coming_text c.in_ok-coming.coming) (last_at xs i x low at)
-    ∙ c.in_ok-coming.ensures.text s
+    ap (coming_text all c.in_ok-coming.coming) (last_at xs i x low at)
+    ∙ c.in_ok-coming.ensures.text s all kept
     ∙ ap (λ (d : Db). option_map (due_text (served_by s) d) (due (served_by s) d (seen_item x) ms)) same
     ∙ sym (ap (λ (p : Plan). option_map (due_text (served_by s) db) p.out) (c.loop-place.invariant.rest s
     ∙ ended s db xs i x step ms (ap (λ (d : Db). is_some (due (served_by s) d (seen_item x) ms)) (sym same) ∙ sym (c.in_ok-coming.ensures.comes s) ∙ some)))
@@ -122,7 +125,7 @@ returns-clause-monitors c = λ s.
     ∙ sym (ap (λ (p : Plan). p.monitors) (c.loop-place.invariant.rest s ∙ at_end s db xs i i ms past within (omega (arith, past, within))))
 
 pub returns-clause-text : goal.returns-clause-text
-returns-clause-text c = λ s.
+returns-clause-text c = λ s all kept.
     let db : Db = c.args.planner.now.chains.db in
     let ms : List Monitor = c.loop-place.planner.monitors in
     let xs : List Item = c.args.items.now.items in
@@ -130,7 +133,19 @@ returns-clause-text c = λ s.
     let past : length xs ≤ i = search rules in
     let within : i ≤ length xs = c.loop-place.invariant.within in
     let same : c.loop-place.planner.chains.db ≡ db = ap (λ (k : Chains). k.db) c.loop-place.invariant.chains in
-    c.composed.ensures.text _
-    ∙ c.in_ok-rest.ensures.text (served_by s)
+    c.composed.ensures.text all _
+    ∙ c.in_ok-rest.ensures.text (served_by s) all kept
     ∙ ap (λ (d : Db). option_map (due_text (served_by s) d) (plan_rest (served_by s) d ms).out) same
     ∙ sym (ap (λ (p : Plan). option_map (due_text (served_by s) db) p.out) (c.loop-place.invariant.rest s ∙ at_end s db xs i i ms past within (omega (arith, past, within))))
+
+pub returns-then-is_some-clause-jobs : goal.returns-then-is_some-clause-jobs
+returns-then-is_some-clause-jobs c = keeps_on c.args.planner.now.jobs c.loop-place.planner.jobs c.give.new.self.jobs c.loop-place.invariant.jobs c.give.ensures.jobs
+
+pub returns-in_err-coming-clause-jobs : goal.returns-in_err-coming-clause-jobs
+returns-in_err-coming-clause-jobs c = keeps_on c.args.planner.now.jobs c.loop-place.planner.jobs c.give.new.self.jobs c.loop-place.invariant.jobs c.give.ensures.jobs
+
+pub returns-in_err-rest-clause-jobs : goal.returns-in_err-rest-clause-jobs
+returns-in_err-rest-clause-jobs c = keeps_on c.args.planner.now.jobs c.loop-place.planner.jobs c.rest.new.self.jobs c.loop-place.invariant.jobs c.rest.ensures.jobs
+
+pub returns-clause-jobs : goal.returns-clause-jobs
+returns-clause-jobs c = keeps_on c.args.planner.now.jobs c.loop-place.planner.jobs c.rest.new.self.jobs c.loop-place.invariant.jobs c.rest.ensures.jobs

@@ -1,5 +1,6 @@
 use Rattle.std.proofs.Common.{◌≡◌, ◌≤◌, drop, length}
 use Rattle.odb_schema.specs.Schema.{Schema}
+use Rattle.odb_sessions.specs.Jobs.{Keeps}
 use Rattle.odb_sessions.proofs.Leading.{after_items, plan_at}
 use Rattle.odb_sessions.proofs.taking.taking_of.Given as goal
 
@@ -7,6 +8,7 @@ abbrev pub invariant-loop-place : goal.invariant-loop-place
 invariant-loop-place l = record {
   within : l.place ≤ length l.items.items;
   chains : l.planner.chains ≡ l.initial.planner.chains;
+  jobs : Keeps l.initial.planner.jobs l.planner.jobs;
   rest : (s : Schema) → plan_at s l.initial.planner.chains.db l.items.items l.initial.planner.monitors
       ≡ after_items l.place (plan_at s l.initial.planner.chains.db (drop l.place l.items.items) l.planner.monitors);
 }

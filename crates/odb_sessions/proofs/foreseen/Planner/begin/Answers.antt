@@ -1,12 +1,29 @@
-use Rattle.std.proofs.Common.{Some, ap, ◌∙◌}
+use Rattle.std.proofs.Common.{◌≡◌, List, Some, subst, sym, ap, ◌∙◌}
 use Rattle.odb_chain.specs.Chains.{Chains}
-use Rattle.odb_sessions.specs.Foreseen.{Foreseen, due_text}
-use Rattle.odb_sessions.specs.Held.{watch_of}
+use Rattle.odb_monitor.specs.Job.{Job}
+use Rattle.odb_sessions.specs.Foreseen.{Foreseen, due_text, marks_ahead}
+use Rattle.odb_sessions.specs.Held.{marks_in, watch_of}
+use Rattle.odb_sessions.specs.Jobs.{Keeps}
 use Rattle.odb_sessions.specs.Planned.{first_due}
+use Rattle.odb_sessions.specs.Tied.{AreLive}
 use Rattle.odb_sessions.proofs.foreseen.Planner.begin.Goals as goal
 
+pub first_reply-requires : goal.first_reply-requires
+first_reply-requires c = subst (λ (f : Foreseen). AreLive f.chains (marks_in c.args.start.now.monitor)) (sym c.self.view_is) c.requires
+
+pub invariant_of-self : goal.invariant_of-self
+invariant_of-self c = subst (λ (k : Chains). AreLive k (marks_ahead c.self.inside.monitors.items)) (sym c.first_reply.ensures.chains) c.self.invariant
+
+pub invariant_of-self-2 : goal.invariant_of-self-2
+invariant_of-self-2 c = subst (λ (k : Chains). AreLive k (marks_ahead c.self.inside.monitors.items)) (sym c.first_reply.ensures.chains) c.self.invariant
+
 pub returns-clause-text : goal.returns-clause-text
-returns-clause-text c = λ h last.
-    c.composed.ensures.text last ∙ ap Some (c.in_ok-message.ensures h)
-    ∙ ap (λ (k : Chains). Some (due_text h k.db (first_due c.args.start.now.origin (watch_of c.args.start.now.monitor)))) c.chains.ensures
+returns-clause-text c = λ h last all kept.
+    c.composed.ensures.text all last ∙ ap Some (c.in_ok-message.ensures.text h all kept)
     ∙ ap (λ (f : Foreseen). Some (due_text h f.chains.db (first_due c.args.start.now.origin (watch_of c.args.start.now.monitor)))) c.self.view_is
+
+pub returns-clause-jobs : goal.returns-clause-jobs
+returns-clause-jobs c = subst (λ (js : List Job). Keeps js c.first_reply.new.wanted.jobs) (ap (λ (f : Foreseen). f.jobs) c.self.view_is) c.first_reply.ensures.jobs
+
+pub returns-in_err-message-clause-jobs : goal.returns-in_err-message-clause-jobs
+returns-in_err-message-clause-jobs c = subst (λ (js : List Job). Keeps js c.first_reply.new.wanted.jobs) (ap (λ (f : Foreseen). f.jobs) c.self.view_is) c.first_reply.ensures.jobs

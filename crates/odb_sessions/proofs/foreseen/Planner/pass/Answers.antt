@@ -1,23 +1,29 @@
-use Rattle.std.proofs.Common.{◌≡◌, IfOk, OnOk, map, option_map, subst, sym}
+use Rattle.std.proofs.Common.{◌≡◌, IfOk, List, OnOk, map, option_map, subst, sym, ap}
 use Rattle.odb_chain.specs.Chains.{Chains}
+use Rattle.odb_monitor.specs.Job.{Job}
 use Rattle.odb_schema.specs.Schema.{Schema}
 use Rattle.odb_service.specs.Server.{served_by}
 use Rattle.odb_service.specs.Session.{leaves}
-use Rattle.odb_sessions.specs.Foreseen.{Foreseen, due_text, seen_ahead}
+use Rattle.odb_sessions.specs.Foreseen.{Foreseen, due_text, marks_ahead, seen_ahead}
+use Rattle.odb_sessions.specs.Jobs.{Keeps}
 use Rattle.odb_sessions.specs.Planned.{due}
-use Rattle.odb_sessions.specs.Represented.Composed.{text_in}
+use Rattle.odb_sessions.specs.Represented.Composed.{Tells}
 use Rattle.odb_sessions.specs.Represented.Under.{item_in}
+use Rattle.odb_sessions.specs.Tied.{AreLive}
 use Rattle.odb_sessions.proofs.foreseen.Planner.pass.Goals as goal
+
+pub invariant_of-self : goal.invariant_of-self
+invariant_of-self c = subst (λ (k : Chains). AreLive k (marks_ahead c.pass.new.monitors.items)) (sym c.pass.ensures.chains) c.pass.ensures.live
 
 pub returns-clause-text : goal.returns-clause-text
 returns-clause-text c =
-    subst (λ (f : Foreseen). IfOk c.pass.result (λ message. (s : Schema) → option_map text_in message
-    ≡ option_map (due_text (served_by s) f.chains.db) (due (served_by s) f.chains.db (item_in c.args.id.now c.args.under) f.monitors)))
+    subst (λ (f : Foreseen). IfOk c.pass.result (λ message. (s : Schema) → Tells c.pass.new.wanted.jobs message
+    (option_map (due_text (served_by s) f.chains.db) (due (served_by s) f.chains.db (item_in c.args.id.now c.args.under) f.monitors))))
     c.self.view_is c.pass.ensures.text
 
 pub returns-clause-passed : goal.returns-clause-passed
 returns-clause-passed c =
-    let db = c.self.inside.composer.db in
+    let db = c.self.inside.wanted.chains.db in
     let now : Foreseen = c.args.self.now in
     let passed : OnOk c.pass.result ((s : Schema) → map (seen_ahead db) c.pass.new.monitors.items ≡ leaves (served_by s) now.chains.db (item_in c.args.id.now c.args.under) now.monitors) =
     subst (λ (f : Foreseen). OnOk c.pass.result ((s : Schema) → map (seen_ahead db) c.pass.new.monitors.items
@@ -26,3 +32,6 @@ returns-clause-passed c =
     in
     subst (λ (k : Chains). OnOk c.pass.result ((s : Schema) → map (seen_ahead k.db) c.pass.new.monitors.items ≡ leaves (served_by s) now.chains.db (item_in c.args.id.now c.args.under) now.monitors))
     (sym c.pass.ensures.chains) passed
+
+pub returns-clause-jobs : goal.returns-clause-jobs
+returns-clause-jobs c = subst (λ (js : List Job). Keeps js c.pass.new.wanted.jobs) (ap (λ (f : Foreseen). f.jobs) c.self.view_is) c.pass.ensures.jobs

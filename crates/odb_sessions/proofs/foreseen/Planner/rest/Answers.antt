@@ -1,12 +1,19 @@
-use Rattle.std.proofs.Common.{rules, ◌≡◌, List, map, option_map, ap, ◌∙◌}
+use Rattle.std.proofs.Common.{rules, ◌≡◌, List, map, option_map, subst, sym, ap, ◌∙◌}
 use Rattle.std.proofs.lemmas.Result.{IfOk-weaker}
-use Rattle.odb_sessions.specs.Foreseen.{Ahead, Foreseen, due_text, seen_ahead}
+use Rattle.odb_chain.specs.Chains.{Chains}
+use Rattle.odb_monitor.specs.Job.{Job}
+use Rattle.odb_sessions.specs.Foreseen.{Ahead, Foreseen, due_text, marks_ahead, seen_ahead}
+use Rattle.odb_sessions.specs.Jobs.{Keeps}
 use Rattle.odb_sessions.specs.Planned.{plan_rest}
+use Rattle.odb_sessions.specs.Tied.{AreLive}
 use Rattle.odb_sessions.proofs.foreseen.Planner.rest.Goals as goal
+
+pub invariant_of-self : goal.invariant_of-self
+invariant_of-self c = subst (λ (k : Chains). AreLive k (marks_ahead c.self.inside.monitors.items)) (sym c.rest_due.ensures.chains) c.self.invariant
 
 pub returns-clause-monitors : goal.returns-clause-monitors
 returns-clause-monitors c =
-    let db = c.self.inside.composer.db in
+    let db = c.self.inside.wanted.chains.db in
     let slice : c.as_slice.result.now ≡ c.self.inside.monitors.items = search rules in
     IfOk-weaker c.rest_due.result _ _
     (λ rest e. λ h. e h ∙ ap (λ (xs : List Ahead). (plan_rest h db (map (seen_ahead db) xs)).monitors) slice
@@ -15,9 +22,12 @@ returns-clause-monitors c =
 
 pub returns-clause-text : goal.returns-clause-text
 returns-clause-text c =
-    let db = c.self.inside.composer.db in
+    let db = c.self.inside.wanted.chains.db in
     let slice : c.as_slice.result.now ≡ c.self.inside.monitors.items = search rules in
     IfOk-weaker c.rest_due.result _ _
-    (λ rest e. λ h. e h ∙ ap (λ (xs : List Ahead). option_map (due_text h db) (plan_rest h db (map (seen_ahead db) xs)).out) slice
+    (λ rest e. λ h all kept. e h all kept ∙ ap (λ (xs : List Ahead). option_map (due_text h db) (plan_rest h db (map (seen_ahead db) xs)).out) slice
     ∙ ap (λ (f : Foreseen). option_map (due_text h f.chains.db) (plan_rest h f.chains.db f.monitors).out) c.self.view_is)
     c.rest_due.ensures.text
+
+pub returns-clause-jobs : goal.returns-clause-jobs
+returns-clause-jobs c = subst (λ (js : List Job). Keeps js c.rest_due.new.wanted.jobs) (ap (λ (f : Foreseen). f.jobs) c.self.view_is) c.rest_due.ensures.jobs

@@ -8,11 +8,11 @@ use Rattle.odb_sessions.proofs.foreseen.Planner.turn_to.Goals as goal
 
 pub invariant_of-self : goal.invariant_of-self
 invariant_of-self c =
-    let k : Chains = c.self.inside.composer in
+    let k : Chains = c.self.inside.wanted.chains in
     let live : AreLive k (flat_map marks_in c.args.monitors.now) = subst (λ (f : Foreseen). AreLive f.chains (flat_map marks_in c.args.monitors.now)) (sym c.self.view_is) c.requires in
     subst (AreLive k) (sym (ap marks_ahead c.in_ok-ahead.ensures ∙ marks_told c.args.monitors.now)) live
 
 pub returns-clause-monitors : goal.returns-clause-monitors
 returns-clause-monitors c =
-    let k : Chains = c.self.inside.composer in
+    let k : Chains = c.self.inside.wanted.chains in
     ap (λ (xs : List Ahead). map (seen_ahead k.db) xs) c.in_ok-ahead.ensures ∙ seen_told k.db c.args.monitors.now

@@ -1,43 +1,22 @@
-use Rattle.std.proofs.Common.{rules, ◌≡◌, List, map, subst, sym, ap, ◌∙◌}
+use Rattle.std.proofs.Common.{map, ◌∙◌}
 use Rattle.std.proofs.lemmas.Result.{IfOk-weaker}
-use Rattle.std.specs.List.{All}
-use Rattle.odb_chain.specs.Chains.{Chains}
-use Rattle.odb_request.specs.Represented.Kind.{notation_of}
+use Rattle.odb_monitor.specs.Job.{updates_of}
 use Rattle.odb_service.specs.Session.{refilter}
-use Rattle.odb_sessions.specs.Composed.{IsKnown, all_asked_as, asked_of, part_to}
-use Rattle.odb_sessions.specs.Held.{Held, Watched, marks_in}
+use Rattle.odb_sessions.specs.Composed.{all_asked_as, asked_of, later_job, part_to}
+use Rattle.odb_sessions.specs.Held.{Held}
 use Rattle.odb_sessions.specs.Represented.Under.{filters_in}
-use Rattle.odb_sessions.specs.Tied.{AreLive}
-use Rattle.odb_sessions.proofs.Theirs.{known_under}
-use Rattle.odb_sessions.proofs.Updates.{under_is}
+use Rattle.odb_sessions.proofs.Updates.{sent_under}
 use Rattle.odb_sessions.proofs.monitor.Monitor.update_under.Goals as goal
 
-pub parts_under-requires-clause-known : goal.parts_under-requires-clause-known
-parts_under-requires-clause-known c =
-    let k : Chains = c.args.chains.now in
-    let fs = filters_in c.args.under in
-    let ws : List Watched = c.self.inside.tables.items in
-    let first : c.as_slice.result.now ≡ ws = search rules in
-    let tables : c.as_slice-2.result.now ≡ ws = search rules in
-    let slice : c.as_slice-3.result.now ≡ c.in_ok-requests.requests.items = search rules in
-    let requests : c.as_slice-3.result.now ≡ refilter fs (asked_of ws) = slice ∙ c.in_ok-requests.ensures ∙ ap (λ (vs : List Watched). refilter fs (asked_of vs)) first in
-    let both : all_asked_as c.as_slice-2.result.now c.as_slice-3.result.now ≡ all_asked_as ws (refilter fs (asked_of ws)) = λ i. all_asked_as (tables i) (requests i) in
-    subst (λ (vs : List Watched). All (IsKnown k) vs) (sym both)
-    (known_under k fs ws (subst (λ (x : Held). AreLive k (marks_in x)) (sym c.self.view_is) c.requires) c.self.invariant.0)
-
-pub returns : goal.returns
-returns c =
+pub returns-clause-text : goal.returns-clause-text
+returns-clause-text c =
+    let db = c.args.wanted.now.chains.db in
     let x : Held = c.args.self.now in
-    let db = c.args.chains.now.db in
     let fs = filters_in c.args.under in
-    let same : c.self.inside.tables.items ≡ x.tables = ap (λ (y : Held). y.tables) c.self.view_is in
-    let one : c.as_slice.result.now ≡ c.self.inside.tables.items = search rules in
-    let two : c.as_slice-2.result.now ≡ c.self.inside.tables.items = search rules in
-    let slice : c.as_slice-3.result.now ≡ c.in_ok-requests.requests.items = search rules in
-    let requests : c.as_slice-3.result.now ≡ refilter fs (asked_of x.tables) = slice ∙ c.in_ok-requests.ensures ∙ ap (λ (vs : List Watched). refilter fs (asked_of vs)) (one ∙ same) in
-    let tables : c.as_slice-2.result.now ≡ x.tables = two ∙ same in
-    let id : c.deref.result.now ≡ x.id = search rules in
-    let notation : notation_of c.self.inside.kind ≡ x.notation = ap (λ (y : Held). y.notation) c.self.view_is in
-    let parts : c.in_ok-parts.parts.items ≡ map (part_to db) (all_asked_as x.tables (refilter fs (asked_of x.tables))) =
-    c.in_ok-parts.ensures ∙ (λ i. map (part_to db) (all_asked_as (tables i) (requests i))) in
-    IfOk-weaker c.compose_update.result _ _ (λ message e. λ h. e ∙ under_is h db fs x c.deref.result.now (notation_of c.self.inside.kind) c.in_ok-parts.parts.items id notation parts) c.compose_update.ensures
+    IfOk-weaker c.notification.result _ _
+    (λ message told. λ h all kept.
+    told all (updates_of (later_job x.notation (map (part_to db) (all_asked_as x.tables (refilter fs (asked_of x.tables)))))) (c.in_ok-place.ensures.place all kept) ∙ sent_under h db fs x)
+    c.notification.ensures
+
+pub returns-clause-jobs : goal.returns-clause-jobs
+returns-clause-jobs c = c.want.ensures.jobs

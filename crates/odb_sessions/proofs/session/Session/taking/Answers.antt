@@ -8,6 +8,7 @@ use Rattle.odb_sessions.specs.Held.{Held, Kept, item_seen, marks_due, marks_in, 
 use Rattle.odb_sessions.specs.Planned.{plan, plan_from}
 use Rattle.odb_sessions.specs.Represented.Taking.{taking_text}
 use Rattle.odb_sessions.specs.Tied.{AreLive}
+use Rattle.odb_sessions.proofs.Places.{keeps_itself, keeps_on, keeps_same}
 use Rattle.odb_sessions.proofs.Releases.{live-left, live-right}
 use Rattle.odb_sessions.proofs.session.Session.taking.Goals as goal
 
@@ -59,10 +60,20 @@ returns-clause-text c =
     let db = c.args.planner.now.chains.db in
     let queue = ap (λ (y : Kept). (seen y).queue) c.self.view_is in
     IfOk-weaker c.taking.result _ _
-    (λ taking e. λ s. sym (ap (taking_text taking) queue) ∙ e s
+    (λ taking e. λ s all kept. sym (ap (taking_text all taking) queue) ∙ e s all kept
     ∙ (λ i. let k : Chains = chains i in let ms : List Monitor = monitors i in option_map (due_text (served_by s) k.db) (plan_from (served_by s) k.db (map item_seen x.queue) ms).out)
     ∙ ap (λ (y : Kept). option_map (due_text (served_by s) db) (plan (served_by s) db (seen y)).out) c.self.view_is)
     c.taking.ensures.text
 
 pub returns-clause-chains : goal.returns-clause-chains
 returns-clause-chains c = c.taking.ensures.chains ∙ c.turn_to.ensures.chains
+
+pub returns-in-Some-clause-jobs : goal.returns-in-Some-clause-jobs
+returns-in-Some-clause-jobs c = keeps_itself c.args.planner.now.jobs
+
+pub returns-in_err-turn_to-clause-jobs : goal.returns-in_err-turn_to-clause-jobs
+returns-in_err-turn_to-clause-jobs c = keeps_same c.args.planner.now.jobs c.turn_to.new.self.jobs c.turn_to.ensures.jobs
+
+pub returns-clause-jobs : goal.returns-clause-jobs
+returns-clause-jobs c =
+    keeps_on c.args.planner.now.jobs c.turn_to.new.self.jobs c.taking.new.planner.jobs (keeps_same c.args.planner.now.jobs c.turn_to.new.self.jobs c.turn_to.ensures.jobs) c.taking.ensures.jobs

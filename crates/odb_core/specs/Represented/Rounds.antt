@@ -1,0 +1,19 @@
+-- Rounds as they are planned. [P 10.3, 13.1]
+use Rattle.std.specs.Prelude.{◌≡◌, ℕ, List}
+use Rattle.odb_service.specs.Run.{once}
+use Rattle.odb_service.specs.Server.{Server}
+use Rattle.odb_service.specs.World.{World}
+use Rattle.odb_sessions.specs.Book.{Book}
+use Rattle.odb_sessions.specs.Taken.{AreOf, Pending, sessions_in}
+
+-- the database and the sessions
+abbrev pub book_in : World → Book
+book_in w = record { db = w.db; sessions = w.sessions }
+
+-- the takings are those of the round of these sessions, each once, as the server is
+abbrev pub AreRoundOf : List ℕ → Server → List Pending → Type 0
+AreRoundOf ready v ps = (sessions_in ps ≡ once ready) × AreOf (book_in v.world) ps
+
+-- the same of some sessions
+abbrev pub AreRound : Server → List Pending → Type 0
+AreRound v ps = (ready : List ℕ) × AreRoundOf ready v ps

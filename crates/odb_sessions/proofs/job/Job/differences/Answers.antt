@@ -1,0 +1,52 @@
+use Rattle.std.proofs.Common.{rules, ◌≡◌, true, List, is_some, subst, sym, ap, ◌∙◌}
+use Rattle.std.proofs.lemmas.Result.{IfOk-weaker}
+use Rattle.odb_request.specs.Request.{Request}
+use Rattle.odb_sessions.specs.Held.{Held}
+use Rattle.odb_sessions.specs.Represented.Job.{asked_by, filters_by, job_in}
+use Rattle.odb_sessions.specs.Represented.Under.{filters_in}
+use Rattle.odb_sessions.specs.declared.way.Way.TheVariants as way
+use Rattle.odb_sessions.proofs.Ways.{again_is, changed_is, is_again, is_changed, refiltered, told_by}
+use Rattle.odb_sessions.proofs.job.Job.differences.Goals as goal
+
+pub returns-in-First : goal.returns-in-First
+returns-in-First c =
+    let is : c.self.inside.way ≡ way.First = search rules in
+    IfOk-weaker c.first_job.result _ _ (λ job e. e ∙ ap (job_in c.self.inside.chains.now.db c.self.inside.monitor.now) (sym is) ∙ c.self.view_is) c.first_job.ensures
+
+pub returns-in-Asked : goal.returns-in-Asked
+returns-in-Asked c =
+    let is : c.self.inside.way ≡ way.Asked = search rules in
+    IfOk-weaker c.asked_job.result _ _ (λ job e. e ∙ ap (job_in c.self.inside.chains.now.db c.self.inside.monitor.now) (sym is) ∙ c.self.view_is) c.asked_job.ensures
+
+pub changed_job-requires-clause-requests : goal.changed_job-requires-clause-requests
+changed_job-requires-clause-requests c =
+    let x : Held = c.self.inside.monitor.now in
+    let slice : c.as_slice-requests.result.now ≡ c.self.inside.requests.items = search rules in
+    let some : is_some (filters_by c.self.inside.way) ≡ true = search rules in
+    refiltered c.self.inside.way x.tables c.as_slice-requests.result.now some (slice ∙ c.self.invariant.1)
+
+pub returns-in-Changed : goal.returns-in-Changed
+returns-in-Changed c =
+    let x : Held = c.self.inside.monitor.now in
+    let slice : c.as_slice-requests.result.now ≡ c.self.inside.requests.items = search rules in
+    let changed : is_changed c.self.inside.way ≡ true = search rules in
+    IfOk-weaker c.changed_job.result _ _
+    (λ job e. e ∙ changed_is c.self.inside.chains.now.db x c.self.inside.way c.as_slice-requests.result.now changed (slice ∙ c.self.invariant.1) ∙ c.self.view_is)
+    c.changed_job.ensures
+
+pub again_job-requires-clause-requests : goal.again_job-requires-clause-requests
+again_job-requires-clause-requests c =
+    let x : Held = c.self.inside.monitor.now in
+    let slice : c.as_slice-requests.result.now ≡ c.self.inside.requests.items = search rules in
+    let some : is_some (filters_by c.self.inside.way) ≡ true = search rules in
+    refiltered c.self.inside.way x.tables c.as_slice-requests.result.now some (slice ∙ c.self.invariant.1)
+
+pub returns-in-Again : goal.returns-in-Again
+returns-in-Again c =
+    let x : Held = c.self.inside.monitor.now in
+    let slice : c.as_slice-requests.result.now ≡ c.self.inside.requests.items = search rules in
+    let again : is_again c.self.inside.way ≡ true = search rules in
+    let told : filters_in c.in-Again.told ≡ told_by c.self.inside.way = search rules in
+    IfOk-weaker c.again_job.result _ _
+    (λ job e. e ∙ again_is c.self.inside.chains.now.db x c.self.inside.way (filters_in c.in-Again.told) c.as_slice-requests.result.now again told (slice ∙ c.self.invariant.1) ∙ c.self.view_is)
+    c.again_job.ensures

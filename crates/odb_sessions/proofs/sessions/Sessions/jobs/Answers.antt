@@ -1,0 +1,32 @@
+use Rattle.std.proofs.Common.{rules, ◌≡◌, List, map, ap, subst, sym, ◌∙◌}
+use Rattle.odb_chain.specs.Chains.{Chains}
+use Rattle.odb_monitor.specs.Job.{Job}
+use Rattle.odb_sessions.specs.Book.{Book}
+use Rattle.odb_sessions.specs.Foreseen.{Foreseen}
+use Rattle.odb_sessions.specs.Held.{all_seen}
+use Rattle.odb_sessions.specs.Jobs.{AreOfJobs, Round}
+use Rattle.odb_sessions.specs.Represented.Taking.{pending_by}
+use Rattle.odb_sessions.specs.Taken.{AreReady, sessions_in}
+use Rattle.odb_sessions.specs.Tied.{AreAllLive}
+use Rattle.odb_sessions.proofs.Pendings.{of_jobs, sessions_by}
+use Rattle.odb_sessions.proofs.Places.{keeps_same}
+use Rattle.odb_sessions.proofs.sessions.Sessions.jobs.Goals as goal
+
+pub takings_at-requires : goal.takings_at-requires
+takings_at-requires c =
+    let planner : c.new-planner.result.chains ≡ c.self.inside.past = ap (λ (f : Foreseen). f.chains) c.new-planner.ensures ∙ c.chains.ensures in
+    subst (λ (k : Chains). AreAllLive k c.self.inside.sessions) (sym planner) c.self.invariant.2
+
+pub returns-clause-sessions : goal.returns-clause-sessions
+returns-clause-sessions c = ap (λ (r : Round). sessions_in r.takings) c.new.ensures ∙ sessions_by c.into_jobs.result.items c.in_ok-takings.takings.items ∙ c.in_ok-takings.ensures.sessions
+
+pub returns-clause-ready : goal.returns-clause-ready
+returns-clause-ready c = λ s.
+    let js : List Job = c.into_jobs.result.items in
+    let planner : c.new-planner.result.chains ≡ c.self.inside.past = ap (λ (f : Foreseen). f.chains) c.new-planner.ensures ∙ c.chains.ensures in
+    let same = (λ i. let k : Chains = planner i in let b : Book = record { db = k.db; sessions = all_seen c.self.inside.sessions } in b) ∙ c.self.view_is in
+    let ready = c.in_ok-takings.ensures.ready s js (keeps_same c.takings_at.new.planner.jobs js c.into_jobs.ensures) in
+    subst (λ (r : Round). AreReady s c.args.self.now r.takings) (sym c.new.ensures) (subst (λ (b : Book). AreReady s b (map (pending_by js) c.in_ok-takings.takings.items)) same ready)
+
+pub returns-clause-jobs : goal.returns-clause-jobs
+returns-clause-jobs c = subst (λ (r : Round). AreOfJobs r.jobs r.takings) (sym c.new.ensures) (of_jobs c.into_jobs.result.items c.in_ok-takings.takings.items)

@@ -1,0 +1,183 @@
+//! Jobs: what is to be composed for the client of a monitor. [P 9.2, 9.3, 9.5]
+ghost use Rattle.std.specs.Prelude.{◌≡◌, IfOk, is_some, map};
+ghost use Rattle.odb_monitor.specs.Job.{updates_of};
+ghost use Rattle.odb_sessions.specs.Composed as model;
+ghost use Rattle.odb_sessions.specs.Composed.{all_asked_as, asked_of, later_job, part_to};
+ghost use Rattle.odb_sessions.specs.Foreseen.{all_parts_again};
+ghost use Rattle.odb_sessions.specs.Held.{marks_in};
+ghost use Rattle.odb_sessions.specs.Jobs.{composition};
+ghost use Rattle.odb_sessions.specs.Represented.Composed.{bytes_in};
+ghost use Rattle.odb_sessions.specs.Represented.Job.{asked_by, filters_by, job_in, AreRefiltered};
+ghost use Rattle.odb_sessions.specs.Represented.Under.{filters_in};
+ghost use Rattle.odb_sessions.specs.Tied.{AreLive};
+
+use crate::again::parts_again;
+use crate::composing::{first_parts_of, parts_of};
+use crate::monitor::Monitor;
+use crate::planning::parts_under;
+use crate::under::{Under, requests_under};
+use crate::way::Way;
+use odb_chain::Chains;
+use odb_monitor::compose;
+use odb_request::Request;
+use std::alloc::{AllocError, Global};
+use std::marker::Model;
+use std::sync::Arc;
+
+/// What is to be composed for the client of a monitor. Contracts see the job of `odb_monitor` that it is.
+#[derive(Drop)]
+pub struct Job<'a> {
+    chains: &'a Chains,
+    monitor: &'a Monitor,
+    way: Way<'a>,
+    requests: Vec<Request>,
+}
+
+impl<'a> Model for Job<'a> {
+    ghost use Rattle.std.specs.Prelude.{◌≡◌};
+    ghost use Rattle.odb_monitor.specs.Job as model;
+    ghost use Rattle.odb_monitor.specs.Represented.Part.{job_code};
+    ghost use Rattle.odb_sessions.specs.Held.{marks_in};
+    ghost use Rattle.odb_sessions.specs.Represented.Job.{asked_by, filters_by, job_in};
+    ghost use Rattle.odb_sessions.specs.Tied.{AreLive};
+
+    ghost Value = { model.Job };
+
+    ghost coded = { job_code };
+
+    ghost view = { λ j. job_in j.chains.now.db j.monitor.now j.way };
+
+    ghost invariant = { λ j. AreLive j.chains.now (marks_in j.monitor.now) × (j.requests.items ≡ asked_by j.monitor.now.tables (filters_by j.way)) };
+}
+
+impl<'a> Job<'a> {
+    /// What is composed for the client of this monitor in this way. O(1), and under other filters what these are
+    /// looked up in.
+    pub(crate) fn new(
+        alloc: Global,
+        chains: &'a Chains,
+        monitor: &'a Monitor,
+        way: Way<'a>,
+    ) -> Result<Job<'a>, AllocError>
+        requires { AreLive chains.now (marks_in monitor.now) }
+        ensures { IfOk result (λ job. job ≡ job_in chains.now.db monitor.now way.entry) }
+    {
+        let requests = requests_of(alloc, monitor, way)?;
+        Ok(Job {
+            chains,
+            monitor,
+            way,
+            requests,
+        })
+    }
+
+    /// Whether something is sent. The costs are those of `odb_monitor::Job::has_updates` and, for each table, of
+    /// `odb_chain::Chains::since`.
+    pub fn has_updates(&self, alloc: Global) -> Result<bool, AllocError>
+        ensures { IfOk result (λ has. has ≡ is_some (updates_of self.now)) }
+    {
+        let job = self.differences(alloc)?;
+        job.has_updates(alloc)
+    }
+
+    /// The text of the table updates, without the monitor's id; `None` where nothing is sent. The costs are those of
+    /// `odb_monitor::compose` and, for each table, of `odb_chain::Chains::since`.
+    pub fn compose(&self, alloc: Global) -> Result<Option<Arc<Vec<u8>>>, AllocError>
+        ensures { IfOk result (λ body. bytes_in body ≡ composition self.now) }
+    {
+        let job = self.differences(alloc)?;
+        let Some(text) = compose(alloc, &job)? else {
+            return Ok(None);
+        };
+        Ok(Some(Arc::new(alloc, text)?))
+    }
+
+    /// The job, with the tables as they are now and how they changed.
+    fn differences(&self, alloc: Global) -> Result<odb_monitor::Job<'_>, AllocError>
+        ensures { IfOk result (λ job. job ≡ self.now) }
+    {
+        let chains = self.chains;
+        let monitor = self.monitor;
+        let requests = self.requests.as_slice();
+        match self.way {
+            Way::First => monitor.first_job(alloc, chains),
+            Way::Asked => monitor.asked_job(alloc, chains),
+            Way::Changed(_) => monitor.changed_job(alloc, chains, requests),
+            Way::Again(told, _) => monitor.again_job(alloc, chains, told, requests),
+        }
+    }
+}
+
+/// What is asked of the monitor's tables under other filters; nothing where it is told under its own.
+fn requests_of(alloc: Global, monitor: &Monitor, way: Way<'_>) -> Result<Vec<Request>, AllocError>
+    ensures { IfOk result (λ requests. requests.items ≡ asked_by monitor.now.tables (filters_by way.entry)) }
+{
+    let Some(under) = way.under() else {
+        return Ok(Vec::new(alloc));
+    };
+    requests_under(alloc, monitor.tables.as_slice(), under)
+}
+
+impl Monitor {
+    /// The job of its first reply.
+    fn first_job<'a>(
+        &'a self,
+        alloc: Global,
+        chains: &'a Chains,
+    ) -> Result<odb_monitor::Job<'a>, AllocError>
+        requires { AreLive chains.now (marks_in self.now) }
+        ensures { IfOk result (λ job. job ≡ model.first_job chains.now.db self.now.notation (asked_of self.now.tables)) }
+    {
+        let tables = self.owed(alloc)?;
+        let parts = first_parts_of(alloc, chains, tables.as_slice())?;
+        Ok(odb_monitor::Job::new(self.kind, true, parts))
+    }
+
+    /// The job of what its client lacks.
+    fn asked_job<'a>(
+        &'a self,
+        alloc: Global,
+        chains: &'a Chains,
+    ) -> Result<odb_monitor::Job<'a>, AllocError>
+        requires { AreLive chains.now (marks_in self.now) }
+        ensures { IfOk result (λ job. job ≡ later_job self.now.notation (map (part_to chains.now.db) self.now.tables)) }
+    {
+        let tables = self.owed(alloc)?;
+        let parts = parts_of(alloc, chains, tables.as_slice())?;
+        Ok(odb_monitor::Job::new(self.kind, false, parts))
+    }
+
+    /// The job of what its client lacks, as if these were its requests.
+    fn changed_job<'a>(
+        &'a self,
+        alloc: Global,
+        chains: &'a Chains,
+        requests: &'a [Request],
+    ) -> Result<odb_monitor::Job<'a>, AllocError>
+        requires live { AreLive chains.now (marks_in self.now) }
+        requires requests { AreRefiltered self.now.tables requests.now }
+        ensures { IfOk result (λ job. job
+            ≡ later_job self.now.notation (map (part_to chains.now.db) (all_asked_as self.now.tables requests.now))) }
+    {
+        let parts = parts_under(alloc, chains, self.tables.as_slice(), requests)?;
+        Ok(odb_monitor::Job::new(self.kind, false, parts))
+    }
+
+    /// The job of what its client lacks, as if these were its requests, where it was told of its tables as they are
+    /// now under these filters.
+    fn again_job<'a>(
+        &'a self,
+        alloc: Global,
+        chains: &'a Chains,
+        told: Under<'a>,
+        requests: &'a [Request],
+    ) -> Result<odb_monitor::Job<'a>, AllocError>
+        requires live { AreLive chains.now (marks_in self.now) }
+        requires requests { AreRefiltered self.now.tables requests.now }
+        ensures { IfOk result (λ job. job
+            ≡ later_job self.now.notation (all_parts_again chains.now.db (filters_in told.entry) self.now.tables requests.now)) }
+    {
+        let parts = parts_again(alloc, chains, self.tables.as_slice(), told, requests)?;
+        Ok(odb_monitor::Job::new(self.kind, false, parts))
+    }
+}

@@ -1,0 +1,171 @@
+//! A round as it is planned: what is to be composed, and then what is to be carried out. [P 10.3]
+ghost use Rattle.std.specs.Prelude.{◌≡◌, IfOk, List, map};
+ghost use Rattle.odb_monitor.specs.Job as model_job;
+ghost use Rattle.odb_sessions.specs.Jobs.{composition};
+ghost use Rattle.odb_sessions.specs.Represented.Composed.{bytes_in};
+ghost use Rattle.odb_sessions.specs.Represented.Ready.{pending_of};
+ghost use Rattle.odb_sessions.specs.Represented.Taking.{pending_by, text_planned};
+ghost use Rattle.odb_sessions.specs.Taken.{no_text};
+
+use crate::job::Job;
+use crate::out::Out;
+use crate::ready::{Ready, with_bodies};
+use crate::taking::Taking;
+use odb_locks::SessionId;
+use std::alloc::{AllocError, Global};
+use std::marker::Model;
+use std::sync::Arc;
+
+/// A taking as it is planned for a session.
+#[derive(Drop)]
+pub(crate) struct Planned {
+    pub(crate) session: SessionId,
+    pub(crate) taking: Taking,
+}
+
+impl Planned {
+    /// Of no session that is open nothing comes.
+    pub(crate) fn none(session: SessionId) -> Planned
+        ensures session { result.session ≡ session }
+        ensures coming { (js : List model_job.Job) → text_planned js result.taking.coming ≡ no_text }
+    {
+        Planned {
+            session,
+            taking: Taking {
+                items: 0,
+                monitors: 0,
+                coming: None,
+            },
+        }
+    }
+
+    /// It, with these bodies.
+    fn ready(self, bodies: &[Option<Arc<Vec<u8>>>]) -> Result<Ready, AllocError>
+        ensures { IfOk result (λ ready. (js : List model_job.Job) → map bytes_in bodies.now ≡ map composition js
+            → pending_of ready ≡ pending_by js self) }
+    {
+        let Planned { session, taking } = self;
+        let Taking {
+            items,
+            monitors,
+            coming,
+        } = taking;
+        let coming = with_bodies(coming, bodies)?;
+        Ok(Ready {
+            session,
+            items,
+            monitors,
+            coming,
+        })
+    }
+}
+
+/// Each of these takings, with these bodies.
+fn all_ready(
+    alloc: Global,
+    planned: Vec<Planned>,
+    bodies: &[Option<Arc<Vec<u8>>>],
+) -> Result<Vec<Ready>, AllocError>
+    ensures { IfOk result (λ ready. (js : List model_job.Job) → map bytes_in bodies.now ≡ map composition js
+        → map pending_of ready.items ≡ map (pending_by js) planned.items) }
+{
+    let mut ready = Vec::with_capacity(alloc, planned.len())?;
+    for taking in planned {
+        let one = taking.ready(bodies)?;
+        ready.push_reserved(one);
+    }
+    Ok(ready)
+}
+
+/// A round as it is planned: the jobs that it needs, those that are alike once, and its takings. It lends the tables.
+#[derive(Drop)]
+pub struct Jobs<'a> {
+    alloc: Global,
+    jobs: Vec<Job<'a>>,
+    takings: Vec<Planned>,
+}
+
+impl<'a> Model for Jobs<'a> {
+    ghost use Rattle.std.specs.Prelude.{map};
+    ghost use Rattle.odb_sessions.specs.Jobs as model;
+    ghost use Rattle.odb_sessions.specs.Represented.Codes.{round_code};
+    ghost use Rattle.odb_sessions.specs.Represented.Taking.{pending_by};
+
+    ghost Value = { model.Round };
+
+    ghost coded = { round_code };
+
+    ghost view = { λ j. record { jobs = j.jobs.items; takings = map (pending_by j.jobs.items) j.takings.items } };
+}
+
+impl<'a> Jobs<'a> {
+    pub(crate) fn new(alloc: Global, jobs: Vec<Job<'a>>, takings: Vec<Planned>) -> Jobs<'a>
+        ensures { result ≡ record { jobs = jobs.entry.items; takings = map (pending_by jobs.entry.items) takings.items } }
+    {
+        Jobs {
+            alloc,
+            jobs,
+            takings,
+        }
+    }
+
+    /// The jobs, each of which is to be composed. O(1).
+    pub fn list(&self) -> &[Job<'a>]
+        ensures { result.now ≡ self.now.jobs }
+    {
+        self.jobs.as_slice()
+    }
+
+    /// What is composed of each of the jobs, in their order. The costs are those of `Job::compose` for each.
+    pub fn compose(&self) -> Result<Vec<Option<Arc<Vec<u8>>>>, AllocError>
+        ensures { IfOk result (λ bodies. map bytes_in bodies.items ≡ map composition self.now.jobs) }
+    {
+        compose_all(self.alloc, self.jobs.as_slice())
+    }
+
+    /// The round, with a body for each job, in their order: what is composed of it. Each message shares the body of
+    /// its job. O(n) for n sessions.
+    pub fn finish(self, bodies: &[Option<Arc<Vec<u8>>>]) -> Result<Prepared, AllocError>
+        requires { map bytes_in bodies.now ≡ map composition self.jobs }
+        ensures { IfOk result (λ prepared. prepared ≡ self.entry.takings) }
+    {
+        let Jobs { alloc, takings, .. } = self;
+        let outs = Vec::with_capacity(alloc, takings.len())?;
+        let takings = all_ready(alloc, takings, bodies)?;
+        Ok(Prepared { takings, outs })
+    }
+}
+
+/// What is composed of each of these jobs, in their order.
+fn compose_all(alloc: Global, jobs: &[Job<'_>]) -> Result<Vec<Option<Arc<Vec<u8>>>>, AllocError>
+    ensures { IfOk result (λ bodies. map bytes_in bodies.items ≡ map composition jobs.now) }
+{
+    let mut bodies = Vec::with_capacity(alloc, jobs.len())?;
+    for job in jobs {
+        let body = job.compose(alloc)?;
+        bodies.push_reserved(body);
+    }
+    Ok(bodies)
+}
+
+/// A round that is composed, and takes no memory any more.
+#[derive(Drop)]
+pub struct Prepared {
+    pub(crate) takings: Vec<Ready>,
+    pub(crate) outs: Vec<Out>,
+}
+
+impl Model for Prepared {
+    ghost use Rattle.std.specs.Prelude.{◌≡◌, ◌≤◌, List, [], length, map, vec_capacity};
+    ghost use Rattle.odb_sessions.specs.Represented.Codes.{pendings_code};
+    ghost use Rattle.odb_sessions.specs.Represented.Ready.{pending_of};
+    ghost use Rattle.odb_sessions.specs.Taken.{Pending};
+
+    ghost Value = { List Pending };
+
+    ghost coded = { pendings_code };
+
+    ghost view = { λ p. map pending_of p.takings.items };
+
+    ghost invariant = { λ p. (p.outs.items ≡ []) × (length p.takings.items ≤ vec_capacity p.outs) };
+}
