@@ -6,9 +6,9 @@ usage: bench/echoes.py [PROGRAM]
 PROGRAM is the built program, `crates/ovsdbd/out/ovsdbd` if none is named. Each figure is the difference of two runs:
 sessions and echoes, and the sessions alone. The echoes come from one session, and from all in turn.
 
-Last seen, 2026-11-24, on 4 cores, three runs, each beside other work: 4.0, 5.0 and 2.8 us with 1 session; with 4,000 of
-them 0.65, 1.03 and 1.15 of that where one sends, and 1.48, 1.85 and 2.14 where all do: a name is looked up by a walk over
-the names. When every session was drained after each line it was 8 and 964 us.
+Last seen, 2026-11-25, four runs, all other work stopped, which differ by half: 3 to 7 us with 1 session; with 4,000 of them
+0.5, 0.9, 1.1 and 2.8 of that where one sends, and 1.8, 2.1, 2.1 and 4.9 where all do: a name is looked up by a walk over the
+names. When every session was drained after each line it was 8 and 964 us.
 """
 import os
 import resource

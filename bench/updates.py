@@ -8,16 +8,11 @@ and calls, and the rows alone. A call is a transaction of one operation, whose `
 tables: C is root, with no reference and no index; Port isn't root, and each row is named by one of Bridge, which has an
 index.
 
-Last seen, 2026-11-23, beside other work on 4 cores. In brackets, by the clock, what it was when settlement went over all
-rows; so the two are no exact ratio.
-  rows      update C          select C          update Port       select Port
-  100       88,036 (6,273)    141,943 (3,016)   123,737 (463)     148,521 (1,521)
-  1,000     132,539 (278)     146,983 (955)     112,438 (283)     148,977 (156)
-  10,000    129,992 (31)      161,773 (22)      57,340 (5)        7,528 (14)
-  Those of Port at 10,000 rows are uncertain, since filling takes most of such a run. Those of Bridge, 92 to 97 a second at
-  10,000 rows, were seen before an index in whose columns nothing changed was passed over. After it, on the same machine while
-  it was busy: 46,677 at 100 rows, 50,871 at 1,000, and 199 at 10,000, where filling, which tests the index for each row, takes
-  most of the run; a new name each 13,615, 1,317 and 34.
+Last seen, 2026-11-25, on 4 cores of a slow machine, all other work stopped:
+  rows        update C      select C      update Bridge   rename Bridge   update Port   select Port
+  100         55,700        84,362        87,117          56,376          111,984       70,997
+  1,000       51,434        84,474        92,372          52,914          83,105        73,375
+  10,000      107,112       65,677        53,820          47,175          125,194       144,443
 """
 import json
 import os
