@@ -1,3 +1,4 @@
 -- What the types of the code stand for.
 pub mod Kinds
+pub mod Lack
 pub mod Mutation

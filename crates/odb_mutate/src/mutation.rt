@@ -14,6 +14,7 @@ ghost use Rattle.odb_mutate.specs.Represented.Mutation.{answered, mutator_of, op
 ghost use Rattle.odb_mutate.specs.MutationTyping.{takes};
 
 use crate::operator::Operator;
+use crate::pairs::Lack;
 use crate::{elements, kinds, pairs};
 use odb_atoms::{Atom, ColType, Entries, Value};
 use std::alloc::{AllocError, Global};
@@ -211,7 +212,7 @@ fn insert(alloc: Global, value: &Value, added: &Value) -> Result<Value, AllocErr
         }
         (Entries::Map(pairs), Entries::Map(others)) => {
             let mut union = Vec::new(alloc);
-            pairs::append_others(alloc, others, value, &mut union)?;
+            pairs::append_others(alloc, others, value, Lack::Key, &mut union)?;
             pairs::append(alloc, pairs, &mut union)?;
             Ok(pairs::map_of(union))
         }
@@ -233,12 +234,12 @@ fn delete(alloc: Global, value: &Value, deleted: &Value) -> Result<Value, AllocE
         }
         (Entries::Map(pairs), Entries::Set(_)) => {
             let mut left = Vec::new(alloc);
-            pairs::append_others(alloc, pairs, deleted, &mut left)?;
+            pairs::append_others(alloc, pairs, deleted, Lack::Key, &mut left)?;
             Ok(pairs::map_of(left))
         }
         (Entries::Map(pairs), Entries::Map(_)) => {
             let mut left = Vec::new(alloc);
-            pairs::append_unlike(alloc, pairs, deleted, &mut left)?;
+            pairs::append_others(alloc, pairs, deleted, Lack::Pair, &mut left)?;
             Ok(pairs::map_of(left))
         }
         _ => unreachable!(),

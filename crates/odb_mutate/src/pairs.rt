@@ -1,12 +1,12 @@
 //! Lists of pairs that become maps. [P 3.3]
 
-ghost use Rattle.std.specs.Prelude.{◌≡◌, ◌++◌, map, filter, not, None, IfOk, OnOk};
+ghost use Rattle.std.specs.Prelude.{◌≡◌, ◌++◌, map, filter, None, IfOk, OnOk};
 ghost use Rattle.odb_atoms.specs.FinMap as finite;
-ghost use Rattle.odb_atoms.specs.Members.{has, map_fault};
-ghost use Rattle.odb_atoms.specs.Represented.Atom.{atom_of};
+ghost use Rattle.odb_atoms.specs.Members.{map_fault};
 ghost use Rattle.odb_atoms.specs.Represented.Value.{pair_of};
 ghost use Rattle.odb_atoms.specs.Value as model;
 ghost use Rattle.odb_mutate.specs.Represented.Kinds.{has_at};
+ghost use Rattle.odb_mutate.specs.Represented.Lack.{lacks};
 
 use odb_atoms::{Atom, Value};
 use std::alloc::{AllocError, Global};
@@ -26,46 +26,45 @@ pub fn append(
     Ok(())
 }
 
-/// Adds copies of the pairs whose key the value doesn't have to the list. O(log n) comparisons for
-/// each of them, for a value of n elements or keys.
+/// What of a pair a value may lack.
+#[derive(Clone, Copy)]
+pub enum Lack {
+    /// Its key, whatever the value at it.
+    Key,
+    /// The pair.
+    Pair,
+}
+
+/// Adds copies of the pairs that the value lacks to the list. O(log n) comparisons for each of them, for a
+/// value of n elements or keys.
 pub fn append_others(
     alloc: Global,
     pairs: &[(Atom, Atom)],
     value: &Value,
+    lack: Lack,
     list: &mut Vec<(Atom, Atom)>,
 ) -> Result<(), AllocError>
     ensures { OnOk result
         (map pair_of list.new.items
         ≡ map pair_of list.old.items
-        ++ map pair_of (filter (λ p. not (has value.now (atom_of p.0))) pairs.now)) }
+        ++ map pair_of (filter (λ p. lacks lack value.now (pair_of p)) pairs.now)) }
 {
     for pair in pairs {
-        if !value.contains(&pair.0) {
+        if lacks(value, lack, pair) {
             list.push(copy_of(alloc, pair)?)?;
         }
     }
     Ok(())
 }
 
-/// Adds copies of the pairs that the map doesn't have to the list. O(log n) comparisons for each of
-/// them, for a map of n pairs.
-pub fn append_unlike(
-    alloc: Global,
-    pairs: &[(Atom, Atom)],
-    value: &Value,
-    list: &mut Vec<(Atom, Atom)>,
-) -> Result<(), AllocError>
-    ensures { OnOk result
-        (map pair_of list.new.items
-        ≡ map pair_of list.old.items
-        ++ map pair_of (filter (λ p. not (has_at value.now (pair_of p))) pairs.now)) }
+/// Whether the value lacks the pair, or its key.
+fn lacks(value: &Value, lack: Lack, pair: &(Atom, Atom)) -> bool
+    ensures { result ≡ lacks lack value.now (pair_of pair.now) }
 {
-    for pair in pairs {
-        if !has_pair(value, pair) {
-            list.push(copy_of(alloc, pair)?)?;
-        }
+    match lack {
+        Lack::Key => !value.contains(&pair.0),
+        Lack::Pair => !has_pair(value, pair),
     }
-    Ok(())
 }
 
 /// Whether the map has the pair.

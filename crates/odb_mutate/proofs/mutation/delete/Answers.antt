@@ -16,7 +16,7 @@ map_of-requires c =
 pub map_of-requires-in-Map-Map : goal.map_of-requires-in-Map-Map
 map_of-requires-in-Map-Map c =
     let here = c.in-Map-Map in
-    kept_pairs_fault here.pairs _ _ c.append_unlike.new.list.items here.ensures.listed c.requires.kinds (rw c.new-left-in-Map-Map.ensures.items at c.in_ok-append_unlike-in-Map-Map.ensures)
+    kept_pairs_fault here.pairs _ _ c.append_others-in-Map-Map.new.list.items here.ensures.listed c.requires.kinds (rw c.new-left-in-Map-Map.ensures.items at c.in_ok-append_others-in-Map-Map.ensures)
 
 pub returns-in_ok-append_others-in-Set-Set : goal.returns-in_ok-append_others-in-Set-Set
 returns-in_ok-append_others-in-Set-Set c =
@@ -30,8 +30,8 @@ returns-in_ok-append_others-in-Map-Set c =
     ap Ok c.map_of.ensures
     ∙ kept_keys_value here.pairs here.field-0-1 _ _ c.append_others-in-Map-Set.new.list.items here.ensures.listed here.ensures'.listed (rw c.new-left-in-Map-Set.ensures.items at c.in_ok-append_others-in-Map-Set.ensures)
 
-pub returns-in_ok-append_unlike-in-Map-Map : goal.returns-in_ok-append_unlike-in-Map-Map
-returns-in_ok-append_unlike-in-Map-Map c =
+pub returns-in_ok-append_others-in-Map-Map : goal.returns-in_ok-append_others-in-Map-Map
+returns-in_ok-append_others-in-Map-Map c =
     let here = c.in-Map-Map in
     ap Ok c.map_of-in-Map-Map.ensures
-    ∙ kept_pairs_value here.pairs here.field-0-1 _ _ c.append_unlike.new.list.items here.ensures.listed here.ensures'.listed (rw c.new-left-in-Map-Map.ensures.items at c.in_ok-append_unlike-in-Map-Map.ensures)
+    ∙ kept_pairs_value here.pairs here.field-0-1 _ _ c.append_others-in-Map-Map.new.list.items here.ensures.listed here.ensures'.listed (rw c.new-left-in-Map-Map.ensures.items at c.in_ok-append_others-in-Map-Map.ensures)
