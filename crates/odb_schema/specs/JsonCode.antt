@@ -188,7 +188,7 @@ mutual
       let s : Same Items ds es r q = items_are ds es r q p.1 in
       (λ i. item (p.0 i) (s.0 i), s.1)
 
-  members_are : (ms ns : Members) (r q : List Token) → members_tokens ms r ≡ members_tokens ns q → Same Members ms ns r q
+  pub members_are : (ms ns : Members) (r q : List Token) → members_tokens ms r ≡ members_tokens ns q → Same Members ms ns r q
   members_are no_members no_members r q h = (refl, ap tail h)
   members_are no_members (member l e ns) r q h = wrong 7 8 refl (ap tag h)
   members_are (member k d ms) no_members r q h = wrong 8 7 refl (ap tag h)
@@ -202,3 +202,6 @@ token_code = coded⊎ (coded× coded_ℕ (coded_list coded_ℕ)) (coded⊎ coded
 
 abbrev pub data_code : Coded Data
 data_code = coded_via (coded_list token_code) (λ d. tokens d []) (λ d e h. (tokens_are d e [] [] h).0)
+
+abbrev pub members_code : Coded Members
+members_code = coded_via (coded_list token_code) (λ ms. members_tokens ms []) (λ ms ns h. (members_are ms ns [] [] h).0)

@@ -7,4 +7,5 @@ pub mod Schema
 pub mod Fault
 pub mod Members
 pub mod Parts
+pub mod Reader
 pub mod Sound

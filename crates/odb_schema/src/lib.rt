@@ -17,3 +17,4 @@ pub use notation::{parse_uuid, tagged, text_in, write_uuid, write_value};
 pub use read::member;
 pub use schema::{Column, ColumnId, Schema, TableId, TableSchema};
 pub use text::{is_id, is_name};
+pub use write::Object;

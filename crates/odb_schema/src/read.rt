@@ -9,6 +9,7 @@ mod enumeration;
 mod index;
 mod leaf;
 mod parts;
+mod reader;
 mod reference;
 mod size;
 mod table;

@@ -6,3 +6,5 @@ mod column;
 mod database;
 mod leaf;
 mod table;
+
+pub use leaf::Object;

@@ -7,11 +7,12 @@ ghost use Rattle.odb_atoms.specs.Represented.ColType.{base_of};
 ghost use Rattle.odb_schema.specs.SchemaText as model;
 ghost use Rattle.odb_schema.specs.Represented.Fault.{Gives, Reads};
 ghost use Rattle.odb_schema.specs.Represented.Parts as parts;
-ghost use Rattle.odb_schema.specs.Represented.Parts.{names_in};
+ghost use Rattle.odb_schema.specs.Represented.Reader.{known_to};
 
 use super::enumeration::read_enum;
 use super::leaf::{member, needed, read_object, read_string};
 use super::parts::read_bounds;
+use super::reader::Reader;
 use super::reference::read_reference;
 use crate::fault::SchemaFault;
 use crate::text::read_kind;
@@ -42,54 +43,36 @@ fn read_allowed(
     }
 }
 
-/// An atomic type with its constraints.
-fn read_constraints(
-    alloc: Global,
-    tables: &Map<String, Value>,
-    members: &Map<String, Value>,
-) -> Result<Base, SchemaFault>
-    ensures { Reads base_of result
-        (parts.base_in (names_in (members_view tables.now.entries))
-        (members_view members.now.entries)) }
-{
-    let kind = read_base_kind(members)?;
-    let allowed = read_allowed(alloc, kind, members)?;
-    let (min_integer, max_integer) = read_bounds(
-        "minInteger",
-        "maxInteger",
-        kind == Kind::Integer,
-        members,
-    )?;
-    let (min_length, max_length) = read_bounds(
-        "minLength",
-        "maxLength",
-        kind == Kind::Text,
-        members,
-    )?;
-    let reference = read_reference(alloc, tables, kind, members)?;
-    Ok(Base {
-        kind,
-        allowed,
-        min_integer,
-        max_integer,
-        min_length,
-        max_length,
-        reference,
-    })
-}
+impl Reader<'_> {
+    /// An atomic type with its constraints.
+    fn read_constraints(&self, members: &Map<String, Value>) -> Result<Base, SchemaFault>
+        ensures { Reads base_of result
+            (parts.base_in (known_to self.entry.now) (members_view members.now.entries)) }
+    {
+        let kind = read_base_kind(members)?;
+        let allowed = read_allowed(self.alloc, kind, members)?;
+        let integers = read_bounds("minInteger", "maxInteger", kind == Kind::Integer, members)?;
+        let lengths = read_bounds("minLength", "maxLength", kind == Kind::Text, members)?;
+        let reference = read_reference(self.alloc, self.tables, kind, members)?;
+        Ok(Base {
+            kind,
+            allowed,
+            min_integer: integers.0,
+            max_integer: integers.1,
+            min_length: lengths.0,
+            max_length: lengths.1,
+            reference,
+        })
+    }
 
-/// A base type: the name of an atomic type, or an object. `tables` are the members that `refTable`
-/// may name.
-pub fn read_base(
-    alloc: Global,
-    tables: &Map<String, Value>,
-    value: &Value,
-) -> Result<Base, SchemaFault>
-    ensures { Reads base_of result
-        (model.read_base (names_in (members_view tables.now.entries)) (view value.now)) }
-{
-    match value.as_str() {
-        Some(name) => Ok(Base::plain(read_kind(name)?)),
-        None => read_constraints(alloc, tables, read_object(value)?),
+    /// A base type: the name of an atomic type, or an object.
+    pub fn read_base(&self, value: &Value) -> Result<Base, SchemaFault>
+        ensures { Reads base_of result
+            (model.read_base (known_to self.entry.now) (view value.now)) }
+    {
+        match value.as_str() {
+            Some(name) => Ok(Base::plain(read_kind(name)?)),
+            None => self.read_constraints(read_object(value)?),
+        }
     }
 }

@@ -10,8 +10,8 @@ ghost use Rattle.odb_schema.specs.Represented.Sound.{HasSound, IsSound};
 ghost use Rattle.odb_schema.specs.Json.{object};
 
 use super::leaf::{member, needed, read_object, read_string};
+use super::reader::Reader;
 use super::size::is_too_large;
-use super::table::read_tables;
 use crate::fault::SchemaFault;
 use crate::schema::{Schema, TableSchema};
 use crate::text::{is_name, is_version};
@@ -64,7 +64,8 @@ fn read_schema_tables(
     ensures ascending { IfOk result (λ v. TablesAscend v.items) }
 {
     let tables = read_object(needed("tables", members)?)?;
-    read_tables(alloc, tables)
+    let reader = Reader { alloc, tables };
+    reader.read_tables()
 }
 
 /// A schema, of the members of its object.

@@ -6,80 +6,62 @@ ghost use Rattle.odb_schema.specs.SchemaText as model;
 ghost use Rattle.odb_schema.specs.Represented.Fault.{Reads};
 ghost use Rattle.odb_schema.specs.Represented.Names.{ColumnsAscend, TablesAscend};
 ghost use Rattle.odb_schema.specs.Represented.Parts as parts;
-ghost use Rattle.odb_schema.specs.Represented.Parts.{names_in};
+ghost use Rattle.odb_schema.specs.Represented.Reader.{known_to};
 
-use super::column::read_columns;
 use super::index::read_indexes;
 use super::leaf::{needed, read_object};
 use super::parts::{read_flag, read_max_rows};
+use super::reader::Reader;
 use crate::fault::SchemaFault;
 use crate::schema::{Column, TableSchema};
 use crate::text::is_name;
 use serde_json::{Map, Value};
-use std::alloc::Global;
 
-/// `columns` of a table, by ascending name.
-fn read_table_columns(
-    alloc: Global,
-    tables: &Map<String, Value>,
-    members: &Map<String, Value>,
-) -> Result<Vec<Column>, SchemaFault>
-    ensures exact { Reads (λ v. v.items) result
-        (parts.columns_of (names_in (members_view tables.now.entries))
-        (members_view members.now.entries)) }
-    ensures ascending { IfOk result (λ v. ColumnsAscend v.items) }
-{
-    let columns = read_object(needed("columns", members)?)?;
-    read_columns(alloc, tables, columns)
-}
-
-/// The table with the name, of the members of its object.
-fn read_members(
-    alloc: Global,
-    tables: &Map<String, Value>,
-    name: &str,
-    members: &Map<String, Value>,
-) -> Result<TableSchema, SchemaFault>
-    ensures { Reads (λ table. table) result
-        (parts.table_in (names_in (members_view tables.now.entries)) name.now
-        (members_view members.now.entries)) }
-{
-    let columns = read_table_columns(alloc, tables, members)?;
-    let max_rows = read_max_rows(members)?;
-    let is_root = read_flag("isRoot", false, members)?;
-    let indexes = read_indexes(alloc, &columns, members)?;
-    let name = String::from_str(alloc, name)?;
-    Ok(TableSchema::new(name, columns, max_rows, is_root, indexes))
-}
-
-/// The table with the name. `tables` are the members that `refTable` may name.
-fn read_table(
-    alloc: Global,
-    tables: &Map<String, Value>,
-    name: &str,
-    value: &Value,
-) -> Result<TableSchema, SchemaFault>
-    ensures { Reads (λ table. table) result
-        (model.read_table (names_in (members_view tables.now.entries)) (name.now, view value.now)) }
-{
-    if !is_name(name) {
-        return Err(SchemaFault::BadId);
+impl Reader<'_> {
+    /// `columns` of a table, by ascending name.
+    fn read_table_columns(&self, members: &Map<String, Value>) -> Result<Vec<Column>, SchemaFault>
+        ensures exact { Reads (λ v. v.items) result
+            (parts.columns_of (known_to self.entry.now) (members_view members.now.entries)) }
+        ensures ascending { IfOk result (λ v. ColumnsAscend v.items) }
+    {
+        let columns = read_object(needed("columns", members)?)?;
+        self.read_columns(columns)
     }
-    read_members(alloc, tables, name, read_object(value)?)
-}
 
-/// The tables, by ascending name.
-pub fn read_tables(
-    alloc: Global,
-    tables: &Map<String, Value>,
-) -> Result<Vec<TableSchema>, SchemaFault>
-    ensures exact { Reads (λ v. v.items) result
-        (parts.tables_in (members_view tables.now.entries)) }
-    ensures ascending { IfOk result (λ v. TablesAscend v.items) }
-{
-    let mut read = Vec::with_capacity(alloc, tables.len())?;
-    for (name, value) in tables.iter() {
-        read.push(read_table(alloc, tables, name.as_str(), value)?)?;
+    /// The table with the name, of the members of its object.
+    fn table_of(&self, name: &str, members: &Map<String, Value>) -> Result<TableSchema, SchemaFault>
+        ensures { Reads (λ table. table) result
+            (parts.table_in (known_to self.entry.now) name.now (members_view members.now.entries)) }
+    {
+        let columns = self.read_table_columns(members)?;
+        let max_rows = read_max_rows(members)?;
+        let is_root = read_flag("isRoot", false, members)?;
+        let indexes = read_indexes(self.alloc, &columns, members)?;
+        let name = String::from_str(self.alloc, name)?;
+        Ok(TableSchema::new(name, columns, max_rows, is_root, indexes))
     }
-    Ok(read)
+
+    /// The table with the name.
+    fn read_table(&self, name: &str, value: &Value) -> Result<TableSchema, SchemaFault>
+        ensures { Reads (λ table. table) result
+            (model.read_table (known_to self.entry.now) (name.now, view value.now)) }
+    {
+        if !is_name(name) {
+            return Err(SchemaFault::BadId);
+        }
+        self.table_of(name, read_object(value)?)
+    }
+
+    /// The tables, by ascending name.
+    pub fn read_tables(&self) -> Result<Vec<TableSchema>, SchemaFault>
+        ensures exact { Reads (λ v. v.items) result
+            (parts.tables_in (members_view self.entry.now.tables.now.entries)) }
+        ensures ascending { IfOk result (λ v. TablesAscend v.items) }
+    {
+        let mut read = Vec::with_capacity(self.alloc, self.tables.len())?;
+        for (name, value) in self.tables.iter() {
+            read.push(self.read_table(name.as_str(), value)?)?;
+        }
+        Ok(read)
+    }
 }

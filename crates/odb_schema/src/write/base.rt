@@ -1,7 +1,7 @@
 //! Base types and types (RFC 7047, section 3.2, `<base-type>` and `<type>`). [P 1.6]
 
-ghost use Rattle.std.specs.Prelude.{◌≡◌, [], IfOk, OnOk, option_map, unwrap_or};
-ghost use Rattle.serde_json.specs.View.{members_view, view};
+ghost use Rattle.std.specs.Prelude.{◌≡◌, IfOk, OnOk, option_map};
+ghost use Rattle.serde_json.specs.View.{view};
 ghost use Rattle.odb_atoms.specs.ColType as model_type;
 ghost use Rattle.odb_atoms.specs.Represented.Atom.{kind_in};
 ghost use Rattle.odb_atoms.specs.Represented.ColType.{base_of, reference_of, type_of};
@@ -9,10 +9,10 @@ ghost use Rattle.odb_schema.specs.SchemaText as model;
 ghost use Rattle.odb_schema.specs.Represented.Members as written;
 ghost use Rattle.odb_schema.specs.Represented.Members.{onto};
 
-use super::leaf::{put, put_integer, put_number, put_text};
+use super::leaf::Object;
 use crate::notation::write_value;
 use odb_atoms::{Base, ColType, Enumeration, Kind, Reference};
-use serde_json::{Map, Value};
+use serde_json::Value;
 use std::alloc::{AllocError, Global};
 
 /// The name of an atomic type.
@@ -39,67 +39,73 @@ fn is_plain(base: &Base) -> bool
         && base.reference.is_none()
 }
 
-fn put_reference(
-    alloc: Global,
-    members: &mut Map<String, Value>,
-    reference: &Option<Reference>,
-) -> Result<(), AllocError>
-    ensures { OnOk result (members_view members.new.entries
-        ≡ onto (written.reference_members (option_map reference_of reference.now)) (members_view members.old.entries)) }
-{
-    match reference {
-        None => Ok(()),
-        Some(reference) => {
-            if reference.weak {
-                put_text(alloc, members, "refType", "weak")?;
+impl Object {
+    fn put_reference(&mut self, reference: &Option<Reference>) -> Result<(), AllocError>
+        ensures { OnOk result (self.new
+            ≡ onto (written.reference_members (option_map reference_of reference.now)) self.old) }
+    {
+        match reference {
+            None => Ok(()),
+            Some(reference) => {
+                if reference.weak {
+                    self.put_text("refType", "weak")?;
+                }
+                self.put_text("refTable", reference.table.as_str())
             }
-            put_text(alloc, members, "refTable", reference.table.as_str())
         }
     }
-}
 
-fn put_enum(
-    alloc: Global,
-    members: &mut Map<String, Value>,
-    allowed: &Option<Enumeration>,
-) -> Result<(), AllocError>
-    ensures { OnOk result (members_view members.new.entries
-        ≡ onto (written.enum_members allowed.now) (members_view members.old.entries)) }
-{
-    match allowed {
-        None => Ok(()),
-        Some(allowed) => {
-            let value = write_value(alloc, allowed.atoms())?;
-            put(alloc, members, "enum", value)
+    fn put_enum(&mut self, allowed: &Option<Enumeration>) -> Result<(), AllocError>
+        ensures { OnOk result (self.new ≡ onto (written.enum_members allowed.now) self.old) }
+    {
+        let alloc = self.alloc();
+        match allowed {
+            None => Ok(()),
+            Some(allowed) => self.put("enum", write_value(alloc, allowed.atoms())?),
         }
     }
-}
 
-/// Puts the bounds in.
-fn put_bounds(
-    alloc: Global,
-    members: &mut Map<String, Value>,
-    base: &Base,
-) -> Result<(), AllocError>
-    ensures { OnOk result (members_view members.new.entries
-        ≡ written.with_bounds (base_of base.now) (members_view members.old.entries)) }
-{
-    put_integer(alloc, members, "maxLength", base.max_length)?;
-    put_integer(alloc, members, "minLength", base.min_length)?;
-    put_integer(alloc, members, "maxInteger", base.max_integer)?;
-    put_integer(alloc, members, "minInteger", base.min_integer)
+    /// Puts the bounds in.
+    fn put_bounds(&mut self, base: &Base) -> Result<(), AllocError>
+        ensures { OnOk result (self.new ≡ written.with_bounds (base_of base.now) self.old) }
+    {
+        self.put_integer("maxLength", base.max_length)?;
+        self.put_integer("minLength", base.min_length)?;
+        self.put_integer("maxInteger", base.max_integer)?;
+        self.put_integer("minInteger", base.min_integer)
+    }
+
+    fn put_max(&mut self, max: Option<u32>) -> Result<(), AllocError>
+        ensures { OnOk result (self.new ≡ onto (model.write_max max) self.old) }
+    {
+        match max {
+            None => self.put_text("max", "unlimited"),
+            Some(max) => self.put_number("max", max),
+        }
+    }
+
+    fn put_value(&mut self, value: &Option<Base>) -> Result<(), AllocError>
+        ensures { OnOk result (self.new
+            ≡ onto (written.value_members (option_map base_of value.now)) self.old) }
+    {
+        let alloc = self.alloc();
+        match value {
+            None => Ok(()),
+            Some(value) => self.put("value", write_base(alloc, value)?),
+        }
+    }
 }
 
 /// A base type as an object.
 fn write_constraints(alloc: Global, base: &Base) -> Result<Value, AllocError>
     ensures { IfOk result (λ v. view v ≡ written.base_object (base_of base.now)) }
 {
-    let mut members = Map::new(alloc);
-    put_reference(alloc, &mut members, &base.reference)?;
-    put_bounds(alloc, &mut members, base)?;
-    put_enum(alloc, &mut members, &base.allowed)?;
-    put_text(alloc, &mut members, "type", kind_name(base.kind))?;
-    Ok(Value::from(members))
+    let mut object = Object::new(alloc);
+    object.put_reference(&base.reference)?;
+    object.put_bounds(base)?;
+    object.put_enum(&base.allowed)?;
+    object.put_text("type", kind_name(base.kind))?;
+    Ok(object.into_value())
 }
 
 /// A base type: its name, if it has no constraints, else an object.
@@ -119,48 +125,17 @@ fn is_scalar(column_type: &ColType) -> bool
     column_type.is_single() && column_type.min == 1 && column_type.value.is_none()
 }
 
-fn put_max(
-    alloc: Global,
-    members: &mut Map<String, Value>,
-    max: Option<u32>,
-) -> Result<(), AllocError>
-    ensures { OnOk result (members_view members.new.entries
-        ≡ onto (model.write_max max) (members_view members.old.entries)) }
-{
-    match max {
-        None => put_text(alloc, members, "max", "unlimited"),
-        Some(max) => put_number(alloc, members, "max", max),
-    }
-}
-
-fn put_value(
-    alloc: Global,
-    members: &mut Map<String, Value>,
-    value: &Option<Base>,
-) -> Result<(), AllocError>
-    ensures { OnOk result (members_view members.new.entries
-        ≡ onto (written.value_members (option_map base_of value.now)) (members_view members.old.entries)) }
-{
-    match value {
-        None => Ok(()),
-        Some(value) => {
-            let value = write_base(alloc, value)?;
-            put(alloc, members, "value", value)
-        }
-    }
-}
-
 /// A type as an object.
 fn write_members(alloc: Global, column_type: &ColType) -> Result<Value, AllocError>
     ensures { IfOk result (λ v. view v ≡ written.type_object (type_of column_type.now)) }
 {
-    let mut members = Map::new(alloc);
-    put_max(alloc, &mut members, column_type.max)?;
-    put_number(alloc, &mut members, "min", column_type.min)?;
-    put_value(alloc, &mut members, &column_type.value)?;
+    let mut object = Object::new(alloc);
+    object.put_max(column_type.max)?;
+    object.put_number("min", column_type.min)?;
+    object.put_value(&column_type.value)?;
     let key = write_base(alloc, &column_type.key)?;
-    put(alloc, &mut members, "key", key)?;
-    Ok(Value::from(members))
+    object.put("key", key)?;
+    Ok(object.into_value())
 }
 
 /// A type: the name of an atomic type for a scalar without constraints, else an object.

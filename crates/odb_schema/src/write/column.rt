@@ -6,37 +6,30 @@ ghost use Rattle.odb_schema.specs.SchemaText as model;
 ghost use Rattle.odb_schema.specs.Represented.Members as written;
 
 use super::base::write_type;
-use super::leaf::{put, put_flag};
+use super::leaf::Object;
 use crate::schema::Column;
-use serde_json::{Map, Value};
+use serde_json::Value;
 use std::alloc::{AllocError, Global};
 
 fn write_column(alloc: Global, column: &Column) -> Result<Value, AllocError>
     ensures { IfOk result (λ v. view v ≡ model.write_column column.now) }
 {
-    let mut members = Map::new(alloc);
-    put_flag(alloc, &mut members, column.is_mutable(), "mutable", false)?;
-    put_flag(
-        alloc,
-        &mut members,
-        !column.is_ephemeral(),
-        "ephemeral",
-        true,
-    )?;
+    let mut object = Object::new(alloc);
+    object.put_flag(column.is_mutable(), "mutable", false)?;
+    object.put_flag(!column.is_ephemeral(), "ephemeral", true)?;
     let column_type = write_type(alloc, column.column_type())?;
-    put(alloc, &mut members, "type", column_type)?;
-    Ok(Value::from(members))
+    object.put("type", column_type)?;
+    Ok(object.into_value())
 }
 
 /// The columns of a table.
 pub fn write_columns(alloc: Global, columns: &[Column]) -> Result<Value, AllocError>
     ensures { IfOk result (λ v. view v ≡ written.columns_object columns.now) }
 {
-    let mut members = Map::new(alloc);
+    let mut object = Object::new(alloc);
     for place in (0..columns.len()).rev() {
         let column = &columns[place];
-        let value = write_column(alloc, column)?;
-        put(alloc, &mut members, column.name(), value)?;
+        object.put(column.name(), write_column(alloc, column)?)?;
     }
-    Ok(Value::from(members))
+    Ok(object.into_value())
 }

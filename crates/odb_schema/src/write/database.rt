@@ -2,29 +2,27 @@
 
 ghost use Rattle.std.specs.Prelude.{◌≡◌, ◌≤◌, ◌++◌, length, IfOk, IsUtf8, Ok, OnErr, OnOk, Some, option_map};
 ghost use Rattle.serde_json.specs.Read.{read};
-ghost use Rattle.serde_json.specs.View.{members_view, view};
+ghost use Rattle.serde_json.specs.View.{view};
 ghost use Rattle.serde_json.specs.Written.{compact_text};
 ghost use Rattle.odb_schema.specs.SchemaText as model;
 ghost use Rattle.odb_schema.specs.Represented.Members as written;
 ghost use Rattle.odb_schema.specs.Represented.Members.{onto};
 
-use super::leaf::{put, put_text};
+use super::leaf::Object;
 use super::table::write_tables;
 use crate::schema::Schema;
-use serde_json::{Map, Value};
+use serde_json::Value;
 use std::alloc::{AllocError, Global};
 
-fn put_cksum(
-    alloc: Global,
-    members: &mut Map<String, Value>,
-    cksum: Option<&str>,
-) -> Result<(), AllocError>
-    ensures { OnOk result (members_view members.new.entries
-        ≡ onto (written.cksum_members (option_map (λ text. text.now) cksum.entry)) (members_view members.old.entries)) }
-{
-    match cksum {
-        None => Ok(()),
-        Some(cksum) => put_text(alloc, members, "cksum", cksum),
+impl Object {
+    fn put_cksum(&mut self, cksum: Option<&str>) -> Result<(), AllocError>
+        ensures { OnOk result (self.new
+            ≡ onto (written.cksum_members (option_map (λ text. text.now) cksum.entry)) self.old) }
+    {
+        match cksum {
+            None => Ok(()),
+            Some(cksum) => self.put_text("cksum", cksum),
+        }
     }
 }
 
@@ -37,13 +35,13 @@ impl Schema {
         ensures read_back { IfOk result (λ v. model.read_schema (view v) ≡ Ok self.now) }
     {
         self.reads_back();
-        let mut members = Map::new(alloc);
-        put_cksum(alloc, &mut members, self.cksum())?;
+        let mut object = Object::new(alloc);
+        object.put_cksum(self.cksum())?;
         let tables = write_tables(alloc, self.tables())?;
-        put(alloc, &mut members, "tables", tables)?;
-        put_text(alloc, &mut members, "version", self.version())?;
-        put_text(alloc, &mut members, "name", self.name())?;
-        Ok(Value::from(members))
+        object.put("tables", tables)?;
+        object.put_text("version", self.version())?;
+        object.put_text("name", self.name())?;
+        Ok(object.into_value())
     }
 
     /// The schema's text: its JSON in UTF-8, with no space between tokens and the keys of objects

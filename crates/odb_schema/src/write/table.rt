@@ -1,7 +1,7 @@
 //! Tables (RFC 7047, section 3.2, `<table-schema>`). [P 1.6]
 
 ghost use Rattle.std.specs.Prelude.{◌≡◌, IfOk, OnOk, map, string_bytes};
-ghost use Rattle.serde_json.specs.View.{members_view, view};
+ghost use Rattle.serde_json.specs.View.{view};
 ghost use Rattle.odb_schema.specs.Json.{array_of, string};
 ghost use Rattle.odb_schema.specs.SchemaText as model;
 ghost use Rattle.odb_schema.specs.Represented.Members as written;
@@ -9,9 +9,9 @@ ghost use Rattle.odb_schema.specs.Represented.Members.{onto};
 ghost use Rattle.odb_schema.specs.Represented.Names.{names_of};
 
 use super::column::write_columns;
-use super::leaf::{put, put_flag};
+use super::leaf::Object;
 use crate::schema::TableSchema;
-use serde_json::{Map, Value};
+use serde_json::Value;
 use std::alloc::{AllocError, Global};
 
 fn write_names(alloc: Global, names: &[String]) -> Result<Vec<Value>, AllocError>
@@ -40,56 +40,48 @@ fn write_indexes(alloc: Global, indexes: &[Vec<String>]) -> Result<Vec<Value>, A
     Ok(items)
 }
 
-fn put_indexes(
-    alloc: Global,
-    members: &mut Map<String, Value>,
-    indexes: &[Vec<String>],
-) -> Result<(), AllocError>
-    ensures { OnOk result (members_view members.new.entries
-        ≡ onto (written.indexes_members (map names_of indexes.now)) (members_view members.old.entries)) }
-{
-    if indexes.is_empty() {
-        return Ok(());
+impl Object {
+    fn put_indexes(&mut self, indexes: &[Vec<String>]) -> Result<(), AllocError>
+        ensures { OnOk result (self.new
+            ≡ onto (written.indexes_members (map names_of indexes.now)) self.old) }
+    {
+        if indexes.is_empty() {
+            return Ok(());
+        }
+        let indexes = Value::from(write_indexes(self.alloc(), indexes)?);
+        self.put("indexes", indexes)
     }
-    let indexes = Value::from(write_indexes(alloc, indexes)?);
-    put(alloc, members, "indexes", indexes)
-}
 
-fn put_max_rows(
-    alloc: Global,
-    members: &mut Map<String, Value>,
-    max_rows: Option<u64>,
-) -> Result<(), AllocError>
-    ensures { OnOk result (members_view members.new.entries
-        ≡ onto (written.max_rows_members max_rows) (members_view members.old.entries)) }
-{
-    match max_rows {
-        None => Ok(()),
-        Some(max_rows) => put(alloc, members, "maxRows", Value::from(max_rows)),
+    fn put_max_rows(&mut self, max_rows: Option<u64>) -> Result<(), AllocError>
+        ensures { OnOk result (self.new ≡ onto (written.max_rows_members max_rows) self.old) }
+    {
+        match max_rows {
+            None => Ok(()),
+            Some(max_rows) => self.put("maxRows", Value::from(max_rows)),
+        }
     }
 }
 
 fn write_table(alloc: Global, table: &TableSchema) -> Result<Value, AllocError>
     ensures { IfOk result (λ v. view v ≡ model.write_table table.now) }
 {
-    let mut members = Map::new(alloc);
-    put_indexes(alloc, &mut members, table.indexes())?;
-    put_flag(alloc, &mut members, !table.is_marked_root(), "isRoot", true)?;
-    put_max_rows(alloc, &mut members, table.max_rows())?;
+    let mut object = Object::new(alloc);
+    object.put_indexes(table.indexes())?;
+    object.put_flag(!table.is_marked_root(), "isRoot", true)?;
+    object.put_max_rows(table.max_rows())?;
     let columns = write_columns(alloc, table.columns())?;
-    put(alloc, &mut members, "columns", columns)?;
-    Ok(Value::from(members))
+    object.put("columns", columns)?;
+    Ok(object.into_value())
 }
 
 /// The tables of a schema.
 pub fn write_tables(alloc: Global, tables: &[TableSchema]) -> Result<Value, AllocError>
     ensures { IfOk result (λ v. view v ≡ written.tables_object tables.now) }
 {
-    let mut members = Map::new(alloc);
+    let mut object = Object::new(alloc);
     for place in (0..tables.len()).rev() {
         let table = &tables[place];
-        let value = write_table(alloc, table)?;
-        put(alloc, &mut members, table.name(), value)?;
+        object.put(table.name(), write_table(alloc, table)?)?;
     }
-    Ok(Value::from(members))
+    Ok(object.into_value())
 }

@@ -1,8 +1,7 @@
 use Rattle.std.proofs.Common.{◌≡◌, drop, map}
-use Rattle.serde_json.specs.View.{members_view}
 use Rattle.odb_schema.specs.Json.{members_of}
 use Rattle.odb_schema.specs.Represented.Members.{column_member}
 use Rattle.odb_schema.proofs.write.column.write_columns.Given as goal
 
 abbrev pub invariant-loop-place : goal.invariant-loop-place
-invariant-loop-place l = members_view l.members.entries ≡ members_of (map column_member (drop l.place l.columns))
+invariant-loop-place l = l.object ≡ members_of (map column_member (drop l.place l.columns))

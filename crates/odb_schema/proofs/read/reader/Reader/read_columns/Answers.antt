@@ -3,14 +3,15 @@ use Rattle.serde_json.specs.View.{members_view, view}
 use Rattle.odb_atoms.specs.First.{each}
 use Rattle.odb_schema.specs.Json.{members_list}
 use Rattle.odb_schema.specs.SchemaText.{read_column}
-use Rattle.odb_schema.specs.Represented.Parts.{columns_in, names_in}
+use Rattle.odb_schema.specs.Represented.Parts.{columns_in}
+use Rattle.odb_schema.specs.Represented.Reader.{known_to}
 use Rattle.odb_schema.proofs.Ascending.{columns_ascend}
 use Rattle.odb_schema.proofs.Eachs.{after, at_end, each_more}
-use Rattle.odb_schema.proofs.read.column.read_columns.Goals as goal
+use Rattle.odb_schema.proofs.read.reader.Reader.read_columns.Goals as goal
 
 pub loop-name-preserved : goal.loop-name-preserved
 loop-name-preserved c =
-    let t = names_in (members_view c.args.tables.now.entries) in
+    let t = known_to c.args.self.now in
     let done = c.loop-name.read.items in
     rw c.in_ok-push.ensures.items
     (each_more (read_column t) (columns_in t (members_view c.args.columns.now.entries)) done (c.as_str.result.now, view c.in-Some.value.now) (members_list (members_view c.next.new.self)) c.in_ok-read_column.field-0
@@ -19,6 +20,6 @@ loop-name-preserved c =
 
 pub returns-clause-ascending : goal.returns-clause-ascending
 returns-clause-ascending c =
-    let t = names_in (members_view c.args.tables.now.entries) in
+    let t = known_to c.args.self.now in
     columns_ascend t c.args.columns.now.entries c.loop-name.read.items c.len.ensures.ordered
     (at_end (columns_in t (members_view c.args.columns.now.entries)) c.loop-name.read.items (c.loop-name.invariant ∙ ap (λ es. after c.loop-name.read.items (each (read_column t) (members_list (members_view es)))) c.in-None.ensures.steps.0))
