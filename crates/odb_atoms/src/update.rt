@@ -57,11 +57,8 @@ impl Value {
     ) -> Result<Value, AllocError>
         ensures { IfOk result (λ v. v ≡ model.apply self.now change.now (type_of column.now)) }
     {
-        if column.is_single() {
-            change.try_copy(alloc)
-        } else {
-            changed(alloc, self, change)
-        }
+        // What leads from one value to another leads back: what is in exactly one of the two.
+        difference(alloc, self, change, column)
     }
 }
 

@@ -57,6 +57,15 @@ pub struct Refused<T> {
     pub entries: T,
 }
 
+impl<T> Refused<T> {
+    fn new(fault: ListFault, entries: T) -> Refused<T>
+        ensures fault { result.fault ≡ fault }
+        ensures entries { result.entries ≡ entries }
+    {
+        Refused { fault, entries }
+    }
+}
+
 #[derive(Debug, Drop)]
 enum Content {
     One(Atom),
@@ -128,16 +137,10 @@ impl Value {
         ensures handed_back { IfErr result (λ r. IsPermutation elements.items r.entries.items) }
     {
         if !are_of_one_kind(&elements) {
-            return Err(Refused {
-                fault: ListFault::MixedKinds,
-                entries: elements,
-            });
+            return Err(Refused::new(ListFault::MixedKinds, elements));
         }
         if !entry::sort(&mut elements) {
-            return Err(Refused {
-                fault: ListFault::Repeated,
-                entries: elements,
-            });
+            return Err(Refused::new(ListFault::Repeated, elements));
         }
         Ok(Value::of_elements(elements))
     }
@@ -153,16 +156,10 @@ impl Value {
         ensures handed_back { IfErr result (λ r. IsPermutation pairs.items r.entries.items) }
     {
         if !have_one_kind_each(&pairs) {
-            return Err(Refused {
-                fault: ListFault::MixedKinds,
-                entries: pairs,
-            });
+            return Err(Refused::new(ListFault::MixedKinds, pairs));
         }
         if !entry::sort(&mut pairs) {
-            return Err(Refused {
-                fault: ListFault::Repeated,
-                entries: pairs,
-            });
+            return Err(Refused::new(ListFault::Repeated, pairs));
         }
         Ok(Value::of_pairs(pairs))
     }

@@ -1,6 +1,7 @@
 use mathlib.Core.Path.{sym, ap, ◌∙◌}
-use Rattle.std.proofs.Common.{not, map, true, false}
+use Rattle.std.proofs.Common.{Some, not, map, true, false}
 use Rattle.odb_atoms.specs.Members.{repeats}
+use Rattle.odb_atoms.specs.Represented.Refused.{list_fault_of}
 use Rattle.odb_atoms.specs.Represented.Value.{pair_of}
 use Rattle.odb_atoms.proofs.Represented.Entries.{pairs_ascend, keys-pairs, map_fault-by, map_in-sorted}
 use Rattle.odb_atoms.proofs.value.Value.map.Goals as goal
@@ -12,7 +13,7 @@ pub returns-then-not-sort-clause-fault : goal.returns-then-not-sort-clause-fault
 returns-then-not-sort-clause-fault c =
     let kinds = sym c.have_one_kind_each.ensures ∙ c.if-not-have_one_kind_each.false in
     let apart = sym c.if-not-sort.true ∙ c.sort.ensures.distinct ∙ ap (λ keys. not (repeats keys)) (keys-pairs c.args.pairs.items) in
-    sym (map_fault-by (map pair_of c.args.pairs.items) true false (rw c.deref.ensures.value at kinds) apart)
+    ap (λ f. Some (list_fault_of f)) c.new-then-not-sort.ensures.fault ∙ sym (map_fault-by (map pair_of c.args.pairs.items) true false (rw c.deref.ensures.value at kinds) apart)
 
 pub returns : goal.returns
 returns c =

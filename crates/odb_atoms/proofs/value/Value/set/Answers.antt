@@ -1,7 +1,8 @@
 use mathlib.Core.Path.{sym, ap, ◌∙◌}
-use Rattle.std.proofs.Common.{not, map, true, false}
+use Rattle.std.proofs.Common.{Some, not, map, true, false}
 use Rattle.odb_atoms.specs.Members.{repeats}
 use Rattle.odb_atoms.specs.Represented.Atom.{atom_of}
+use Rattle.odb_atoms.specs.Represented.Refused.{list_fault_of}
 use Rattle.odb_atoms.proofs.Represented.Entries.{elements_ascend, keys-elements, set_fault-by, set_in-sorted}
 use Rattle.odb_atoms.proofs.value.Value.set.Goals as goal
 
@@ -12,7 +13,7 @@ pub returns-then-not-sort-clause-fault : goal.returns-then-not-sort-clause-fault
 returns-then-not-sort-clause-fault c =
     let kinds = sym c.are_of_one_kind.ensures ∙ c.if-not-are_of_one_kind.false in
     let apart = sym c.if-not-sort.true ∙ c.sort.ensures.distinct ∙ ap (λ keys. not (repeats keys)) (keys-elements c.args.elements.items) in
-    sym (set_fault-by (map atom_of c.args.elements.items) true false (rw c.deref.ensures.value at kinds) apart)
+    ap (λ f. Some (list_fault_of f)) c.new-then-not-sort.ensures.fault ∙ sym (set_fault-by (map atom_of c.args.elements.items) true false (rw c.deref.ensures.value at kinds) apart)
 
 pub returns : goal.returns
 returns c =
