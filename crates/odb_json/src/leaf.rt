@@ -9,6 +9,7 @@ ghost use Rattle.odb_schema.specs.Json as json;
 ghost use Rattle.odb_json.specs.ConditionNotation.{read_text};
 ghost use Rattle.odb_json.specs.Operation as model;
 ghost use Rattle.odb_json.specs.Represented.Fault.{Gives, Reads};
+ghost use Rattle.odb_json.specs.Represented.Parts as parts;
 
 use crate::atom::SYNTAX;
 use crate::fault::OpFault;
@@ -30,7 +31,7 @@ pub fn read_bool(value: &Value) -> Result<bool, OpFault>
     value.as_bool().ok_or(SYNTAX)
 }
 
-/// The members of an array.
+/// The members of an array; `SyntaxError` for all else. O(1).
 pub fn read_array(value: &Value) -> Result<&[Value], OpFault>
     ensures { Gives (λ items. items_view items.now) result
         (ok_or (json.as_array (view value.now)) syntax_error) }
@@ -41,7 +42,7 @@ pub fn read_array(value: &Value) -> Result<&[Value], OpFault>
     }
 }
 
-/// The members of an object.
+/// The members of an object; `SyntaxError` for all else. O(1).
 pub fn read_object(value: &Value) -> Result<&Map<String, Value>, OpFault>
     ensures { Gives (λ members. members_view members.now.entries) result
         (ok_or (json.as_object (view value.now)) syntax_error) }
@@ -78,10 +79,11 @@ pub fn needed<'a>(key: &str, members: &'a Map<String, Value>) -> Result<&'a Valu
     member(key, members).ok_or(SYNTAX)
 }
 
-/// Refuses a member that is neither `op` nor among the known ones.
-pub fn refuse_other_members(known: &[&str], members: &Map<String, Value>) -> Result<(), OpFault>
+/// Refuses a member that isn't among the known ones, with `SyntaxError`. O(n) comparisons of names for each
+/// member, with n known ones.
+pub fn no_other(known: &[&str], members: &Map<String, Value>) -> Result<(), OpFault>
     ensures { Gives (λ none. none) result
-        (model.refuse_other_members (map (λ name. name.now) known.now) (members_view members.now.entries)) }
+        (parts.no_other (map (λ name. name.now) known.now) (members_view members.now.entries)) }
 {
     if !are_known(known, members) {
         return Err(SYNTAX);
@@ -91,7 +93,7 @@ pub fn refuse_other_members(known: &[&str], members: &Map<String, Value>) -> Res
 
 fn are_known(known: &[&str], members: &Map<String, Value>) -> bool
     ensures { result
-        ≡ model.are_known (map (λ name. name.now) known.now) (members_view members.now.entries) }
+        ≡ parts.are_known (map (λ name. name.now) known.now) (members_view members.now.entries) }
 {
     for (name, _) in members.iter() {
         if !is_known(known, name.as_str()) {
@@ -102,9 +104,9 @@ fn are_known(known: &[&str], members: &Map<String, Value>) -> bool
 }
 
 fn is_known(known: &[&str], name: &str) -> bool
-    ensures { result ≡ model.is_known (map (λ name. name.now) known.now) name.now }
+    ensures { result ≡ list_any (same_text name.now) (map (λ name. name.now) known.now) }
 {
-    name == "op" || is_among(known, name)
+    is_among(known, name)
 }
 
 fn is_among(names: &[&str], name: &str) -> bool

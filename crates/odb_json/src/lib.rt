@@ -22,6 +22,7 @@ mod value;
 pub use clause::read_clause;
 pub use column::read_columns;
 pub use fault::OpFault;
+pub use leaf::{no_other, read_array, read_object};
 pub use mutation::read_mutation;
 pub use names::Names;
 pub use operation::{Op, Until, read_op};

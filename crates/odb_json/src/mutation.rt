@@ -2,7 +2,7 @@
 
 ghost use Rattle.std.specs.Prelude.{◌≡◌, None, Some, is_some, option_map};
 ghost use Rattle.serde_json.specs.View.{items_view, members_view, view};
-ghost use Rattle.odb_atoms.specs.Atom.{integers, uuids};
+ghost use Rattle.odb_atoms.specs.Atom.{uuids};
 ghost use Rattle.odb_atoms.specs.ColType as model_type;
 ghost use Rattle.odb_atoms.specs.ColType.{scalar};
 ghost use Rattle.odb_atoms.specs.First.{each};
@@ -11,7 +11,6 @@ ghost use Rattle.odb_mutate.specs.Represented.Mutation.{mutator_of};
 ghost use Rattle.odb_schema.specs.Json.{items_list};
 ghost use Rattle.odb_schema.specs.Notation.{is_map_notation};
 ghost use Rattle.odb_schema.specs.Schema as model_schema;
-ghost use Rattle.odb_json.specs.ColumnValue as values;
 ghost use Rattle.odb_json.specs.MutationNotation as model;
 ghost use Rattle.odb_json.specs.Operation as operation;
 ghost use Rattle.odb_json.specs.Represented.Fault.{Gives, Reads};
@@ -127,32 +126,6 @@ fn is_map_notation(value: &Value) -> bool
     tagged("map", value).is_some()
 }
 
-/// One integer.
-fn read_integer(
-    alloc: Global,
-    value: &Value,
-    names: Option<&Names>,
-) -> Result<odb_atoms::Value, OpFault>
-    ensures { Reads (λ v. v) result
-        (values.read_by_kind (option_map (λ n. n.now) names.entry) (scalar integers) (view value.now)) }
-{
-    read_by_kind(alloc, value, &ColType::scalar(Kind::Integer), names)
-}
-
-/// A set of keys of a map.
-fn read_keys(
-    alloc: Global,
-    value: &Value,
-    map: &ColType,
-    names: Option<&Names>,
-) -> Result<odb_atoms::Value, OpFault>
-    ensures { Reads (λ v. v) result
-        (values.read_by_kind (option_map (λ n. n.now) names.entry) (model.key_set (type_of map.now))
-        (view value.now)) }
-{
-    read_by_kind(alloc, value, &key_set(map), names)
-}
-
 /// The value of a mutation: for arithmetic one integer; for `delete` also a set of keys; else a
 /// value of the column's kind.
 fn read_operand(
@@ -167,8 +140,12 @@ fn read_operand(
         (mutator_of mutator) (view value.now)) }
 {
     match mutator {
-        Mutator::Calculate(_) => read_integer(alloc, value, names),
-        Mutator::Delete if !is_map_notation(value) => read_keys(alloc, value, column, names),
+        Mutator::Calculate(_) => {
+            read_by_kind(alloc, value, &ColType::scalar(Kind::Integer), names)
+        }
+        Mutator::Delete if !is_map_notation(value) => {
+            read_by_kind(alloc, value, &key_set(column), names)
+        }
         Mutator::Insert | Mutator::Delete => read_by_kind(alloc, value, column, names),
     }
 }

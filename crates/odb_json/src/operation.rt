@@ -12,9 +12,7 @@ use crate::atom::SYNTAX;
 use crate::clause::read_where;
 use crate::column::read_columns;
 use crate::fault::OpFault;
-use crate::leaf::{
-    needed, read_bool, read_id, read_natural, read_object, read_text, refuse_other_members,
-};
+use crate::leaf::{needed, no_other, read_bool, read_id, read_natural, read_object, read_text};
 use crate::mutation::read_mutations;
 use crate::names::Names;
 use crate::row::{WrittenBy, read_expected_rows, read_row};
@@ -198,7 +196,7 @@ impl OnTable<'_> {
         let row = needed("row", self.members)?;
         let row = read_row(self.alloc, row, self.table, WrittenBy::Insert, self.names)?;
         let name = read_name(self.alloc, self.members)?;
-        refuse_other_members(&["table", "row", "uuid-name"], self.members)?;
+        no_other(&["op", "table", "row", "uuid-name"], self.members)?;
         Ok(Op::Insert {
             table: self.id,
             row,
@@ -212,7 +210,7 @@ impl OnTable<'_> {
     {
         let conditions = read_where(self.alloc, self.members, self.table, self.names)?;
         let columns = read_columns(self.alloc, self.table, self.members)?;
-        refuse_other_members(&["table", "where", "columns"], self.members)?;
+        no_other(&["op", "table", "where", "columns"], self.members)?;
         Ok(Op::Select {
             table: self.id,
             conditions,
@@ -227,7 +225,7 @@ impl OnTable<'_> {
         let conditions = read_where(self.alloc, self.members, self.table, self.names)?;
         let row = needed("row", self.members)?;
         let row = read_row(self.alloc, row, self.table, WrittenBy::Update, self.names)?;
-        refuse_other_members(&["table", "where", "row"], self.members)?;
+        no_other(&["op", "table", "where", "row"], self.members)?;
         Ok(Op::Update {
             table: self.id,
             conditions,
@@ -241,7 +239,7 @@ impl OnTable<'_> {
     {
         let conditions = read_where(self.alloc, self.members, self.table, self.names)?;
         let mutations = read_mutations(self.alloc, self.members, self.table, self.names)?;
-        refuse_other_members(&["table", "where", "mutations"], self.members)?;
+        no_other(&["op", "table", "where", "mutations"], self.members)?;
         Ok(Op::Mutate {
             table: self.id,
             conditions,
@@ -254,7 +252,7 @@ impl OnTable<'_> {
         ensures { Reads op_of result (read_by model.read_delete self.entry.now) }
     {
         let conditions = read_where(self.alloc, self.members, self.table, self.names)?;
-        refuse_other_members(&["table", "where"], self.members)?;
+        no_other(&["op", "table", "where"], self.members)?;
         Ok(Op::Delete {
             table: self.id,
             conditions,
@@ -270,8 +268,10 @@ impl OnTable<'_> {
         let until = read_until(self.members)?;
         let rows = read_expected_rows(self.alloc, self.members, self.table, self.names)?;
         let timeout = read_timeout(self.members)?;
-        refuse_other_members(
-            &["table", "where", "columns", "until", "rows", "timeout"],
+        no_other(
+            &[
+                "op", "table", "where", "columns", "until", "rows", "timeout",
+            ],
             self.members,
         )?;
         Ok(Op::Wait {
@@ -328,7 +328,7 @@ fn read_commit(members: &Map<String, Value>) -> Result<Op, OpFault>
     ensures { Gives op_of result (model.read_commit (members_view members.now.entries)) }
 {
     let durable = read_bool(needed("durable", members)?)?;
-    refuse_other_members(&["durable"], members)?;
+    no_other(&["op", "durable"], members)?;
     Ok(Op::Commit { durable })
 }
 
@@ -336,7 +336,7 @@ fn read_commit(members: &Map<String, Value>) -> Result<Op, OpFault>
 fn read_abort(members: &Map<String, Value>) -> Result<Op, OpFault>
     ensures { Gives op_of result (model.read_abort (members_view members.now.entries)) }
 {
-    refuse_other_members(&[], members)?;
+    no_other(&["op"], members)?;
     Ok(Op::Abort)
 }
 
@@ -345,7 +345,7 @@ fn read_comment(members: &Map<String, Value>) -> Result<Op, OpFault>
     ensures { Gives op_of result (model.read_comment (members_view members.now.entries)) }
 {
     read_text(needed("comment", members)?)?;
-    refuse_other_members(&["comment"], members)?;
+    no_other(&["op", "comment"], members)?;
     Ok(Op::Comment)
 }
 
@@ -354,7 +354,7 @@ fn read_assert(alloc: Global, members: &Map<String, Value>) -> Result<Op, OpFaul
     ensures { Reads op_of result (model.read_assert (members_view members.now.entries)) }
 {
     let lock = read_id(alloc, needed("lock", members)?)?;
-    refuse_other_members(&["lock"], members)?;
+    no_other(&["op", "lock"], members)?;
     Ok(Op::Assert { lock })
 }
 

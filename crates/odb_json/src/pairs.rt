@@ -46,10 +46,10 @@ fn two_of(item: &Value) -> Option<(&Value, &Value)>
 
 /// What a map is read by.
 #[derive(Clone, Copy)]
-struct PairReader<'a> {
-    alloc: Global,
-    kinds: Kinds,
-    names: Option<&'a Names>,
+pub struct PairReader<'a> {
+    pub alloc: Global,
+    pub kinds: Kinds,
+    pub names: Option<&'a Names>,
 }
 
 impl PairReader<'_> {
@@ -140,31 +140,19 @@ impl PairReader<'_> {
             Some(error) => Err(OpFault::Failed(error)),
         }
     }
-}
 
-/// A map. O(n log n) comparisons for n pairs.
-pub fn read_map(
-    alloc: Global,
-    kinds: Kinds,
-    value: &Value,
-    names: Option<&Names>,
-) -> Result<odb_atoms::Value, OpFault>
-    ensures { Reads (λ v. v) result (map_value
-        (notation.read_map (option_map (λ n. n.now) names.entry) (kind_in kinds.key)
-        (kind_in kinds.value) (view value.now))) }
-{
-    let Some(content) = tagged("map", value) else {
-        return Err(SYNTAX);
-    };
-    match content.as_array() {
-        None => Err(SYNTAX),
-        Some(items) => {
-            let reader = PairReader {
-                alloc,
-                kinds,
-                names,
-            };
-            reader.read_pairs(items.as_slice())
+    /// A map. O(n log n) comparisons for n pairs.
+    pub fn read_map(self, value: &Value) -> Result<odb_atoms::Value, OpFault>
+        ensures { Reads (λ v. v) result (map_value (notation.read_map
+            (option_map (λ n. n.now) self.entry.names) (kind_in self.entry.kinds.key) (kind_in self.entry.kinds.value)
+            (view value.now))) }
+    {
+        let Some(content) = tagged("map", value) else {
+            return Err(SYNTAX);
+        };
+        match content.as_array() {
+            None => Err(SYNTAX),
+            Some(items) => self.read_pairs(items.as_slice()),
         }
     }
 }

@@ -13,7 +13,7 @@ use crate::atom::SYNTAX;
 use crate::elements::read_set;
 use crate::fault::OpFault;
 use crate::names::Names;
-use crate::pairs::{Kinds, read_map};
+use crate::pairs::{Kinds, PairReader};
 use odb_atoms::{ColType, Error};
 use serde_json::Value;
 use std::alloc::{AllocError, Global};
@@ -35,11 +35,15 @@ fn read_any(
     match &column_type.value {
         None => read_set(alloc, key, value, names),
         Some(base) => {
-            let kinds = Kinds {
-                key,
-                value: base.kind,
+            let reader = PairReader {
+                alloc,
+                kinds: Kinds {
+                    key,
+                    value: base.kind,
+                },
+                names,
             };
-            read_map(alloc, kinds, value, names)
+            reader.read_map(value)
         }
     }
 }

@@ -1,12 +1,14 @@
 -- The parts of the reading of values that the code reads in functions of their own.
 -- Of an array it reads what stands in front of the first fault, and only then whether an entry stands twice.
-use Rattle.std.specs.Prelude.{List, [], ◌∷◌, ◌++◌, Option, Some, None}
+use Rattle.std.specs.Prelude.{ℕ, ⊤, Bool, List, [], ◌∷◌, ◌++◌, Option, Some, None}
+use Rattle.std.specs.List.{list_all, list_any}
 use Rattle.odb_atoms.specs.Atom.{Atom, Kind, zero_atom}
 use Rattle.odb_atoms.specs.Error.{Error, resources_exhausted, syntax_error}
 use Rattle.odb_atoms.specs.First.{Err, Ok, Result, demand, ok_or, ◌>>=◌, ◌>>◌}
+use Rattle.odb_atoms.specs.Text.{same_text}
 use Rattle.odb_atoms.specs.Value.{Atoms, Pairs, Value, map_of, set_of, within_limit}
 use Rattle.odb_atoms.specs.Uuid.{Uuid, uuid_of_text}
-use Rattle.odb_schema.specs.Json.{Data, Items, item, no_items, string}
+use Rattle.odb_schema.specs.Json.{Data, Items, Members, item, members_list, no_items, string}
 use Rattle.odb_schema.specs.Notation.{Names, named_uuid, pair_of, read_atom}
 
 -- ---- identifiers
@@ -83,3 +85,13 @@ abbrev pub in_limit : Value → Result Value Error
 in_limit v = do
   demand (within_limit v) resources_exhausted
   Ok v
+
+-- ---- the members of objects
+
+-- each member is among these
+abbrev pub are_known : List (List ℕ) → Members → Bool
+are_known names ms = list_all (λ m. list_any (same_text m.0) names) (members_list ms)
+
+-- no member beside these
+abbrev pub no_other : List (List ℕ) → Members → Result ⊤ Error
+no_other names ms = demand (are_known names ms) syntax_error

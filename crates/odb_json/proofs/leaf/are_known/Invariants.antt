@@ -1,6 +1,6 @@
 use Rattle.std.proofs.Common.{◌≡◌, map}
 use Rattle.serde_json.specs.View.{members_view}
-use Rattle.odb_json.specs.Operation.{are_known}
+use Rattle.odb_json.specs.Represented.Parts.{are_known}
 use Rattle.odb_json.proofs.leaf.are_known.Given as goal
 
 abbrev pub invariant-loop-name : goal.invariant-loop-name
