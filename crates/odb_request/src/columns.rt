@@ -102,10 +102,10 @@ fn asked_columns(
         (asked_columns table.now.columns
         (get_member (codes "columns") (members_view members.now.entries))) }
 {
-    match member("columns", members) {
-        None => all_but_uuid(alloc, table),
-        Some(_) => read_columns(alloc, table, members),
+    if member("columns", members).is_none() {
+        return all_but_uuid(alloc, table);
     }
+    read_columns(alloc, table, members)
 }
 
 /// The columns that are asked for, in the order of their names.

@@ -11,9 +11,8 @@ ghost use Rattle.odb_request.specs.Requests as model;
 ghost use Rattle.odb_schema.specs.Json.{get_member, items_list};
 
 use crate::kind::Kind;
-use crate::leaf::read_array;
 use odb_cond::{Filter, Member};
-use odb_json::{OpFault, read_clause};
+use odb_json::{OpFault, read_array, read_clause};
 use odb_schema::{TableSchema, member};
 use serde_json::{Map, Value};
 use std::alloc::Global;

@@ -7,8 +7,8 @@ ghost use Rattle.odb_request.specs.Represented.Select.{select_of};
 ghost use Rattle.odb_request.specs.Requests as model;
 ghost use Rattle.odb_schema.specs.Json.{get_member, given_or};
 
-use crate::leaf::{SYNTAX, no_other};
-use odb_json::OpFault;
+use crate::leaf::SYNTAX;
+use odb_json::{OpFault, no_other};
 use odb_schema::member;
 use serde_json::{Map, Value};
 

@@ -1,6 +1,6 @@
 -- The parts of the reading of requests that the code reads in functions of their own.
 use Rattle.std.specs.Prelude.{ℕ, Bool, true, not, ◌&&◌, List, [], ◌∷◌, codes, length, map, Option, None, Some}
-use Rattle.std.specs.List.{list_all, list_any, range_with_len}
+use Rattle.std.specs.List.{list_all, range_with_len}
 use Rattle.odb_atoms.specs.Error.{Error, syntax_error}
 use Rattle.odb_atoms.specs.First.{Err, Ok, Result, ok_or, ◌>>=◌, ◌>>◌}
 use Rattle.odb_atoms.specs.Row as row
@@ -13,13 +13,9 @@ use Rattle.odb_json.specs.ConditionNotation.{read_clause}
 use Rattle.odb_json.specs.Operation.{read_columns}
 use Rattle.odb_request.specs.Request.{Column, Notation, Request}
 use Rattle.odb_request.specs.Requests.{known_members, monitored, no_other, read_monitored, read_select, read_where_of}
-use Rattle.odb_schema.specs.Json.{Data, Items, Members, as_object, get_member, item, members_list, no_items}
+use Rattle.odb_schema.specs.Json.{Data, Items, Members, as_object, get_member, item, no_items}
 use Rattle.odb_schema.specs.Schema as schema
 use Rattle.odb_schema.specs.Schema.{columns_at, selector_name}
-
--- each member is among these
-abbrev pub are_known : List (List ℕ) → Members → Bool
-are_known names ms = list_all (λ m. list_any (same_text m.0) names) (members_list ms)
 
 -- the object that is an array's one member
 abbrev pub lone_object : Items → Result Members Error
