@@ -1,6 +1,7 @@
 -- What the answer of a settlement stands for.
 pub mod Reference
 pub mod RowId
+pub mod Side
 use Rattle.std.specs.Prelude.{Result, Ok, Err}
 use Rattle.odb_atoms.specs.Error as model
 use Rattle.odb_atoms.specs.Represented.Error.{error_of}

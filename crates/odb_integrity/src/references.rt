@@ -4,6 +4,7 @@ ghost use Rattle.std.specs.List.{list_any};
 ghost use Rattle.odb_atoms.specs.Represented.Atom.{atom_of};
 ghost use Rattle.odb_atoms.specs.Represented.ColType.{base_of, type_of};
 ghost use Rattle.odb_integrity.specs.References.{has_type, is_mixed, is_strong, names};
+ghost use Rattle.odb_integrity.specs.Represented.Side.{atom_at};
 ghost use Rattle.odb_integrity.specs.Settlement as model;
 ghost use Rattle.odb_integrity.specs.Settlement.{same_row};
 ghost use Rattle.odb_atoms.specs.Atom.{uuid};
@@ -178,8 +179,9 @@ fn append_value(
     match value.entries() {
         Entries::Set(elements) => append_elements(keys, elements, rows),
         Entries::Map(pairs) => {
-            append_keys(keys, pairs, rows)?;
-            append_values(strong_target(schema, value_base(column)), pairs, rows)
+            append_side(keys, Side::Key, pairs, rows)?;
+            let values = strong_target(schema, value_base(column));
+            append_side(values, Side::Value, pairs, rows)
         }
     }
 }
@@ -272,38 +274,37 @@ fn append_elements(
     Ok(())
 }
 
-fn append_keys(
-    target: Option<TableId>,
-    pairs: &[(Atom, Atom)],
-    rows: &mut Vec<RowId>,
-) -> Result<(), AllocError>
-    ensures { OnOk result
-        (rows.new.items
-        ≡ rows.old.items ++ filter_map (model.referent target) (map (λ pair. atom_of pair.0) pairs.now)) }
-{
-    let Some(table) = target else {
-        return Ok(());
-    };
-    for pair in pairs {
-        append_referent(table, &pair.0, rows)?;
-    }
-    Ok(())
+/// One of the two atoms of a pair.
+#[derive(Clone, Copy)]
+enum Side {
+    Key,
+    Value,
 }
 
-fn append_values(
+fn atom_at(side: Side, pair: &(Atom, Atom)) -> &Atom
+    ensures { result.now ≡ atom_at side pair.now }
+{
+    match side {
+        Side::Key => &pair.0,
+        Side::Value => &pair.1,
+    }
+}
+
+fn append_side(
     target: Option<TableId>,
+    side: Side,
     pairs: &[(Atom, Atom)],
     rows: &mut Vec<RowId>,
 ) -> Result<(), AllocError>
     ensures { OnOk result
         (rows.new.items
-        ≡ rows.old.items ++ filter_map (model.referent target) (map (λ pair. atom_of pair.1) pairs.now)) }
+        ≡ rows.old.items ++ filter_map (model.referent target) (map (λ pair. atom_of (atom_at side pair)) pairs.now)) }
 {
     let Some(table) = target else {
         return Ok(());
     };
     for pair in pairs {
-        append_referent(table, &pair.1, rows)?;
+        append_referent(table, atom_at(side, pair), rows)?;
     }
     Ok(())
 }

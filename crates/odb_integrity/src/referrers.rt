@@ -1,11 +1,11 @@
 //! The references that a schema makes, and the rows that mention a row by them. [P 5]
-ghost use Rattle.std.specs.Prelude.{◌≡◌, ◌++◌, ◌&&◌, ◌||◌, ◌==◌, flat_map, IfOk, OnOk};
+ghost use Rattle.std.specs.Prelude.{◌≡◌, ◌++◌, ◌&&◌, ◌||◌, ◌==◌, flat_map, option_to_list, IfOk, OnOk};
 ghost use Rattle.std.specs.BTreeSet.{contains};
 ghost use Rattle.std.specs.List.{enumerate_from, list_any};
 ghost use Rattle.odb_atoms.specs.Represented.Atom.{uuid_of};
 ghost use Rattle.odb_atoms.specs.Represented.ColType.{base_of, type_of};
 ghost use Rattle.odb_integrity.specs.Represented.Reference.{base_references, column_references, is_concerned};
-ghost use Rattle.odb_integrity.specs.Represented.Reference.{mentions, mentions_by, references_of};
+ghost use Rattle.odb_integrity.specs.Represented.Reference.{mentions_by, references_of};
 ghost use Rattle.odb_integrity.specs.Represented.RowId.{row_id_cmp};
 ghost use Rattle.odb_integrity.specs.Settlement as model;
 ghost use Rattle.odb_integrity.specs.Settlement.{same_row};
@@ -101,37 +101,39 @@ fn append_column(
         (references.new.items
         ≡ references.old.items ++ column_references schema.now table place (type_of column.now)) }
 {
-    append_base(schema, table, place, &column.key, references)?;
+    append_one(reference_by(schema, table, place, &column.key), references)?;
     match &column.value {
-        Some(base) => append_base(schema, table, place, base, references),
+        Some(base) => append_one(reference_by(schema, table, place, base), references),
         None => Ok(()),
     }
 }
 
-fn append_base(
-    schema: &Schema,
-    table: TableId,
-    place: usize,
-    base: &Base,
+/// The reference that a base type makes in the column at the place.
+fn reference_by(schema: &Schema, table: TableId, place: usize, base: &Base) -> Option<Reference>
+    ensures { option_to_list result ≡ base_references schema.now table place (base_of base.now) }
+{
+    let reference = base.reference.as_ref()?;
+    let target = schema.table(reference.table.as_str())?;
+    Some(Reference {
+        target,
+        table,
+        place,
+        weak: reference.weak,
+    })
+}
+
+/// Appends the reference, where there is one.
+fn append_one(
+    reference: Option<Reference>,
     references: &mut Vec<Reference>,
 ) -> Result<(), AllocError>
-    ensures { OnOk result
-        (references.new.items
-        ≡ references.old.items ++ base_references schema.now table place (base_of base.now)) }
+    ensures { OnOk result (references.new.items ≡ references.old.items ++ option_to_list reference) }
 {
-    match &base.reference {
-        Some(reference) => match schema.table(reference.table.as_str()) {
-            Some(target) => {
-                references.push(Reference {
-                    target,
-                    table,
-                    place,
-                    weak: reference.weak,
-                })?;
-                Ok(())
-            }
-            None => Ok(()),
-        },
+    match reference {
+        Some(reference) => {
+            references.push(reference)?;
+            Ok(())
+        }
         None => Ok(()),
     }
 }
@@ -155,6 +157,7 @@ pub(crate) fn with_referrers(
     in_order(alloc, &all)
 }
 
+/// Adds the row, and those that mention it where it isn't there.
 fn insert_with_referrers(
     draft: &Draft,
     references: &[Reference],
@@ -166,25 +169,11 @@ fn insert_with_referrers(
         ≡ (contains row_id_cmp all.old x || is_concerned references.now draft.now.now x row)) }
 {
     all.insert(row)?;
-    if is_missing(draft, row) {
-        return insert_referrers(draft, references, row, all);
+    if !is_missing(draft, row) {
+        return Ok(());
     }
-    Ok(())
-}
-
-/// Adds the rows that mention the row by one of the references.
-fn insert_referrers(
-    draft: &Draft,
-    references: &[Reference],
-    row: RowId,
-    rows: &mut BTreeSet<RowId>,
-) -> Result<(), AllocError>
-    ensures { OnOk result ((x : model.RowId)
-        → contains row_id_cmp rows.new x
-        ≡ (contains row_id_cmp rows.old x || mentions references.now draft.now.now x row)) }
-{
     for reference in references {
-        insert_by(draft, reference, row, rows)?;
+        insert_by(draft, reference, row, all)?;
     }
     Ok(())
 }

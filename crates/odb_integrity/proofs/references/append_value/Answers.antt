@@ -6,9 +6,9 @@ use Rattle.odb_integrity.specs.Settlement.{strong_target}
 use Rattle.odb_integrity.proofs.Named.{map_named}
 use Rattle.odb_integrity.proofs.references.append_value.Goals as goal
 
-pub returns-in_ok-append_keys-in-Map : goal.returns-in_ok-append_keys-in-Map
-returns-in_ok-append_keys-in-Map c =
+pub returns-in_ok-append_side-in-Map : goal.returns-in_ok-append_side-in-Map
+returns-in_ok-append_side-in-Map c =
     let t = type_of c.args.column.now in
     let keys : c.strong_target-keys.result ≡ strong_target c.args.schema.now t.key = search rules in
-    let values : c.strong_target.result ≡ strong_target c.args.schema.now (value_base t) = c.strong_target.ensures ∙ ap (strong_target c.args.schema.now) c.value_base.ensures in
-    on_ok_weaker c.append_values.result (λ e. map_named c.args.schema.now t c.in-Map.pairs c.args.value.now c.in-Map.ensures.listed c.strong_target-keys.result c.strong_target.result keys values c.args.rows.now.items c.append_keys.new.rows.items c.append_values.new.rows.items c.in_ok-append_keys-in-Map.ensures e) c.append_values.ensures
+    let values : c.strong_target-values.result ≡ strong_target c.args.schema.now (value_base t) = c.strong_target-values.ensures ∙ ap (strong_target c.args.schema.now) c.value_base.ensures in
+    on_ok_weaker c.append_side-in-Map.result (λ e. map_named c.args.schema.now t c.in-Map.pairs c.args.value.now c.in-Map.ensures.listed c.strong_target-keys.result c.strong_target-values.result keys values c.args.rows.now.items c.append_side.new.rows.items c.append_side-in-Map.new.rows.items c.in_ok-append_side-in-Map.ensures e) c.append_side-in-Map.ensures

@@ -1,7 +1,0 @@
-use Rattle.std.proofs.Common.{◌≡◌, ◌++◌, filter_map, map, take, Some}
-use Rattle.odb_atoms.specs.Represented.Atom.{atom_of}
-use Rattle.odb_integrity.specs.Settlement.{referent}
-use Rattle.odb_integrity.proofs.references.append_keys.Given as goal
-
-abbrev pub invariant-loop-pair : goal.invariant-loop-pair
-invariant-loop-pair l = l.rows.items ≡ l.fn.rows.items ++ filter_map (referent (Some l.table)) (map (λ pair. atom_of pair.0) (take l.pair-index l.pairs))
