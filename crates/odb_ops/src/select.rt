@@ -1,7 +1,6 @@
 //! `select` (RFC 7047, section 5.2.2). [P 4.2]
 ghost use Rattle.std.specs.Prelude.{◌≡◌, ◌∷◌, [], IfOk, OnOk, map};
-ghost use Rattle.serde_json.specs.Data.{put as with_member};
-ghost use Rattle.serde_json.specs.View.{members_view, view};
+ghost use Rattle.serde_json.specs.View.{view};
 ghost use Rattle.odb_cond.specs.Represented.Clause.{selector_of};
 ghost use Rattle.odb_ops.specs.Execution.{distinct, rows_result, selected, write_cells};
 ghost use Rattle.odb_ops.specs.Represented.Cells.{written};
@@ -17,9 +16,9 @@ use crate::context::Target;
 use crate::results;
 use odb_cond::{Selector, Where};
 use odb_json::write_value;
-use odb_schema::Column;
+use odb_schema::{Column, Object};
 use odb_tables::Draft;
-use serde_json::{Map, Value};
+use serde_json::Value;
 use std::alloc::{AllocError, Global};
 
 /// The result of `select`: these columns of the rows that match, each of the rows that come out equal once,
@@ -69,21 +68,21 @@ fn write_row(
 ) -> Result<Value, AllocError>
     ensures { IfOk result (λ json. view json ≡ write_cells declared.now (map selector_of columns.now) row.now) }
 {
-    let mut members = Map::new(alloc);
-    put_all(alloc, &mut members, declared, columns, row.values())?;
-    Ok(Value::from(members))
+    let mut object = Object::new(alloc);
+    put_all(alloc, &mut object, declared, columns, row.values())?;
+    Ok(object.into_value())
 }
 
 /// Puts the value of each column into the object, under the column's name.
 fn put_all(
     alloc: Global,
-    members: &mut Map<String, Value>,
+    object: &mut Object,
     declared: &[Column],
     columns: &[Selector],
     values: &[odb_atoms::Value],
 ) -> Result<(), AllocError>
-    ensures { OnOk result (members_view members.new.entries
-        ≡ onto (written declared.now (map selector_of columns.now) values.now) (members_view members.old.entries)) }
+    ensures { OnOk result (object.new
+        ≡ onto (written declared.now (map selector_of columns.now) values.now) object.old) }
 {
     let [column, columns @ ..] = columns else {
         return Ok(());
@@ -91,24 +90,9 @@ fn put_all(
     let [value, values @ ..] = values else {
         return Ok(());
     };
-    put_all(alloc, members, declared, columns, values)?;
+    put_all(alloc, object, declared, columns, values)?;
     let value = write_value(alloc, value)?;
-    put(alloc, members, name_of(declared, *column), value)
-}
-
-/// Puts a member into an object.
-fn put(
-    alloc: Global,
-    members: &mut Map<String, Value>,
-    name: &str,
-    value: Value,
-) -> Result<(), AllocError>
-    ensures { OnOk result (members_view members.new.entries
-        ≡ with_member name.now (view value) (members_view members.old.entries)) }
-{
-    let name = String::from_str(alloc, name)?;
-    drop(members.insert(name, value)?);
-    Ok(())
+    object.put(name_of(declared, *column), value)
 }
 
 /// The name of a column; of one that isn't there it is empty.
