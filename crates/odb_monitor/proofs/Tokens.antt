@@ -26,13 +26,8 @@ around old ts a z = append_assoc (old ++ a ∷ []) ts (z ∷ []) ∙ append_asso
 pub around_named : (old ts : List Token) (a b z : Token) → (((old ++ a ∷ []) ++ b ∷ []) ++ ts) ++ z ∷ [] ≡ old ++ (a ∷ b ∷ (ts ++ z ∷ []))
 around_named old ts a b z = around (old ++ a ∷ []) ts b z ∙ append_assoc old (a ∷ []) (b ∷ (ts ++ z ∷ []))
 
-pub around_tagged : (old ts : List Token) (a b c y z : Token) → (((((old ++ a ∷ []) ++ b ∷ []) ++ c ∷ []) ++ ts) ++ y ∷ []) ++ z ∷ [] ≡ old ++ (a ∷ b ∷ c ∷ (ts ++ y ∷ z ∷ []))
-around_tagged old ts a b c y z =
-    append_assoc ((((old ++ a ∷ []) ++ b ∷ []) ++ c ∷ []) ++ ts) (y ∷ []) (z ∷ [])
-    ∙ append_assoc (((old ++ a ∷ []) ++ b ∷ []) ++ c ∷ []) ts (y ∷ z ∷ [])
-    ∙ append_assoc ((old ++ a ∷ []) ++ b ∷ []) (c ∷ []) (ts ++ y ∷ z ∷ [])
-    ∙ append_assoc (old ++ a ∷ []) (b ∷ []) (c ∷ (ts ++ y ∷ z ∷ []))
-    ∙ append_assoc old (a ∷ []) (b ∷ c ∷ (ts ++ y ∷ z ∷ []))
+pub around_all : (old front ts back : List Token) → ((old ++ front) ++ ts) ++ back ≡ old ++ (front ++ (ts ++ back))
+around_all old front ts back = append_assoc (old ++ front) ts back ∙ append_assoc old front (ts ++ back)
 
 -- ---- arrays
 

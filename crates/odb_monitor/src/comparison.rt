@@ -37,6 +37,20 @@ pub struct Comparison<'a> {
 }
 
 impl<'a> Comparison<'a> {
+    /// By this a row is compared. O(1).
+    pub fn of(alloc: Global, first: bool, told: Told<'a>, request: &'a Request) -> Comparison<'a>
+        ensures first { result.first ≡ first }
+        ensures told { result.told ≡ told.entry }
+        ensures request { result.request.now ≡ request.now }
+    {
+        Comparison {
+            alloc,
+            first,
+            told,
+            request,
+        }
+    }
+
     /// What is shown of a row. O(the members of the filters, and the values of the monitored
     /// columns).
     pub fn line<'r>(&self, sides: &Sides<'r>) -> Option<Line<'r>>

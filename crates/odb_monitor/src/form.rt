@@ -1,10 +1,11 @@
 //! Rows as objects: the columns that are named, and what stands for each (RFC 7047, section 4.1.6;
 //! ovsdb-server(7), 4.1.14).
-ghost use Rattle.std.specs.Prelude.{◌≡◌, ◌++◌, ◌∷◌, OnOk, flat_map, map};
+ghost use Rattle.std.specs.Prelude.{◌≡◌, ◌++◌, ◌∷◌, None, OnOk, Some, flat_map, if◌then◌else◌, map, option_map};
 ghost use Rattle.json.specs.Token as token;
+ghost use Rattle.odb_atoms.specs.Value.{same_value};
 ghost use Rattle.odb_cond.specs.Represented.Clause.{selector_of};
-ghost use Rattle.odb_monitor.specs.Represented.Form.{column_tokens, difference_in, named_by, old_in, set_in};
-ghost use Rattle.odb_monitor.specs.Represented.Tokens.{tokens_of};
+ghost use Rattle.odb_monitor.specs.Represented.Form.{column_tokens, difference_in, named_by};
+ghost use Rattle.odb_monitor.specs.Represented.Tokens.{member_tokens, tokens_of};
 ghost use Rattle.odb_monitor.specs.Update.{row_object};
 ghost use Rattle.odb_request.specs.Represented.Parts.{monitored_as};
 ghost use Rattle.odb_schema.specs.Notation.{write_value};
@@ -38,40 +39,15 @@ fn put_member(out: &mut Printer, name: &str, value: &Value) -> Result<(), AllocE
     put_value(out, value)
 }
 
-/// A column with its value, unless that is its default.
-fn put_set(
-    out: &mut Printer,
-    columns: &Columns<'_>,
-    column: Selector,
-    new: &RowCells<'_>,
-) -> Result<(), AllocError>
-    ensures { OnOk result (out.new
-        ≡ out.old ++ column_tokens (set_in new.now) (monitored_as columns.now column)) }
+/// A column with its value, unless that is equal to the other.
+fn put_unless(out: &mut Printer, name: &str, value: &Value, other: &Value) -> Result<(), AllocError>
+    ensures { OnOk result (out.new ≡ out.old ++ member_tokens name.now (option_map write_value
+        (if same_value value.now other.now then None else Some value.now))) }
 {
-    let value = new.get(column);
-    let default = columns.default_of(column)?;
-    if *value == default {
+    if *value == *other {
         return Ok(());
     }
-    put_member(out, columns.name(column), value)
-}
-
-/// A column with its old value, unless it stayed.
-fn put_old(
-    out: &mut Printer,
-    columns: &Columns<'_>,
-    column: Selector,
-    old: &RowCells<'_>,
-    new: &RowCells<'_>,
-) -> Result<(), AllocError>
-    ensures { OnOk result (out.new
-        ≡ out.old ++ column_tokens (old_in old.now new.now) (monitored_as columns.now column)) }
-{
-    let value = old.get(column);
-    if *value == *new.get(column) {
-        return Ok(());
-    }
-    put_member(out, columns.name(column), value)
+    put_member(out, name, value)
 }
 
 /// A column with its difference, unless it stayed.
@@ -109,8 +85,13 @@ fn put_column(
 {
     match form {
         Form::All(new) => put_member(out, columns.name(column), new.get(column)),
-        Form::Set(new) => put_set(out, columns, column, new),
-        Form::Old(old, new) => put_old(out, columns, column, old, new),
+        Form::Set(new) => {
+            let default = columns.default_of(column)?;
+            put_unless(out, columns.name(column), new.get(column), &default)
+        }
+        Form::Old(old, new) => {
+            put_unless(out, columns.name(column), old.get(column), new.get(column))
+        }
         Form::Differences(old, new) => put_difference(out, columns, column, old, new),
     }
 }

@@ -5,8 +5,7 @@ ghost use Rattle.odb_monitor.specs.Represented.Form.{all_in, named_by, old_in};
 ghost use Rattle.odb_monitor.specs.Represented.Layout.{new_and_old, row_tokens};
 ghost use Rattle.odb_monitor.specs.Represented.Line.{change_in, line_in};
 ghost use Rattle.odb_monitor.specs.Represented.Tokens.{member_tokens, tokens_of};
-ghost use Rattle.odb_monitor.specs.Update.{all_cells, one, row_object, row_update, set_cells, table_update};
-ghost use Rattle.odb_monitor.specs.View as view;
+ghost use Rattle.odb_monitor.specs.Update.{one, row_object, row_update, table_update};
 ghost use Rattle.odb_request.specs.Represented.Kind.{notation_of};
 ghost use Rattle.odb_request.specs.Request.{update, update2};
 ghost use Rattle.serde_json.specs.Data.{null};
@@ -17,12 +16,10 @@ use crate::line::{Change, Line};
 use crate::printer::Printer;
 use crate::row_cells::RowCells;
 use crate::value::put_key;
-use odb_atoms::Row;
 use odb_cond::Selector;
 use odb_request::{Kind, Shape};
 use std::alloc::{AllocError, Global};
 use std::marker::Model;
-use uuid::Uuid;
 
 /// How the rows of a table are printed: by which kind of monitor, whether in a first reply, and with which
 /// columns.
@@ -90,72 +87,8 @@ impl<'a> Layout<'a> {
         out.end_object()
     }
 
-    /// Every column of a row that comes in or goes out, under this name (RFC 7047, section 4.1.6).
-    fn put_whole(
-        &self,
-        out: &mut Printer,
-        name: &str,
-        uuid: Uuid,
-        row: &Row,
-    ) -> Result<(), AllocError>
-        ensures { OnOk result (out.new ≡ out.old ++ tokens_of (one name.now
-            (row_object self.now.columns (all_cells (view.cut self.now.columns (uuid_of uuid) row.now))))) }
-    {
-        let cells = RowCells::new(self.alloc, uuid, row);
-        self.put_one(out, name, &Form::All(&cells))
-    }
-
-    /// The columns that aren't equal to their default of a row that comes in, under this name
-    /// (ovsdb-server(7), 4.1.14).
-    fn put_set(
-        &self,
-        out: &mut Printer,
-        name: &str,
-        uuid: Uuid,
-        row: &Row,
-    ) -> Result<(), AllocError>
-        ensures { OnOk result (out.new ≡ out.old ++ tokens_of (one name.now
-            (row_object self.now.columns
-            (set_cells self.now.columns (view.cut self.now.columns (uuid_of uuid) row.now))))) }
-    {
-        let cells = RowCells::new(self.alloc, uuid, row);
-        self.put_one(out, name, &Form::Set(&cells))
-    }
-
-    /// `{"modify": columns}`, with the differences of a row's columns (ovsdb-server(7), 4.1.14).
-    fn put_modify(
-        &self,
-        out: &mut Printer,
-        uuid: Uuid,
-        old: &Row,
-        new: &Row,
-    ) -> Result<(), AllocError>
-        ensures { OnOk result (out.new ≡ out.old ++ tokens_of (row_update update2 self.now.first self.now.columns
-            (view.differs (view.cut self.now.columns (uuid_of uuid) old.now) (view.cut self.now.columns (uuid_of uuid) new.now)))) }
-    {
-        let old_cells = RowCells::new(self.alloc, uuid, old);
-        let new_cells = RowCells::new(self.alloc, uuid, new);
-        self.put_one(out, "modify", &Form::Differences(&old_cells, &new_cells))
-    }
-
     /// `{"new": columns, "old": columns}`: every column, and the old values of those that differ
     /// (RFC 7047, section 4.1.6).
-    fn put_new_and_old(
-        &self,
-        out: &mut Printer,
-        uuid: Uuid,
-        old: &Row,
-        new: &Row,
-    ) -> Result<(), AllocError>
-        ensures { OnOk result (out.new ≡ out.old ++ tokens_of (row_update update self.now.first self.now.columns
-            (view.differs (view.cut self.now.columns (uuid_of uuid) old.now) (view.cut self.now.columns (uuid_of uuid) new.now)))) }
-    {
-        let old_cells = RowCells::new(self.alloc, uuid, old);
-        let new_cells = RowCells::new(self.alloc, uuid, new);
-        self.put_both(out, &old_cells, &new_cells)
-    }
-
-    /// `{"new": columns, "old": columns}`, of a row's cells.
     fn put_both<'c>(
         &self,
         out: &mut Printer,
@@ -174,27 +107,46 @@ impl<'a> Layout<'a> {
         out.end_object()
     }
 
-    /// What becomes of a row, as `update` has it (RFC 7047, section 4.1.6).
+    /// What becomes of a row, as `update` has it: every column of one that comes in or goes out
+    /// (RFC 7047, section 4.1.6).
     fn put_update(&self, out: &mut Printer, line: &Line<'_>) -> Result<(), AllocError>
         ensures { OnOk result (out.new ≡ out.old ++ tokens_of (row_update update self.now.first self.now.columns
             (change_in self.now.columns (uuid_of line.now.uuid) line.now.change))) }
     {
         match line.change {
-            Change::ComesIn(new) => self.put_whole(out, "new", line.uuid, new),
-            Change::GoesOut(old) => self.put_whole(out, "old", line.uuid, old),
-            Change::Differs(old, new) => self.put_new_and_old(out, line.uuid, old, new),
+            Change::ComesIn(new) => {
+                let cells = RowCells::new(self.alloc, line.uuid, new);
+                self.put_one(out, "new", &Form::All(&cells))
+            }
+            Change::GoesOut(old) => {
+                let cells = RowCells::new(self.alloc, line.uuid, old);
+                self.put_one(out, "old", &Form::All(&cells))
+            }
+            Change::Differs(old, new) => {
+                let old_cells = RowCells::new(self.alloc, line.uuid, old);
+                let new_cells = RowCells::new(self.alloc, line.uuid, new);
+                self.put_both(out, &old_cells, &new_cells)
+            }
         }
     }
 
-    /// What becomes of a row, as `update2` has it (ovsdb-server(7), 4.1.14).
+    /// What becomes of a row, as `update2` has it: of one that comes in the columns that aren't equal to their
+    /// default, and of one that differs the differences of its columns (ovsdb-server(7), 4.1.14).
     fn put_update2(&self, out: &mut Printer, line: &Line<'_>) -> Result<(), AllocError>
         ensures { OnOk result (out.new ≡ out.old ++ tokens_of (row_update update2 self.now.first self.now.columns
             (change_in self.now.columns (uuid_of line.now.uuid) line.now.change))) }
     {
         match line.change {
-            Change::ComesIn(new) => self.put_set(out, self.coming(), line.uuid, new),
+            Change::ComesIn(new) => {
+                let cells = RowCells::new(self.alloc, line.uuid, new);
+                self.put_one(out, self.coming(), &Form::Set(&cells))
+            }
             Change::GoesOut(_) => put_delete(out),
-            Change::Differs(old, new) => self.put_modify(out, line.uuid, old, new),
+            Change::Differs(old, new) => {
+                let old_cells = RowCells::new(self.alloc, line.uuid, old);
+                let new_cells = RowCells::new(self.alloc, line.uuid, new);
+                self.put_one(out, "modify", &Form::Differences(&old_cells, &new_cells))
+            }
         }
     }
 

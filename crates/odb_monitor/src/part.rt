@@ -95,12 +95,7 @@ impl<'a> Part<'a> {
         ensures { IfOk result (λ shown. shown ≡ not (is_silent first self.now)) }
     {
         let sides = sides_of(alloc, self.told, rows_of(&self.changes), self.table)?;
-        let comparison = Comparison {
-            alloc,
-            first,
-            told: self.told,
-            request: self.request,
-        };
+        let comparison = Comparison::of(alloc, first, self.told, self.request);
         Ok(has_line(&comparison, &sides))
     }
 
@@ -110,12 +105,7 @@ impl<'a> Part<'a> {
             ≡ (changes_shown first self.now).entries) }
     {
         let sides = sides_of(alloc, self.told, rows_of(&self.changes), self.table)?;
-        let comparison = Comparison {
-            alloc,
-            first,
-            told: self.told,
-            request: self.request,
-        };
+        let comparison = Comparison::of(alloc, first, self.told, self.request);
         let mut lines = lines_of(alloc, &comparison, &sides)?;
         sort(&mut lines);
         Ok(lines)

@@ -68,17 +68,32 @@ fn put_atoms(out: &mut Printer, atoms: &[Atom]) -> Result<(), AllocError>
     Ok(())
 }
 
+/// `["tag", [`: an array of the tag and of another array, whose items come next.
+fn begin_tagged(out: &mut Printer, tag: &str) -> Result<(), AllocError>
+    ensures { OnOk result (out.new
+        ≡ out.old ++ token.begin_array ∷ token.string tag.now ∷ token.begin_array ∷ []) }
+{
+    out.begin_array()?;
+    out.string(tag)?;
+    out.begin_array()
+}
+
+/// `]]`.
+fn end_tagged(out: &mut Printer) -> Result<(), AllocError>
+    ensures { OnOk result (out.new ≡ out.old ++ token.end_array ∷ token.end_array ∷ []) }
+{
+    out.end_array()?;
+    out.end_array()
+}
+
 /// `["set", [atom, ..]]`.
 fn put_set_of(out: &mut Printer, atoms: &[Atom]) -> Result<(), AllocError>
     ensures { OnOk result (out.new ≡ out.old ++ tokens_of
         (array_of (string (codes "set") ∷ array_of (map notation.write_atom (map atom_of atoms.now)) ∷ []))) }
 {
-    out.begin_array()?;
-    out.string("set")?;
-    out.begin_array()?;
+    begin_tagged(out, "set")?;
     put_atoms(out, atoms)?;
-    out.end_array()?;
-    out.end_array()
+    end_tagged(out)
 }
 
 /// A set, of which one atom stands alone.
@@ -118,12 +133,9 @@ fn put_map(out: &mut Printer, pairs: &[(Atom, Atom)]) -> Result<(), AllocError>
     ensures { OnOk result (out.new ≡ out.old ++ tokens_of
         (array_of (string (codes "map") ∷ array_of (map notation.write_pair (map pair_of pairs.now)) ∷ []))) }
 {
-    out.begin_array()?;
-    out.string("map")?;
-    out.begin_array()?;
+    begin_tagged(out, "map")?;
     put_pairs(out, pairs)?;
-    out.end_array()?;
-    out.end_array()
+    end_tagged(out)
 }
 
 /// A value (RFC 7047, section 5.1), its elements and keys ascending. O(its bytes).

@@ -18,6 +18,10 @@ returns c =
     let first = c.args.first in
     let sides = c.in_ok-sides.sides.items in
     let covers : Covers (map sides_in sides) first i.told q (table_then changes t) t = c.in_ok-sides.ensures first q (table_then changes t) (c.rows_of.ensures.was t) in
-    let tested : c.has_line.result ≡ list_any (λ row. is_some (line_at first i.told q (sides_in row))) sides = search rules in
+    let by = c.of-comparison.result in
+    let same = c.of-comparison.ensures in
+    let compared : c.has_line.result ≡ list_any (λ row. is_some (line_at by.first by.told by.request.now (sides_in row))) sides = search rules in
+    let tested : c.has_line.result ≡ list_any (λ row. is_some (line_at first i.told q (sides_in row))) sides =
+    compared ∙ (λ j. list_any (λ row. is_some (line_at (same.first j) (same.told j) (same.request j) (sides_in row))) sides) in
     subst (λ (p : Part). c.has_line.result ≡ not (is_silent first p)) c.self.view_is
     (tested ∙ any_mapped (λ e. is_some (line_at first i.told q e)) sides_in sides ∙ some_line first q i.told t changes (map sides_in sides) covers)

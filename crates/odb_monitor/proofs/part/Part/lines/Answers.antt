@@ -7,6 +7,7 @@ use Rattle.odb_monitor.specs.Represented.Candidates.{Covers}
 use Rattle.odb_monitor.specs.Represented.Line.{line_in}
 use Rattle.odb_monitor.specs.Represented.Part.{changes_shown, part_of}
 use Rattle.odb_monitor.specs.Represented.Sides.{line_at, sides_in, table_then}
+use Rattle.odb_request.specs.Request.{Request}
 use Rattle.odb_monitor.proofs.Kept.{AreDistinct, in_order}
 use Rattle.odb_monitor.proofs.Seen.{lines_distinct, lines_found}
 use Rattle.odb_monitor.proofs.part.Part.lines.Goals as goal
@@ -22,7 +23,11 @@ returns c =
     let es = map sides_in c.in_ok-sides.sides.items in
     let covers : Covers es first i.told q (table_then changes t) t = c.in_ok-sides.ensures first q (table_then changes t) (c.rows_of.ensures.was t) in
     let lines = c.in_ok-lines.lines.items in
-    let found : map f lines ≡ filter_map (line_at first i.told q) es = search rules in
+    let by = c.of-comparison.result in
+    let same = c.of-comparison.ensures in
+    let listed : map (line_in by.request.now.shape.columns) lines ≡ filter_map (line_at by.first by.told by.request.now) es = search rules in
+    let found : map f lines ≡ filter_map (line_at first i.told q) es =
+    ap (λ (r : Request). map (line_in r.shape.columns) lines) (sym same.request) ∙ listed ∙ (λ j. filter_map (line_at (same.first j) (same.told j) (same.request j)) es) in
     subst (λ (p : Part). map (line_in p.request.shape.columns) c.sort.new.lines.items ≡ (changes_shown first p).entries) c.self.view_is
     (in_order f (changes_shown first (part_of q i.told t changes)) lines c.sort.new.lines.items
     (subst AreDistinct (sym found) (lines_distinct first q i.told t changes es covers))

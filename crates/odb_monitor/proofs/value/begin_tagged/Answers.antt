@@ -1,0 +1,11 @@
+use Rattle.std.proofs.Common.{rules, ◌≡◌, ◌∙◌, ◌++◌, ◌∷◌, [], OnOk, append_assoc}
+use Rattle.std.proofs.lemmas.Result.{on_ok_weaker}
+use Rattle.json.specs.Token.{begin_array, string}
+use Rattle.odb_monitor.proofs.value.begin_tagged.Goals as goal
+
+pub returns : goal.returns
+returns c =
+    let old = c.args.out.now in
+    let tag = string c.args.tag.now in
+    let built : OnOk c.begin_array-2.result (c.begin_array-2.new.self ≡ ((old ++ begin_array ∷ []) ++ tag ∷ []) ++ begin_array ∷ []) = search rules in
+    on_ok_weaker c.begin_array-2.result (λ e. e ∙ append_assoc (old ++ begin_array ∷ []) (tag ∷ []) (begin_array ∷ []) ∙ append_assoc old (begin_array ∷ []) (tag ∷ begin_array ∷ [])) built
