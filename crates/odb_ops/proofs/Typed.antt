@@ -122,7 +122,7 @@ goes_on : (s : Schema) (b : Bool) (d : Draft) (stop : Stop) → IsTyped s d.db �
 goes_on s true d stop h = read_in Stop (λ p. IsTyped s p.0.db) (d, model.empty_result) h
 goes_on s false d stop h = none_read (λ p. IsTyped s p.0.db) stop
 
-or_stop_holds : {A : Type 0} (P : A → Type 0) (r : Result A Error) → Holds P r → Holds P (model.or_stop r)
+pub or_stop_holds : {A : Type 0} (P : A → Type 0) (r : Result A Error) → Holds P r → Holds P (model.or_stop r)
 unfolding Holds
 or_stop_holds P (Ok x) h = h
 or_stop_holds P (Err e) h = tt

@@ -1,2 +1,3 @@
 pub mod Execution
+pub mod OnlyReads
 pub mod Represented

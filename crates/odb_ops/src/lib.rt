@@ -16,6 +16,7 @@ mod merging;
 mod mutate;
 mod names;
 mod operation;
+mod reading;
 mod results;
 mod select;
 mod stop;
@@ -24,4 +25,5 @@ mod wait;
 
 pub use context::Context;
 pub use execution::{Ran, run};
+pub use reading::only_reads;
 pub use results::failure;

@@ -93,7 +93,7 @@ fn wait_or_go_on(
 }
 
 /// Whether the name is among them.
-fn is_among(names: &[&str], name: &str) -> bool
+pub(crate) fn is_among(names: &[&str], name: &str) -> bool
     ensures { result ≡ list_any (λ other. same_text name.now other.now) names.now }
 {
     names.iter().any(|other| name == *other)
