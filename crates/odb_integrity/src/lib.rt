@@ -16,4 +16,4 @@ mod row_id;
 mod rows;
 mod settlement;
 
-pub use settlement::settle;
+pub use settlement::{settle, stays_settled};

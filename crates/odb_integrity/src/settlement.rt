@@ -1,5 +1,5 @@
 //! Settlement at the end of a transaction (RFC 7047, section 3.2, and 4.1.3, "commit"). [P 5]
-ghost use Rattle.std.specs.Prelude.{◌≡◌, length, IfOk};
+ghost use Rattle.std.specs.Prelude.{◌≡◌, length, true, IfOk, Ok};
 ghost use Rattle.odb_integrity.specs.Represented.{answer_of};
 ghost use Rattle.odb_integrity.specs.Settled.{IsSettled};
 ghost use Rattle.odb_integrity.specs.Settlement as model;
@@ -13,6 +13,7 @@ use crate::dangling::{has_dangling, is_one_missing};
 use crate::garbage::collect_garbage;
 use crate::indexes::has_duplicates;
 use crate::pruning::prune;
+use crate::references::has_mixed;
 use crate::referrers::{references_of, with_referrers};
 use crate::row_id::RowId;
 use crate::rows::touched_rows;
@@ -70,6 +71,21 @@ pub fn settle(
     }
     prune(alloc, draft, schema, &rows)?;
     constrained(alloc, draft, schema, max_rows)
+}
+
+/// Whether it is certain that a settlement leaves the draft's database as it is. The database has to be
+/// settled; then only two things can be in the way: a column that pairs weak references with strong ones,
+/// where a row may lack what keeps it, and more than `max_rows` rows in all. O(rows touched), O(tables) and
+/// O(columns of the schema).
+pub fn stays_settled(draft: &Draft, schema: &Schema, max_rows: usize) -> bool
+    requires typed { IsTyped schema.now draft.now.now }
+    requires settled { IsSettled schema.now draft.now.now }
+    ensures { result ≡ true → model.settle schema.now max_rows draft.now.now ≡ Ok draft.now.now }
+{
+    if has_mixed(schema) {
+        return false;
+    }
+    !exceeds_limit(draft, max_rows)
 }
 
 /// The rows that may have a reference to a row that isn't there. The rows of the base had none; so these
