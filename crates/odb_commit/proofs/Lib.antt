@@ -1,5 +1,6 @@
 pub mod NoFloats
 pub mod Outcomes
+pub mod ReadOnly
 pub mod Sound
 pub mod Typed
 pub mod Versions
