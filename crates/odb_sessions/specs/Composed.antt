@@ -1,5 +1,5 @@
 -- What is composed for the client of a monitor, from the marks for what it was told. [P 9.2, 9.3, 10.1]
-use Rattle.std.specs.Prelude.{◌≡◌, ℕ, true, false, List, [], ◌∷◌, map, Option, option_map}
+use Rattle.std.specs.Prelude.{◌≡◌, ℕ, Bool, true, false, List, [], ◌∷◌, map, Option, option_map}
 use Rattle.serde_json.specs.Written.{compact_text}
 use Rattle.odb_atoms.specs.FinMap.{empty}
 use Rattle.odb_chain.specs.Chains.{Chains, IsLive}
@@ -47,6 +47,11 @@ AreNow db ws = map (λ (w : Watched). (part_to db w).told) ws ≡ map (λ (w : W
 abbrev pub first_part : Db → Request → Part
 first_part db q = record { request = q; told = empty; asked = selected q (table_at db q.place) }
 
+-- the part of a first reply, or of what the client lacks
+abbrev pub part_in : Bool → Db → Watched → Part
+part_in true db = λ w. first_part db w.request
+part_in false db = part_to db
+
 -- the job of these parts, of a client that had its first reply
 abbrev pub later_job : Notation → List Part → Job
 later_job n ps = record { notation = n; first = false; parts = ps }
@@ -54,6 +59,10 @@ later_job n ps = record { notation = n; first = false; parts = ps }
 -- the text of the table updates that the client of this monitor is owed, without its id, if something is sent
 abbrev pub updates_for : Db → Held → Option (List ℕ)
 updates_for db x = option_map compact_text (updates_of (later_job x.notation (map (part_to db) x.tables)))
+
+-- the job of a client's own tables: of its first reply, or of what it lacks
+abbrev pub own_job : Bool → Db → Held → Job
+own_job first db x = record { notation = x.notation; first = first; parts = map (part_in first db) x.tables }
 
 abbrev pub first_job : Db → Notation → List Request → Job
 first_job db n qs = record { notation = n; first = true; parts = map (first_part db) qs }

@@ -5,8 +5,7 @@ ghost use Rattle.serde_json.specs.Data.{Data};
 ghost use Rattle.serde_json.specs.Written.{compact_text};
 ghost use Rattle.odb_monitor.specs.Job as model_job;
 ghost use Rattle.odb_request.specs.Represented.Kind.{notation_of};
-ghost use Rattle.odb_sessions.specs.Composed as model;
-ghost use Rattle.odb_sessions.specs.Composed.{IsKnown, asked_of, notified_text, part_to};
+ghost use Rattle.odb_sessions.specs.Composed.{IsKnown, notified_text, part_in};
 ghost use Rattle.odb_sessions.specs.Jobs.{composition_at};
 ghost use Rattle.odb_sessions.specs.Represented.Composed.{text_under};
 
@@ -18,34 +17,20 @@ use odb_request::Kind;
 use odb_rpc::{after_updates, before_updates};
 use std::alloc::{AllocError, Global};
 
-/// The parts of these tables. For each the costs are those of `odb_chain::Chains::since`.
+/// The parts of these tables; in a first reply the client was told nothing of them. For each the costs are those of
+/// `odb_chain::Chains::since`.
 pub(crate) fn parts_of<'a>(
     alloc: Global,
     chains: &'a Chains,
     tables: &[Owed<'a>],
+    first: bool,
 ) -> Result<Vec<Part<'a>>, AllocError>
     requires { All (IsKnown chains.now) tables.now }
-    ensures { IfOk result (λ parts. parts.items ≡ map (part_to chains.now.db) tables.now) }
+    ensures { IfOk result (λ parts. parts.items ≡ map (part_in first chains.now.db) tables.now) }
 {
     let mut parts = Vec::with_capacity(alloc, tables.len())?;
     for owed in tables {
-        parts.push_reserved(owed.part(alloc, chains)?);
-    }
-    Ok(parts)
-}
-
-/// The parts of a first reply for these tables.
-pub(crate) fn first_parts_of<'a>(
-    alloc: Global,
-    chains: &'a Chains,
-    tables: &[Owed<'a>],
-) -> Result<Vec<Part<'a>>, AllocError>
-    requires { All (IsKnown chains.now) tables.now }
-    ensures { IfOk result (λ parts. parts.items ≡ map (model.first_part chains.now.db) (asked_of tables.now)) }
-{
-    let mut parts = Vec::with_capacity(alloc, tables.len())?;
-    for owed in tables {
-        parts.push_reserved(owed.first_part(chains));
+        parts.push_reserved(owed.part(alloc, chains, first)?);
     }
     Ok(parts)
 }

@@ -1,8 +1,7 @@
 //! Jobs: what is to be composed for the client of a monitor. [P 9.2, 9.3, 9.5]
 ghost use Rattle.std.specs.Prelude.{◌≡◌, IfOk, is_some, map};
 ghost use Rattle.odb_monitor.specs.Job.{updates_of};
-ghost use Rattle.odb_sessions.specs.Composed as model;
-ghost use Rattle.odb_sessions.specs.Composed.{all_asked_as, asked_of, later_job, part_to};
+ghost use Rattle.odb_sessions.specs.Composed.{all_asked_as, later_job, own_job, part_to};
 ghost use Rattle.odb_sessions.specs.Foreseen.{all_parts_again};
 ghost use Rattle.odb_sessions.specs.Held.{marks_in};
 ghost use Rattle.odb_sessions.specs.Jobs.{composition};
@@ -12,7 +11,7 @@ ghost use Rattle.odb_sessions.specs.Represented.Under.{filters_in};
 ghost use Rattle.odb_sessions.specs.Tied.{AreLive};
 
 use crate::again::parts_again;
-use crate::composing::{first_parts_of, parts_of};
+use crate::composing::parts_of;
 use crate::monitor::Monitor;
 use crate::planning::parts_under;
 use crate::under::{Under, requests_under};
@@ -100,8 +99,8 @@ impl<'a> Job<'a> {
         let monitor = self.monitor;
         let requests = self.requests.as_slice();
         match self.way {
-            Way::First => monitor.first_job(alloc, chains),
-            Way::Asked => monitor.asked_job(alloc, chains),
+            Way::First => monitor.own_job(alloc, chains, true),
+            Way::Asked => monitor.own_job(alloc, chains, false),
             Way::Changed(_) => monitor.changed_job(alloc, chains, requests),
             Way::Again(told, _) => monitor.again_job(alloc, chains, told, requests),
         }
@@ -119,32 +118,19 @@ fn requests_of(alloc: Global, monitor: &Monitor, way: Way<'_>) -> Result<Vec<Req
 }
 
 impl Monitor {
-    /// The job of its first reply.
-    fn first_job<'a>(
+    /// The job of its first reply, or of what its client lacks.
+    fn own_job<'a>(
         &'a self,
         alloc: Global,
         chains: &'a Chains,
+        first: bool,
     ) -> Result<odb_monitor::Job<'a>, AllocError>
         requires { AreLive chains.now (marks_in self.now) }
-        ensures { IfOk result (λ job. job ≡ model.first_job chains.now.db self.now.notation (asked_of self.now.tables)) }
+        ensures { IfOk result (λ job. job ≡ own_job first chains.now.db self.now) }
     {
         let tables = self.owed(alloc)?;
-        let parts = first_parts_of(alloc, chains, tables.as_slice())?;
-        Ok(odb_monitor::Job::new(self.kind, true, parts))
-    }
-
-    /// The job of what its client lacks.
-    fn asked_job<'a>(
-        &'a self,
-        alloc: Global,
-        chains: &'a Chains,
-    ) -> Result<odb_monitor::Job<'a>, AllocError>
-        requires { AreLive chains.now (marks_in self.now) }
-        ensures { IfOk result (λ job. job ≡ later_job self.now.notation (map (part_to chains.now.db) self.now.tables)) }
-    {
-        let tables = self.owed(alloc)?;
-        let parts = parts_of(alloc, chains, tables.as_slice())?;
-        Ok(odb_monitor::Job::new(self.kind, false, parts))
+        let parts = parts_of(alloc, chains, tables.as_slice(), first)?;
+        Ok(odb_monitor::Job::new(self.kind, first, parts))
     }
 
     /// The job of what its client lacks, as if these were its requests.

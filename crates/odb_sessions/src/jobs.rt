@@ -142,8 +142,7 @@ fn compose_all(alloc: Global, jobs: &[Job<'_>]) -> Result<Vec<Option<Arc<Vec<u8>
 {
     let mut bodies = Vec::with_capacity(alloc, jobs.len())?;
     for job in jobs {
-        let body = job.compose(alloc)?;
-        bodies.push_reserved(body);
+        bodies.push_reserved(job.compose(alloc)?);
     }
     Ok(bodies)
 }

@@ -5,8 +5,7 @@ ghost use Rattle.odb_chain.specs.Chains.{IsLive};
 ghost use Rattle.odb_monitor.specs.Represented.Sides.{table_then, told_in};
 ghost use Rattle.odb_monitor.specs.View.{selected};
 ghost use Rattle.odb_request.specs.Request as model_request;
-ghost use Rattle.odb_sessions.specs.Composed as model;
-ghost use Rattle.odb_sessions.specs.Composed.{IsKnown, all_asked_as, asked_as, part_to};
+ghost use Rattle.odb_sessions.specs.Composed.{IsKnown, all_asked_as, asked_as, part_in};
 ghost use Rattle.odb_sessions.specs.Represented.Told.{told_under};
 ghost use Rattle.odb_tables.specs.Database as model_table;
 ghost use Rattle.odb_tables.specs.Database.{table_at};
@@ -44,24 +43,23 @@ impl<'a> Model for Owed<'a> {
 }
 
 impl<'a> Owed<'a> {
-    /// The part of a job that leads the client to what the table is now. The costs are those of
-    /// `odb_chain::Chains::since`.
-    pub(crate) fn part(&self, alloc: Global, chains: &'a Chains) -> Result<Part<'a>, AllocError>
+    /// The part of a job that leads the client to what the table is now; in a first reply it was told nothing. The
+    /// costs are those of `odb_chain::Chains::since`, and O(1) in a first reply.
+    pub(crate) fn part(
+        &self,
+        alloc: Global,
+        chains: &'a Chains,
+        first: bool,
+    ) -> Result<Part<'a>, AllocError>
         requires { IsKnown chains.now self.now }
-        ensures { IfOk result (λ part. part ≡ part_to chains.now.db self.now) }
+        ensures { IfOk result (λ part. part ≡ part_in first chains.now.db self.now) }
     {
+        let table = chains.table(self.mark);
+        if first {
+            return Ok(Part::new(self.request, Told::Nothing, table, None));
+        }
         let changes = changes_since(alloc, chains, self.mark)?;
-        let table = chains.table(self.mark);
         Ok(Part::new(self.request, told_by(self.told), table, changes))
-    }
-
-    /// The part of a first reply. O(1).
-    pub(crate) fn first_part(&self, chains: &'a Chains) -> Part<'a>
-        requires { IsKnown chains.now self.now }
-        ensures { result ≡ model.first_part chains.now.db self.now.request }
-    {
-        let table = chains.table(self.mark);
-        Part::new(self.request, Told::Nothing, table, None)
     }
 }
 

@@ -159,5 +159,5 @@ pub(crate) fn parts_under<'a>(
     ensures { IfOk result (λ parts. parts.items ≡ map (part_to chains.now.db) (all_asked_as tables.now requests.now)) }
 {
     let owed = all_owed_as(alloc, tables, requests)?;
-    parts_of(alloc, chains, owed.as_slice())
+    parts_of(alloc, chains, owed.as_slice(), false)
 }

@@ -1,6 +1,6 @@
 use Rattle.std.proofs.Common.{rules, ◌≡◌, ◌+◌, ◌++◌, ◌<◌, ◌≤◌, List, [], ◌∷◌, arith, length, map, slice_index_or, subst, sym, ◌∙◌}
 use Rattle.odb_monitor.specs.Job.{Part}
-use Rattle.odb_sessions.specs.Composed.{IsKnown, part_to}
+use Rattle.odb_sessions.specs.Composed.{IsKnown, part_in}
 use Rattle.odb_sessions.specs.Held.{Watched}
 use Rattle.odb_sessions.proofs.Loops.{mapped_more}
 use Rattle.odb_sessions.proofs.composing.parts_of.Goals as goal
@@ -22,6 +22,6 @@ loop-owed-preserved c =
     let y : Watched = c.owed-item.result in
     let inside : i < length ws = search rules in
     let is : y ≡ slice_index_or ws i y = search rules in
-    let part : Part = part_to db y in
+    let part : Part = part_in c.args.first db y in
     let items : c.push_reserved.new.self.items ≡ c.loop-owed.parts.items ++ part ∷ [] = search rules in
-    (items ∙ (λ j. c.loop-owed.invariant.0 j ++ part ∷ []) ∙ sym (mapped_more (part_to db) ws i y inside is), search rules, search rules)
+    (items ∙ (λ j. c.loop-owed.invariant.0 j ++ part ∷ []) ∙ sym (mapped_more (part_in c.args.first db) ws i y inside is), search rules, search rules)

@@ -1,22 +1,32 @@
 use Rattle.std.proofs.Common.{rules, ◌≡◌, true, List, is_some, subst, sym, ap, ◌∙◌}
 use Rattle.std.proofs.lemmas.Result.{IfOk-weaker}
+use Rattle.odb_monitor.specs.Job.{Job, Part}
 use Rattle.odb_request.specs.Request.{Request}
-use Rattle.odb_sessions.specs.Held.{Held}
+use Rattle.odb_sessions.specs.Composed.{asked_of, first_job, first_part, own_job}
+use Rattle.odb_sessions.specs.Held.{Held, Watched}
 use Rattle.odb_sessions.specs.Represented.Job.{asked_by, filters_by, job_in}
 use Rattle.odb_sessions.specs.Represented.Under.{filters_in}
 use Rattle.odb_sessions.specs.declared.way.Way.TheVariants as way
+use Rattle.odb_sessions.proofs.Replays.{map-map}
 use Rattle.odb_sessions.proofs.Ways.{again_is, changed_is, is_again, is_changed, refiltered, told_by}
+use Rattle.odb_tables.specs.Database.{Db}
 use Rattle.odb_sessions.proofs.job.Job.differences.Goals as goal
+
+-- a first reply is of what is asked, whatever the client was told
+first_is : (db : Db) (x : Held) → own_job true db x ≡ first_job db x.notation (asked_of x.tables)
+first_is db x = ap (λ (ps : List Part). let j : Job = record { notation = x.notation; first = true; parts = ps } in j) (sym (map-map (λ (w : Watched). w.request) (first_part db) x.tables))
 
 pub returns-in-First : goal.returns-in-First
 returns-in-First c =
+    let db = c.self.inside.chains.now.db in
+    let x : Held = c.self.inside.monitor.now in
     let is : c.self.inside.way ≡ way.First = search rules in
-    IfOk-weaker c.first_job.result _ _ (λ job e. e ∙ ap (job_in c.self.inside.chains.now.db c.self.inside.monitor.now) (sym is) ∙ c.self.view_is) c.first_job.ensures
+    IfOk-weaker c.own_job.result _ _ (λ job e. e ∙ first_is db x ∙ ap (job_in db x) (sym is) ∙ c.self.view_is) c.own_job.ensures
 
 pub returns-in-Asked : goal.returns-in-Asked
 returns-in-Asked c =
     let is : c.self.inside.way ≡ way.Asked = search rules in
-    IfOk-weaker c.asked_job.result _ _ (λ job e. e ∙ ap (job_in c.self.inside.chains.now.db c.self.inside.monitor.now) (sym is) ∙ c.self.view_is) c.asked_job.ensures
+    IfOk-weaker c.own_job-in-Asked.result _ _ (λ job e. e ∙ ap (job_in c.self.inside.chains.now.db c.self.inside.monitor.now) (sym is) ∙ c.self.view_is) c.own_job-in-Asked.ensures
 
 pub changed_job-requires-clause-requests : goal.changed_job-requires-clause-requests
 changed_job-requires-clause-requests c =
