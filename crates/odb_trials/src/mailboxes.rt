@@ -34,35 +34,24 @@ struct Counts {
     left: usize,
 }
 
-/// Whether the hub takes an echo; it doesn't where it is Busy.
-fn takes<L: Ledger, R: Wait>(
-    rt: &R,
-    alloc: Global,
-    hub: &Hub<L>,
-    seat: &mut Seat<L>,
-) -> Result<bool, AllocError> {
-    let mut batch = Vec::new(alloc);
-    batch.push(request(alloc, ECHO)?)?;
-    match hub.submit_all(rt, seat, &mut batch, 0) {
-        Ok(_) => Ok(true),
-        Err(Refused::Busy) => Ok(false),
-        Err(_) => Err(AllocError),
-    }
-}
-
-/// How many echoes the hub takes before it is Busy.
+/// How many echoes the hub takes before it is Busy, of so many at most.
 fn taken<L: Ledger, R: Wait>(
     rt: &R,
     alloc: Global,
     hub: &Hub<L>,
     seat: &mut Seat<L>,
+    most: usize,
 ) -> Result<usize, AllocError> {
-    for count in 0..MOST {
-        if !takes(rt, alloc, hub, seat)? {
-            return Ok(count);
+    for count in 0..most {
+        let mut batch = Vec::new(alloc);
+        batch.push(request(alloc, ECHO)?)?;
+        match hub.submit_all(rt, seat, &mut batch, 0) {
+            Ok(_) => {}
+            Err(Refused::Busy) => return Ok(count),
+            Err(_) => return Err(AllocError),
         }
     }
-    Ok(MOST)
+    Ok(most)
 }
 
 /// How many replies to echoes the mailbox gives before it gives nothing, or something else.
@@ -107,7 +96,7 @@ fn beside<L: Ledger, R: Wait>(rt: &R, alloc: Global, hub: &Hub<L>) -> Result<usi
     let Ok((mut seat, mut mailbox)) = hub.open(rt) else {
         return Err(AllocError);
     };
-    let taken = takes(rt, alloc, hub, &mut seat);
+    let taken = taken(rt, alloc, hub, &mut seat, 1);
     let given = replies(&mut mailbox);
     part(rt, hub, seat);
     taken?;
@@ -123,7 +112,7 @@ fn count_all<L: Ledger, R: Wait + Clock>(
     let Ok((mut seat, mut mailbox)) = hub.open(rt) else {
         return Err(AllocError);
     };
-    let taken = taken(rt, alloc, hub, &mut seat);
+    let taken = taken(rt, alloc, hub, &mut seat, MOST);
     let other = beside(rt, alloc, hub);
     let given = replies(&mut mailbox);
     let rounds = run_rounds(rt, hub);
