@@ -10,7 +10,9 @@ use Rattle.odb_queue.specs.contracts.served_schema.ServedSchema as ServedSchema
 use Rattle.odb_queue.proofs.served_schema.ServedSchema.TheSendSync as served
 use Rattle.odb_core.specs.contracts.sessions.Sessions as Sessions
 use Rattle.odb_core.specs.contracts.submitted.Submitted as Submitted
+use Rattle.odb_core.specs.contracts.counts.Counts as Counts
 use Rattle.odb_core.specs.contracts.waiting.Waiting as Waiting
+use Rattle.odb_core.specs.contracts.waiting_list.WaitingList as WaitingList
 use Rattle.odb_core.specs.contracts.state.State as State
 use Rattle.odb_core.specs.contracts.server.Core as Core
 
@@ -23,6 +25,12 @@ Submitted-sync = search (Request-sync, sendable, heap.crosses) depth 20
 Waiting-send : IsSend (Waiting.the_field).row
 Waiting-send = search (Submitted-send, Submitted-sync, sendable, heap.crosses) depth 20
 
+Counts-send : IsSend (Counts.the_field).row
+Counts-send = search (sendable, heap.crosses, maps.crosses) depth 20
+
+WaitingList-send : IsSend (WaitingList.the_field).row
+WaitingList-send = search (Counts-send, Waiting-send, sendable, heap.crosses) depth 20
+
 Locks-send : IsSend (Locks.the_field).row
 Locks-send = locks.the_send
 
@@ -33,7 +41,7 @@ ServedSchema-send : IsSend (ServedSchema.the_field).row
 ServedSchema-send = served.the_send
 
 State-send : IsSend (State.the_field).row
-State-send = search (Locks-send, Sessions-send, Waiting-send, sendable, heap.crosses) depth 20
+State-send = search (Locks-send, Sessions-send, WaitingList-send, sendable, heap.crosses) depth 20
 
 pub Core-send : IsSend (Core.the_field).row
 Core-send = search (State-send, ServedSchema-send, sendable, heap.crosses) depth 20

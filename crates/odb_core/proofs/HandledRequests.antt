@@ -23,10 +23,6 @@ use Rattle.odb_service.specs.Session.{Item, Session}
 use Rattle.odb_service.specs.World.{Waiting, World, attempt, handle, on_outcome, post_to, retry_all, run_transaction, try_one, untried, with_waiting}
 use Rattle.odb_queue.specs.Represented.Answer.{call_at}
 use Rattle.odb_core.specs.Represented.Requests.{asks_transaction}
-use Rattle.odb_core.specs.Represented.Places.{split_at}
-use Rattle.odb_core.proofs.ListPlaces.{put_back, split_parts_at}
-use Rattle.std.specs.List.{insert, remove}
-use Rattle.std.proofs.lemmas.Option.{none-some, same_Some}
 use Rattle.odb_atoms.specs.FinMap.{get}
 use Rattle.odb_locks.specs.Locks.{owns}
 use Rattle.odb_service.proofs.Retried.{retried_none}
@@ -138,27 +134,8 @@ module _ (h : Service) where
   abbrev Split : Type 0
   Split = List Waiting × Waiting × List Waiting
 
-  tries_as : (w : World) (k : ℕ) (t : Split) (v : World) (o : Option Waiting) → attempt h t.1 (record w { waiting = remove w.waiting k }) ≡ (v, o) → try_one h t w ≡ record v { waiting = t.0 ++ option_to_list o ++ t.2 }
-  tries_as w k t v o e =
+  -- a try, where another list waits meanwhile
+  pub tries_beside : (w : World) (ps : List Waiting) (t : Split) (v : World) (o : Option Waiting) → attempt h t.1 (record w { waiting = ps }) ≡ (v, o) → try_one h t w ≡ record v { waiting = t.0 ++ option_to_list o ++ t.2 }
+  tries_beside w ps t v o e =
       ap (λ (r : Tried). record (r.0) { waiting = t.0 ++ option_to_list r.1 ++ t.2 })
-      (sym (beside t.1 (h.transact w.db (w.commits + 1) t.1.operations (record { fresh = t.1.fresh; arrival = t.1.arrival; now = w.now; owns = owns w.locks t.1.session })) w (remove w.waiting k)) ∙ e)
-
-  pub tries_ended : (w : World) (k : ℕ) (t : Split) (x : Waiting) (v : World) → split_at w.waiting k ≡ Some t → x ≡ t.1 → attempt h x (record w { waiting = remove w.waiting k }) ≡ (v, None) → try_one h t w ≡ v
-  tries_ended w k t x v at is e =
-      let e' : attempt h t.1 (record w { waiting = remove w.waiting k }) ≡ (v, None) = ap (λ p. attempt h p (record w { waiting = remove w.waiting k })) (sym is) ∙ e in
-      let parts : (t.0 ≡ take k w.waiting) × (t.2 ≡ drop (suc k) w.waiting) × (slice_get w.waiting k ≡ Some t.1) = split_parts_at w.waiting k t at in
-      tries_as w k t v None e'
-      ∙ ap (λ ps. record v { waiting = ps }) (ap (λ ps. ps ++ t.2) (append-nil t.0) ∙ (λ i. parts.0 i ++ parts.1 i) ∙ sym (attempt_waiting t.1 (record w { waiting = remove w.waiting k }) v None e'))
-
-  pub tries_waits : (w : World) (k : ℕ) (t : Split) (x y : Waiting) (v : World) → split_at w.waiting k ≡ Some t → x ≡ t.1 → k < length w.waiting → attempt h x (record w { waiting = remove w.waiting k }) ≡ (v, Some y) → try_one h t w ≡ record v { waiting = insert v.waiting k y }
-  tries_waits w k t x y v at is below e =
-      let e' : attempt h t.1 (record w { waiting = remove w.waiting k }) ≡ (v, Some y) = ap (λ p. attempt h p (record w { waiting = remove w.waiting k })) (sym is) ∙ e in
-      let parts : (t.0 ≡ take k w.waiting) × (t.2 ≡ drop (suc k) w.waiting) × (slice_get w.waiting k ≡ Some t.1) = split_parts_at w.waiting k t at in
-      tries_as w k t v (Some y) e'
-      ∙ ap (λ ps. record v { waiting = ps }) ((λ i. (parts.0 i ++ y ∷ []) ++ parts.1 i) ∙ sym (put_back w.waiting k y below) ∙ ap (λ ps. insert ps k y) (sym (attempt_waiting t.1 (record w { waiting = remove w.waiting k }) v (Some y) e')))
-
--- what stands at a place
-pub index_is : {A : Type 0} (xs : List A) (k : ℕ) (x d : A) → slice_get xs k ≡ Some x → slice_index_or xs k d ≡ x
-index_is [] k x d e = absurd (none-some x e)
-index_is (y ∷ ys) zero x d e = same_Some y x e
-index_is (y ∷ ys) (suc k) x d e = index_is ys k x d e
+      (sym (beside t.1 (h.transact w.db (w.commits + 1) t.1.operations (record { fresh = t.1.fresh; arrival = t.1.arrival; now = w.now; owns = owns w.locks t.1.session })) w ps) ∙ e)

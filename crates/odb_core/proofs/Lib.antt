@@ -22,3 +22,7 @@ pub mod AlikeDrafts
 pub mod PutChanges
 pub mod RetriedOnce
 pub mod ToldOutcomes
+pub mod WaitingCounts
+pub mod RetriedInTurn
+pub mod DueInTurn
+pub mod ToldNow

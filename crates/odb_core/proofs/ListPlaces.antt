@@ -1,4 +1,4 @@
--- Places in a list: the first that passes a test, and what taking out and putting in there gives.
+-- Places in a list: the first that passes a test.
 use Rattle.std.proofs.Common.{◌≡◌, ℕ, zero, suc, ◌+◌, ◌<◌, Bool, true, false, cond, not, nat_lt, List, [], ◌∷◌, ◌++◌, length, take, drop, Option, Some, None, refl, sym, ◌∙◌, ap, subst, arith}
 use Rattle.std.proofs.lemmas.Bool.Decides.{nat_tests}
 use Rattle.std.specs.Prelude.{option_map, option_and_then, slice_get}
@@ -41,54 +41,3 @@ first_at {A} p (x ∷ xs) =
           ∙ ap (λ b. option_and_then (split_at (x ∷ xs)) (cond b (Some (suc n)) None)) (sym below)
           ∙ ap (λ m. option_and_then (split_at (x ∷ xs)) (cond (nat_lt m (suc (length xs))) (Some m) None)) (sym one_more)
     ]
-
--- what is taken out at a place is put in there again
-pub put_back : {A : Type 0} (xs : List A) (k : ℕ) (y : A) → k < length xs → insert (remove xs k) k y ≡ (take k xs ++ y ∷ []) ++ drop (suc k) xs
-put_back [] k y h = absurd (omega arith)
-put_back (x ∷ xs) zero y h = refl
-put_back (x ∷ xs) (suc k) y h = ap (λ ys. x ∷ ys) (put_back xs k y (omega (arith, h)))
-
-pub split_parts_at : {A : Type 0} (xs : List A) (k : ℕ) (t : Split A) → split_at xs k ≡ Some t → (t.0 ≡ take k xs) × (t.2 ≡ drop (suc k) xs) × (slice_get xs k ≡ Some t.1)
-split_parts_at {A} xs k t e = by (slice_get xs k) refl e
-  where
-    by : (o : Option A) → slice_get xs k ≡ o → option_map (λ y. let t : Split A = (take k xs, y, drop (suc k) xs) in t) o ≡ Some t → (t.0 ≡ take k xs) × (t.2 ≡ drop (suc k) xs) × (slice_get xs k ≡ Some t.1)
-    by None is e = absurd (none-some t e)
-    by (Some y) is e =
-        let same : (let u : Split A = (take k xs, y, drop (suc k) xs) in u) ≡ t = same_Some _ t e in
-        (ap (λ (u : Split A). u.0) (sym same), ap (λ (u : Split A). u.2) (sym same), is ∙ ap (λ (u : Split A). Some u.1) same)
-
-position_below : {A : Type 0} (p : A → Bool) (xs : List A) (k : ℕ) → position p xs ≡ Some k → k < length xs
-position_below p xs k e = by (nat_lt n (length xs)) refl e
-  where
-    n : ℕ
-    n = position_or_len p xs
-
-    by : (b : Bool) → nat_lt n (length xs) ≡ b → cond b (Some n) None ≡ Some k → k < length xs
-    by true is e =
-        let below : n < length xs = grind (arith, nat_tests) in
-        subst (λ m. m < length xs) (same_Some n k e) below
-    by false is e = absurd (none-some k e)
-
-there_at : {A : Type 0} (xs : List A) (k : ℕ) → k < length xs → (x : A) × (slice_get xs k ≡ Some x)
-there_at [] k h = absurd (omega arith)
-there_at (x ∷ xs) zero h = (x, refl)
-there_at (x ∷ xs) (suc k) h = there_at xs k (omega (arith, h))
-
--- the first that passes, by its position
-pub record IsFirst {A : Type 0} (p : A → Bool) (xs : List A) (k : ℕ) : Type 0 where
-  pub parts : Split A
-  pub below : k < length xs
-  pub split : split_at xs k ≡ Some parts
-  pub first : split_first p xs ≡ Some parts
-  pub there : slice_get xs k ≡ Some parts.1
-
-pub first_found : {A : Type 0} (p : A → Bool) (xs : List A) (k : ℕ) → position p xs ≡ Some k → IsFirst p xs k
-first_found {A} p xs k e =
-    let below : k < length xs = position_below p xs k e in
-    let at : (x : A) × (slice_get xs k ≡ Some x) = there_at xs k below in
-    let t : Split A = (take k xs, at.0, drop (suc k) xs) in
-    let cut : split_at xs k ≡ Some t = ap (option_map (λ x. let u : Split A = (take k xs, x, drop (suc k) xs) in u)) at.1 in
-    record { parts = t; below = below; split = cut; first = first_at p xs ∙ ap (option_and_then (split_at xs)) e ∙ cut; there = at.1 }
-
-pub first_missing : {A : Type 0} (p : A → Bool) (xs : List A) → position p xs ≡ None → split_first p xs ≡ None
-first_missing p xs e = first_at p xs ∙ ap (option_and_then (split_at xs)) e

@@ -29,7 +29,7 @@ abbrev Split : Type 0 → Type 0
 Split A = List A × A × List A
 
 -- the first that passes stands after those that don't
-first_of : {A : Type 0} (test : A → Bool) (done : List A) (p : A) (rest : List A) → Each (λ x. test x ≡ false) done → test p ≡ true → split_first test (done ++ p ∷ rest) ≡ Some (let t : Split A = (done, p, rest) in t)
+pub first_of : {A : Type 0} (test : A → Bool) (done : List A) (p : A) (rest : List A) → Each (λ x. test x ≡ false) done → test p ≡ true → split_first test (done ++ p ∷ rest) ≡ Some (let t : Split A = (done, p, rest) in t)
 first_of {A} test [] p rest none is =
     ap (λ b. cond b (Some (let t : Split A = ([], p, rest) in t)) (option_map (λ t. let u : Split A = (p ∷ t.0, t.1, t.2) in u) (split_first test rest))) is
 first_of {A} test (x ∷ done) p rest none is =
@@ -88,7 +88,7 @@ module _ (s : Schema) (w : World) where
     transacted = outcome_of w.db (outcome_in s w a)
 
     -- what a try of it is
-    attempt_is : (v : World) (o : Outcome) → v.db ≡ w.db → v.commits ≡ w.commits → v.now ≡ w.now → v.locks ≡ w.locks → transacted ≡ o → attempt (served_by s) p v ≡ on_outcome (served_by s) p o v
+    pub attempt_is : (v : World) (o : Outcome) → v.db ≡ w.db → v.commits ≡ w.commits → v.now ≡ w.now → v.locks ≡ w.locks → transacted ≡ o → attempt (served_by s) p v ≡ on_outcome (served_by s) p o v
     attempt_is v o db commits now locks e =
         let from : World = record w { waiting = v.waiting; sessions = v.sessions } in
         let same : from ≡ v = λ i. record { db = sym db i; commits = sym commits i; now = sym now i; waiting = v.waiting; locks = sym locks i; sessions = v.sessions } in

@@ -9,3 +9,6 @@ pub mod Rounds
 pub mod Sessions
 pub mod Foreseen
 pub mod Spared
+pub mod Counts
+pub mod Retrying
+pub mod Due

@@ -1,10 +1,11 @@
 //! What becomes of the transactions that wait where a change is made, told by reading alone before it is made
 //! (RFC 7047, section 5.2.6). [P 12.2]
 
-ghost use Rattle.std.specs.Prelude.{◌≡◌, ◌<◌, ℕ, false, length, map, slice_set, true, IfOk, IfSome, None, OnOk};
+ghost use Rattle.std.specs.Prelude.{◌≡◌, ◌<◌, ◌++◌, ◌∷◌, [], ℕ, false, length, map, slice_set, true, IfOk, IfSome, None, OnOk};
 ghost use Rattle.odb_atoms.specs.Represented.Atom.{uuid_of};
 ghost use Rattle.odb_atoms.specs.Uuid.{zero_uuid};
 ghost use Rattle.odb_commit.specs.Sound.{IsSound};
+ghost use Rattle.odb_integrity.specs.Settled.{IsSettled};
 ghost use Rattle.odb_queue.specs.Represented.Post.{post_of};
 ghost use Rattle.odb_service.specs.Service.{Service};
 ghost use Rattle.odb_service.specs.World.{untried};
@@ -14,12 +15,14 @@ ghost use Rattle.odb_tables.specs.Installing.{IsChangeOf};
 ghost use Rattle.odb_tables.specs.Typed.{IsTyped};
 ghost use Rattle.odb_core.specs.declared.foreseen.Told.TheVariants as told;
 ghost use Rattle.odb_core.specs.Represented.Spared.{AreSpared, IsSpared};
-ghost use Rattle.odb_core.specs.Represented.Foreseen.{committed, over, with_side, with_sides, IsForeseen, IsPrintable, Notes, Tells};
+ghost use Rattle.odb_core.specs.Represented.Foreseen.{committed, is_reading, over, with_side, with_sides, IsForeseen, IsPrintable, Notes, Tells, TellsRead};
 
-use crate::state::State;
+use crate::state::{MAX_ROWS, State};
 use crate::submitted::Submitted;
 use crate::waiting::Waiting;
-use odb_ops::{Context, Ran, run};
+use crate::waiting_list::WaitingList;
+use odb_integrity::stays_settled;
+use odb_ops::{Context, Ran, only_reads, run};
 use odb_queue::{Post, replied};
 use odb_schema::{Schema, TableId};
 use odb_tables::{ChangeSet, Draft, RowChange, TableChange};
@@ -42,11 +45,31 @@ pub(crate) enum Told {
 /// order, and the replies of those that end.
 #[derive(Drop)]
 pub(crate) struct Foreseen {
-    pub(crate) left: Vec<Waiting>,
+    pub(crate) left: WaitingList,
     pub(crate) posts: Vec<Post>,
 }
 
 impl Foreseen {
+    /// Nothing yet.
+    pub(crate) fn new(alloc: Global) -> Foreseen
+        ensures left { result.left ≡ [] }
+        ensures posts { result.posts.items ≡ [] }
+    {
+        Foreseen {
+            left: WaitingList::new(alloc),
+            posts: Vec::new(alloc),
+        }
+    }
+
+    /// One waits on, and isn't tried.
+    pub(crate) fn pass_over(&mut self, waiting: &Waiting) -> Result<bool, AllocError>
+        ensures left { OnOk result (self.new.left ≡ self.old.left ++ waiting.now ∷ []) }
+        ensures posts { self.new.posts.items ≡ self.old.posts.items }
+    {
+        self.left.push(waiting.clone()?)?;
+        Ok(true)
+    }
+
     /// Notes what is told of one more; `false` where nothing is.
     pub(crate) fn note(
         &mut self,
@@ -56,7 +79,7 @@ impl Foreseen {
         commits: u64,
     ) -> Result<bool, AllocError>
         requires { IsPrintable told }
-        ensures { IfOk result (λ noted. noted ≡ true → Notes told waiting.now commits self.old.left.items self.new.left.items (map post_of self.old.posts.items) (map post_of self.new.posts.items)) }
+        ensures { IfOk result (λ noted. noted ≡ true → Notes told waiting.now commits self.old.left self.new.left (map post_of self.old.posts.items) (map post_of self.new.posts.items)) }
     {
         match told {
             Told::Nothing => Ok(false),
@@ -73,7 +96,7 @@ impl Foreseen {
         results: Vec<Value>,
     ) -> Result<bool, AllocError>
         requires { IsPrintable (told.Ends results) }
-        ensures { IfOk result (λ noted. Notes (told.Ends results) waiting.now 0 self.old.left.items self.new.left.items (map post_of self.old.posts.items) (map post_of self.new.posts.items)) }
+        ensures { IfOk result (λ noted. Notes (told.Ends results) waiting.now 0 self.old.left self.new.left (map post_of self.old.posts.items) (map post_of self.new.posts.items)) }
     {
         let asked = waiting.submitted();
         let item = replied(alloc, &asked.request, &Value::from(results))?;
@@ -89,7 +112,7 @@ impl Foreseen {
         deadline: Option<u64>,
         commits: u64,
     ) -> Result<bool, AllocError>
-        ensures { IfOk result (λ noted. Notes (told.Waits deadline) waiting.now commits self.old.left.items self.new.left.items (map post_of self.old.posts.items) (map post_of self.new.posts.items)) }
+        ensures { IfOk result (λ noted. Notes (told.Waits deadline) waiting.now commits self.old.left self.new.left (map post_of self.old.posts.items) (map post_of self.new.posts.items)) }
     {
         let waiting = waiting.clone()?;
         self.left.push(waiting.tried_again(deadline, commits))?;
@@ -99,7 +122,8 @@ impl Foreseen {
 
 impl State {
     /// What becomes of those that wait where the change is the next commit; `None` where one of them may change
-    /// the database. For each: what its operations cost, and O(tables) and a copy of the rows of the change.
+    /// the database. For each: what its operations cost, O(tables), a copy of the rows of the change, and
+    /// O(columns of the schema) where it ends.
     pub(crate) fn foresee(
         &self,
         schema: &Schema,
@@ -108,14 +132,11 @@ impl State {
         requires change { IsChangeOf self.now.db change.now }
         requires sound { IsSound schema.now (all_changed_by self.now.db change.now) }
         requires tried { (h : Service) → untried h self.now ≡ None }
-        ensures { IfOk result (λ found. IfSome found (λ f. IsForeseen schema.now (committed change.now self.entry.now) f.left.items (map post_of f.posts.items))) }
+        ensures { IfOk result (λ found. IfSome found (λ f. IsForeseen schema.now (committed change.now self.entry.now) f.left (map post_of f.posts.items))) }
     {
         let commits = self.commits.checked_add(1).ok_or(AllocError)?;
-        let mut foreseen = Foreseen {
-            left: Vec::with_capacity(self.alloc, self.waiting.len())?,
-            posts: Vec::new(self.alloc),
-        };
-        for waiting in &self.waiting {
+        let mut foreseen = Foreseen::new(self.alloc);
+        for waiting in self.waiting.as_slice() {
             let told = self.tell(schema, change, waiting.submitted())?;
             if !foreseen.note(self.alloc, waiting, told, commits)? {
                 return Ok(None);
@@ -154,6 +175,7 @@ impl State {
         asked: &Submitted,
     ) -> Result<Told, AllocError>
         requires typed { IsTyped schema.now draft.old.now }
+        requires settled { IsSettled schema.now draft.old.now }
         requires long { length draft.old.removed ≡ length draft.old.now }
         requires zero { IsSpared draft.old.removed zero_uuid }
         requires fresh { AreSpared draft.old.removed (map uuid_of asked.now.fresh.items) }
@@ -167,11 +189,29 @@ impl State {
             owned: owned.as_slice(),
         };
         match run(self.alloc, draft, schema, asked.operations(), &context)? {
-            Ran::Finished(_) => Ok(Told::Nothing),
+            Ran::Finished(results) => Ok(told_read(draft, schema, asked, results)),
             Ran::Failed(results) => Ok(Told::Ends { results }),
             Ran::Waiting(deadline) => Ok(Told::Waits { deadline }),
         }
     }
+}
+
+/// What is told of a transaction whose operations went through with these results, on the database as they
+/// left it: that it ends with them, where none of them changes a row and a settlement certainly leaves the
+/// database too; else nothing. O(operations), and where these only read O(rows touched), O(tables) and
+/// O(columns of the schema).
+fn told_read(draft: &Draft<'_>, schema: &Schema, asked: &Submitted, results: Vec<Value>) -> Told
+    requires typed { is_reading asked.now ≡ true → IsTyped schema.now draft.now.now }
+    requires settled { is_reading asked.now ≡ true → IsSettled schema.now draft.now.now }
+    ensures { TellsRead schema.now draft.now.now asked.now results result }
+{
+    if !only_reads(asked.operations()) {
+        return Told::Nothing;
+    }
+    if !stays_settled(draft, schema, MAX_ROWS) {
+        return Told::Nothing;
+    }
+    Told::Ends { results }
 }
 
 /// Whether a row of this identifier was taken out of the draft. O(tables).

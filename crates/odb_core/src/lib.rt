@@ -4,6 +4,8 @@
 //! unless its own page says otherwise. A call whose result has no such error takes no memory.
 #![tactic(auto)]
 
+mod counts;
+mod due;
 mod foreseen;
 mod jobs;
 mod locking;
@@ -15,6 +17,7 @@ mod sessions;
 mod state;
 mod submitted;
 mod waiting;
+mod waiting_list;
 
 pub use jobs::{Jobs, Prepared};
 pub use odb_locks::SessionId;

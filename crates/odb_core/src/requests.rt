@@ -63,8 +63,7 @@ impl State {
     }
 
     /// Whether to refuse the request as Busy: it needs a reply, and the session is already owed
-    /// `MAX_OWED`. `None` where the session isn't open. O(log n + waiting transactions) for n
-    /// sessions.
+    /// `MAX_OWED`. `None` where the session isn't open. O(log n) for n sessions.
     pub(crate) fn is_busy(&self, session: SessionId, request: &Request) -> Option<bool>
         ensures { (h : Service) (s : Schema) → result ≡ option_map (λ x. has_reply (call_at s (request_data request.now))
             && not (nat_lt (owed_replies h session x self.entry.now) max_owed)) (get self.entry.now.sessions session) }
@@ -73,14 +72,11 @@ impl State {
         self.sessions.owes_too_many(session, request, waiting)
     }
 
-    /// How many transactions of the session wait.
+    /// How many transactions of the session wait. O(log n).
     fn waiting_of(&self, session: SessionId) -> usize
         ensures { result ≡ count_by (λ p. p.session == session) self.entry.now.waiting }
     {
-        self.waiting
-            .iter()
-            .filter(|waiting| waiting.belongs_to(session))
-            .count()
+        self.waiting.count_of(session)
     }
 
     fn handle(
@@ -218,7 +214,7 @@ impl State {
         let Some(place) = self.place_of(session, &text) else {
             return Ok(());
         };
-        let request = &self.waiting[place].submitted().request;
+        let request = &self.waiting.at(place).submitted().request;
         let reply = failed(self.alloc, request, Failure::Canceled)?;
         self.post(session, reply)?;
         drop(self.waiting.remove(place));
@@ -230,6 +226,7 @@ impl State {
         ensures { result ≡ position (is_named session id.now) self.entry.now.waiting }
     {
         self.waiting
+            .as_slice()
             .iter()
             .position(|waiting| waiting.has_id_and_session(session, id))
     }
@@ -246,7 +243,7 @@ impl State {
         let posts = notices(self.alloc, &lock_notices)?;
         drop(self.sessions.post_all(posts)?);
         self.locks.forget_session(session);
-        self.waiting.retain(|waiting| !waiting.belongs_to(session));
+        self.waiting.end_session(session);
         self.sessions.close(session);
         Ok(())
     }
@@ -261,24 +258,43 @@ impl State {
         ensures tried { (h : Service) → untried h self.new ≡ None }
         ensures err { OnErr result (self.new ≡ self.old) }
     {
-        let moment = self.now.max(now);
+        let before = self.moment();
+        let moment = before.max(now);
+        self.set_moment(moment);
         if !self.has_due(moment) {
-            self.now = moment;
             return Ok(());
         }
-        let mut copy = self.try_copy()?;
-        copy.now = moment;
-        copy.try_due(schema)?;
-        copy.retry_all(schema)?;
-        *self = copy;
-        Ok(())
+        match self.end_due(schema) {
+            Ok(()) => Ok(()),
+            Err(refused) => {
+                self.set_moment(before);
+                Err(refused)
+            }
+        }
+    }
+
+    /// The moment now.
+    fn moment(&self) -> u64
+        ensures { result ≡ self.entry.now.now }
+    {
+        self.now
+    }
+
+    /// The moment becomes this one.
+    fn set_moment(&mut self, now: u64)
+        ensures { self.new ≡ record (self.old) { now = now } }
+    {
+        self.now = now;
     }
 
     /// Whether the deadline of a transaction has come by this moment. O(waiting transactions).
     fn has_due(&self, moment: u64) -> bool
         ensures { result ≡ list_any (λ p. is_due moment p.deadline) self.entry.now.waiting }
     {
-        self.waiting.iter().any(|waiting| waiting.is_due(moment))
+        self.waiting
+            .as_slice()
+            .iter()
+            .any(|waiting| waiting.is_due(moment))
     }
 }
 

@@ -35,6 +35,7 @@ use crate::jobs::Prepared;
 use crate::sessions::Sessions;
 use crate::submitted::Submitted;
 use crate::waiting::{Tried, Waiting};
+use crate::waiting_list::WaitingList;
 use odb_commit::{Outcome, transact};
 use odb_locks::{Locks, SessionId};
 use odb_ops::Context;
@@ -49,10 +50,9 @@ use serde_json::Value;
 use std::alloc::{AllocError, Global};
 use std::hash::RandomState;
 use std::marker::Model;
-use std::mem;
 
 /// The rows that a database may have.
-const MAX_ROWS: usize = 1_000_000;
+pub(crate) const MAX_ROWS: usize = 1_000_000;
 
 /// The database with its commits and the open sessions, the moment, the transactions that wait in order of
 /// arrival, and the locks. Contracts see it as the state of the service machine (`specs/World.antt`).
@@ -61,7 +61,7 @@ pub(crate) struct State {
     pub(crate) alloc: Global,
     pub(crate) commits: u64,
     pub(crate) now: u64,
-    pub(crate) waiting: Vec<Waiting>,
+    pub(crate) waiting: WaitingList,
     pub(crate) locks: Locks,
     pub(crate) sessions: Sessions,
 }
@@ -74,19 +74,18 @@ impl Model for State {
 
     ghost coded = { world_code };
 
-    ghost view = { λ s. record { db = s.sessions.db; commits = s.commits; now = s.now; waiting = s.waiting.items; locks = s.locks; sessions = s.sessions.sessions } };
+    ghost view = { λ s. record { db = s.sessions.db; commits = s.commits; now = s.now; waiting = s.waiting; locks = s.locks; sessions = s.sessions.sessions } };
 }
 
 impl State {
-    ghost use Rattle.std.specs.Prelude.{ℕ, List, ◌<◌};
-    ghost use Rattle.std.specs.List.{position};
+    ghost use Rattle.std.specs.Prelude.{ℕ, List, ◌≤◌, ◌&&◌, if◌then◌else◌, option_to_list};
     ghost use Rattle.odb_service.specs.World as model;
-    ghost use Rattle.odb_service.specs.World.{attempt, end_transaction, is_untried, post, retry_all};
-    ghost use Rattle.odb_service.specs.World.{run_transaction, try_due, try_one, untried};
+    ghost use Rattle.odb_service.specs.World.{World, attempt, end_transaction, is_untried, post, retry_all};
+    ghost use Rattle.odb_service.specs.World.{run_transaction, try_due, untried, with_waiting};
     ghost use Rattle.odb_queue.specs.Represented.Item.{item_of};
     ghost use Rattle.odb_queue.specs.Represented.Post.{post_of};
     ghost use Rattle.odb_core.specs.Represented.Core.{empty_world};
-    ghost use Rattle.odb_core.specs.Represented.Places.{split_at};
+    ghost use Rattle.odb_core.specs.Represented.Retrying.{IsRetrying};
 
     /// Empty tables that keep what the schema asks for, at moment 0, with no commit and no session.
     pub(crate) fn new(
@@ -101,14 +100,14 @@ impl State {
             alloc,
             commits: 0,
             now: 0,
-            waiting: Vec::new(alloc),
+            waiting: WaitingList::new(alloc),
             locks: Locks::new(alloc),
             sessions: Sessions::new(alloc, db, hashing)?,
         })
     }
 
     /// What a transaction comes to now, as the next commit. Nothing is changed.
-    fn outcome(&self, schema: &Schema, asked: &Submitted) -> Result<Outcome, AllocError>
+    pub(crate) fn outcome(&self, schema: &Schema, asked: &Submitted) -> Result<Outcome, AllocError>
         requires { IsSound schema.now self.now.db }
         ensures { IfOk result (λ outcome. Answers schema.now self.entry.now.db outcome (outcome_in schema.now self.entry.now asked.now)) }
     {
@@ -230,43 +229,96 @@ impl State {
         }
     }
 
-    /// Where the earliest transaction stands that wasn't tried since the newest commit. O(waiting).
-    fn first_untried(&self) -> Option<usize>
-        ensures { result ≡ position (is_untried self.entry.now.commits) self.entry.now.waiting }
-    {
-        self.waiting
-            .iter()
-            .position(|waiting| waiting.is_untried(self.commits))
-    }
-
-    /// Tries the transaction that waits at this place again: where it has to wait it stays there.
-    fn try_at(&mut self, schema: &Schema, place: usize) -> Result<(), AllocError>
-        requires sound { IsSound schema.now self.old.db }
-        requires place { place < length self.old.waiting }
-        ensures ok { OnOk result ((t : List model.Waiting × model.Waiting × List model.Waiting) → split_at self.old.waiting place ≡ Some t
-            → try_one (served_by schema.now) t self.old ≡ self.new) }
-        ensures sound { IsSound schema.now self.new.db }
-    {
-        let waiting = self.waiting.remove(place);
-        if let Some(waiting) = self.retried(schema, waiting)? {
-            self.waiting.insert(place, waiting)?;
-        }
-        Ok(())
-    }
-
     /// Tries each transaction that waits and wasn't tried since the newest commit, the earliest
     /// first, until there is none (RFC 7047, section 5.2.6). After an error the state is of no
-    /// further use.
+    /// further use. O(waiting) besides the tries, and once more for each that changes the database.
     pub(crate) fn retry_all(&mut self, schema: &Schema) -> Result<(), AllocError>
         requires { IsSound schema.now self.old.db }
         ensures ok { OnOk result (retry_all (served_by schema.now) self.old ≡ self.new) }
         ensures tried { OnOk result ((h : Service) → untried h self.new ≡ None) }
         ensures sound { IsSound schema.now self.new.db }
     {
-        while let Some(place) = self.first_untried() {
-            self.try_at(schema, place)?;
+        let mut changed = true;
+        while changed {
+            changed = self.retry_until_commit(schema)?;
         }
         Ok(())
+    }
+
+    /// Tries them in that order until one changes the database, and returns whether one did.
+    fn retry_until_commit(&mut self, schema: &Schema) -> Result<bool, AllocError>
+        requires { IsSound schema.now self.old.db }
+        ensures ok { IfOk result (λ changed. retry_all (served_by schema.now) self.old ≡ retry_all (served_by schema.now) self.new) }
+        ensures tried { IfOk result (λ changed. changed ≡ false → (h : Service) → untried h self.new ≡ None) }
+        ensures fewer { IfOk result (λ changed. (if changed then 1 else 0) + length self.new.waiting ≤ length self.old.waiting) }
+        ensures sound { IsSound schema.now self.new.db }
+    {
+        let commits = self.count_of_commits();
+        let earlier = self.take_waiting();
+        for waiting in earlier {
+            self.retry_next(schema, waiting, commits)?;
+        }
+        Ok(self.count_of_commits() != commits)
+    }
+
+    /// How many commits there were.
+    fn count_of_commits(&self) -> u64
+        ensures { result ≡ self.entry.now.commits }
+    {
+        self.commits
+    }
+
+    /// Tries the next one of them, where there are still as many commits and it wasn't tried at these. It goes
+    /// after those that wait, unless it ends.
+    fn retry_next(
+        &mut self,
+        schema: &Schema,
+        waiting: Waiting,
+        commits: u64,
+    ) -> Result<(), AllocError>
+        requires { IsSound schema.now self.old.db }
+        ensures ok { OnOk result ((old : World) (rest : List model.Waiting) → IsRetrying schema.now old self.old commits (waiting ∷ rest) → IsRetrying schema.now old self.new commits rest) }
+        ensures sound { IsSound schema.now self.new.db }
+    {
+        if !self.is_to_try(&waiting, commits) {
+            return self.keep(waiting);
+        }
+        self.retry(schema, waiting)
+    }
+
+    /// Tries one that waited. It goes after those that wait, unless it ends.
+    fn retry(&mut self, schema: &Schema, waiting: Waiting) -> Result<(), AllocError>
+        requires { IsSound schema.now self.old.db }
+        ensures ok { OnOk result (with_waiting (served_by schema.now) (λ ps o. ps ++ option_to_list o) self.old.waiting (attempt (served_by schema.now) waiting self.old) ≡ self.new) }
+        ensures sound { IsSound schema.now self.new.db }
+    {
+        if let Some(waiting) = self.retried(schema, waiting)? {
+            self.keep(waiting)?;
+        }
+        Ok(())
+    }
+
+    /// Whether there are as many commits as that, and the transaction wasn't tried at these.
+    fn is_to_try(&self, waiting: &Waiting, commits: u64) -> bool
+        ensures { result ≡ (self.entry.now.commits == commits) && is_untried commits waiting.now }
+    {
+        self.commits == commits && waiting.is_untried(commits)
+    }
+
+    /// Takes out all that wait.
+    fn take_waiting(&mut self) -> Vec<Waiting>
+        ensures all { result.items ≡ self.old.waiting }
+        ensures none { self.new ≡ record (self.old) { waiting = [] } }
+    {
+        self.waiting.take_all()
+    }
+
+    /// Puts one after those that wait.
+    fn keep(&mut self, waiting: Waiting) -> Result<(), AllocError>
+        ensures ok { OnOk result (self.new ≡ record (self.old) { waiting = self.old.waiting ++ waiting ∷ [] }) }
+        ensures err { OnErr result (self.new ≡ self.old) }
+    {
+        self.waiting.push(waiting)
     }
 
     /// Tries each transaction whose deadline has come, in order of arrival. After an error the state is of
@@ -276,7 +328,7 @@ impl State {
         ensures ok { OnOk result (try_due (served_by schema.now) self.old.waiting (record (self.old) { waiting = [] }) ≡ self.new) }
         ensures sound { IsSound schema.now self.new.db }
     {
-        let earlier = mem::replace(&mut self.waiting, Vec::new(self.alloc));
+        let earlier = self.take_waiting();
         for waiting in earlier {
             self.try_if_due(schema, waiting)?;
         }
@@ -289,13 +341,9 @@ impl State {
         ensures sound { IsSound schema.now self.new.db }
     {
         if !waiting.is_due(self.now) {
-            self.waiting.push(waiting)?;
-            return Ok(());
+            return self.keep(waiting);
         }
-        if let Some(waiting) = self.retried(schema, waiting)? {
-            self.waiting.push(waiting)?;
-        }
-        Ok(())
+        self.retry(schema, waiting)
     }
 
     /// A new transaction (RFC 7047, section 4.1.3): it ends, or waits after the others. Where
@@ -349,7 +397,7 @@ impl State {
             self.reply(asked, results)?;
             return Ok(());
         }
-        if self.waiting.is_empty() {
+        if self.waiting.as_slice().is_empty() {
             self.commit(asked, results, change)?;
             return Ok(());
         }
@@ -418,7 +466,7 @@ impl State {
     ) -> Result<(), AllocError>
         requires float { has_float (array_of (results_of results)) ≡ false }
         requires change { IsChangeOf self.old.db change }
-        ensures ok { OnOk result ((s : Schema) → self.new ≡ standing foreseen.left.items (map post_of foreseen.posts.items) (at_number (ended_in s (reply_with asked.now results)) self.old.sessions asked.now.session) (committed change self.old)) }
+        ensures ok { OnOk result ((s : Schema) → self.new ≡ standing foreseen.left (map post_of foreseen.posts.items) (at_number (ended_in s (reply_with asked.now results)) self.old.sessions asked.now.session) (committed change self.old)) }
         ensures err { OnErr result (self.new ≡ self.old) }
     {
         let commits = self.commits.checked_add(1).ok_or(AllocError)?;
@@ -440,12 +488,7 @@ impl State {
         ensures err { OnErr result (self.new ≡ self.old) }
         ensures back { IfErr result (λ back. back.0 ≡ asked) }
     {
-        if self.waiting.reserve(1).is_err() {
-            return Err((asked, AllocError));
-        }
-        let waiting = Waiting::new(self.alloc, asked, deadline, self.commits)?;
-        self.waiting.push_reserved(waiting);
-        Ok(())
+        self.waiting.wait(asked, deadline, self.commits)
     }
 
     /// Gives each listed session that is open its next message, if it has one, in the order of the list. Where
@@ -489,7 +532,7 @@ impl State {
             alloc: self.alloc,
             commits: self.commits,
             now: self.now,
-            waiting: self.waiting.clone()?,
+            waiting: self.waiting.try_copy()?,
             locks: self.locks.try_copy(self.alloc)?,
             sessions: self.sessions.try_copy()?,
         })
@@ -514,7 +557,7 @@ fn back_on_error(
 }
 
 /// Whether the change has a row. O(tables).
-fn changes_rows(change: &ChangeSet) -> bool
+pub(crate) fn changes_rows(change: &ChangeSet) -> bool
     ensures { result ≡ list_any (λ c. nat_lt 0 (finite.len c)) change.now }
 {
     change.tables().iter().any(|table| has_rows(table))

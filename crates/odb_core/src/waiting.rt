@@ -99,6 +99,13 @@ impl Waiting {
         self.tried != commits
     }
 
+    /// The session that asked for it. O(1).
+    pub(crate) fn session(&self) -> SessionId
+        ensures { result ≡ self.now.session }
+    {
+        self.submitted.session
+    }
+
     /// Whether it is the session's. O(1).
     pub(crate) fn belongs_to(&self, session: SessionId) -> bool
         ensures { result ≡ (self.now.session == session) }

@@ -1,6 +1,6 @@
 -- Transcripts of section 12 of docs/PROTOCOL.md. Made by `tests/examples` from transcripts/: no hand writes here.
 use Rattle.std.specs.Prelude.{◌∷◌, [], codes, refl}
-use Rattle.odb_examples.proofs.TestSchemas.{net}
+use Rattle.odb_examples.proofs.TestSchemas.{net, settlement}
 use Rattle.odb_examples.proofs.Transcripts.{Plays, shows}
 
 -- A deadline counts from the arrival, and no moment is before an earlier one
@@ -75,6 +75,20 @@ pub a_commit_wakes_a_waiting_transaction : Plays net (
 unfolding shows
 a_commit_wakes_a_waiting_transaction = refl
 
+-- A select after a wait shows the commit that met it
+pub a_select_after_a_wait_shows_the_commit_that_met_it : Plays net (
+    codes "> A transact 1 {\"op\":\"wait\",\"table\":\"Bridge\",\"where\":[],\"columns\":[\"name\"],\"until\":\"!=\",\"rows\":[]},{\"op\":\"select\",\"table\":\"Bridge\",\"where\":[],\"columns\":[\"name\",\"_version\"]}"
+    ∷ codes "> B transact 1 {\"op\":\"insert\",\"table\":\"Bridge\",\"row\":{\"name\":\"b\"}}"
+    ∷ codes "< A reply 1 [{},{\"rows\":[{\"_version\":[\"uuid\",\"V1\"],\"name\":\"b\"}]}]"
+    ∷ codes "< B reply 1 [{\"uuid\":[\"uuid\",\"U1\"]}]"
+    ∷ codes "> B transact 2 {\"op\":\"insert\",\"table\":\"Bridge\",\"row\":{\"name\":\"c\"}}"
+    ∷ codes "< B reply 2 [{\"uuid\":[\"uuid\",\"U2\"]}]"
+    ∷ codes "> B transact 3 {\"op\":\"select\",\"table\":\"Bridge\",\"where\":[[\"name\",\"==\",\"c\"]],\"columns\":[\"_version\"]}"
+    ∷ codes "< B reply 3 [{\"rows\":[{\"_version\":[\"uuid\",\"V2\"]}]}]"
+    ∷ [])
+unfolding shows
+a_select_after_a_wait_shows_the_commit_that_met_it = refl
+
 -- A session is told of all commits before the replies to what they woke
 pub a_session_is_told_of_all_commits_before_the_replies_to_what_they_woke : Plays net (
     codes "> A monitor 1 [\"net\",\"m\",{\"Bridge\":{\"columns\":[\"name\"]}}]"
@@ -107,6 +121,38 @@ pub a_transaction_that_fails_when_it_is_tried_again_leaves_nothing_but_its_reply
     ∷ [])
 unfolding shows
 a_transaction_that_fails_when_it_is_tried_again_leaves_nothing_but_its_reply = refl
+
+-- A transaction that waited and only reads may change the database
+pub a_transaction_that_waited_and_only_reads_may_change_the_database : Plays settlement (
+    codes "> B transact 1 {\"op\":\"insert\",\"table\":\"H\",\"row\":{\"wk\":[\"map\",[[[\"named-uuid\",\"w\"],[\"named-uuid\",\"b\"]]]]}},{\"op\":\"insert\",\"table\":\"N\",\"row\":{},\"uuid-name\":\"b\"},{\"op\":\"insert\",\"table\":\"W\",\"row\":{},\"uuid-name\":\"w\"}"
+    ∷ codes "< B reply 1 [{\"uuid\":[\"uuid\",\"U1\"]},{\"uuid\":[\"uuid\",\"U2\"]},{\"uuid\":[\"uuid\",\"U3\"]}]"
+    ∷ codes "> A transact 1 {\"op\":\"wait\",\"table\":\"W\",\"where\":[],\"columns\":[\"k\"],\"until\":\"==\",\"rows\":[]},{\"op\":\"select\",\"table\":\"N\",\"where\":[],\"columns\":[\"v\"]}"
+    ∷ codes "> B transact 2 {\"op\":\"delete\",\"table\":\"W\",\"where\":[]}"
+    ∷ codes "< A reply 1 [{},{\"rows\":[{\"v\":0}]}]"
+    ∷ codes "< B reply 2 [{\"count\":1}]"
+    ∷ codes "> B transact 3 {\"op\":\"select\",\"table\":\"N\",\"where\":[],\"columns\":[\"v\"]}"
+    ∷ codes "< B reply 3 [{\"rows\":[]}]"
+    ∷ codes "> B transact 4 {\"op\":\"insert\",\"table\":\"W\",\"row\":{}}"
+    ∷ codes "< B reply 4 [{\"uuid\":[\"uuid\",\"U4\"]}]"
+    ∷ codes "> B transact 5 {\"op\":\"select\",\"table\":\"W\",\"where\":[],\"columns\":[\"_version\"]}"
+    ∷ codes "< B reply 5 [{\"rows\":[{\"_version\":[\"uuid\",\"V4\"]}]}]"
+    ∷ [])
+unfolding shows
+a_transaction_that_waited_and_only_reads_may_change_the_database = refl
+
+-- A wait that is met ends beside one that waits on
+pub a_wait_that_is_met_ends_beside_one_that_waits_on : Plays net (
+    codes "> A transact 1 {\"op\":\"wait\",\"table\":\"Bridge\",\"where\":[[\"name\",\"==\",\"c\"]],\"columns\":[\"name\"],\"until\":\"==\",\"rows\":[{\"name\":\"c\"}]}"
+    ∷ codes "> A transact 2 {\"op\":\"wait\",\"table\":\"Bridge\",\"where\":[[\"name\",\"==\",\"b\"]],\"columns\":[\"name\"],\"until\":\"==\",\"rows\":[{\"name\":\"b\"}]}"
+    ∷ codes "> B transact 1 {\"op\":\"insert\",\"table\":\"Bridge\",\"row\":{\"name\":\"b\"}}"
+    ∷ codes "< A reply 2 [{}]"
+    ∷ codes "< B reply 1 [{\"uuid\":[\"uuid\",\"U1\"]}]"
+    ∷ codes "> B transact 2 {\"op\":\"insert\",\"table\":\"Bridge\",\"row\":{\"name\":\"c\"}}"
+    ∷ codes "< A reply 1 [{}]"
+    ∷ codes "< B reply 2 [{\"uuid\":[\"uuid\",\"U2\"]}]"
+    ∷ [])
+unfolding shows
+a_wait_that_is_met_ends_beside_one_that_waits_on = refl
 
 -- After each commit the earliest is tried first
 pub after_each_commit_the_earliest_is_tried_first : Plays net (

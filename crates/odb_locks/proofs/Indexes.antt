@@ -24,7 +24,7 @@ Names = BTreeSet (String Global)
 abbrev pub NamesBySession : Type 0
 NamesBySession = BTreeMap ℕ Names
 
-is_eq-nat_cmp : (s t : ℕ) → is_eq (nat_cmp s t) ≡ (s == t)
+pub is_eq-nat_cmp : (s t : ℕ) → is_eq (nat_cmp s t) ≡ (s == t)
 is_eq-nat_cmp s t =
     both_ways (is_eq (nat_cmp s t)) (s == t)
     (λ e. (unsigned_Decides s t).1 (nat_cmp-IsAntisymmetric s t ((Equal-is (nat_cmp s t)).0 e)))

@@ -1,17 +1,20 @@
 -- What becomes of the transactions that wait where a change is made, before it is made.
-use Rattle.std.specs.Prelude.{◌≡◌, ℕ, ◌+◌, ⊤, false, List, [], ◌∷◌, ◌++◌, Option, Some, None, Vec}
+use Rattle.std.specs.Prelude.{◌≡◌, ℕ, ◌+◌, ⊤, Bool, true, false, List, [], ◌∷◌, ◌++◌, Option, Some, None, Ok, Vec}
+use Rattle.std.specs.List.{list_all}
 use Rattle.std.specs.declared.alloc.Global.{Global}
 use Rattle.serde_json.specs.Written.{has_float}
 use Rattle.serde_json.specs.declared.value.Value.{Value}
 use Rattle.odb_atoms.specs.FinMap as finite
 use Rattle.odb_atoms.specs.Row.{Row}
 use Rattle.odb_atoms.specs.Uuid.{Uuid}
+use Rattle.odb_integrity.specs.Settlement.{settle}
+use Rattle.odb_ops.specs.OnlyReads.{reads_alone}
 use Rattle.odb_ops.specs.Represented.Ran.{results_of}
-use Rattle.odb_rpc.specs.Message.{reply}
+use Rattle.odb_rpc.specs.Message.{operations_of, reply}
 use Rattle.odb_schema.specs.Json.{array_of}
 use Rattle.odb_schema.specs.Schema.{Schema}
 use Rattle.odb_service.specs.Server.{served_by}
-use Rattle.odb_service.specs.Service.{ended, outcome_of, waiting}
+use Rattle.odb_service.specs.Service.{ended, max_rows, outcome_of, waiting}
 use Rattle.odb_service.specs.Session.{Item, say, to}
 use Rattle.odb_service.specs.World.{Waiting, World, is_untried, retry_all, split_first}
 use Rattle.odb_sessions.specs.Posts.{all_posted}
@@ -48,6 +51,16 @@ abbrev pub Tells : Schema → World → Submitted → Told → Type 0
 Tells s w a told.Nothing = ⊤
 Tells s w a (told.Ends results) = (has_float (array_of (results_of results)) ≡ false) × (outcome_of w.db (outcome_in s w a) ≡ ended (array_of (results_of results)) None)
 Tells s w a (told.Waits deadline) = outcome_of w.db (outcome_in s w a) ≡ waiting deadline
+
+-- each of its operations only reads
+abbrev pub is_reading : Submitted → Bool
+is_reading a = list_all reads_alone (operations_of (request_data a.request))
+
+-- what is told where its operations went through with these results and left this database: that it ends with them only where they all read, and a settlement leaves the database
+abbrev pub TellsRead : Schema → Db → Submitted → Vec Value Global → Told → Type 0
+TellsRead s db a results told.Nothing = ⊤
+TellsRead s db a results (told.Ends answer) = (answer ≡ results) × (is_reading a ≡ true) × (settle s max_rows db ≡ Ok db)
+TellsRead s db a results (told.Waits deadline) = ⊥
 
 -- the results that are told have no fractions
 abbrev pub IsPrintable : Told → Type 0

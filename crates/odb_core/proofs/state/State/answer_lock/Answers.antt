@@ -17,7 +17,7 @@ returns-clause-ok c =
     let ns = notices_of c.args.lock_notices.now in
     let r = view c.args.value.now in
     let i = c.self.inside in
-    let w : World = record { db = i.sessions.db; commits = i.commits; now = i.now; waiting = i.waiting.items; locks = i.locks; sessions = i.sessions.sessions } in
+    let w : World = record { db = i.sessions.db; commits = i.commits; now = i.now; waiting = i.waiting; locks = i.locks; sessions = i.sessions.sessions } in
     let now = c.post_all.new.self in
     let all : map post_of c.push.new.self.items ≡ answers_to ns s d r = search (rules, map-append) in
     IfOk-weaker c.post_all.result _ _ (λ queued h.

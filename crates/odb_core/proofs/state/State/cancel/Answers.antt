@@ -1,5 +1,5 @@
-use Rattle.std.proofs.Common.{rules, ◌≡◌, [], ◌∷◌, Some, sym, ap, ◌∙◌, ◌<◌, length, arith}
-use Rattle.std.specs.Prelude.{slice_get, slice_index_or}
+use Rattle.std.proofs.Common.{rules, ◌≡◌, [], ◌∷◌, Some, sym, ap, ◌∙◌}
+use Rattle.std.specs.Prelude.{slice_get}
 use Rattle.std.specs.List.{position, remove}
 use Rattle.serde_json.specs.Written.{compact_text}
 use Rattle.odb_rpc.specs.Message.{canceled, failure}
@@ -11,7 +11,7 @@ use Rattle.odb_service.specs.World.{Waiting, World, is_of, post}
 use Rattle.odb_queue.specs.Represented.Item.{item_of}
 use Rattle.odb_core.specs.Represented.Waiting.{is_named}
 use Rattle.odb_core.proofs.Attempts.{post_as}
-use Rattle.odb_core.proofs.CanceledTransactions.{below, cancels_as, stands_at, still_tried}
+use Rattle.odb_core.proofs.CanceledTransactions.{below, cancels_as, still_tried}
 use Rattle.odb_core.proofs.ClosedSessions.{cancels_none}
 use Rattle.odb_core.proofs.state.State.cancel.Goals as goal
 
@@ -24,19 +24,17 @@ returns-in_default-clause-ok c = λ s.
     let found : c.place_of.result ≡ position (is_named n c.deref.result.now) w.waiting = search rules in
     cancels_none (served_by s) n d w (ap (λ t. position (is_named n t) w.waiting) (sym named) ∙ sym found ∙ c.in_default.is)
 
-pub index-requires : goal.index-requires
-index-requires c =
-    let found : c.place_of.result ≡ position (is_named c.args.session c.deref.result.now) c.self.inside.waiting.items = search rules in
-    let within : c.in-Some.place < length c.self.inside.waiting.items = below (is_named c.args.session c.deref.result.now) c.self.inside.waiting.items c.in-Some.place (sym found ∙ c.in-Some.is) in
-    omega (arith, within, c.self.inside.waiting.ok.0)
+pub at-requires : goal.at-requires
+at-requires c =
+    let found : c.place_of.result ≡ position (is_named c.args.session c.deref.result.now) c.self.inside.waiting = search rules in
+    below (is_named c.args.session c.deref.result.now) c.self.inside.waiting c.in-Some.place (sym found ∙ c.in-Some.is)
 
 pub remove-requires : goal.remove-requires
 remove-requires c =
     let w : World = c.args.self.now in
     let found : c.place_of.result ≡ position (is_named c.args.session c.deref.result.now) w.waiting = search rules in
-    let same : w.waiting ≡ c.self-2.inside.waiting.items = sym (ap (λ (u : World). u.waiting) (post_as c.args.session (item_of c.in_ok-reply.reply ∷ []) w)) ∙ ap (λ (u : World). u.waiting) (c.in_ok-post.ensures.ok ∙ sym c.self-2.view_is) in
-    let within : c.in-Some.place < length c.self-2.inside.waiting.items = below (is_named c.args.session c.deref.result.now) c.self-2.inside.waiting.items c.in-Some.place (ap (position (is_named c.args.session c.deref.result.now)) (sym same) ∙ sym found ∙ c.in-Some.is) in
-    omega (arith, within, c.self-2.inside.waiting.ok.0)
+    let same : w.waiting ≡ c.self-2.inside.waiting = sym (ap (λ (u : World). u.waiting) (post_as c.args.session (item_of c.in_ok-reply.reply ∷ []) w)) ∙ ap (λ (u : World). u.waiting) (c.in_ok-post.ensures.ok ∙ sym c.self-2.view_is) in
+    below (is_named c.args.session c.deref.result.now) c.self-2.inside.waiting c.in-Some.place (ap (position (is_named c.args.session c.deref.result.now)) (sym same) ∙ sym found ∙ c.in-Some.is)
 
 pub returns-clause-ok : goal.returns-clause-ok
 returns-clause-ok c = λ s.
@@ -44,26 +42,25 @@ returns-clause-ok c = λ s.
     let d = printable_data c.args.id in
     let w : World = c.args.self.now in
     let i = c.self-2.inside in
-    let v : World = record { db = i.sessions.db; commits = i.commits; now = i.now; waiting = i.waiting.items; locks = i.locks; sessions = i.sessions.sessions } in
+    let v : World = record { db = i.sessions.db; commits = i.commits; now = i.now; waiting = i.waiting; locks = i.locks; sessions = i.sessions.sessions } in
     let k = c.in-Some.place in
-    let x : Waiting = c.index.result.now in
+    let x : Waiting = c.at.result.now in
     let named : c.deref.result.now ≡ compact_text d = search rules in
     let found : c.place_of.result ≡ position (is_named n c.deref.result.now) w.waiting = search rules in
     let there : position (is_of (served_by s) n d) w.waiting ≡ Some k = ap (λ t. position (is_named n t) w.waiting) (sym named) ∙ sym found ∙ c.in-Some.is in
-    let stands : x ≡ slice_index_or w.waiting k x = search rules in
-    let at : slice_get w.waiting k ≡ Some x = stands_at w.waiting k x (below (is_of (served_by s) n d) w.waiting k there) stands in
+    let at : slice_get w.waiting k ≡ Some x = ap (λ (u : World). slice_get u.waiting k) (sym c.self.view_is) ∙ c.at.ensures in
     let replies : item_of c.in_ok-reply.reply ≡ say (to x.request) (failure (id_of x.request) canceled) = search rules in
     let posts : post n (item_of c.in_ok-reply.reply ∷ []) w ≡ v = search rules in
-    let left : c.remove.new.self.items ≡ remove v.waiting k = search rules in
-    cancels_as (served_by s) n w v k (item_of c.in_ok-reply.reply) c.remove.new.self.items d x there at replies posts left
+    let left : c.remove.new.self ≡ remove v.waiting k = search rules in
+    cancels_as (served_by s) n w v k (item_of c.in_ok-reply.reply) c.remove.new.self d x there at replies posts left
 
 pub returns-clause-tried : goal.returns-clause-tried
 returns-clause-tried c = λ h tried.
     let n = c.args.session in
     let w : World = c.args.self.now in
     let i = c.self-2.inside in
-    let v : World = record { db = i.sessions.db; commits = i.commits; now = i.now; waiting = i.waiting.items; locks = i.locks; sessions = i.sessions.sessions } in
+    let v : World = record { db = i.sessions.db; commits = i.commits; now = i.now; waiting = i.waiting; locks = i.locks; sessions = i.sessions.sessions } in
     let k = c.in-Some.place in
     let posts : post n (item_of c.in_ok-reply.reply ∷ []) w ≡ v = search rules in
-    let left : c.remove.new.self.items ≡ remove v.waiting k = search rules in
-    still_tried h n w v k (item_of c.in_ok-reply.reply) c.remove.new.self.items posts left tried
+    let left : c.remove.new.self ≡ remove v.waiting k = search rules in
+    still_tried h n w v k (item_of c.in_ok-reply.reply) c.remove.new.self posts left tried

@@ -1,5 +1,4 @@
 use Rattle.std.proofs.Common.{rules, ◌≡◌, ◌==◌, not, map, filter, sym, ap, ◌∙◌}
-use Rattle.std.proofs.lemmas.Fn.{filter_same}
 use Rattle.odb_atoms.specs.FinMap as finite
 use Rattle.odb_locks.specs.Locks.{drop_session}
 use Rattle.odb_queue.specs.Represented.Post.{post_of, told_of}
@@ -13,19 +12,19 @@ pub returns-clause-ok : goal.returns-clause-ok
 returns-clause-ok c = λ h.
     let n = c.args.session in
     let i = c.self.inside in
-    let w : World = record { db = i.sessions.db; commits = i.commits; now = i.now; waiting = i.waiting.items; locks = i.locks; sessions = i.sessions.sessions } in
+    let w : World = record { db = i.sessions.db; commits = i.commits; now = i.now; waiting = i.waiting; locks = i.locks; sessions = i.sessions.sessions } in
     let released : c.forget_session.new.self ≡ (drop_session w.locks n).0 = search rules in
     let told : map post_of c.in_ok-posts.posts.items ≡ map told_of (drop_session w.locks n).1 = search rules in
     let gone : c.close.new.self ≡ record { db = w.db; sessions = finite.remove (all_posted w.sessions (map post_of c.in_ok-posts.posts.items)) n } = search rules in
-    let left : c.retain.new.self.items ≡ filter (λ (p : Waiting). not (p.session == n)) w.waiting = filter_same _ _ _ (λ x b f' k. search rules) _ _ c.retain.ensures.filtered in
+    let left : c.end_session.new.self ≡ filter (λ (p : Waiting). not (p.session == n)) w.waiting = c.end_session.ensures in
     ap (close h n) (sym c.self.view_is)
-    ∙ closed_as h n w c.forget_session.new.self c.close.new.self.sessions c.retain.new.self.items released (ap (λ (b : Book). b.sessions) gone ∙ ap (λ ps. finite.remove (all_posted w.sessions ps) n) told) left
-    ∙ (λ j. record { db = sym (ap (λ (b : Book). b.db) gone) j; commits = w.commits; now = w.now; waiting = c.retain.new.self.items; locks = c.forget_session.new.self; sessions = c.close.new.self.sessions })
+    ∙ closed_as h n w c.forget_session.new.self c.close.new.self.sessions c.end_session.new.self released (ap (λ (b : Book). b.sessions) gone ∙ ap (λ ps. finite.remove (all_posted w.sessions ps) n) told) left
+    ∙ (λ j. record { db = sym (ap (λ (b : Book). b.db) gone) j; commits = w.commits; now = w.now; waiting = c.end_session.new.self; locks = c.forget_session.new.self; sessions = c.close.new.self.sessions })
 
 pub returns-clause-tried : goal.returns-clause-tried
 returns-clause-tried c = λ h tried.
     let n = c.args.session in
     let i = c.self.inside in
-    let w : World = record { db = i.sessions.db; commits = i.commits; now = i.now; waiting = i.waiting.items; locks = i.locks; sessions = i.sessions.sessions } in
-    let left : c.retain.new.self.items ≡ filter (λ (p : Waiting). not (p.session == n)) w.waiting = filter_same _ _ _ (λ x b f' k. search rules) _ _ c.retain.ensures.filtered in
-    closed_tried h n w c.retain.new.self.items left (ap (untried h) c.self.view_is ∙ tried)
+    let w : World = record { db = i.sessions.db; commits = i.commits; now = i.now; waiting = i.waiting; locks = i.locks; sessions = i.sessions.sessions } in
+    let left : c.end_session.new.self ≡ filter (λ (p : Waiting). not (p.session == n)) w.waiting = c.end_session.ensures in
+    closed_tried h n w c.end_session.new.self left (ap (untried h) c.self.view_is ∙ tried)

@@ -61,4 +61,4 @@ returns-in-Err-clause-err c =
     taken ∙ ap (λ (b : Book). let e : Book = record { db = b.db; sessions = unposted c.in_ok-posted_to.posted_to.items b.sessions } in e) failed
     ∙ (λ j. record { db = ap (λ (b : Book). b.db) posted j; sessions = back j })
     in
-    (λ j. record { db = (same j).db; commits = c.self.inside.commits; now = c.self.inside.now; waiting = c.self.inside.waiting.items; locks = c.self.inside.locks; sessions = (same j).sessions }) ∙ c.self.view_is
+    (λ j. record { db = (same j).db; commits = c.self.inside.commits; now = c.self.inside.now; waiting = c.self.inside.waiting; locks = c.self.inside.locks; sessions = (same j).sessions }) ∙ c.self.view_is

@@ -24,7 +24,7 @@ returns-in-Some-clause-ok c =
     let a = c.args.asked.now in
     let f = c.in-Some.foreseen in
     let m : Sessions = at_number (ended_in s (reply_with a c.args.results)) w.sessions a.session in
-    let told : IsForeseen s (committed c.args.change w) f.left.items (map post_of f.posts.items) = search rules in
+    let told : IsForeseen s (committed c.args.change w) f.left (map post_of f.posts.items) = search rules in
     on_ok_weaker c.commit_foreseen.result
     (λ e. ap (retry_all (served_by s)) (commit_as s a.session (request_data a.request) (array_of (results_of c.args.results)) (all_changed_by w.db c.args.change) w) ∙ told.0 m ∙ sym (e s))
     c.commit_foreseen.ensures.ok
@@ -37,8 +37,8 @@ returns-in-Some-clause-tried c = λ h.
     let a = c.args.asked.now in
     let f = c.in-Some.foreseen in
     let m : Sessions = at_number (ended_in s (reply_with a c.args.results)) w.sessions a.session in
-    let told : IsForeseen s (committed c.args.change w) f.left.items (map post_of f.posts.items) = search rules in
-    either_way ((s : Schema) → v ≡ standing f.left.items (map post_of f.posts.items) (at_number (ended_in s (reply_with a c.args.results)) w.sessions a.session) (committed c.args.change w)) (v ≡ w) (untried h v ≡ None)
+    let told : IsForeseen s (committed c.args.change w) f.left (map post_of f.posts.items) = search rules in
+    either_way ((s : Schema) → v ≡ standing f.left (map post_of f.posts.items) (at_number (ended_in s (reply_with a c.args.results)) w.sessions a.session) (committed c.args.change w)) (v ≡ w) (untried h v ≡ None)
     c.commit_foreseen.result c.commit_foreseen.ensures.ok c.commit_foreseen.ensures.err
     (λ e. ap (untried h) (e s) ∙ told.1) (λ e. ap (untried h) e ∙ c.requires.tried h)
 
@@ -49,6 +49,6 @@ returns-in-Some-clause-sound c =
     let v : World = c.commit_foreseen.new.self in
     let a = c.args.asked.now in
     let f = c.in-Some.foreseen in
-    either_way ((s : Schema) → v ≡ standing f.left.items (map post_of f.posts.items) (at_number (ended_in s (reply_with a c.args.results)) w.sessions a.session) (committed c.args.change w)) (v ≡ w) (IsSound s v.db)
+    either_way ((s : Schema) → v ≡ standing f.left (map post_of f.posts.items) (at_number (ended_in s (reply_with a c.args.results)) w.sessions a.session) (committed c.args.change w)) (v ≡ w) (IsSound s v.db)
     c.commit_foreseen.result c.commit_foreseen.ensures.ok c.commit_foreseen.ensures.err
     (λ e. subst (IsSound s) (ap (λ (u : World). u.db) (sym (e s))) c.requires.changed) (λ e. subst (IsSound s) (ap (λ (u : World). u.db) (sym e)) c.requires.sound)

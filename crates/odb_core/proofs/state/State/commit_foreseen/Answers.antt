@@ -22,4 +22,4 @@ returns-clause-ok c = λ s.
     made ∙ ap (λ i. ended_with s n i ps c.args.change old) item
     ∙ ap (λ (u : World). ended_with s n (reply_with a c.args.results) ps c.args.change (record { db = u.db; sessions = u.sessions })) c.self.view_is
     in
-    λ i. record { db = (told i).db; commits = count i; now = (c.self.view_is i).now; waiting = f.left.items; locks = (c.self.view_is i).locks; sessions = (told i).sessions }
+    λ i. record { db = (told i).db; commits = count i; now = (c.self.view_is i).now; waiting = f.left; locks = (c.self.view_is i).locks; sessions = (told i).sessions }

@@ -54,8 +54,8 @@ returns-then-is_empty-clause-ok c =
     let h = served_by s in
     let v : World = c.commit.new.self in
     let some : has_rows s w a None w.commits c.args.change ≡ true = search rules in
-    let long : length c.self.inside.waiting.items ≡ 0 = search rules in
-    let empty : w.waiting ≡ [] = ap (λ (u : World). u.waiting) (sym c.self.view_is) ∙ nil_from_length c.self.inside.waiting.items long in
+    let long : length c.self.inside.waiting ≡ 0 = search rules in
+    let empty : w.waiting ≡ [] = ap (λ (u : World). u.waiting) (sym c.self.view_is) ∙ nil_from_length c.self.inside.waiting long in
     let ended : attempt h (waiting_as a None w.commits) w ≡ (v, None) =
     done_as s w a None w.commits c.args.results c.args.change true some c.requires.outcome
     ∙ (λ i. let t : World × Option Waiting = (c.in_ok-commit.ensures.ok s i, None) in t)

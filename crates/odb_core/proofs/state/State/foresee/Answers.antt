@@ -14,8 +14,8 @@ loop-waiting-init c =
     let w : World = c.args.self.now in
     let v : World = committed c.args.change.now w in
     let all : IsOnTheWay s v [] w.waiting [] = begins s v (are_untried w.commits w.waiting (none_passes (is_untried w.commits) w.waiting (c.requires.tried (served_by s)))) in
-    subst (λ ps. IsOnTheWay s v ps w.waiting (map post_of c.new.result.items)) (sym c.in_ok-with_capacity.ensures.items)
-    (subst (λ xs. IsOnTheWay s v [] w.waiting (map post_of xs)) (sym c.new.ensures.items) all)
+    subst (λ ps. IsOnTheWay s v ps w.waiting (map post_of c.new-foreseen.result.posts.items)) (sym c.new-foreseen.ensures.left)
+    (subst (λ xs. IsOnTheWay s v [] w.waiting (map post_of xs)) (sym c.new-foreseen.ensures.posts) all)
 
 pub loop-waiting-preserved : goal.loop-waiting-preserved
 loop-waiting-preserved c =
@@ -34,10 +34,10 @@ loop-waiting-preserved c =
     let count : c.in_ok-commits.commits ≡ v.commits = search rules in
     let went : c.in_ok-note.field-0 ≡ true = search rules in
     let tells : Tells s v a c.in_ok-told.told = c.in_ok-told.ensures in
-    let notes : Notes c.in_ok-told.told p c.in_ok-commits.commits old.left.items new.left.items (map post_of old.posts.items) (map post_of new.posts.items) = c.in_ok-note.ensures went in
-    noted s v a p c.submitted.ensures old.left.items new.left.items rest (map post_of old.posts.items) (map post_of new.posts.items) c.in_ok-told.told tells
-    (subst (λ n. Notes c.in_ok-told.told p n old.left.items new.left.items (map post_of old.posts.items) (map post_of new.posts.items)) count notes)
-    (subst (λ ps. IsOnTheWay s v old.left.items ps (map post_of old.posts.items)) step c.loop-waiting.invariant)
+    let notes : Notes c.in_ok-told.told p c.in_ok-commits.commits old.left new.left (map post_of old.posts.items) (map post_of new.posts.items) = c.in_ok-note.ensures went in
+    noted s v a p c.submitted.ensures old.left new.left rest (map post_of old.posts.items) (map post_of new.posts.items) c.in_ok-told.told tells
+    (subst (λ n. Notes c.in_ok-told.told p n old.left new.left (map post_of old.posts.items) (map post_of new.posts.items)) count notes)
+    (subst (λ ps. IsOnTheWay s v old.left ps (map post_of old.posts.items)) step c.loop-waiting.invariant)
 
 pub returns : goal.returns
 returns c =
@@ -47,4 +47,4 @@ returns c =
     let i = c.loop-waiting.waiting-index in
     let f = c.loop-waiting.foreseen in
     let past : length w.waiting ≤ i = search rules in
-    ends s v f.left.items (drop i w.waiting) (map post_of f.posts.items) (drop_all i w.waiting past) c.loop-waiting.invariant
+    ends s v f.left (drop i w.waiting) (map post_of f.posts.items) (drop_all i w.waiting past) c.loop-waiting.invariant

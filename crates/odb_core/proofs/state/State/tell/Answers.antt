@@ -1,8 +1,11 @@
-use Rattle.std.proofs.Common.{rules, ◌≡◌, ap, subst, ◌∙◌}
+use Rattle.std.proofs.Common.{rules, ◌≡◌, sym, ap, subst, ◌∙◌}
 use Rattle.odb_atoms.specs.Represented.Atom.{uuid_of}
 use Rattle.odb_atoms.specs.Uuid.{zero_uuid}
 use Rattle.odb_atoms.proofs.Represented.Atoms.{nil_uuid}
+use Rattle.odb_integrity.specs.Settled.{IsSettled}
 use Rattle.odb_service.specs.World.{World}
+use Rattle.odb_tables.specs.Change.{all_changed_by}
+use Rattle.odb_tables.specs.Database.{Db}
 use Rattle.odb_tables.specs.Draft.{Draft, draft_of}
 use Rattle.odb_core.specs.Represented.Spared.{IsSpared}
 use Rattle.odb_core.proofs.ToldOutcomes.{as_long}
@@ -21,6 +24,16 @@ is_one_removed-requires c =
     let d : Draft = c.in_ok-draft.draft in
     let made : d ≡ draft_of w.db = search rules in
     as_long w.db c.args.change.now d c.put_change.new.draft c.requires.change.0 made c.put_change.ensures.removed c.in_ok-put_change.ensures.now
+
+pub tell_on-requires-clause-settled : goal.tell_on-requires-clause-settled
+tell_on-requires-clause-settled c =
+    let s = c.args.schema.now in
+    let w : World = c.args.self.now in
+    let d : Draft = c.in_ok-draft.draft in
+    let made : d ≡ draft_of w.db = search rules in
+    let new : Db = c.put_change.new.draft.now in
+    let changed : new ≡ all_changed_by w.db c.args.change.now = c.in_ok-put_change.ensures.now ∙ ap (λ (e : Draft). all_changed_by e.now c.args.change.now) made in
+    subst (IsSettled s) (sym changed) c.requires.sound.1
 
 pub tell_on-requires-clause-long : goal.tell_on-requires-clause-long
 tell_on-requires-clause-long c =

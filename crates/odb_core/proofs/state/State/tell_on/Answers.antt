@@ -1,4 +1,5 @@
-use Rattle.std.proofs.Common.{rules}
+use Rattle.std.proofs.Common.{rules, sym, subst}
+use Rattle.odb_integrity.specs.Settled.{IsSettled}
 use Rattle.odb_ops.specs.Execution.{run}
 use Rattle.odb_ops.specs.Represented.Draft.{begun}
 use Rattle.odb_ops.specs.Represented.Ran.{Answers}
@@ -6,10 +7,38 @@ use Rattle.odb_ops.specs.declared.execution.Ran.TheVariants as ran
 use Rattle.odb_rpc.specs.Message.{operations_of}
 use Rattle.odb_service.specs.World.{World}
 use Rattle.odb_tables.specs.Draft.{Draft}
+use Rattle.odb_tables.specs.Typed.{IsTyped}
 use Rattle.odb_wire.specs.Shown.{request_data}
 use Rattle.odb_core.specs.Represented.Waiting.{context_in}
-use Rattle.odb_core.proofs.ToldOutcomes.{tells_failed, tells_waiting}
+use Rattle.odb_core.proofs.ToldOutcomes.{left_by_reading, tells_failed, tells_read, tells_waiting}
 use Rattle.odb_core.proofs.state.State.tell_on.Goals as goal
+
+pub told_read-requires-clause-typed : goal.told_read-requires-clause-typed
+told_read-requires-clause-typed c = λ reads.
+    let s = c.args.schema.now in
+    let w : World = c.args.self.now in
+    let a = c.args.asked.now in
+    let d : Draft = c.args.draft.now in
+    let answers : Answers (ran.Finished c.in-Finished.results) c.run.new.draft.now (run s (context_in w a) (begun d) (operations_of (request_data a.request))) = search rules in
+    subst (IsTyped s) (sym (left_by_reading s w a d c.requires.long c.requires.zero c.requires.fresh c.in-Finished.results c.run.new.draft.now answers reads)) c.requires.typed
+
+pub told_read-requires-clause-settled : goal.told_read-requires-clause-settled
+told_read-requires-clause-settled c = λ reads.
+    let s = c.args.schema.now in
+    let w : World = c.args.self.now in
+    let a = c.args.asked.now in
+    let d : Draft = c.args.draft.now in
+    let answers : Answers (ran.Finished c.in-Finished.results) c.run.new.draft.now (run s (context_in w a) (begun d) (operations_of (request_data a.request))) = search rules in
+    subst (IsSettled s) (sym (left_by_reading s w a d c.requires.long c.requires.zero c.requires.fresh c.in-Finished.results c.run.new.draft.now answers reads)) c.requires.settled
+
+pub returns-in-Finished : goal.returns-in-Finished
+returns-in-Finished c = λ n.
+    let s = c.args.schema.now in
+    let w : World = c.args.self.now in
+    let a = c.args.asked.now in
+    let d : Draft = c.args.draft.now in
+    let answers : Answers (ran.Finished c.in-Finished.results) c.run.new.draft.now (run s (context_in w a) (begun d) (operations_of (request_data a.request))) = search rules in
+    tells_read s w a d c.requires.long c.requires.zero c.requires.fresh c.in-Finished.results c.run.new.draft.now c.told_read.result answers c.told_read.ensures n
 
 pub returns-in-Failed : goal.returns-in-Failed
 returns-in-Failed c = λ n.
