@@ -159,6 +159,11 @@ impl<L: Ledger> Counted<L> {
         self.state.round()
     }
 
+    /// As `HubState::has_more`.
+    pub(crate) fn has_more(&self) -> bool {
+        self.state.has_more()
+    }
+
     /// As [`HubState::settle`]. The submits in the journal count as settled.
     pub fn settle(&mut self) -> u64
         ensures count { result ≡ counted self.old.kept.events }

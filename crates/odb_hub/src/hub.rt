@@ -17,6 +17,8 @@ use std::time::{Clock, Duration, Instant};
 pub struct Round {
     /// How many messages were given.
     pub given: usize,
+    /// Whether another one, at once, is likely to give something.
+    pub more: bool,
     /// How long it took from when it had the lock, zero where the clock can't be read.
     pub took: Duration,
 }
@@ -83,6 +85,7 @@ impl<L: Ledger> Hub<L> {
         let given = state.round()?;
         Ok(Round {
             given,
+            more: state.has_more(),
             took: time_since(rt, begun),
         })
     }

@@ -137,6 +137,11 @@ impl Rings {
         }
     }
 
+    /// How many sessions have a message held back. O(1).
+    pub(crate) fn held(&self) -> usize {
+        self.holding.len()
+    }
+
     /// Those of `owed` for which nothing is held back, ascending.
     fn free_among(&self, owed: &BTreeSet<SessionId>) -> Result<Vec<SessionId>, AllocError>
         ensures { IfOk result (λ free. free.items ≡ filter (contains nat_cmp owed.now) (free_of self.now)) }

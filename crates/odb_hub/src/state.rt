@@ -245,6 +245,12 @@ impl HubState {
         !self.core.owed().is_empty()
     }
 
+    /// Whether more sessions may be owed something than have a message held back, so that another round is likely to give
+    /// something. O(1). No contract speaks of it.
+    pub(crate) fn has_more(&self) -> bool {
+        self.core.owed().len() > self.rings.held()
+    }
+
     /// The base becomes the state that the server is in, and the journal empty: nothing is copied. It returns how many
     /// events there were, 2^64-1 where there were more.
     pub fn settle(&mut self) -> u64

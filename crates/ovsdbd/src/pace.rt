@@ -16,7 +16,8 @@ const BRIEF: u64 = 100;
 const LONG: u64 = 100;
 
 /// What the pump sleeps by. One that sleeps begins at once when it is told that something may be owed. While it is awake it
-/// rests between rounds, so that it holds the lock and wakes writers for a part of the time, and replies have the rest.
+/// rests after rounds, so that it holds the lock and wakes writers for a part of the time, and replies have the rest; but
+/// not while more messages are queued than one round gives.
 #[derive(Drop)]
 pub(crate) struct Pace {
     pump: Parker,
@@ -54,9 +55,12 @@ impl Pace {
         self.told.store(0, Ordering::SeqCst);
     }
 
-    /// Rests if the round gave something or the pump was told something since the turn began, and sleeps else; either for no
-    /// longer than `left`.
+    /// Goes on at once if the round gave something and more is owed. Else it rests if the round gave something or the pump
+    /// was told something since the turn began, and sleeps if not; either for no longer than `left`.
     pub(crate) fn pause<R: Wait>(&self, rt: &R, round: Round, left: Option<Duration>) {
+        if round.given > 0 && round.more {
+            return;
+        }
         if round.given > 0 || self.is_told() {
             let rest = round.took.saturating_mul(REST);
             self.rest(rt, rest.min(Duration::from_millis(LONG)), left);
