@@ -9,6 +9,9 @@ use Rattle.odb_law.specs.Client.{client}
 use Rattle.odb_service.specs.Service.{service}
 use Rattle.odb_service.specs.Session.{Out, no_request, to}
 use Rattle.odb_request.specs.Request.{Notation, update, update2}
+use Rattle.odb_monitor.specs.Fold.{fold_rows}
+use Rattle.odb_monitor.specs.View.{Contents}
+use Rattle.odb_atoms.specs.FinMap.{empty}
 use Rattle.odb_schema.specs.SchemaText.{schema_of_text}
 
 abbrev of : List ℕ → Data
@@ -247,3 +250,21 @@ strict_two_tags = refl
 pub strict_kind : accepts update2 ((quoted (codes "{'Port':{'columns':['name','tag']}}"))) ((quoted (codes "{'error':null,'id':1,'result':{'Port':{'00000000-0000-4000-8000-000000000002':{'initial':{'name':'p1'}}}}}"))) (((quoted (codes "{'id':null,'method':'update2','params':['m',{'Port':{'00000000-0000-4000-8000-000000000003':{'insert':{'tag':'five'}}}}]}"))) ∷ []) ≡ Some true
 unfolding shows
 strict_kind = refl
+
+-- What is read from a text has its members in order, so these rows are given as they stand.
+
+-- a row that comes in, of a monitor of no columns
+abbrev coming : List ℕ → List ℕ × Data
+coming uuid = (uuid, of (quoted (codes "{'insert':{}}")))
+
+-- whether a client that has no rows takes these, in this order
+abbrev takes : List (List ℕ) → Bool
+takes rows = let none : Contents = empty in is_some (fold_rows update2 false [] None none (map_list coming rows))
+
+pub rows_in_order : takes (codes "00000000-0000-4000-8000-000000000002" ∷ codes "00000000-0000-4000-8000-000000000003" ∷ []) ≡ true
+unfolding shows
+rows_in_order = refl
+
+pub rows_out_of_order : takes (codes "00000000-0000-4000-8000-000000000003" ∷ codes "00000000-0000-4000-8000-000000000002" ∷ []) ≡ false
+unfolding shows
+rows_out_of_order = refl
