@@ -231,7 +231,7 @@ fn submission_of(
     Ok(Submission::new(request, fresh))
 }
 
-/// Submits them all. The pump tells the other sessions. On Busy it sleeps until the session was given something.
+/// Submits them all, and the other sessions are told. On Busy it sleeps until the session was given something.
 fn submit_all<L: Ledger, R: Wait + Clock>(
     rt: &R,
     daemon: &Daemon<L>,
@@ -245,7 +245,7 @@ fn submit_all<L: Ledger, R: Wait + Clock>(
             .hub
             .submit_all(rt, seat, &mut submissions, daemon.now(rt));
         if !is_quiet(&submitted) {
-            daemon.pace.tell();
+            daemon.tell_all(rt);
         }
         keep_deadlines(rt, daemon, waits.as_slice())?;
         match submitted {

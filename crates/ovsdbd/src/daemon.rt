@@ -74,6 +74,17 @@ impl<L: Ledger> Daemon<L> {
         }
     }
 
+    /// Gives each session its next message where the pump sleeps and that is brief, so that a single update waits for no
+    /// other thread. The pump does the rest.
+    pub(crate) fn tell_all<R: Wait + Clock>(&self, rt: &R) {
+        if self.pace.lets_others() {
+            if let Ok(round) = self.hub.round(rt) {
+                self.pace.note(round);
+            }
+        }
+        self.pace.tell();
+    }
+
     /// What the pump does until the daemon ends.
     pub(crate) fn pump<R: Wait + Clock>(&self, rt: &R) {
         let mut turns: u64 = 0;

@@ -9,7 +9,7 @@ use std::time::Duration;
 /// How many times as long as its round took the pump rests.
 const REST: u32 = 3;
 
-/// For how many microseconds it rests at least.
+/// For how many microseconds it rests at least. A round that took less is brief.
 const BRIEF: u64 = 100;
 
 /// For how many milliseconds it rests at most, also where the processor was taken away in the midst of a round.
@@ -23,6 +23,8 @@ pub(crate) struct Pace {
     pump: Parker,
     awake: AtomicU64,
     told: AtomicU64,
+    /// For how many microseconds the latest round took that gave something.
+    took: AtomicU64,
 }
 
 impl Pace {
@@ -32,14 +34,28 @@ impl Pace {
             pump: Parker::new(),
             awake: AtomicU64::new(1),
             told: AtomicU64::new(0),
+            took: AtomicU64::new(0),
         }
     }
 
     /// A session may be owed something: a round is run, at once if the pump sleeps, and when it has rested if it is awake.
     pub(crate) fn tell(&self) {
         self.told.store(1, Ordering::SeqCst);
-        if self.awake.load(Ordering::SeqCst) == 0 {
+        if self.sleeps() {
             self.pump.unpark();
+        }
+    }
+
+    /// Whether the pump sleeps, and a round of all is brief: then another thread may as well run it.
+    pub(crate) fn lets_others(&self) -> bool {
+        self.sleeps() && self.took.load(Ordering::SeqCst) < BRIEF
+    }
+
+    /// Remembers how long a round took that gave something.
+    pub(crate) fn note(&self, round: Round) {
+        if round.given > 0 {
+            let took = u64::try_from(round.took.as_micros()).unwrap_or(u64::MAX);
+            self.took.store(took, Ordering::SeqCst);
         }
     }
 
@@ -58,6 +74,7 @@ impl Pace {
     /// Goes on at once if the round gave something and more is owed. Else it rests if the round gave something or the pump
     /// was told something since the turn began, and sleeps if not; either for no longer than `left`.
     pub(crate) fn pause<R: Wait>(&self, rt: &R, round: Round, left: Option<Duration>) {
+        self.note(round);
         if round.given > 0 && round.more {
             return;
         }
@@ -86,6 +103,10 @@ impl Pace {
             Some(left) => self.pump.park_timeout(rt, left),
             None => self.pump.park(rt),
         }
+    }
+
+    fn sleeps(&self) -> bool {
+        self.awake.load(Ordering::SeqCst) == 0
     }
 
     fn is_told(&self) -> bool {
