@@ -231,7 +231,7 @@ fn submission_of(
     Ok(Submission::new(request, fresh))
 }
 
-/// Submits them all, and the other sessions are told. On Busy it sleeps until the session was given something.
+/// Submits them all, and the other sessions are told. On Busy the thread sleeps until the session was given something.
 fn submit_all<L: Ledger, R: Wait + Clock>(
     rt: &R,
     daemon: &Daemon<L>,

@@ -74,8 +74,8 @@ impl<L: Ledger> Daemon<L> {
         }
     }
 
-    /// Gives each session its next message where the pump sleeps and that is brief, so that a single update waits for no
-    /// other thread. The pump does the rest.
+    /// Gives each session its next message where the pump sleeps and that is brief, so that a single update doesn't wait
+    /// for the pump to wake. The pump does the rest.
     pub(crate) fn tell_all<R: Wait + Clock>(&self, rt: &R) {
         if self.pace.lets_others() {
             if let Ok(round) = self.hub.round(rt) {
