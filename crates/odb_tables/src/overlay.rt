@@ -14,7 +14,8 @@ ghost use Rattle.odb_atoms.specs.Represented.Atom.{uuid_of};
 ghost use Rattle.odb_tables.specs.Represented.Counted as counted;
 ghost use Rattle.odb_tables.specs.Represented.Found.{Appends, passing, standing};
 ghost use Rattle.odb_tables.specs.Represented.Overlay.{passes_now, row_of};
-ghost use Rattle.odb_tables.specs.Stamped.{stamped_table};
+ghost use Rattle.odb_tables.specs.Represented.RowChange.{change_at};
+ghost use Rattle.odb_tables.specs.Stamped.{stamped_row, stamped_table};
 
 use crate::key::Key;
 use crate::row_change::RowChange;
@@ -167,9 +168,8 @@ impl Overlay {
             ≡ change base.now (stamped_table (uuid_of version) (base.now, overlaid base.now self))) }
     {
         let mut rows = Vec::with_capacity(alloc, self.rows.len())?;
-        for (key, now) in self.rows {
-            let change = RowChange::stamped(alloc, key, base.share(key), now, version)?;
-            add(&mut rows, change)?;
+        for row in self.rows {
+            add_stamped(alloc, &mut rows, row, base, version)?;
         }
         Ok(TableChange::new(rows))
     }
@@ -205,6 +205,23 @@ fn loss(base: &Table, key: Key, now: Option<&Arc<Row>>) -> usize
     } else {
         0
     }
+}
+
+/// Adds what leads to the touched row with this version, where it has another value in a column.
+fn add_stamped(
+    alloc: Global,
+    rows: &mut Vec<RowChange>,
+    row: (Key, Option<Arc<Row>>),
+    base: &Table,
+    version: Uuid,
+) -> Result<(), AllocError>
+    ensures { OnOk result (let old_row = finite.get base.now row.0 in
+        rows.new.items ≡ rows.old.items ++ option_to_list
+            (change_at row.0 old_row (option_map (stamped_row (uuid_of version) old_row) (row_of row.1)))) }
+{
+    let (key, now) = row;
+    let change = RowChange::stamped(alloc, key, base.share(key), now, version)?;
+    add(rows, change)
 }
 
 fn add(rows: &mut Vec<RowChange>, change: Option<RowChange>) -> Result<(), AllocError>

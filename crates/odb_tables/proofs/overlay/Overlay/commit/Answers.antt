@@ -17,8 +17,8 @@ new-requires c =
     let t = c.args.base.now in
     let v = uuid_of c.args.version in
     let es = map (shown row_of) c.self.inside.rows.entries in
-    let none : c.loop-key.key-iterator ≡ [] = c.in-None.ensures.steps.0 in
-    let items : c.loop-key.rows.items ≡ changes_of t (stamped_entries v t es) = sym (append-nil c.loop-key.rows.items) ∙ ap (λ left. c.loop-key.rows.items ++ changes_of t (stamped_entries v t (map (shown row_of) left))) (sym none) ∙ c.loop-key.invariant ∙ ap (λ all. changes_of t (stamped_entries v t (map (shown row_of) all))) c.into_iter-key-iterator.ensures.into_iter_gives.0 in
+    let none : c.loop-row.row-iterator ≡ [] = c.in-None.ensures.steps.0 in
+    let items : c.loop-row.rows.items ≡ changes_of t (stamped_entries v t es) = sym (append-nil c.loop-row.rows.items) ∙ ap (λ left. c.loop-row.rows.items ++ changes_of t (stamped_entries v t (map (shown row_of) left))) (sym none) ∙ c.loop-row.invariant ∙ ap (λ all. changes_of t (stamped_entries v t (map (shown row_of) all))) c.into_iter-row-iterator.ensures.into_iter_gives.0 in
     subst AreDistinct (sym items) (distinct-changes t (stamped_entries v t es) (distinct-stamped v t es (distinct-shown c.self.inside.rows.entries c.len.ensures.unique)))
 
 pub returns : goal.returns
@@ -26,6 +26,6 @@ returns c =
     let t = c.args.base.now in
     let v = uuid_of c.args.version in
     let es = map (shown row_of) c.self.inside.rows.entries in
-    let none : c.loop-key.key-iterator ≡ [] = c.in-None.ensures.steps.0 in
-    let items : c.loop-key.rows.items ≡ changes_of t (stamped_entries v t es) = sym (append-nil c.loop-key.rows.items) ∙ ap (λ left. c.loop-key.rows.items ++ changes_of t (stamped_entries v t (map (shown row_of) left))) (sym none) ∙ c.loop-key.invariant ∙ ap (λ all. changes_of t (stamped_entries v t (map (shown row_of) all))) c.into_iter-key-iterator.ensures.into_iter_gives.0 in
+    let none : c.loop-row.row-iterator ≡ [] = c.in-None.ensures.steps.0 in
+    let items : c.loop-row.rows.items ≡ changes_of t (stamped_entries v t es) = sym (append-nil c.loop-row.rows.items) ∙ ap (λ left. c.loop-row.rows.items ++ changes_of t (stamped_entries v t (map (shown row_of) left))) (sym none) ∙ c.loop-row.invariant ∙ ap (λ all. changes_of t (stamped_entries v t (map (shown row_of) all))) c.into_iter-row-iterator.ensures.into_iter_gives.0 in
     c.new.ensures ∙ ap finite.from_entries items ∙ stamped-changes v t es (distinct-shown c.self.inside.rows.entries c.len.ensures.unique) ∙ ap (λ (o : Touched). change t (stamped_table v (t, overlaid t o))) c.self.view_is

@@ -6,7 +6,7 @@ use Rattle.odb_tables.proofs.Stamps.{stamped_entries}
 use Rattle.odb_tables.proofs.TableChanges.{changes_of}
 use Rattle.odb_tables.proofs.overlay.Overlay.commit.Given as goal
 
-abbrev pub invariant-loop-key : goal.invariant-loop-key
-invariant-loop-key l =
-    l.rows.items ++ changes_of l.base (stamped_entries (uuid_of l.version) l.base (map (shown row_of) l.key-iterator))
-    ≡ changes_of l.base (stamped_entries (uuid_of l.version) l.base (map (shown row_of) l.initial.key-iterator))
+abbrev pub invariant-loop-row : goal.invariant-loop-row
+invariant-loop-row l =
+    l.rows.items ++ changes_of l.base (stamped_entries (uuid_of l.version) l.base (map (shown row_of) l.row-iterator))
+    ≡ changes_of l.base (stamped_entries (uuid_of l.version) l.base (map (shown row_of) l.initial.row-iterator))
