@@ -17,6 +17,12 @@ pub printed_more : {X Y Z : Type 0} (f : Y → List Z) (g : X → Y) (xs : List 
 printed_more f g xs i x first old new inside at is more =
     more ∙ ap (λ zs. zs ++ f (g x)) is ∙ append_assoc first (flat_map f (map g (take i xs))) (f (g x)) ∙ ap (λ zs. first ++ zs) (sym (flat_more f g xs i x inside at))
 
+-- a list of the same, as far as the loop went
+pub mapped_more : {A B X Y : Type 0} (f : A → B) (g : Y → B) (h : X → Y) (xs : List X) (i : ℕ) (x : X) (old new : List A) (a : A) → i < length xs → x ≡ get_or xs i x
+    → new ≡ old ++ a ∷ [] → f a ≡ g (h x) → map f old ≡ map g (map h (take i xs)) → map f new ≡ map g (map h (take (i + 1) xs))
+mapped_more f g h xs i x old new a inside at more same is =
+    ap (map f) more ∙ map-append f old (a ∷ []) ∙ (λ k. is k ++ same k ∷ []) ∙ sym (map-append g (map h (take i xs)) (h x ∷ [])) ∙ ap (map g) (sym (map-append h (take i xs) (x ∷ []))) ∙ ap (λ ys. map g (map h ys)) (sym (one_more xs i x inside at))
+
 pub any_more : {X : Type 0} (p : X → Bool) (xs ys : List X) → list_any p (xs ++ ys) ≡ (list_any p xs || list_any p ys)
 any_more p [] ys = refl
 any_more p (x ∷ xs) ys = by (p x) (any_more p xs ys)

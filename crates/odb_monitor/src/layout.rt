@@ -5,7 +5,8 @@ ghost use Rattle.odb_monitor.specs.Represented.Form.{all_in, named_by, old_in};
 ghost use Rattle.odb_monitor.specs.Represented.Layout.{new_and_old, row_tokens};
 ghost use Rattle.odb_monitor.specs.Represented.Line.{change_in, line_in};
 ghost use Rattle.odb_monitor.specs.Represented.Tokens.{member_tokens, tokens_of};
-ghost use Rattle.odb_monitor.specs.Update.{one, row_object, row_update, table_update};
+ghost use Rattle.odb_monitor.specs.Update.{all_cells, differences, old_cells, one, row_object, row_update, set_cells, table_update};
+ghost use Rattle.odb_monitor.specs.View.{cut};
 ghost use Rattle.odb_request.specs.Represented.Kind.{notation_of};
 ghost use Rattle.odb_request.specs.Request.{update, update2};
 ghost use Rattle.serde_json.specs.Data.{null};
@@ -16,10 +17,12 @@ use crate::line::{Change, Line};
 use crate::printer::Printer;
 use crate::row_cells::RowCells;
 use crate::value::put_key;
+use odb_atoms::Row;
 use odb_cond::Selector;
 use odb_request::{Kind, Shape};
 use std::alloc::{AllocError, Global};
 use std::marker::Model;
+use uuid::Uuid;
 
 /// How the rows of a table are printed: by which kind of monitor, whether in a first reply, and with which
 /// columns.
@@ -114,20 +117,43 @@ impl<'a> Layout<'a> {
             (change_in self.now.columns (uuid_of line.now.uuid) line.now.change))) }
     {
         match line.change {
-            Change::ComesIn(new) => {
-                let cells = RowCells::new(self.alloc, line.uuid, new);
-                self.put_one(out, "new", &Form::All(&cells))
-            }
-            Change::GoesOut(old) => {
-                let cells = RowCells::new(self.alloc, line.uuid, old);
-                self.put_one(out, "old", &Form::All(&cells))
-            }
-            Change::Differs(old, new) => {
-                let old_cells = RowCells::new(self.alloc, line.uuid, old);
-                let new_cells = RowCells::new(self.alloc, line.uuid, new);
-                self.put_both(out, &old_cells, &new_cells)
-            }
+            Change::ComesIn(new) => self.put_whole(out, "new", line.uuid, new),
+            Change::GoesOut(old) => self.put_whole(out, "old", line.uuid, old),
+            Change::Differs(old, new) => self.put_changed(out, line.uuid, old, new),
         }
+    }
+
+    /// `{name: columns}`, with every column of the row.
+    fn put_whole(
+        &self,
+        out: &mut Printer,
+        name: &str,
+        uuid: Uuid,
+        row: &Row,
+    ) -> Result<(), AllocError>
+        ensures { OnOk result (out.new ≡ out.old ++ tokens_of (one name.now (row_object self.now.columns
+            (all_cells (cut self.now.columns (uuid_of uuid) row.now))))) }
+    {
+        let cells = RowCells::new(self.alloc, uuid, row);
+        self.put_one(out, name, &Form::All(&cells))
+    }
+
+    /// `{"new": columns, "old": columns}` of a row that differs.
+    fn put_changed(
+        &self,
+        out: &mut Printer,
+        uuid: Uuid,
+        old: &Row,
+        new: &Row,
+    ) -> Result<(), AllocError>
+        ensures { OnOk result (out.new ≡ out.old ++ tokens_of (new_and_old
+            (row_object self.now.columns (all_cells (cut self.now.columns (uuid_of uuid) new.now)))
+            (row_object self.now.columns (old_cells (cut self.now.columns (uuid_of uuid) old.now)
+            (cut self.now.columns (uuid_of uuid) new.now))))) }
+    {
+        let old_cells = RowCells::new(self.alloc, uuid, old);
+        let new_cells = RowCells::new(self.alloc, uuid, new);
+        self.put_both(out, &old_cells, &new_cells)
     }
 
     /// What becomes of a row, as `update2` has it: of one that comes in the columns that aren't equal to their
@@ -137,17 +163,37 @@ impl<'a> Layout<'a> {
             (change_in self.now.columns (uuid_of line.now.uuid) line.now.change))) }
     {
         match line.change {
-            Change::ComesIn(new) => {
-                let cells = RowCells::new(self.alloc, line.uuid, new);
-                self.put_one(out, self.coming(), &Form::Set(&cells))
-            }
+            Change::ComesIn(new) => self.put_set(out, line.uuid, new),
             Change::GoesOut(_) => put_delete(out),
-            Change::Differs(old, new) => {
-                let old_cells = RowCells::new(self.alloc, line.uuid, old);
-                let new_cells = RowCells::new(self.alloc, line.uuid, new);
-                self.put_one(out, "modify", &Form::Differences(&old_cells, &new_cells))
-            }
+            Change::Differs(old, new) => self.put_differences(out, line.uuid, old, new),
         }
+    }
+
+    /// A row that comes in, with the columns that aren't equal to their default.
+    fn put_set(&self, out: &mut Printer, uuid: Uuid, row: &Row) -> Result<(), AllocError>
+        ensures { OnOk result (out.new ≡ out.old ++ tokens_of (one
+            (if self.now.first then codes "initial" else codes "insert")
+            (row_object self.now.columns (set_cells self.now.columns (cut self.now.columns (uuid_of uuid) row.now))))) }
+    {
+        let cells = RowCells::new(self.alloc, uuid, row);
+        self.put_one(out, self.coming(), &Form::Set(&cells))
+    }
+
+    /// A row that differs, with the differences of its columns.
+    fn put_differences(
+        &self,
+        out: &mut Printer,
+        uuid: Uuid,
+        old: &Row,
+        new: &Row,
+    ) -> Result<(), AllocError>
+        ensures { OnOk result (out.new ≡ out.old ++ tokens_of (one (codes "modify")
+            (row_object self.now.columns (differences self.now.columns
+            (cut self.now.columns (uuid_of uuid) old.now) (cut self.now.columns (uuid_of uuid) new.now))))) }
+    {
+        let old_cells = RowCells::new(self.alloc, uuid, old);
+        let new_cells = RowCells::new(self.alloc, uuid, new);
+        self.put_one(out, "modify", &Form::Differences(&old_cells, &new_cells))
     }
 
     /// What a row that comes in stands under in `update2`.

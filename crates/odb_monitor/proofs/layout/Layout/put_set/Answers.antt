@@ -1,0 +1,15 @@
+use Rattle.std.proofs.Common.{rules, ◌≡◌, ◌++◌, OnOk, codes, if◌then◌else◌, map, subst, sym}
+use Rattle.odb_atoms.specs.Represented.Atom.{uuid_of}
+use Rattle.odb_monitor.specs.Represented.Form.{set_in}
+use Rattle.odb_monitor.specs.Represented.Tokens.{tokens_of}
+use Rattle.odb_monitor.specs.Update.{one, row_object}
+use Rattle.odb_monitor.proofs.Forms.{set_cut}
+use Rattle.odb_monitor.proofs.layout.Layout.put_set.Goals as goal
+
+pub returns : goal.returns
+returns c =
+    let cs = c.args.self.now.columns in
+    let u = uuid_of c.args.uuid in
+    let r = c.args.row.now in
+    let built : OnOk c.put_one.result (c.put_one.new.out ≡ c.args.out.now ++ tokens_of (one (if c.args.self.now.first then codes "initial" else codes "insert") (row_object cs (map (set_in (u, r)) cs)))) = search rules in
+    subst (λ vs. OnOk c.put_one.result (c.put_one.new.out ≡ c.args.out.now ++ tokens_of (one (if c.args.self.now.first then codes "initial" else codes "insert") (row_object cs vs)))) (sym (set_cut cs u r)) built
