@@ -4,40 +4,26 @@ ghost use Rattle.std.specs.Prelude.{◌≡◌};
 ghost use Rattle.odb_atoms.specs.Error.{error_name};
 ghost use Rattle.odb_atoms.specs.Represented.Error.{error_of};
 
+use std::fmt;
+
 /// Why an operation or a commit fails (RFC 7047, section 3.1, `<error>`).
-#[derive(Clone, Copy, Debug, PartialEq, Eq, thiserror::Error)]
+#[derive(Clone, Copy, Debug, PartialEq, Eq)]
 pub enum Error {
-    #[error("syntax error")]
     SyntaxError,
-    #[error("unknown operation")]
     UnknownOperation,
-    #[error("unknown table")]
     UnknownTable,
-    #[error("unknown column")]
     UnknownColumn,
-    #[error("unknown uuid-name")]
     UnknownUuidName,
-    #[error("duplicate uuid-name")]
     DuplicateUuidName,
-    #[error("duplicate uuid")]
     DuplicateUuid,
-    #[error("constraint violation")]
     ConstraintViolation,
-    #[error("domain error")]
     DomainError,
-    #[error("range error")]
     RangeError,
-    #[error("resources exhausted")]
     ResourcesExhausted,
-    #[error("timed out")]
     TimedOut,
-    #[error("not supported")]
     NotSupported,
-    #[error("aborted")]
     Aborted,
-    #[error("not owner")]
     NotOwner,
-    #[error("referential integrity violation")]
     ReferentialIntegrityViolation,
 }
 
@@ -66,3 +52,11 @@ impl Error {
         }
     }
 }
+
+impl fmt::Display for Error {
+    fn fmt<W: fmt::Write>(&self, f: &mut fmt::Formatter<W>) -> fmt::Result {
+        f.write_str(self.name())
+    }
+}
+
+impl std::error::Error for Error {}
