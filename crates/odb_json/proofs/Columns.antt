@@ -46,6 +46,9 @@ module _ (cs : List Column) (whole : Result (List Selector) Error) (front : List
       e ∙ ap (λ r. after (selectors front) (next r (λ column. later column (test column)))) is
       ∙ ap (λ b. after (selectors front) (later column b)) (seen-among column front ∙ h)
 
+  pub columns_fault : (f : Error) → Stands → read_selector cs d ≡ Err f → whole ≡ Err f
+  columns_fault f e is = e ∙ ap (λ r. after (selectors front) (next r (λ column. later column (test column)))) is
+
   pub columns_repeated : (column : Selector) → Stands → read_selector cs d ≡ Ok column → IsAmong column front ≡ true → whole ≡ Err syntax_error
   columns_repeated column e is h = read_column column true e is h
 

@@ -1,4 +1,5 @@
 pub mod Columns
+pub mod Faults
 pub mod Fronts
 pub mod Maps
 pub mod Sets

@@ -3,6 +3,8 @@
 
 ghost use Rattle.std.specs.Prelude.{◌≡◌, Some, option_map};
 ghost use Rattle.serde_json.specs.View.{items_view, members_view, view};
+ghost use Rattle.odb_atoms.specs.Atom.{uuids};
+ghost use Rattle.odb_atoms.specs.ColType.{scalar};
 ghost use Rattle.odb_atoms.specs.First.{each};
 ghost use Rattle.odb_atoms.specs.Represented.ColType.{type_of};
 ghost use Rattle.odb_cond.specs.Represented.Clause.{function_of};
@@ -103,10 +105,28 @@ pub fn read_clause(
         (model.read_clause (option_map (λ n. n.now) names.entry) table.now.columns
         (view value.now)) }
 {
+    let uuid = ColType::scalar(Kind::Uuid);
+    let clause = read_triple(alloc, value, table, &uuid, names);
+    drop(uuid);
+    clause
+}
+
+/// What `read_clause` reads. `uuid` is the type of `_uuid` and `_version`.
+fn read_triple(
+    alloc: Global,
+    value: &Value,
+    table: &TableSchema,
+    uuid: &ColType,
+    names: Option<&Names>,
+) -> Result<Clause, OpFault>
+    requires { type_of uuid.now ≡ scalar uuids }
+    ensures { Reads (λ clause. clause) result
+        (model.read_clause (option_map (λ n. n.now) names.entry) table.now.columns
+        (view value.now)) }
+{
     let (first, second, third) = triple(value).ok_or(SYNTAX)?;
     let column = read_selector(table, first)?;
-    let uuid = ColType::scalar(Kind::Uuid);
-    let column_type = type_of(table, column, &uuid);
+    let column_type = type_of(table, column, uuid);
     let function = read_function(column_type, second)?;
     let value = read_by_kind(alloc, third, column_type, names)?;
     Ok(Clause::new(column, function, value))

@@ -11,6 +11,7 @@ ghost use Rattle.odb_mutate.specs.Represented.Mutation.{mutator_of};
 ghost use Rattle.odb_schema.specs.Json.{items_list};
 ghost use Rattle.odb_schema.specs.Notation.{is_map_notation};
 ghost use Rattle.odb_schema.specs.Schema as model_schema;
+ghost use Rattle.odb_json.specs.ColumnValue as column_value;
 ghost use Rattle.odb_json.specs.MutationNotation as model;
 ghost use Rattle.odb_json.specs.Operation as operation;
 ghost use Rattle.odb_json.specs.Represented.Fault.{Gives, Reads};
@@ -126,6 +127,22 @@ fn is_map_notation(value: &Value) -> bool
     tagged("map", value).is_some()
 }
 
+/// A value of the type's kind.
+fn read_of_type(
+    alloc: Global,
+    value: &Value,
+    column_type: ColType,
+    names: Option<&Names>,
+) -> Result<odb_atoms::Value, OpFault>
+    ensures { Reads (λ v. v) result
+        (column_value.read_by_kind (option_map (λ n. n.now) names.entry) (type_of column_type)
+        (view value.now)) }
+{
+    let read = read_by_kind(alloc, value, &column_type, names);
+    drop(column_type);
+    read
+}
+
 /// The value of a mutation: for arithmetic one integer; for `delete` also a set of keys; else a
 /// value of the column's kind.
 fn read_operand(
@@ -141,10 +158,10 @@ fn read_operand(
 {
     match mutator {
         Mutator::Calculate(_) => {
-            read_by_kind(alloc, value, &ColType::scalar(Kind::Integer), names)
+            read_of_type(alloc, value, ColType::scalar(Kind::Integer), names)
         }
         Mutator::Delete if !is_map_notation(value) => {
-            read_by_kind(alloc, value, &key_set(column), names)
+            read_of_type(alloc, value, key_set(column), names)
         }
         Mutator::Insert | Mutator::Delete => read_by_kind(alloc, value, column, names),
     }
@@ -173,7 +190,10 @@ pub fn read_mutation(
         (model.read_mutation (option_map (λ n. n.now) names.entry) table.now.columns
         (view value.now)) }
 {
-    read_triple(alloc, value, table, &ColType::scalar(Kind::Uuid), names)
+    let uuid = ColType::scalar(Kind::Uuid);
+    let mutation = read_triple(alloc, value, table, &uuid, names);
+    drop(uuid);
+    mutation
 }
 
 /// What `read_mutation` reads. `uuid` is the type of `_uuid` and `_version`.

@@ -3,7 +3,10 @@
 
 ghost use Rattle.std.specs.Prelude.{◌≡◌, Some, map};
 ghost use Rattle.serde_json.specs.View.{items_view, members_view, view};
+ghost use Rattle.odb_atoms.specs.Atom.{uuids};
+ghost use Rattle.odb_atoms.specs.ColType.{scalar};
 ghost use Rattle.odb_atoms.specs.First.{each};
+ghost use Rattle.odb_atoms.specs.Represented.ColType.{type_of};
 ghost use Rattle.odb_cond.specs.Represented.Clause.{selector_of};
 ghost use Rattle.odb_schema.specs.Json.{items_list};
 ghost use Rattle.odb_json.specs.Operation as model;
@@ -69,9 +72,26 @@ impl RowReader<'_> {
             (model.read_cell self.entry.names.now self.entry.table.now.columns
             (written self.entry.writing self.entry.table.now.columns) name.now (view value.now)) }
     {
-        let column = writable(self.table, name, self.writing)?;
         let uuid = ColType::scalar(Kind::Uuid);
-        let column_type = type_of(self.table, Selector::Declared(column.place()), &uuid);
+        let cell = self.read_member(name, value, &uuid);
+        drop(uuid);
+        cell
+    }
+
+    /// What `read_cell` reads. `uuid` is the type of `_uuid` and `_version`.
+    fn read_member(
+        self,
+        name: &str,
+        value: &Value,
+        uuid: &ColType,
+    ) -> Result<(ColumnId, odb_atoms::Value), OpFault>
+        requires { type_of uuid.now ≡ scalar uuids }
+        ensures { Reads (λ cell. cell) result
+            (model.read_cell self.entry.names.now self.entry.table.now.columns
+            (written self.entry.writing self.entry.table.now.columns) name.now (view value.now)) }
+    {
+        let column = writable(self.table, name, self.writing)?;
+        let column_type = type_of(self.table, Selector::Declared(column.place()), uuid);
         let value = read_value(self.alloc, value, column_type, Some(self.names))?;
         Ok((column, value))
     }
@@ -134,9 +154,27 @@ fn read_expected_cell(
     ensures { Reads cell_of result
         (model.read_expected_cell names.now table.now.columns name.now (view value.now)) }
 {
-    let column = selector(table, name).ok_or(OpFault::Failed(Error::UnknownColumn))?;
     let uuid = ColType::scalar(Kind::Uuid);
-    let column_type = type_of(table, column, &uuid);
+    let cell = read_expected_member(alloc, name, value, table, &uuid, names);
+    drop(uuid);
+    cell
+}
+
+/// What `read_expected_cell` reads. `uuid` is the type of `_uuid` and `_version`.
+fn read_expected_member(
+    alloc: Global,
+    name: &str,
+    value: &Value,
+    table: &TableSchema,
+    uuid: &ColType,
+    names: &Names,
+) -> Result<(Selector, odb_atoms::Value), OpFault>
+    requires { type_of uuid.now ≡ scalar uuids }
+    ensures { Reads cell_of result
+        (model.read_expected_cell names.now table.now.columns name.now (view value.now)) }
+{
+    let column = selector(table, name).ok_or(OpFault::Failed(Error::UnknownColumn))?;
+    let column_type = type_of(table, column, uuid);
     let value = read_by_kind(alloc, value, column_type, Some(names))?;
     Ok((column, value))
 }
