@@ -9,6 +9,8 @@ ghost use Rattle.odb_atoms.specs.First.{each};
 ghost use Rattle.odb_atoms.specs.Represented.ColType.{type_of};
 ghost use Rattle.odb_cond.specs.Represented.Clause.{selector_of};
 ghost use Rattle.odb_schema.specs.Json.{items_list};
+ghost use Rattle.odb_schema.specs.Schema as model_schema;
+ghost use Rattle.odb_json.specs.ColumnValue as column_value;
 ghost use Rattle.odb_json.specs.Operation as model;
 ghost use Rattle.odb_json.specs.Represented.Fault.{Gives, Reads};
 ghost use Rattle.odb_json.specs.Represented.Row.{cell_of, cells_of, written};
@@ -143,6 +145,23 @@ pub fn read_row(
     reader.read_cells(read_object(value)?)
 }
 
+/// A value of the column's kind.
+fn read_of_column(
+    alloc: Global,
+    value: &Value,
+    table: &TableSchema,
+    column: Selector,
+    names: &Names,
+) -> Result<odb_atoms::Value, OpFault>
+    ensures { Reads (λ v. v) result (column_value.read_by_kind (Some names.now)
+        (model_schema.selector_type table.now.columns (selector_of column)) (view value.now)) }
+{
+    let uuid = ColType::scalar(Kind::Uuid);
+    let read = read_by_kind(alloc, value, type_of(table, column, &uuid), Some(names));
+    drop(uuid);
+    read
+}
+
 /// A column of a row of `wait` and its value.
 fn read_expected_cell(
     alloc: Global,
@@ -154,28 +173,8 @@ fn read_expected_cell(
     ensures { Reads cell_of result
         (model.read_expected_cell names.now table.now.columns name.now (view value.now)) }
 {
-    let uuid = ColType::scalar(Kind::Uuid);
-    let cell = read_expected_member(alloc, name, value, table, &uuid, names);
-    drop(uuid);
-    cell
-}
-
-/// What `read_expected_cell` reads. `uuid` is the type of `_uuid` and `_version`.
-fn read_expected_member(
-    alloc: Global,
-    name: &str,
-    value: &Value,
-    table: &TableSchema,
-    uuid: &ColType,
-    names: &Names,
-) -> Result<(Selector, odb_atoms::Value), OpFault>
-    requires { type_of uuid.now ≡ scalar uuids }
-    ensures { Reads cell_of result
-        (model.read_expected_cell names.now table.now.columns name.now (view value.now)) }
-{
     let column = selector(table, name).ok_or(OpFault::Failed(Error::UnknownColumn))?;
-    let column_type = type_of(table, column, uuid);
-    let value = read_by_kind(alloc, value, column_type, Some(names))?;
+    let value = read_of_column(alloc, value, table, column, names)?;
     Ok((column, value))
 }
 
