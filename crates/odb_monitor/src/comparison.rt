@@ -141,7 +141,10 @@ impl<'a> Comparison<'a> {
     {
         let old = RowCells::new(self.alloc, uuid, old);
         let new = RowCells::new(self.alloc, uuid, new);
-        are_same(self.request.columns(), &old, &new)
+        let same = are_same(self.request.columns(), &old, &new);
+        drop(old);
+        drop(new);
+        same
     }
 }
 

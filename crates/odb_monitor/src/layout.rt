@@ -135,7 +135,9 @@ impl<'a> Layout<'a> {
             (all_cells (cut self.now.columns (uuid_of uuid) row.now))))) }
     {
         let cells = RowCells::new(self.alloc, uuid, row);
-        self.put_one(out, name, &Form::All(&cells))
+        let put = self.put_one(out, name, &Form::All(&cells));
+        drop(cells);
+        put
     }
 
     /// `{"new": columns, "old": columns}` of a row that differs.
@@ -153,7 +155,10 @@ impl<'a> Layout<'a> {
     {
         let old_cells = RowCells::new(self.alloc, uuid, old);
         let new_cells = RowCells::new(self.alloc, uuid, new);
-        self.put_both(out, &old_cells, &new_cells)
+        let put = self.put_both(out, &old_cells, &new_cells);
+        drop(old_cells);
+        drop(new_cells);
+        put
     }
 
     /// What becomes of a row, as `update2` has it: of one that comes in the columns that aren't equal to their
@@ -176,7 +181,9 @@ impl<'a> Layout<'a> {
             (row_object self.now.columns (set_cells self.now.columns (cut self.now.columns (uuid_of uuid) row.now))))) }
     {
         let cells = RowCells::new(self.alloc, uuid, row);
-        self.put_one(out, self.coming(), &Form::Set(&cells))
+        let put = self.put_one(out, self.coming(), &Form::Set(&cells));
+        drop(cells);
+        put
     }
 
     /// A row that differs, with the differences of its columns.
@@ -193,7 +200,10 @@ impl<'a> Layout<'a> {
     {
         let old_cells = RowCells::new(self.alloc, uuid, old);
         let new_cells = RowCells::new(self.alloc, uuid, new);
-        self.put_one(out, "modify", &Form::Differences(&old_cells, &new_cells))
+        let put = self.put_one(out, "modify", &Form::Differences(&old_cells, &new_cells));
+        drop(old_cells);
+        drop(new_cells);
+        put
     }
 
     /// What a row that comes in stands under in `update2`.

@@ -10,5 +10,5 @@ returns c =
     let u = uuid_of c.args.uuid in
     let p = c.args.old.now in
     let q = c.args.new.now in
-    let tested : c.are_same.result ≡ list_all (is_same_in (u, p) (u, q)) c.columns.result.now = search rules in
+    let tested : c.are_same-same.result ≡ list_all (is_same_in (u, p) (u, q)) c.columns.result.now = search rules in
     tested ∙ same_cut c.columns.result.now c.args.self.now.request.now.shape.columns u p q c.columns.ensures

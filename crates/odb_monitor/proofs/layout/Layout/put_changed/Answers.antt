@@ -14,5 +14,5 @@ returns c =
     let u = uuid_of c.args.uuid in
     let p = c.args.old.now in
     let q = c.args.new.now in
-    let built : OnOk c.put_both.result (c.put_both.new.out ≡ c.args.out.now ++ tokens_of (new_and_old (row_object cs (map (all_in (u, q)) cs)) (row_object cs (map (old_in (u, p) (u, q)) cs)))) = search rules in
-    subst (λ (vs : List (Option Value) × List (Option Value)). OnOk c.put_both.result (c.put_both.new.out ≡ c.args.out.now ++ tokens_of (new_and_old (row_object cs vs.0) (row_object cs vs.1)))) (λ i. let vs : List (Option Value) × List (Option Value) = (sym (all_cut cs u q) i, sym (old_cut cs u p q) i) in vs) built
+    let built : OnOk c.put_both-put.result (c.put_both-put.new.out ≡ c.args.out.now ++ tokens_of (new_and_old (row_object cs (map (all_in (u, q)) cs)) (row_object cs (map (old_in (u, p) (u, q)) cs)))) = search rules in
+    subst (λ (vs : List (Option Value) × List (Option Value)). OnOk c.put_both-put.result (c.put_both-put.new.out ≡ c.args.out.now ++ tokens_of (new_and_old (row_object cs vs.0) (row_object cs vs.1)))) (λ i. let vs : List (Option Value) × List (Option Value) = (sym (all_cut cs u q) i, sym (old_cut cs u p q) i) in vs) built

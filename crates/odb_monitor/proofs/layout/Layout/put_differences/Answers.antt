@@ -12,5 +12,5 @@ returns c =
     let u = uuid_of c.args.uuid in
     let p = c.args.old.now in
     let q = c.args.new.now in
-    let built : OnOk c.put_one.result (c.put_one.new.out ≡ c.args.out.now ++ tokens_of (one (codes "modify") (row_object cs (map (difference_in (u, p) (u, q)) cs)))) = search rules in
-    subst (λ vs. OnOk c.put_one.result (c.put_one.new.out ≡ c.args.out.now ++ tokens_of (one (codes "modify") (row_object cs vs)))) (sym (differences_cut cs u p q)) built
+    let built : OnOk c.put_one-put.result (c.put_one-put.new.out ≡ c.args.out.now ++ tokens_of (one (codes "modify") (row_object cs (map (difference_in (u, p) (u, q)) cs)))) = search rules in
+    subst (λ vs. OnOk c.put_one-put.result (c.put_one-put.new.out ≡ c.args.out.now ++ tokens_of (one (codes "modify") (row_object cs vs)))) (sym (differences_cut cs u p q)) built

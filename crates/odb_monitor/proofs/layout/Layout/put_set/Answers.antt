@@ -11,5 +11,5 @@ returns c =
     let cs = c.args.self.now.columns in
     let u = uuid_of c.args.uuid in
     let r = c.args.row.now in
-    let built : OnOk c.put_one.result (c.put_one.new.out ≡ c.args.out.now ++ tokens_of (one (if c.args.self.now.first then codes "initial" else codes "insert") (row_object cs (map (set_in (u, r)) cs)))) = search rules in
-    subst (λ vs. OnOk c.put_one.result (c.put_one.new.out ≡ c.args.out.now ++ tokens_of (one (if c.args.self.now.first then codes "initial" else codes "insert") (row_object cs vs)))) (sym (set_cut cs u r)) built
+    let built : OnOk c.put_one-put.result (c.put_one-put.new.out ≡ c.args.out.now ++ tokens_of (one (if c.args.self.now.first then codes "initial" else codes "insert") (row_object cs (map (set_in (u, r)) cs)))) = search rules in
+    subst (λ vs. OnOk c.put_one-put.result (c.put_one-put.new.out ≡ c.args.out.now ++ tokens_of (one (if c.args.self.now.first then codes "initial" else codes "insert") (row_object cs vs)))) (sym (set_cut cs u r)) built

@@ -13,5 +13,5 @@ returns c =
     let cs = c.args.self.now.columns in
     let u = uuid_of c.args.uuid in
     let r = c.args.row.now in
-    let built : OnOk c.put_one.result (c.put_one.new.out ≡ c.args.out.now ++ tokens_of (one c.args.name.now (row_object cs (map (all_in (u, r)) cs)))) = search rules in
-    subst (λ vs. OnOk c.put_one.result (c.put_one.new.out ≡ c.args.out.now ++ tokens_of (one c.args.name.now (row_object cs vs)))) (sym (all_cut cs u r)) built
+    let built : OnOk c.put_one-put.result (c.put_one-put.new.out ≡ c.args.out.now ++ tokens_of (one c.args.name.now (row_object cs (map (all_in (u, r)) cs)))) = search rules in
+    subst (λ vs. OnOk c.put_one-put.result (c.put_one-put.new.out ≡ c.args.out.now ++ tokens_of (one c.args.name.now (row_object cs vs)))) (sym (all_cut cs u r)) built
