@@ -83,7 +83,9 @@ fn needs_one_at_most(columns: &[Column], place: usize) -> bool
     ensures { result ≡ merged.needs_one_at_most columns.now place }
 {
     let uuid = ColType::scalar(Kind::Uuid);
-    type_at(columns, place, &uuid).min <= 1
+    let one_at_most = type_at(columns, place, &uuid).min <= 1;
+    drop(uuid);
+    one_at_most
 }
 
 /// The mutations in runs, of which each is as long as can be found by halves: insertions of sets into one
@@ -175,7 +177,9 @@ fn merged(
         return Ok(None);
     };
     let sets = sets_of(kind);
-    let Some(value) = inserted(alloc, &sets, mutations)? else {
+    let found = inserted(alloc, &sets, mutations);
+    drop(sets);
+    let Some(value) = found? else {
         return Ok(None);
     };
     Ok(Some(Mutation::new(place, Mutator::Insert, value)))
@@ -209,10 +213,12 @@ fn element_kind(columns: &[Column], place: usize) -> Option<Kind>
 {
     let uuid = ColType::scalar(Kind::Uuid);
     let column_type = type_at(columns, place, &uuid);
-    if column_type.value.is_some() {
-        return None;
-    }
-    Some(column_type.key.kind)
+    let kind = match column_type.value {
+        Some(_) => None,
+        None => Some(column_type.key.kind),
+    };
+    drop(uuid);
+    kind
 }
 
 /// The type of the sets of any number of atoms of the kind.

@@ -67,7 +67,9 @@ fn new_value(
     let uuid = ColType::scalar(Kind::Uuid);
     let value = value_at(row, mutation.column(), &nothing);
     let column_type = type_at(columns, mutation.column(), &uuid);
-    mutation.on(alloc, value, column_type)
+    let made = mutation.on(alloc, value, column_type);
+    drop(uuid);
+    made
 }
 
 /// Makes the mutation of its column of the row; a row that has a fault stays as it is.

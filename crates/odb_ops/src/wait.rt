@@ -1,6 +1,7 @@
 //! `wait` (RFC 7047, section 5.2.6). [P 4.2, 12.1]
 ghost use Rattle.std.specs.Prelude.{◌≡◌, IfOk, find, map, option_map};
 ghost use Rattle.std.specs.Option.{option_copied};
+ghost use Rattle.odb_atoms.specs.Atom.{uuids};
 ghost use Rattle.odb_atoms.specs.ColType as column_type;
 ghost use Rattle.odb_atoms.specs.Row.{same_selector};
 ghost use Rattle.odb_cond.specs.Represented.Clause.{selector_of};
@@ -141,8 +142,18 @@ fn default_for(alloc: Global, declared: &[Column], column: Selector) -> Result<V
     match column {
         Selector::Declared(place) => match declared.get(place) {
             Some(column) => default_of(alloc, column.column_type()),
-            None => default_of(alloc, &ColType::scalar(Kind::Uuid)),
+            None => default_of_uuids(alloc),
         },
-        Selector::Uuid | Selector::Version => default_of(alloc, &ColType::scalar(Kind::Uuid)),
+        Selector::Uuid | Selector::Version => default_of_uuids(alloc),
     }
+}
+
+/// The default of `_uuid` and of `_version`.
+fn default_of_uuids(alloc: Global) -> Result<Value, AllocError>
+    ensures { IfOk result (λ value. value ≡ column_type.default_of (column_type.scalar uuids)) }
+{
+    let uuid = ColType::scalar(Kind::Uuid);
+    let value = default_of(alloc, &uuid);
+    drop(uuid);
+    value
 }

@@ -5,8 +5,8 @@ use Rattle.odb_ops.specs.Represented.Merged.{Inserts, StandsFor, all_take}
 use Rattle.odb_ops.proofs.Insertions.{all_taken}
 use Rattle.odb_ops.proofs.merging.merged.Goals as goal
 
-pub inserted-requires-clause-taken : goal.inserted-requires-clause-taken
-inserted-requires-clause-taken c =
+pub inserted-found-requires-clause-taken : goal.inserted-found-requires-clause-taken
+inserted-found-requires-clause-taken c =
     let ms = c.args.mutations.now in
     let found = c.in-Some-element_kind in
     subst (λ t. all_take t ms ≡ true) (sym c.sets_of-sets.ensures) (all_taken c.args.columns.now c.in-Some.place (kind_in found.kind) ms found.ensures.set found.ensures.kind c.in-Some.ensures c.requires)

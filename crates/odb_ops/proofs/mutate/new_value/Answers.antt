@@ -7,8 +7,8 @@ use Rattle.odb_ops.proofs.Fits.{cell_has_kind}
 use Rattle.odb_schema.specs.Schema.{column_type}
 use Rattle.odb_ops.proofs.mutate.new_value.Goals as goal
 
-pub on-requires-clause-kind : goal.on-requires-clause-kind
-on-requires-clause-kind c =
+pub on-made-requires-clause-kind : goal.on-made-requires-clause-kind
+on-made-requires-clause-kind c =
     let cs = c.args.columns.now in
     let r = c.args.row.now in
     let i = c.args.mutation.now.column in
