@@ -86,7 +86,9 @@ impl<'a> Part<'a> {
         let lines = self.lines(alloc, first)?;
         let shape = self.request.shape();
         let layout = Layout::of(alloc, shape, kind, first);
-        layout.put_table(out, shape.table_schema().name(), &lines)?;
+        let put = layout.put_table(out, shape.table_schema().name(), &lines);
+        drop(layout);
+        put?;
         Ok(!lines.is_empty())
     }
 
