@@ -152,26 +152,32 @@ fn script_command<'a>(alloc: Global) -> Result<Command<'a>, Error> {
 
 /// `serve` and its words.
 fn serve_command<'a>(alloc: Global) -> Result<Command<'a>, Error> {
-    let listen = Arg::new(alloc, "listen")
+    let serve = Command::new(alloc, "serve")
+        .about("Serves the schema over TCP")
+        .after_help(AFTER_SERVE_HELP)
+        .arg(schema_word(alloc))?
+        .arg(listen_word(alloc))?
+        .arg(sessions_word(alloc))?;
+    Ok(serve)
+}
+
+fn listen_word<'a>(alloc: Global) -> Arg<'a> {
+    Arg::new(alloc, "listen")
         .long("listen")
         .value_name("A")
         .help(
             "The address and port to listen on, 127.0.0.1:6640 if absent; at port 0 the system chooses one",
         )
-        .action(ArgAction::Set);
-    let sessions = Arg::new(alloc, "sessions")
+        .action(ArgAction::Set)
+}
+
+fn sessions_word<'a>(alloc: Global) -> Arg<'a> {
+    Arg::new(alloc, "sessions")
         .long("sessions")
         .value_name("N")
         .help("How many connections to serve before it ends")
         .value_parser(ValueParser::Unsigned(1, u64::MAX))
-        .action(ArgAction::Set);
-    let serve = Command::new(alloc, "serve")
-        .about("Serves the schema over TCP")
-        .after_help(AFTER_SERVE_HELP)
-        .arg(schema_word(alloc))?
-        .arg(listen)?
-        .arg(sessions)?;
-    Ok(serve)
+        .action(ArgAction::Set)
 }
 
 fn schema_word<'a>(alloc: Global) -> Arg<'a> {
