@@ -217,7 +217,7 @@ fn add_stamped(
 ) -> Result<(), AllocError>
     ensures { OnOk result (let old_row = finite.get base.now row.0 in
         rows.new.items ≡ rows.old.items ++ option_to_list
-            (change_at row.0 old_row (option_map (stamped_row (uuid_of version) old_row) (row_of row.1)))) }
+        (change_at row.0 old_row (option_map (stamped_row (uuid_of version) old_row) (row_of row.1)))) }
 {
     let (key, now) = row;
     let change = RowChange::stamped(alloc, key, base.share(key), now, version)?;
