@@ -17,7 +17,6 @@ use uuid::Uuid;
 /// Atoms are ordered by kind, in the order of the variants; integers by size, `false` before
 /// `true`, texts by their bytes and identifiers as numbers of 128 bits. Two atoms are equal where
 /// neither is before the other.
-#[derive(Debug, Drop)]
 pub enum Atom {
     /// An integer from -2^63 to 2^63 - 1.
     Integer(i64),
@@ -30,7 +29,7 @@ pub enum Atom {
 }
 
 /// An atomic type (RFC 7047, section 3.2, `<atomic-type>`).
-#[derive(Clone, Copy, Debug, PartialEq, Eq, PartialOrd, Ord, Hash)]
+#[derive(Clone, Copy, PartialEq, Eq, PartialOrd, Ord)]
 pub enum Kind {
     /// `integer`.
     Integer,
@@ -130,4 +129,16 @@ impl PartialEq for Atom {
 
 impl Eq for Atom {
     ghost laws = { atoms_equivalent };
+}
+
+// Written, and not derived, so that each end of a scope is one call to prove.
+impl Drop for Atom {
+    fn drop(self) {
+        match self {
+            Atom::Integer(_) => {}
+            Atom::Boolean(_) => {}
+            Atom::Text(_) => {}
+            Atom::Uuid(_) => {}
+        }
+    }
 }

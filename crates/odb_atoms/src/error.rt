@@ -7,7 +7,7 @@ ghost use Rattle.odb_atoms.specs.Represented.Error.{error_of};
 use std::fmt;
 
 /// Why an operation or a commit fails (RFC 7047, section 3.1, `<error>`).
-#[derive(Clone, Copy, Debug, PartialEq, Eq)]
+#[derive(Clone, Copy, Debug)]
 pub enum Error {
     SyntaxError,
     UnknownOperation,

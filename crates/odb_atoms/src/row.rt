@@ -14,7 +14,7 @@ use uuid::Uuid;
 /// `_version` (RFC 7047, section 3.2). Its identifier, `_uuid`, is kept beside it.
 ///
 /// The columns lie in one allocation; what a value itself takes, `Value` says.
-#[derive(Debug, Drop)]
+#[derive(Drop)]
 pub struct Row {
     version: Uuid,
     columns: Vec<Value>,

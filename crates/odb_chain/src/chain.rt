@@ -18,7 +18,6 @@ use std::marker::Model;
 
 /// How many changes the table had, which places before that have marks, how many marks stand for what the
 /// table is now, and what rows were.
-#[derive(Drop)]
 pub(crate) struct Chain {
     version: u64,
     live: Vec<Live>,
@@ -281,4 +280,16 @@ fn last_place(live: &[Live]) -> Option<u64>
 {
     let last = live.last()?;
     Some(last.place)
+}
+
+// Written, and not derived, so that each end of a scope is one call to prove.
+impl Drop for Chain {
+    fn drop(self) {
+        let Chain {
+            version: _,
+            live: _,
+            fresh: _,
+            kept: _,
+        } = self;
+    }
 }

@@ -21,7 +21,6 @@ use std::mem;
 
 /// A database, and of each table the contents for which marks stand. Of a content only the rows are kept that
 /// changed since; marks between which a table didn't change share one.
-#[derive(Drop)]
 pub struct Chains {
     alloc: Global,
     hashing: RandomState,
@@ -283,4 +282,16 @@ fn step_if(chain: &mut Chain, moved: bool)
         return;
     }
     chain.step();
+}
+
+// Written, and not derived, so that each end of a scope is one call to prove.
+impl Drop for Chains {
+    fn drop(self) {
+        let Chains {
+            alloc: _,
+            hashing: _,
+            db: _,
+            chains: _,
+        } = self;
+    }
 }

@@ -27,7 +27,6 @@ use std::marker::Model;
 use std::sync::Arc;
 
 /// What the rows of a table were that changed since its earliest mark.
-#[derive(Drop)]
 pub(crate) struct Kept {
     alloc: Global,
     rows: IndexMap<Key, History, RandomState>,
@@ -244,5 +243,16 @@ fn put(
     match rows.insert(key, history) {
         Ok(_) => Ok(()),
         Err(_) => Err(AllocError),
+    }
+}
+
+// Written, and not derived, so that each end of a scope is one call to prove.
+impl Drop for Kept {
+    fn drop(self) {
+        let Kept {
+            alloc: _,
+            rows: _,
+            log: _,
+        } = self;
     }
 }

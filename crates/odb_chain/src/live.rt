@@ -6,7 +6,7 @@ ghost use Rattle.odb_chain.specs.Represented.Places.{is_between};
 use std::marker::Model;
 
 /// A place with how many marks stand at it.
-#[derive(Clone, Copy, Debug)]
+#[derive(Clone, Copy)]
 pub(crate) struct Live {
     pub(crate) place: u64,
     pub(crate) marks: usize,

@@ -21,7 +21,7 @@ use uuid::Uuid;
 
 /// A column of a row: one of the two that every table has, or a declared one (RFC 7047, section
 /// 3.2).
-#[derive(Clone, Copy, Debug, PartialEq, Eq)]
+#[derive(Clone, Copy, PartialEq, Eq)]
 pub enum Selector {
     /// `_uuid`.
     Uuid,
@@ -32,7 +32,7 @@ pub enum Selector {
 }
 
 /// How a column has to stand to the value of a condition (RFC 7047, section 5.1, `<function>`).
-#[derive(Clone, Copy, Debug, PartialEq, Eq)]
+#[derive(Clone, Copy, PartialEq, Eq)]
 pub enum Function {
     /// `<`.
     Less,
@@ -53,7 +53,7 @@ pub enum Function {
 }
 
 /// A condition on a row (RFC 7047, section 5.1, `<condition>`).
-#[derive(Debug, Drop)]
+#[derive(Drop)]
 pub struct Clause {
     column: Selector,
     function: Function,

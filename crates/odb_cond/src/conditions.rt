@@ -15,7 +15,7 @@ use uuid::Uuid;
 
 /// The `where` of an operation (RFC 7047, section 5.2.2): conditions that all have to hold, so that
 /// none at all selects every row.
-#[derive(Debug, Drop)]
+#[derive(Drop)]
 pub struct Where {
     clauses: Vec<Clause>,
 }

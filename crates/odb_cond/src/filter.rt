@@ -14,7 +14,6 @@ use std::marker::Model;
 use uuid::Uuid;
 
 /// A member of a filter (ovsdb-server(7), "monitor_cond").
-#[derive(Debug, Drop)]
 pub enum Member {
     /// `true` or `false`, whatever the row.
     Always(bool),
@@ -24,7 +23,7 @@ pub enum Member {
 
 /// The `where` of a table in a conditional monitor (ovsdb-server(7), "monitor_cond"): of its
 /// members one has to hold, and without members every row is selected.
-#[derive(Debug, Drop)]
+#[derive(Drop)]
 pub struct Filter {
     members: Vec<Member>,
 }
@@ -140,4 +139,14 @@ fn are_same(members: &[Member], others: &[Member]) -> bool
         }
     }
     true
+}
+
+// Written, and not derived, so that each end of a scope is one call to prove.
+impl Drop for Member {
+    fn drop(self) {
+        match self {
+            Member::Always(_) => {}
+            Member::When(_) => {}
+        }
+    }
 }

@@ -12,7 +12,6 @@ use std::marker::Model;
 use std::sync::Arc;
 
 /// A round as it is planned: the jobs that it needs, those that are alike once, and its takings. It lends the tables.
-#[derive(Drop)]
 pub struct Jobs<'a> {
     listed: Vec<SessionId>,
     jobs: book::Jobs<'a>,
@@ -87,4 +86,11 @@ impl Model for Prepared {
     ghost view = { λ p. p.takings };
 
     ghost invariant = { λ p. sessions_in p.takings ≡ p.listed.items };
+}
+
+// Written, and not derived, so that each end of a scope is one call to prove.
+impl Drop for Jobs<'_> {
+    fn drop(self) {
+        let Jobs { listed: _, jobs: _ } = self;
+    }
 }

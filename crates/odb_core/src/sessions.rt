@@ -43,7 +43,6 @@ use std::marker::Model;
 
 /// The database and the open sessions, and which of these may be owed something. What is posted to sessions can
 /// be taken back, so that a call which is refused later leaves them as they were.
-#[derive(Drop)]
 pub(crate) struct Sessions {
     book: book::Sessions,
     owed: BTreeSet<SessionId>,
@@ -377,4 +376,11 @@ fn note_all(owed: &mut BTreeSet<SessionId>, posts: &[Post]) -> Result<(), AllocE
         owed.insert(post.session)?;
     }
     Ok(())
+}
+
+// Written, and not derived, so that each end of a scope is one call to prove.
+impl Drop for Sessions {
+    fn drop(self) {
+        let Sessions { book: _, owed: _ } = self;
+    }
 }

@@ -56,7 +56,6 @@ pub(crate) const MAX_ROWS: usize = 1_000_000;
 
 /// The database with its commits and the open sessions, the moment, the transactions that wait in order of
 /// arrival, and the locks. Contracts see it as the state of the service machine (`specs/World.antt`).
-#[derive(Drop)]
 pub(crate) struct State {
     pub(crate) alloc: Global,
     pub(crate) commits: u64,
@@ -567,4 +566,18 @@ fn has_rows(table: &TableChange) -> bool
     ensures { result ≡ nat_lt 0 (finite.len table.now) }
 {
     !table.rows().is_empty()
+}
+
+// Written, and not derived, so that each end of a scope is one call to prove.
+impl Drop for State {
+    fn drop(self) {
+        let State {
+            alloc: _,
+            commits: _,
+            now: _,
+            waiting: _,
+            locks: _,
+            sessions: _,
+        } = self;
+    }
 }

@@ -10,7 +10,7 @@ use std::marker::Model;
 use std::sync::Arc;
 
 /// What a try of a transaction came to.
-#[derive(Clone, Copy, Debug)]
+#[derive(Clone, Copy)]
 pub(crate) enum Tried {
     /// It went through or failed, and its reply is queued.
     Ended,

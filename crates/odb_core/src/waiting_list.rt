@@ -14,7 +14,6 @@ use std::mem;
 
 /// The transactions that wait, in order of arrival, and how many of them each session has. In the costs below
 /// `w` of them wait, of `n` sessions.
-#[derive(Drop)]
 pub(crate) struct WaitingList {
     alloc: Global,
     items: Vec<Waiting>,
@@ -151,5 +150,16 @@ impl WaitingList {
             items: self.items.clone()?,
             counts: self.counts.try_copy()?,
         })
+    }
+}
+
+// Written, and not derived, so that each end of a scope is one call to prove.
+impl Drop for WaitingList {
+    fn drop(self) {
+        let WaitingList {
+            alloc: _,
+            items: _,
+            counts: _,
+        } = self;
     }
 }

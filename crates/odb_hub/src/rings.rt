@@ -15,7 +15,6 @@ use std::mem;
 use std::sync::Arc;
 
 /// The rings of the open sessions by their numbers, and the sessions for which a message may be held back.
-#[derive(Drop)]
 pub(crate) struct Rings {
     alloc: Global,
     rings: BTreeMap<SessionId, Ring>,
@@ -186,5 +185,16 @@ impl Rings {
             return;
         };
         ring.put(out);
+    }
+}
+
+// Written, and not derived, so that each end of a scope is one call to prove.
+impl Drop for Rings {
+    fn drop(self) {
+        let Rings {
+            alloc: _,
+            rings: _,
+            holding: _,
+        } = self;
     }
 }

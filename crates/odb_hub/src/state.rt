@@ -23,7 +23,6 @@ use std::sync::Arc;
 /// sent, last, what that history gives its session.
 ///
 /// In the costs below `n` sessions are open. The journal takes no memory.
-#[derive(Drop)]
 pub struct HubState {
     core: Core,
     journal: Journal,
@@ -261,5 +260,18 @@ impl HubState {
         self.journal = Journal::begin(&self.core);
         self.since_base = 0;
         settled
+    }
+}
+
+// Written, and not derived, so that each end of a scope is one call to prove.
+impl Drop for HubState {
+    fn drop(self) {
+        let HubState {
+            core: _,
+            journal: _,
+            since_base: _,
+            opened: _,
+            rings: _,
+        } = self;
     }
 }

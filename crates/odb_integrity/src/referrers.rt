@@ -21,7 +21,7 @@ use std::collections::BTreeSet;
 use uuid::Uuid;
 
 /// A reference that the type of a column makes (RFC 7047, section 3.2, `refTable` and `refType`).
-#[derive(Clone, Copy, Debug)]
+#[derive(Clone, Copy)]
 pub(crate) struct Reference {
     /// The table to which it leads.
     target: TableId,

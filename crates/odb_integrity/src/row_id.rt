@@ -11,7 +11,7 @@ use std::marker::Model;
 use uuid::Uuid;
 
 /// A row of a database: its table, and its identifier as a number. They are ordered by tables.
-#[derive(Clone, Copy, Debug)]
+#[derive(Clone, Copy)]
 pub(crate) struct RowId {
     table: TableId,
     number: u128,

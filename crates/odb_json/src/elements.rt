@@ -19,7 +19,7 @@ use serde_json::Value;
 use std::alloc::{AllocError, Global};
 
 /// The elements in front of the first fault, and that fault.
-#[derive(Debug, Drop)]
+#[derive(Drop)]
 struct Front {
     elements: Vec<Atom>,
     fault: Option<Error>,

@@ -5,7 +5,7 @@ use thiserror::Error;
 
 /// Why an operation, or a part of one, isn't read (RFC 7047, section 5.2): the first fault in the
 /// order of the reading.
-#[derive(Clone, Copy, Debug, PartialEq, Eq, Error)]
+#[derive(Clone, Copy, Debug, Error)]
 pub enum OpFault {
     /// Memory was refused.
     #[error("out of memory")]

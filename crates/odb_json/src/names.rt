@@ -10,7 +10,7 @@ use std::marker::Model;
 use uuid::Uuid;
 
 /// The UUIDs that the `uuid-name`s of a transaction stand for (RFC 7047, section 5.2.1).
-#[derive(Debug, Drop)]
+#[derive(Drop)]
 pub struct Names {
     names: BTreeMap<String, Uuid>,
 }

@@ -24,7 +24,7 @@ use serde_json::{Map, Value};
 use std::alloc::Global;
 
 /// An operation (RFC 7047, section 5.2), with its tables and columns by their places.
-#[derive(Debug, Drop)]
+#[derive(Drop)]
 pub enum Op {
     /// `insert` (section 5.2.1) of a row with these values.
     Insert {
@@ -81,7 +81,7 @@ pub enum Op {
 }
 
 /// `until` of `wait` (RFC 7047, section 5.2.6).
-#[derive(Clone, Copy, Debug, PartialEq, Eq)]
+#[derive(Clone, Copy)]
 pub enum Until {
     /// `==`: the same set of rows.
     Equal,

@@ -20,14 +20,14 @@ use serde_json::Value;
 use std::alloc::{AllocError, Global};
 
 /// The kinds of a map's keys and values.
-#[derive(Clone, Copy, Debug)]
+#[derive(Clone, Copy)]
 pub struct Kinds {
     pub key: Kind,
     pub value: Kind,
 }
 
 /// The pairs in front of the first fault, and that fault.
-#[derive(Debug, Drop)]
+#[derive(Drop)]
 struct Front {
     pairs: Vec<(Atom, Atom)>,
     fault: Option<Error>,

@@ -28,7 +28,7 @@ use serde_json::{Map, Value};
 use std::alloc::Global;
 
 /// What a row is written by, which says what columns it may name.
-#[derive(Clone, Copy, Debug, PartialEq, Eq)]
+#[derive(Clone, Copy)]
 pub enum WrittenBy {
     /// `insert`: any declared column.
     Insert,

@@ -9,7 +9,7 @@ use std::collections::{BTreeMap, BTreeSet};
 /// The names of the locks that each session has a claim of, so that the end of a session needn't
 /// walk through all names. A session that has given back its last claim keeps an empty set until
 /// it ends.
-#[derive(Debug, Drop)]
+#[derive(Drop)]
 pub struct Index {
     names: BTreeMap<usize, BTreeSet<String>>,
 }

@@ -10,7 +10,7 @@ use std::alloc::{AllocError, Global};
 use std::marker::Model;
 
 /// A session's claim of a lock, by `lock` or by `steal`.
-#[derive(Clone, Copy, Debug)]
+#[derive(Clone, Copy)]
 pub struct Claim {
     session: usize,
     stolen: bool,
@@ -39,7 +39,6 @@ impl Claim {
 }
 
 /// The claims of one name, and the sessions that lost a stolen claim of it and still have to unlock.
-#[derive(Debug, Drop)]
 pub struct Lock {
     claims: Vec<Claim>,
     robbed: Vec<usize>,
@@ -147,5 +146,15 @@ impl Clone for Lock {
             claims: self.claims.clone()?,
             robbed: self.robbed.clone()?,
         })
+    }
+}
+
+// Written, and not derived, so that each end of a scope is one call to prove.
+impl Drop for Lock {
+    fn drop(self) {
+        let Lock {
+            claims: _,
+            robbed: _,
+        } = self;
     }
 }

@@ -25,7 +25,7 @@ pub type SessionId = usize;
 const MAX_NAMES: usize = 65_536;
 
 /// Why a call on locks did nothing: with each of these the locks are as they were.
-#[derive(Clone, Copy, Debug, PartialEq, Eq, Error)]
+#[derive(Clone, Copy, Debug, Error)]
 pub enum LockFault {
     /// A `lock` or `steal` by a session with a claim of the name that it hasn't unlocked, or an
     /// `unlock` by one without (RFC 7047, section 4.1.8). A session that was robbed has a claim
@@ -49,7 +49,7 @@ impl From<AllocError> for LockFault {
 }
 
 /// What a `lock` or a `steal` did: its result, and whom it concerns besides the caller.
-#[derive(Debug, Drop)]
+#[derive(Drop)]
 pub struct LockOutcome {
     /// Whether the caller owns the lock, the reply's `locked` (RFC 7047, section 4.1.8).
     pub owns: bool,
@@ -65,7 +65,6 @@ pub struct LockOutcome {
 ///
 /// In the costs below a name has `c` claims, and `n` names are claimed. A call that changes the
 /// locks makes its growths first, and changes nothing where memory is refused.
-#[derive(Debug, Drop)]
 pub struct Locks {
     alloc: Global,
     table: Table,
@@ -291,5 +290,16 @@ impl Locks {
             table: self.table.try_copy()?,
             index: self.index.try_copy()?,
         })
+    }
+}
+
+// Written, and not derived, so that each end of a scope is one call to prove.
+impl Drop for Locks {
+    fn drop(self) {
+        let Locks {
+            alloc: _,
+            table: _,
+            index: _,
+        } = self;
     }
 }

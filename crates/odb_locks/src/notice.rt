@@ -6,7 +6,7 @@ ghost use Rattle.odb_locks.specs.Represented.Notice.{notice_to, notices_of};
 use std::alloc::{AllocError, Global};
 
 /// What a session has to be told: that it owns a lock now, or that its lock was stolen.
-#[derive(Debug, Drop)]
+#[derive(Drop)]
 pub struct Notice {
     /// The session to tell.
     pub session: usize,

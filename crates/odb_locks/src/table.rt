@@ -17,7 +17,7 @@ use std::collections::{BTreeMap, BTreeSet};
 use std::marker::Model;
 
 /// The locks that somebody claims or was robbed of, by name.
-#[derive(Debug, Drop)]
+#[derive(Drop)]
 pub struct Table {
     locks: BTreeMap<String, Lock>,
 }

@@ -4,7 +4,7 @@ use odb_atoms::Row;
 use uuid::Uuid;
 
 /// What becomes of a row, between what was told and what is asked.
-#[derive(Clone, Copy, Debug)]
+#[derive(Clone, Copy)]
 pub enum Change<'a> {
     /// It comes in.
     ComesIn(&'a Row),
@@ -15,7 +15,7 @@ pub enum Change<'a> {
 }
 
 /// What becomes of the row with an identifier.
-#[derive(Clone, Copy, Debug)]
+#[derive(Clone, Copy)]
 pub struct Line<'a> {
     /// The row's identifier.
     pub uuid: Uuid,

@@ -29,7 +29,6 @@ use std::marker::Model;
 use std::sync::Arc;
 
 /// One table of a job: what the client was told of its rows, and what is asked.
-#[derive(Drop)]
 pub struct Part<'a> {
     request: &'a Request,
     told: Told<'a>,
@@ -219,4 +218,16 @@ fn sort(lines: &mut Vec<Line<'_>>)
     ensures sorted { IsSortedByKey (λ line. uuid_of line.uuid) uuid_cmp lines.new.items }
 {
     lines.sort_unstable_by_key(|line| Key::of(line.uuid));
+}
+
+// Written, and not derived, so that each end of a scope is one call to prove.
+impl Drop for Part<'_> {
+    fn drop(self) {
+        let Part {
+            request: _,
+            told: _,
+            table: _,
+            changes: _,
+        } = self;
+    }
 }

@@ -12,7 +12,6 @@ use std::marker::Model;
 use uuid::Uuid;
 
 /// The cells of a row, each to be lent: those that a row doesn't keep are made once.
-#[derive(Drop)]
 pub struct RowCells<'a> {
     key: Uuid,
     row: &'a Row,
@@ -70,5 +69,18 @@ impl<'a> RowCells<'a> {
                 None => &self.nothing,
             },
         }
+    }
+}
+
+// Written, and not derived, so that each end of a scope is one call to prove.
+impl Drop for RowCells<'_> {
+    fn drop(self) {
+        let RowCells {
+            key: _,
+            row: _,
+            own_uuid: _,
+            own_version: _,
+            nothing: _,
+        } = self;
     }
 }

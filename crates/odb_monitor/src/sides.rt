@@ -15,7 +15,7 @@ use std::collections::BTreeSet;
 use uuid::Uuid;
 
 /// A row as it was when the client was told, and as it is now.
-#[derive(Clone, Copy, Debug)]
+#[derive(Clone, Copy)]
 pub struct Sides<'a> {
     /// Its identifier.
     pub uuid: Uuid,

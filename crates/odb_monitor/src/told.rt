@@ -8,7 +8,7 @@ use odb_cond::Filter;
 use uuid::Uuid;
 
 /// What the client of a monitor was told of a table.
-#[derive(Clone, Copy, Debug)]
+#[derive(Clone, Copy)]
 pub enum Told<'a> {
     /// Nothing yet: this is its first reply.
     Nothing,

@@ -25,7 +25,7 @@ use thiserror::Error;
 const MAX_ELEMENTS: usize = 65_536;
 
 /// What a mutation does (RFC 7047, section 5.1, `<mutator>`).
-#[derive(Clone, Copy, Debug, PartialEq, Eq)]
+#[derive(Clone, Copy)]
 pub enum Mutator {
     /// `+=`, `-=`, `*=`, `/=` or `%=`, of each element.
     Calculate(Operator),
@@ -55,7 +55,7 @@ pub enum MutationFault {
 }
 
 /// A change of a column (RFC 7047, section 5.1, `<mutation>`).
-#[derive(Debug, Drop)]
+#[derive(Drop)]
 pub struct Mutation {
     column: usize,
     mutator: Mutator,

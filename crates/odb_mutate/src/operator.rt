@@ -14,7 +14,7 @@ use odb_atoms::Atom;
 use std::alloc::{AllocError, Global};
 
 /// An arithmetic mutator (RFC 7047, section 5.1, `<mutator>`).
-#[derive(Clone, Copy, Debug, PartialEq, Eq)]
+#[derive(Clone, Copy)]
 pub enum Operator {
     /// `+=`.
     Add,

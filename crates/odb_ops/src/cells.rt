@@ -17,7 +17,7 @@ use std::marker::Model;
 use uuid::Uuid;
 
 /// Values of columns of a row, in an order that is known beside it.
-#[derive(Debug, Drop)]
+#[derive(Drop)]
 pub struct Cells {
     values: Vec<Value>,
 }

@@ -8,7 +8,7 @@ use std::alloc::Global;
 use uuid::Uuid;
 
 /// What a transaction is given beside its operations (RFC 7047, section 4.1.3).
-#[derive(Clone, Copy, Debug)]
+#[derive(Clone, Copy)]
 pub struct Context<'a> {
     /// Identifiers for its inserts, in their order. An insert past their end has the zero identifier.
     pub fresh: &'a [Uuid],

@@ -28,7 +28,7 @@ use std::alloc::{AllocError, Global};
 use uuid::Uuid;
 
 /// What became of a transaction's operations, with their results.
-#[derive(Debug, Drop)]
+#[derive(Drop)]
 pub enum Ran {
     /// All went through.
     Finished(Vec<Value>),

@@ -5,7 +5,7 @@ use odb_json::OpFault;
 use std::alloc::AllocError;
 
 /// Why an operation doesn't go through.
-#[derive(Clone, Copy, Debug)]
+#[derive(Clone, Copy)]
 pub enum Stop {
     /// Memory was refused.
     Memory,

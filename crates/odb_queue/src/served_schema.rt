@@ -10,7 +10,6 @@ use std::marker::Model;
 use std::sync::Arc;
 
 /// A schema with its text, which is printed once. Contracts see it as the schema.
-#[derive(Drop)]
 pub struct ServedSchema {
     schema: Arc<Schema>,
     text: Vec<u8>,
@@ -78,5 +77,12 @@ impl ServedSchema {
             schema: self.schema.clone()?,
             text: self.text.clone()?,
         })
+    }
+}
+
+// Written, and not derived, so that each end of a scope is one call to prove.
+impl Drop for ServedSchema {
+    fn drop(self) {
+        let ServedSchema { schema: _, text: _ } = self;
     }
 }

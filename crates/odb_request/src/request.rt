@@ -18,7 +18,6 @@ use std::sync::Arc;
 /// What a monitor asks of one table (RFC 7047, section 4.1.5; ovsdb-server(7), 4.1.12): columns,
 /// kinds of change, and a filter. It shares both halves with its copies, so that a copy is two
 /// counts.
-#[derive(Drop)]
 pub struct Request {
     shape: Arc<Shape>,
     filter: Arc<Filter>,
@@ -119,5 +118,15 @@ impl Request {
             shape: self.shape.clone()?,
             filter: self.filter.clone()?,
         })
+    }
+}
+
+// Written, and not derived, so that each end of a scope is one call to prove.
+impl Drop for Request {
+    fn drop(self) {
+        let Request {
+            shape: _,
+            filter: _,
+        } = self;
     }
 }

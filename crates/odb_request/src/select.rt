@@ -13,7 +13,7 @@ use odb_schema::member;
 use serde_json::{Map, Value};
 
 /// Which kinds of change of a table are sent (RFC 7047, section 4.1.5, `<monitor-select>`).
-#[derive(Clone, Copy, Debug, PartialEq, Eq)]
+#[derive(Clone, Copy, PartialEq, Eq)]
 pub struct Select {
     /// `initial`: the rows of the first reply.
     pub initial: bool,

@@ -20,7 +20,6 @@ use std::sync::Arc;
 /// What is asked of one table, but for its filter (RFC 7047, section 4.1.5): its columns by
 /// ascending name, and the kinds of change that are sent. Names and types are those of the schema,
 /// which it shares.
-#[derive(Drop)]
 pub struct Shape {
     schema: Arc<Schema>,
     table: TableId,
@@ -146,4 +145,16 @@ pub fn table_at(schema: &Schema, table: TableId) -> &TableSchema
     ensures columns { result.now.columns ≡ columns_at schema.now table }
 {
     &schema.tables()[table.place()]
+}
+
+// Written, and not derived, so that each end of a scope is one call to prove.
+impl Drop for Shape {
+    fn drop(self) {
+        let Shape {
+            schema: _,
+            table: _,
+            columns: _,
+            select: _,
+        } = self;
+    }
 }

@@ -23,7 +23,7 @@ use odb_wire::Request;
 use serde_json::Value;
 
 /// What a request or a notification asks (RFC 7047, section 4.1). It borrows from the request.
-#[derive(Clone, Copy, Debug)]
+#[derive(Clone, Copy)]
 pub enum Call<'a> {
     /// `list_dbs` (RFC 7047, section 4.1.1): the result is the array of the database's name.
     ListDatabases,
@@ -49,7 +49,7 @@ pub enum Call<'a> {
 
 /// Why a request gets an error before anything is done. Reading doesn't allocate, so there is no
 /// fault for memory.
-#[derive(Clone, Copy, Debug, PartialEq, Eq, thiserror::Error)]
+#[derive(Clone, Copy, Debug, thiserror::Error)]
 pub enum CallFault {
     /// The method is not served, or isn't one of requests.
     #[error("unknown method")]
@@ -64,7 +64,7 @@ pub enum CallFault {
 }
 
 /// The methods of requests that are served.
-#[derive(Clone, Copy, Debug, PartialEq, Eq)]
+#[derive(Clone, Copy)]
 enum Method {
     ListDatabases,
     GetSchema,

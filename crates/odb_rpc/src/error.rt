@@ -3,7 +3,7 @@ use odb_atoms::Error;
 
 /// Why a request fails as a whole (RFC 7047, section 4, and ovsdb-server(7)): an error of the wire,
 /// or one that operations have too.
-#[derive(Clone, Copy, Debug, PartialEq, Eq)]
+#[derive(Clone, Copy)]
 pub enum Failure {
     /// The method is not served.
     UnknownMethod,

@@ -15,7 +15,7 @@ use odb_request::Kind;
 use serde_json::Value;
 
 /// What a request about monitors asks. It borrows from the request.
-#[derive(Clone, Copy, Debug)]
+#[derive(Clone, Copy)]
 pub enum MonitorCall<'a> {
     /// `monitor` (RFC 7047, section 4.1.5) or `monitor_cond` (ovsdb-server(7), 4.1.12).
     Start(MonitorStart<'a>),
@@ -26,7 +26,7 @@ pub enum MonitorCall<'a> {
 }
 
 /// A monitor that is to begin.
-#[derive(Clone, Copy, Debug)]
+#[derive(Clone, Copy)]
 pub struct MonitorStart<'a> {
     /// Which of the two methods asks for it.
     pub kind: Kind,
@@ -37,7 +37,7 @@ pub struct MonitorStart<'a> {
 }
 
 /// A change of a monitor.
-#[derive(Clone, Copy, Debug)]
+#[derive(Clone, Copy)]
 pub struct MonitorChange<'a> {
     /// Its id.
     pub old: Printable<'a>,

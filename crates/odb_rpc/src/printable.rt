@@ -10,7 +10,7 @@ use serde_json::Value;
 use std::alloc::{AllocError, Global};
 
 /// JSON of a message, borrowed, in which each number is an integer from -(2^63) to 2^63-1.
-#[derive(Clone, Copy, Debug)]
+#[derive(Clone, Copy)]
 pub struct Printable<'a> {
     value: Option<&'a Value>,
     ghost whole: { has_left_out (unwrap_or (option_map (λ v. view v.now) value) null) ≡ false },

@@ -21,7 +21,6 @@ use std::marker::Model;
 
 /// A script that runs: its server, its sessions in order of opening, how many inserts were counted,
 /// and the moment in milliseconds. No two sessions have one name, and their numbers rise, up to the next one.
-#[derive(Drop)]
 pub(crate) struct Engine {
     alloc: Global,
     core: Core,
@@ -383,4 +382,18 @@ fn place_of(name: &[u8], sessions: &[ScriptSession]) -> Option<usize>
     sessions
         .iter()
         .position(|named| named.name.as_slice() == name)
+}
+
+// Written, and not derived, so that each end of a scope is one call to prove.
+impl Drop for Engine {
+    fn drop(self) {
+        let Engine {
+            alloc: _,
+            core: _,
+            sessions: _,
+            next: _,
+            inserts: _,
+            moment: _,
+        } = self;
+    }
 }

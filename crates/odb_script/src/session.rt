@@ -11,7 +11,6 @@ use std::alloc::{AllocError, Global};
 use std::marker::Model;
 
 /// An open session: its name, its number, its framer, and whether it is held.
-#[derive(Drop)]
 pub(crate) struct ScriptSession {
     pub(crate) name: Vec<u8>,
     pub(crate) session: SessionId,
@@ -98,5 +97,17 @@ fn fault_after(framer: &mut Framer) -> Result<Option<WireFault>, AllocError>
         Ok(_) => Ok(None),
         Err(WireFault::Memory) => Err(AllocError),
         Err(fault) => Ok(Some(fault)),
+    }
+}
+
+// Written, and not derived, so that each end of a scope is one call to prove.
+impl Drop for ScriptSession {
+    fn drop(self) {
+        let ScriptSession {
+            name: _,
+            session: _,
+            framer: _,
+            held: _,
+        } = self;
     }
 }

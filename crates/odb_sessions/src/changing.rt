@@ -17,7 +17,6 @@ use std::marker::Model;
 use std::sync::Arc;
 
 /// A change of a monitor that is asked for: of its id and of its filters. It is what `Sessions::change` takes.
-#[derive(Drop)]
 pub struct Changing {
     reply: Granted,
     old_id: Arc<Id>,
@@ -96,5 +95,17 @@ impl Changing {
             changes,
         }));
         Ok(items)
+    }
+}
+
+// Written, and not derived, so that each end of a scope is one call to prove.
+impl Drop for Changing {
+    fn drop(self) {
+        let Changing {
+            reply: _,
+            old_id: _,
+            new_id: _,
+            changes: _,
+        } = self;
     }
 }

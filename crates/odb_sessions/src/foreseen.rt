@@ -170,7 +170,6 @@ fn rest_due<'a>(wanted: &mut Wanted<'a>, monitors: &[Ahead<'a>]) -> Result<Rest,
 }
 
 /// The database with its past, the jobs so far, and what a plan foresees of a session's monitors.
-#[derive(Drop)]
 pub(crate) struct Planner<'a> {
     pub(crate) wanted: Wanted<'a>,
     monitors: Vec<Ahead<'a>>,
@@ -245,7 +244,20 @@ impl<'a> Planner<'a> {
     pub(crate) fn into_jobs(self) -> Vec<Job<'a>>
         ensures { result.items ≡ self.entry.jobs }
     {
-        let Planner { wanted, .. } = self;
+        let Planner {
+            wanted,
+            monitors: _,
+        } = self;
         wanted.into_jobs()
+    }
+}
+
+// Written, and not derived, so that each end of a scope is one call to prove.
+impl Drop for Planner<'_> {
+    fn drop(self) {
+        let Planner {
+            wanted: _,
+            monitors: _,
+        } = self;
     }
 }

@@ -10,7 +10,6 @@ use std::alloc::{AllocError, Global};
 use std::marker::Model;
 
 /// The id of a monitor, with its compact text, by which ids are compared. It has no unsupported number.
-#[derive(Drop)]
 pub struct Id {
     value: Value,
     text: Vec<u8>,
@@ -67,5 +66,12 @@ fn copied(id: Printable<'_>) -> Result<Value, AllocError>
     match id.value() {
         Some(value) => value.clone(),
         None => Ok(Value::Null),
+    }
+}
+
+// Written, and not derived, so that each end of a scope is one call to prove.
+impl Drop for Id {
+    fn drop(self) {
+        let Id { value: _, text: _ } = self;
     }
 }

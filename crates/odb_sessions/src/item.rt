@@ -40,7 +40,6 @@ pub(crate) struct Start {
 }
 
 /// New filters, by tables of the schema.
-#[derive(Drop)]
 pub struct Changes {
     /// The schema in which the tables have their places.
     pub schema: Arc<Schema>,
@@ -110,5 +109,15 @@ impl Start {
     {
         let Start { monitor, .. } = self;
         monitor.release(past);
+    }
+}
+
+// Written, and not derived, so that each end of a scope is one call to prove.
+impl Drop for Changes {
+    fn drop(self) {
+        let Changes {
+            schema: _,
+            changes: _,
+        } = self;
     }
 }

@@ -78,7 +78,6 @@ fn all_ready(
 }
 
 /// A round as it is planned: the jobs that it needs, those that are alike once, and its takings. It lends the tables.
-#[derive(Drop)]
 pub struct Jobs<'a> {
     alloc: Global,
     jobs: Vec<Job<'a>>,
@@ -129,7 +128,11 @@ impl<'a> Jobs<'a> {
         requires { map bytes_in bodies.now ≡ map composition self.jobs }
         ensures { IfOk result (λ prepared. prepared ≡ self.entry.takings) }
     {
-        let Jobs { alloc, takings, .. } = self;
+        let Jobs {
+            alloc,
+            jobs: _,
+            takings,
+        } = self;
         let outs = Vec::with_capacity(alloc, takings.len())?;
         let takings = all_ready(alloc, takings, bodies)?;
         Ok(Prepared { takings, outs })
@@ -167,4 +170,15 @@ impl Model for Prepared {
     ghost view = { λ p. map pending_of p.takings.items };
 
     ghost invariant = { λ p. (p.outs.items ≡ []) × (length p.takings.items ≤ vec_capacity p.outs) };
+}
+
+// Written, and not derived, so that each end of a scope is one call to prove.
+impl Drop for Jobs<'_> {
+    fn drop(self) {
+        let Jobs {
+            alloc: _,
+            jobs: _,
+            takings: _,
+        } = self;
+    }
 }

@@ -19,7 +19,6 @@ use std::sync::Arc;
 
 /// One table of a monitor. What the client was told of it is the content of the mark, under the filter told,
 /// or the request's where there is none.
-#[derive(Drop)]
 pub(crate) struct Watching {
     pub(crate) request: Request,
     pub(crate) told: Option<Arc<Filter>>,
@@ -61,13 +60,16 @@ impl Watching {
         requires { HasAll past.old (self.mark ∷ []) }
         ensures { Frees past.old past.new (self.mark ∷ []) }
     {
-        let Watching { mark, .. } = self;
+        let Watching {
+            request: _,
+            told: _,
+            mark,
+        } = self;
         past.release(mark);
     }
 }
 
 /// A monitor: one whose first reply was taken, or is due.
-#[derive(Drop)]
 pub(crate) struct Monitor {
     pub(crate) id: Arc<Id>,
     pub(crate) kind: Kind,
@@ -111,7 +113,11 @@ impl Monitor {
         requires { HasAll past.old (marks_in self) }
         ensures { Frees past.old past.new (marks_in self) }
     {
-        let Monitor { tables, .. } = self;
+        let Monitor {
+            id: _,
+            kind: _,
+            tables,
+        } = self;
         release_all(tables, past);
     }
 }
@@ -152,4 +158,26 @@ pub(crate) fn watch_all(
         });
     }
     Ok(tables)
+}
+
+// Written, and not derived, so that each end of a scope is one call to prove.
+impl Drop for Monitor {
+    fn drop(self) {
+        let Monitor {
+            id: _,
+            kind: _,
+            tables: _,
+        } = self;
+    }
+}
+
+// Written, and not derived, so that each end of a scope is one call to prove.
+impl Drop for Watching {
+    fn drop(self) {
+        let Watching {
+            request: _,
+            told: _,
+            mark: _,
+        } = self;
+    }
 }

@@ -17,7 +17,6 @@ use std::alloc::{AllocError, Global};
 use std::marker::Model;
 
 /// A request whose reply is due, with the text with which that begins. Contracts see the request.
-#[derive(Drop)]
 pub(crate) struct Origin {
     before: Vec<u8>,
     request: Granted,
@@ -65,5 +64,15 @@ impl Origin {
         let request = self.request.try_copy()?;
         let before = self.before.clone()?;
         Ok(Origin { before, request })
+    }
+}
+
+// Written, and not derived, so that each end of a scope is one call to prove.
+impl Drop for Origin {
+    fn drop(self) {
+        let Origin {
+            before: _,
+            request: _,
+        } = self;
     }
 }

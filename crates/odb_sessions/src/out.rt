@@ -5,7 +5,6 @@ use std::sync::Arc;
 
 /// A message for a session. Its text is the three parts in order: the body is shared between sessions
 /// that are told the same.
-#[derive(Drop)]
 pub struct Out {
     /// The session that it is for.
     pub session: SessionId,
@@ -15,4 +14,16 @@ pub struct Out {
     pub body: Option<Arc<Vec<u8>>>,
     /// The text after the body.
     pub after: Vec<u8>,
+}
+
+// Written, and not derived, so that each end of a scope is one call to prove.
+impl Drop for Out {
+    fn drop(self) {
+        let Out {
+            session: _,
+            before: _,
+            body: _,
+            after: _,
+        } = self;
+    }
 }

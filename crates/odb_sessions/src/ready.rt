@@ -28,7 +28,6 @@ pub(crate) enum Coming {
 }
 
 /// A composed text, whose three parts stand in order. Other texts may have its body too.
-#[derive(Drop)]
 pub(crate) struct Text {
     pub(crate) before: Vec<u8>,
     pub(crate) body: Option<Arc<Vec<u8>>>,
@@ -139,5 +138,16 @@ pub(crate) fn finished(alloc: Global, session: SessionId, text: Finished) -> Out
         before: text.text,
         body: None,
         after: Vec::new(alloc),
+    }
+}
+
+// Written, and not derived, so that each end of a scope is one call to prove.
+impl Drop for Text {
+    fn drop(self) {
+        let Text {
+            before: _,
+            body: _,
+            after: _,
+        } = self;
     }
 }

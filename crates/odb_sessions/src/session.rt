@@ -36,7 +36,6 @@ use std::sync::Arc;
 const MAX_OWED: usize = 256;
 
 /// A session: what is queued for it, and the monitors whose first reply was taken, the earliest first.
-#[derive(Drop)]
 pub(crate) struct Session {
     pub(crate) queue: Queue,
     pub(crate) monitors: Vec<Monitor>,
@@ -232,5 +231,15 @@ impl Clone for Session {
         let mut monitors = self.monitors.clone()?;
         make_room(&queue, &mut monitors)?;
         Ok(Session { queue, monitors })
+    }
+}
+
+// Written, and not derived, so that each end of a scope is one call to prove.
+impl Drop for Session {
+    fn drop(self) {
+        let Session {
+            queue: _,
+            monitors: _,
+        } = self;
     }
 }

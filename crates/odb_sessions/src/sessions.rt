@@ -45,7 +45,6 @@ use std::marker::Model;
 
 /// The database, the open sessions, and what is kept of the past for these. Contracts see the database and
 /// the machine's sessions (`specs/Book.antt`).
-#[derive(Drop)]
 pub struct Sessions {
     pub(crate) alloc: Global,
     pub(crate) past: Past,
@@ -302,5 +301,16 @@ impl Sessions {
             past,
             sessions,
         })
+    }
+}
+
+// Written, and not derived, so that each end of a scope is one call to prove.
+impl Drop for Sessions {
+    fn drop(self) {
+        let Sessions {
+            alloc: _,
+            past: _,
+            sessions: _,
+        } = self;
     }
 }

@@ -22,7 +22,6 @@ use std::sync::Arc;
 
 /// A monitor that is asked for, and the reply to the request for it, as far as it is known. It is what
 /// `Sessions::start` takes.
-#[derive(Drop)]
 pub struct Starting {
     origin: Origin,
     id: Arc<Id>,
@@ -90,5 +89,17 @@ impl Starting {
         let tables = past.watch(alloc, requests)?;
         let monitor = Monitor { id, kind, tables };
         Ok(Start { origin, monitor })
+    }
+}
+
+// Written, and not derived, so that each end of a scope is one call to prove.
+impl Drop for Starting {
+    fn drop(self) {
+        let Starting {
+            origin: _,
+            id: _,
+            kind: _,
+            requests: _,
+        } = self;
     }
 }

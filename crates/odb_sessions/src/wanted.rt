@@ -55,7 +55,6 @@ impl<'a> Decision<'a> {
 }
 
 /// The jobs that a round needs, in the database with its past, and the last decisions.
-#[derive(Drop)]
 pub(crate) struct Wanted<'a> {
     alloc: Global,
     chains: &'a Chains,
@@ -106,7 +105,12 @@ impl<'a> Wanted<'a> {
     pub(crate) fn into_jobs(self) -> Vec<Job<'a>>
         ensures { result.items ≡ self.entry.jobs }
     {
-        let Wanted { jobs, .. } = self;
+        let Wanted {
+            alloc: _,
+            chains: _,
+            jobs,
+            last: _,
+        } = self;
         jobs
     }
 
@@ -206,5 +210,17 @@ impl<'a> Wanted<'a> {
             return Err(AllocError);
         }
         Ok(place)
+    }
+}
+
+// Written, and not derived, so that each end of a scope is one call to prove.
+impl Drop for Wanted<'_> {
+    fn drop(self) {
+        let Wanted {
+            alloc: _,
+            chains: _,
+            jobs: _,
+            last: _,
+        } = self;
     }
 }

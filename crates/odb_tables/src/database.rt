@@ -26,7 +26,6 @@ use std::marker::Model;
 use uuid::Uuid;
 
 /// The tables of a database, in the order of the schema's.
-#[derive(Drop)]
 pub struct Db {
     hashing: RandomState,
     tables: Vec<Table>,
@@ -278,5 +277,16 @@ fn settle(tables: &mut Vec<Table>, changes: Vec<TableChange>)
     for change in changes {
         tables[place].settle(change);
         place += 1;
+    }
+}
+
+// Written, and not derived, so that each end of a scope is one call to prove.
+impl Drop for Db {
+    fn drop(self) {
+        let Db {
+            hashing: _,
+            tables: _,
+            kept: _,
+        } = self;
     }
 }

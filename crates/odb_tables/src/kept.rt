@@ -29,7 +29,6 @@ pub(crate) enum Side {
 
 /// The rows of a table by one facet. No row lacks a pair; a pair too many does no harm, since each row that
 /// is found so is tested.
-#[derive(Drop)]
 pub(crate) struct Kept {
     /// The place of the table.
     pub(crate) table: usize,
@@ -169,5 +168,16 @@ fn stays(change: &RowChange, side: Side) -> Option<&Row>
     match side {
         Side::Old => change.new(),
         Side::New => change.old(),
+    }
+}
+
+// Written, and not derived, so that each end of a scope is one call to prove.
+impl Drop for Kept {
+    fn drop(self) {
+        let Kept {
+            table: _,
+            facet: _,
+            pairs: _,
+        } = self;
     }
 }

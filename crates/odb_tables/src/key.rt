@@ -14,7 +14,7 @@ use uuid::Uuid;
 
 /// An identifier as the key of a table: the number that it is (RFC 7047, section 5.1, `<uuid>`). Keys are
 /// equal, ordered and hashed as their numbers are.
-#[derive(Clone, Copy, Debug)]
+#[derive(Clone, Copy)]
 pub struct Key {
     number: u128,
 }

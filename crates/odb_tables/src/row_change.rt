@@ -21,7 +21,6 @@ use uuid::Uuid;
 
 /// What a row of a table was before a change and what it is after it, or that there was or is none. The
 /// two differ.
-#[derive(Drop)]
 pub struct RowChange {
     key: Key,
     old: Option<Arc<Row>>,
@@ -203,4 +202,15 @@ fn are_equal(old: &[Value], new: &[Value]) -> bool
     ensures { result ≡ same_values old.now new.now }
 {
     old == new
+}
+
+// Written, and not derived, so that each end of a scope is one call to prove.
+impl Drop for RowChange {
+    fn drop(self) {
+        let RowChange {
+            key: _,
+            old: _,
+            new: _,
+        } = self;
+    }
 }

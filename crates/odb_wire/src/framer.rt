@@ -18,7 +18,6 @@ use std::mem;
 /// about the whole stream so far, and it doesn't matter how the stream was cut.
 ///
 /// It keeps the text of the message that isn't whole yet, at most 16,777,215 bytes, and nothing between messages.
-#[derive(Drop)]
 pub struct Framer {
     alloc: Global,
     state: State,
@@ -121,5 +120,16 @@ pub fn read_pieces(
         Ok(_) => Ok((found, None)),
         Err(WireFault::Memory) => Err(AllocError),
         Err(fault) => Ok((found, Some(fault))),
+    }
+}
+
+// Written, and not derived, so that each end of a scope is one call to prove.
+impl Drop for Framer {
+    fn drop(self) {
+        let Framer {
+            alloc: _,
+            state: _,
+            history: _,
+        } = self;
     }
 }

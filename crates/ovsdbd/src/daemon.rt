@@ -17,7 +17,6 @@ const SETTLES: u64 = 65_536;
 const REFUSED: u64 = 3;
 
 /// The server, the clock, and what the pump sleeps by.
-#[derive(Drop)]
 pub(crate) struct Daemon<L: Ledger> {
     pub(crate) alloc: Global,
     pub(crate) hub: Hub<L>,
@@ -119,5 +118,19 @@ impl<L: Ledger> Daemon<L> {
     fn left<R: Wait + Clock>(&self, rt: &R, ticked: u64) -> Option<Duration> {
         let moment = self.deadlines.next_later(rt, ticked)?;
         Some(Duration::from_millis(moment.saturating_sub(self.now(rt))))
+    }
+}
+
+// Written, and not derived, so that each end of a scope is one call to prove.
+impl<L: Ledger> Drop for Daemon<L> {
+    fn drop(self) {
+        let Daemon {
+            alloc: _,
+            hub: _,
+            deadlines: _,
+            pace: _,
+            start: _,
+            ended: _,
+        } = self;
     }
 }

@@ -8,7 +8,6 @@ use uuid::Uuid;
 
 /// An event of the service machine. A round is noted by the rings as it found them, since it lists each session for which
 /// nothing is held back; one of a session alone by that session. What it holds takes no memory.
-#[derive(Drop)]
 pub(crate) enum Happened {
     Opened(SessionId),
     Submitted(SessionId, Snapshot<Request>, Snapshot<Vec<Uuid>>, u64),
@@ -16,4 +15,18 @@ pub(crate) enum Happened {
     Closed(SessionId),
     Round(Snapshot<Rings>),
     RoundOf(SessionId),
+}
+
+// Written, and not derived, so that each end of a scope is one call to prove.
+impl Drop for Happened {
+    fn drop(self) {
+        match self {
+            Happened::Opened(_) => {}
+            Happened::Submitted(_, _, _, _) => {}
+            Happened::Ticked(_) => {}
+            Happened::Closed(_) => {}
+            Happened::Round(_) => {}
+            Happened::RoundOf(_) => {}
+        }
+    }
 }
