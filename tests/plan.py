@@ -3,7 +3,8 @@
 
 The toolchain hands its idle processors out evenly among all that may begin, so that a crate on which all others wait is
 proved by one. Here each choice is the one that ends the whole soonest, by what the proofs took when they were last
-measured (`tests/costs`, in seconds of one processor). Edits fill what the proofs leave free.
+measured (`tests/costs`, in seconds of one processor). The check that the edits of a crate begin with, its seed, is chosen
+like a proof, since it takes as long as one; edits fill what these leave free.
 
 Usage: tests/plan.py WORD..    what `rt` does with these words, without the sums over all crates below that it makes again and
                                again: seconds to minutes less at each call, in the upper crates
@@ -23,9 +24,11 @@ ROOT = os.path.dirname(os.path.dirname(os.path.realpath(__file__)))
 SPEED = [0, 1, 1.75, 2.4, 2.9]  # of a proof, by the processors that it has
 LOADING = 15  # the seconds in which a proof loads the libraries below it, on one processor
 MEMORY = 0.5  # of the toolchain's estimate: a proof was never seen to take half of it
+EDIT = 8  # how many edits, each over a seed, take as long as their crate's proof
 MORE = 2  # lanes than processors, since a proof loads libraries and writes its own on one processor, whatever it has
 FILLING = 2  # edits at once, at most, while proofs are left; they have what processor time these leave
-FILLS = ("edits", "again", "sound", "seed")
+FILLS = ("edits", "again", "sound")
+KINDS = {"proof": "", "tests": " (its tests)", "seed": " (the seed of its edits)"}  # what is said of
 
 
 def toolchain():
@@ -78,12 +81,13 @@ class Plan:
         self.tail = dict.fromkeys(tasks, 0)  # the seconds of the longest chain of others that wait for it
         for key in reversed(list(tasks)):
             for below in tasks[key][0]:
-                self.tail[below] = max(self.tail[below], self.tail[key] + self.took(key, 2))
+                self.tail[below] = max(self.tail[below], self.tail[key] + self.took(key, 1 if key[1] in FILLS else 2))
 
     def cost_of(self, key, costs):
-        if key[1] in FILLS or not self.tasks[key][1] and key[1] == "tests":
+        if key[1] in ("again", "sound") or not self.tasks[key][1] and key[1] == "tests":
             return 0
-        return costs.get(key[0], self.tasks[key][1] // 5)
+        whole = costs.get(key[0], self.tasks[key][1] // 5)
+        return whole // EDIT if key[1] == "edits" and (key[0], "seed") in self.tasks else whole
 
     def took(self, key, jobs):
         return LOADING + self.cost[key] / SPEED[jobs] if self.cost[key] else 0
@@ -127,8 +131,8 @@ class Plan:
     def begin(self, pool, key, jobs):
         pool = self.aside if key[1] in FILLS else pool
         self.left.remove(key)
-        if self.cost[key]:
-            self.say(f"{key[0]}{' (its tests)' if key[1] == 'tests' else ''} begins, by {jobs}")
+        if self.cost[key] and key[1] in KINDS:
+            self.say(f"{key[0]}{KINDS[key[1]]} begins, by {jobs}")
         call = self.tasks[key][3]
         self.running[pool.submit(call, self.given, jobs)] = key, self.needs(key, jobs), jobs, time.time()
 
@@ -138,7 +142,7 @@ class Plan:
             self.given[key] = self.tasks[key][3](self.given, 1)
             self.left.remove(key)
         ready = self.ready()
-        for key, jobs in self.choose([key for key in ready if key[1] in ("proof", "tests")]).items():
+        for key, jobs in self.choose([key for key in ready if key[1] in KINDS]).items():
             if jobs:
                 self.begin(pool, key, jobs)
         for key in [key for key in ready if key[1] in FILLS]:
@@ -155,8 +159,8 @@ class Plan:
         key, _, jobs, begun = self.running.pop(done)
         self.given[key] = done.result()
         took = time.time() - begun
-        if self.cost[key]:
-            self.say(f"{key[0]}{' (its tests)' if key[1] == 'tests' else ''} ended: {took:.0f} s by {jobs}")
+        if self.cost[key] and key[1] in KINDS:
+            self.say(f"{key[0]}{KINDS[key[1]]} ended: {took:.0f} s by {jobs}")
 
     def run(self):
         with ThreadPoolExecutor(self.lanes) as pool, ThreadPoolExecutor(self.lanes, initializer=give_way) as self.aside:
