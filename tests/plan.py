@@ -3,8 +3,8 @@
 
 The toolchain hands its idle processors out evenly among all that may begin, so that a crate on which all others wait is
 proved by one. Here each choice is the one that ends the whole soonest, by what the proofs took when they were last
-measured (`tests/costs`, in seconds of one processor). The check that the edits of a crate begin with, its seed, is chosen
-like a proof, since it takes as long as one; edits fill what these leave free.
+measured (`tests/costs`, in seconds of one processor). Edits fill what these leave free (tests/tries.py); where the
+toolchain tries them in its own way, the check that they begin with, their seed, is chosen like a proof.
 
 Usage: tests/plan.py WORD..    what `rt` does with these words, without the sums over all crates below that it makes again and
                                again: seconds to minutes less at each call, in the upper crates
@@ -24,7 +24,7 @@ ROOT = os.path.dirname(os.path.dirname(os.path.realpath(__file__)))
 SPEED = [0, 1, 1.75, 2.4, 2.9]  # of a proof, by the processors that it has
 LOADING = 15  # the seconds in which a proof loads the libraries below it, on one processor
 MEMORY = 0.5  # of the toolchain's estimate: a proof was never seen to take half of it
-EDIT = 8  # how many edits, each over a seed, take as long as their crate's proof
+EDIT = 4  # how many edits take as long as their crate's proof
 MORE = 2  # lanes than processors, since a proof loads libraries and writes its own on one processor, whatever it has
 FILLING = 2  # edits at once, at most, while proofs are left; they have what processor time these leave
 FILLS = ("edits", "again", "sound")
@@ -87,7 +87,7 @@ class Plan:
         if key[1] in ("again", "sound") or not self.tasks[key][1] and key[1] == "tests":
             return 0
         whole = costs.get(key[0], self.tasks[key][1] // 5)
-        return whole // EDIT if key[1] == "edits" and (key[0], "seed") in self.tasks else whole
+        return whole // EDIT if key[1] == "edits" else whole
 
     def took(self, key, jobs):
         return LOADING + self.cost[key] / SPEED[jobs] if self.cost[key] else 0
