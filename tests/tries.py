@@ -1,9 +1,9 @@
-"""How the gate tries the edits of must-fail/.
+"""How edits are tried: by the function that each of them changes.
 
-The toolchain proves a crate that has edits once more, and checks it whole for each edit. An edit that has a line
-`function: NAME`, of the function whose body it changes, is tried here by a check of that function and of those that it
-calls (`rattle check --only`): it is refused where that function is then not proved, and where it still is, the crate is
-checked whole, as the toolchain does. What a try came to is kept as the toolchain keeps it.
+The toolchain proves a crate that has edits once more, and checks it whole for each edit. Here the function whose body an
+edit changes is checked with it, and those that this one calls (`rattle check --only`): the edit is refused where that
+function is then not proved. Where it still is, or an edit changes no function, the crate is checked whole, as the toolchain
+does. The gate keeps what a try came to as the toolchain keeps it.
 """
 
 import contextlib
@@ -13,11 +13,37 @@ import threading
 FLAGS = ["--jobs", "1"]
 
 
-def function_of(edit):
-    """The function whose body an edit changes, where it says so."""
+def function_of(edit, folder):
+    """The function whose body an edit changes, as a check names it: by the edit's line `function: NAME`, or else by where the
+    first text that it changes stands."""
     with open(edit, encoding="utf-8") as file:
-        found = re.search(r"(?m)^function: (\S+)$", file.read())
-    return found and found[1]
+        lines = file.read().split("\n")
+    of = lambda word: next((line[len(word) :] for line in lines if line.startswith(word)), "")
+    path, old = of("file: ").strip(), of("old: ")
+    if of("function: ") or not path.startswith("src/") or not old:
+        return of("function: ").strip()
+    with open(f"{folder}/{path}", encoding="utf-8") as file:
+        before = file.read().partition(old)[0] + old
+    return function_at(before, path[len("src/") : -len(".rt")])
+
+
+def function_at(before, module):
+    """The function at the end of this text of a module's file: `module::name`, or with its type `Type::name`."""
+    item = before[before.rfind("\n}\n") + 1 :]
+    names = re.findall(r"(?m)^ *(?:pub(?:\([a-z]+\))? )?fn (\w+)", item)
+    owner = re.search(r"(?m)^impl(?:<[^{]*?>)? (?:(\w+)[^{\n]*? for )?(\w+)", item)
+    if not names:
+        return ""
+    if owner:
+        return f"{owner[2]}{owner[1] or ''}::{names[-1]}"
+    return names[-1] if module in ("lib", "main") else f"{module.replace('/', '::')}::{names[-1]}"
+
+
+def must_fail(rt, crate, edit, kept=None):
+    """What a try of the crate with this edit comes to, and what to say, as the toolchain has it."""
+    function = function_of(edit, crate.folder) if hasattr(rt, "SETTLED") else ""
+    found = rt.must_fail(crate, edit, [*FLAGS, "--only", function], kept) if function else None
+    return found if found and found[0] in rt.SETTLED else rt.must_fail(crate, edit, FLAGS, kept)
 
 
 class Tries:
@@ -49,12 +75,8 @@ class Tries:
         if not self.is_well(given, len(self.edits) - len(self.known())):
             return None
         if number not in self.known():
-            return self.keep(number, self.tried(self.edits[number]))
+            return self.keep(number, must_fail(self.rt, self.crate, self.edits[number]))
         return self.known()[number]
-
-    def tried(self, edit):
-        found = self.rt.must_fail(self.crate, edit, [*FLAGS, "--only", function_of(edit)])
-        return found if found[0] in self.rt.SETTLED else self.rt.must_fail(self.crate, edit, FLAGS)
 
     def keep(self, number, tried):
         with contextlib.suppress(OSError):
@@ -67,10 +89,10 @@ class Tries:
 
 
 def tries_functions(rt):
-    """Lets the toolchain's gate try edits so; an older one goes on in its own way."""
+    """Lets the toolchain try edits so; an older one goes on in its own way."""
     if not hasattr(rt, "SETTLED"):
         return
-    whole, add_whole = rt.checked, rt.add_edits
+    whole = rt.checked
 
     def checked(crate, texts, flags, kept):
         """A function that isn't proved, or has no proof, counts as a crate that isn't proved."""
@@ -82,8 +104,6 @@ def tries_functions(rt):
         return ran
 
     def add_edits(tasks, crate, edits, first, waits, is_well, kept, **named):
-        if not all(function_of(it) for it in edits):
-            return add_whole(tasks, crate, edits, first, waits, is_well, kept, **named)
         tries = Tries(rt, crate, edits, is_well, kept)
         tries.add(tasks, waits)
         return tries.results, tries.known
