@@ -6,8 +6,11 @@ proved by one. Here each choice is the one that ends the whole soonest, by what 
 measured (`tests/costs`, in seconds of one processor). Edits fill what these leave free (tests/tries.py); where the
 toolchain tries them in its own way, the check that they begin with, their seed, is chosen like a proof.
 
-Usage: tests/plan.py WORD..    what `rt` does with these words, without the sums over all crates below that it makes again and
-                               again: seconds to minutes less at each call, in the upper crates
+Usage: tests/plan.py [--afresh] WORD..    what `rt` does with these words, without the sums over all crates below that it
+                                          makes again and again: seconds to minutes less at each call, in the upper crates
+
+With --afresh, which wants a word --jobs N, nothing that earlier checks kept is taken, and nothing is kept: from nothing a
+proof is a tenth cheaper so.
 """
 
 import importlib.machinery
@@ -177,5 +180,12 @@ class Plan:
         print(f"prove: {minutes}:{seconds:02} {text}", flush=True)
 
 
+def main(words):
+    rt = toolchain()
+    if words[:1] == ["--afresh"]:
+        rt.rtlib.KEPT = []  # the words that let a check keep what it checked
+    return rt.main([it for it in words if it != "--afresh"])
+
+
 if __name__ == "__main__":
-    sys.exit(toolchain().main(sys.argv[1:]))
+    sys.exit(main(sys.argv[1:]))
