@@ -9,8 +9,8 @@ toolchain tries them in its own way, the check that they begin with, their seed,
 Usage: tests/plan.py [--afresh] WORD..    what `rt` does with these words, without the sums over all crates below that it
                                           makes again and again: seconds to minutes less at each call, in the upper crates
 
-With --afresh, which wants a word --jobs N, nothing that earlier checks kept is taken, and nothing is kept: from nothing a
-proof is a tenth cheaper so.
+With --afresh, which wants a word --jobs N, nothing that earlier checks kept is taken, and nothing is kept: from nothing the
+program's proof is a tenth cheaper so.
 """
 
 import importlib.machinery
@@ -183,8 +183,8 @@ class Plan:
 def main(words):
     rt = toolchain()
     if words[:1] == ["--afresh"]:
-        rt.rtlib.KEPT = []  # the words that let a check keep what it checked
-    return rt.main([it for it in words if it != "--afresh"])
+        rt.rtlib.KEPT, words = [], words[1:]  # KEPT: the words that let a check keep what it checked
+    return rt.main(words)
 
 
 if __name__ == "__main__":
