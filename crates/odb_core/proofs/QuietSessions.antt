@@ -3,7 +3,7 @@ use Rattle.std.proofs.Common.{◌≡◌, ℕ, Bool, true, false, cond, ◌||◌,
 use Rattle.std.specs.Ordering.{eq_by_cmp, nat_cmp}
 use Rattle.std.proofs.lemmas.Option.{none-some, same_Some}
 use Rattle.odb_atoms.specs.FinMap.{FinMap, get, insert}
-use Rattle.odb_queue.specs.Represented.Newest.{without_last}
+use Rattle.odb_sessions.specs.Newest.{without_last}
 use Rattle.odb_schema.specs.Schema.{Schema}
 use Rattle.odb_service.specs.Run.{Sent, sent, take_each, take_of}
 use Rattle.odb_service.specs.Server.{served_by}

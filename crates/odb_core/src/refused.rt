@@ -2,7 +2,7 @@
 ghost use Rattle.std.specs.Prelude.{◌≡◌};
 ghost use Rattle.odb_core.specs.declared.refused.Refused.TheVariants.{Memory};
 
-use std::alloc::{AllocError, AllocFailed};
+use std::alloc::AllocError;
 use thiserror::Error;
 
 /// Why a call on a [`Core`](crate::Core) did nothing: with each of these the core is as it was.
@@ -26,14 +26,6 @@ impl From<AllocError> for Refused {
     ghost from_gives = { λ _ refused. refused ≡ Memory };
 
     fn from(_refused: AllocError) -> Refused {
-        Refused::Memory
-    }
-}
-
-impl<T: Drop> From<AllocFailed<T>> for Refused {
-    ghost from_gives = { λ _ refused. refused ≡ Memory };
-
-    fn from(_refused: AllocFailed<T>) -> Refused {
         Refused::Memory
     }
 }

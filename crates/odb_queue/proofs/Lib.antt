@@ -1,2 +1,1 @@
 pub mod MonitorCalls
-pub mod QueueLemmas

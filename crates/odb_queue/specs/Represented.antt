@@ -1,5 +1,4 @@
 pub mod Answer
 pub mod Item
-pub mod Newest
 pub mod Post
 pub mod Printed

@@ -17,9 +17,9 @@ ghost use Rattle.odb_rpc.specs.Represented.Failure.{failure_of};
 ghost use Rattle.odb_rpc.specs.Represented.Printable.{printable_data};
 ghost use Rattle.odb_schema.specs.SchemaText.{write_schema};
 
+use crate::finished::Finished;
 use crate::meaning::{Meaning, Printed};
 use crate::post::Post;
-use crate::queue::Finished;
 use crate::served_schema::ServedSchema;
 use odb_locks::Notice;
 use odb_rpc::{

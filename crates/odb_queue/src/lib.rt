@@ -6,13 +6,13 @@
 #![tactic(auto)]
 
 mod answer;
+mod finished;
 mod meaning;
 mod post;
-mod queue;
 mod served_schema;
 
 pub use answer::{answer_at_once, failed, notices, replied};
+pub use finished::Finished;
 pub use meaning::Meaning;
 pub use post::Post;
-pub use queue::{Finished, Queue};
 pub use served_schema::ServedSchema;

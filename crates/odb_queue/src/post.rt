@@ -1,6 +1,6 @@
 //! Items on their way to sessions. [P 10.1]
 
-use crate::queue::Finished;
+use crate::finished::Finished;
 use odb_locks::SessionId;
 
 /// An item that is to go to the end of a session's queue, if the session is open.

@@ -344,14 +344,6 @@ fn behind_first(params: &[Value]) -> &[Value]
     }
 }
 
-/// Whether requests of the method are served: all of RFC 7047, section 4.1 are, and of
-/// ovsdb-server(7)'s `monitor_cond` and `monitor_cond_change`. O(1).
-pub fn is_served(method: &str) -> bool
-    ensures { result ≡ served method.now }
-{
-    Method::named(method).is_some()
-}
-
 /// Whether the message gets a reply: notifications don't. O(1).
 #[tactic(auto, using(crate::proofs::Answered::request_replies))]
 pub fn has_reply(request: &Request) -> bool

@@ -11,7 +11,7 @@ mod printable;
 mod shared;
 mod text;
 
-pub use call::{Call, CallFault, has_reply, is_served, operations, reply_id};
+pub use call::{Call, CallFault, has_reply, operations, reply_id};
 pub use error::Failure;
 pub use monitor::{MonitorCall, MonitorChange, MonitorStart};
 pub use odb_atoms::Error;

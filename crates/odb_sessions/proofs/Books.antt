@@ -1,6 +1,6 @@
 -- Books of which one session changes.
 use Rattle.std.proofs.Common.{◌≡◌, ℕ, List, [], ◌∷◌, ◌++◌, true, false, is_some, Option, Some, None, refl, sym, true≢false}
-use Rattle.odb_queue.specs.Represented.Newest.{without_last}
+use Rattle.odb_sessions.specs.Newest.{without_last}
 use Rattle.odb_sessions.specs.Book.{Book}
 use Rattle.odb_sessions.specs.Posts.{at_number, unposted}
 use Rattle.odb_sessions.proofs.Seen.{unposted-append}

@@ -12,8 +12,8 @@ use Rattle.odb_sessions.proofs.granted.Granted.TheSendSync as granted
 use Rattle.odb_sessions.proofs.monitor.Watching.TheSendSync as watching
 use Rattle.odb_sessions.proofs.origin.Origin.TheSendSync as origin
 use Rattle.odb_sessions.proofs.past.Past.TheSendSync as past
-use Rattle.odb_queue.proofs.queue.Finished.TheSendSync as finished
-use Rattle.odb_queue.specs.contracts.queue.Finished as Finished
+use Rattle.odb_queue.proofs.finished.Finished.TheSendSync as finished
+use Rattle.odb_queue.specs.contracts.finished.Finished as Finished
 use Rattle.odb_sessions.specs.contracts.granted.Granted as Granted
 use Rattle.odb_sessions.specs.contracts.id.Id as Id
 use Rattle.odb_sessions.specs.contracts.item.Changes as Changes

@@ -3,7 +3,7 @@ use Rattle.std.proofs.Common.{◌≡◌, List, [], ◌∷◌, ◌++◌, flat_map
 use Rattle.std.specs.Prelude.{IfNone}
 use Rattle.std.proofs.lemmas.List.{append-nil, map-append}
 use Rattle.std.proofs.lemmas.Option.{none-some, same_Some}
-use Rattle.odb_queue.specs.Represented.Newest.{all_but_last, without_last}
+use Rattle.odb_sessions.specs.Newest.{all_but_last, without_last}
 use Rattle.odb_service.specs.World.{push}
 use Rattle.odb_sessions.specs.Held.{Kept, Queued, item_seen, marks_due, marks_in, marks_of, monitor_of, seen}
 use Rattle.odb_sessions.specs.Posts.{but_newest, newest, with_items, without_newest}

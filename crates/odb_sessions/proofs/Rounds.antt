@@ -6,7 +6,7 @@ use Rattle.std.specs.Ordering.{eq_by_cmp, nat_cmp}
 use Rattle.serde_json.specs.Written.{compact_text}
 use Rattle.odb_atoms.specs.FinMap.{FinMap, get, insert}
 use Rattle.odb_queue.specs.Represented.Item.{item_of, text_of}
-use Rattle.odb_queue.specs.declared.queue.Finished.{Finished}
+use Rattle.odb_queue.specs.declared.finished.Finished.{Finished}
 use Rattle.odb_schema.specs.Schema.{Schema}
 use Rattle.odb_service.specs.Run.{Sent, sent, take_each, take_of}
 use Rattle.odb_service.specs.Server.{printed, served_by}

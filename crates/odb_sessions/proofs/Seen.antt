@@ -4,7 +4,7 @@ use Rattle.std.proofs.lemmas.List.{append-nil}
 use Rattle.std.specs.Ordering.{nat_cmp}
 use Rattle.odb_atoms.specs.FinMap.{FinMap, get, insert}
 use Rattle.odb_chain.specs.Chains.{Chains}
-use Rattle.odb_queue.specs.Represented.Newest.{without_last}
+use Rattle.odb_sessions.specs.Newest.{without_last}
 use Rattle.odb_service.specs.Session.{Item, Session}
 use Rattle.odb_service.specs.World.{push}
 use Rattle.odb_sessions.specs.Held.{Kept, Queued, Sessions, all_seen, item_seen, marks_of, plain, seen}

@@ -9,6 +9,7 @@ pub mod Held
 pub mod Jobs
 pub mod Moved
 pub mod Named
+pub mod Newest
 pub mod Planned
 pub mod Posts
 pub mod Quiet

@@ -2,7 +2,7 @@
 use Rattle.std.specs.Prelude.{ℕ, List, [], ◌∷◌, ◌++◌, fold, Option, Some, None, option_and_then}
 use Rattle.std.specs.Ordering.{nat_cmp}
 use Rattle.odb_atoms.specs.FinMap.{FinMap, get, insert}
-use Rattle.odb_queue.specs.Represented.Newest.{without_last}
+use Rattle.odb_sessions.specs.Newest.{without_last}
 use Rattle.odb_service.specs.Session.{Item, Session}
 use Rattle.odb_service.specs.World.{push}
 use Rattle.odb_sessions.specs.Held.{Kept, Queued, plain}

@@ -3,7 +3,7 @@ ghost use Rattle.std.specs.Prelude.{◌≡◌, ◌+◌, ◌&&◌, false, is_some
 ghost use Rattle.odb_atoms.specs.FinMap as finite;
 ghost use Rattle.odb_queue.specs.Represented.Answer.{call_at};
 ghost use Rattle.odb_queue.specs.Represented.Item.{item_of};
-ghost use Rattle.odb_queue.specs.Represented.Newest.{without_last};
+ghost use Rattle.odb_sessions.specs.Newest.{without_last};
 ghost use Rattle.odb_queue.specs.Represented.Post.{post_of};
 ghost use Rattle.odb_rpc.specs.Message.{has_reply};
 ghost use Rattle.odb_rpc.specs.Represented.Printable.{printable_data};

@@ -2,7 +2,7 @@
 use Rattle.std.specs.Prelude.{ℕ, List}
 use Rattle.serde_json.specs.Written.{compact_text}
 use Rattle.odb_service.specs.Session.{Item, Out, say}
-use Rattle.odb_queue.specs.declared.queue.Finished.{Finished}
+use Rattle.odb_queue.specs.declared.finished.Finished.{Finished}
 
 abbrev pub item_of : Finished → Item
 item_of f = say f.meaning.answers f.meaning.message

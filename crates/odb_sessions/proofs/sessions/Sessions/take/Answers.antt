@@ -2,7 +2,7 @@ use Rattle.std.proofs.Common.{rules, ◌≡◌, ℕ, List, Option, Some, None, o
 use Rattle.std.specs.Prelude.{option_and_then}
 use Rattle.odb_atoms.specs.FinMap.{get}
 use Rattle.odb_queue.specs.Represented.Item.{item_of}
-use Rattle.odb_queue.specs.declared.queue.Finished.{Finished}
+use Rattle.odb_queue.specs.declared.finished.Finished.{Finished}
 use Rattle.odb_schema.specs.Schema.{Schema}
 use Rattle.odb_service.specs.Server.{served_by}
 use Rattle.odb_service.specs.Session.{Session, take}

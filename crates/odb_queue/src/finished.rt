@@ -1,0 +1,35 @@
+//! What is queued for a session, as printed text. [P 10.1]
+
+ghost use Rattle.std.specs.Prelude.{◌≡◌};
+ghost use Rattle.serde_json.specs.Written.{compact_text};
+ghost use Rattle.odb_service.specs.Session.{is_answer};
+
+use crate::meaning::Meaning;
+use std::alloc::AllocError;
+
+/// A finished text, whether it is a reply, and what it means.
+#[derive(Drop)]
+pub struct Finished {
+    pub text: Vec<u8>,
+    pub is_reply: bool,
+    pub meaning: Meaning,
+    ghost printed: { text.items ≡ compact_text meaning.message },
+    ghost counted: { is_reply ≡ is_answer meaning.answers },
+}
+
+impl Clone for Finished {
+    ghost use Rattle.std.specs.Prelude.{◌≡◌};
+    ghost use Rattle.odb_queue.specs.Represented.Item.{item_of};
+
+    ghost is_clone = { λ x y. item_of y ≡ item_of x };
+
+    /// The same text with the same meaning. O(bytes).
+    fn clone(&self) -> Result<Finished, AllocError> {
+        let text = self.text.clone()?;
+        Ok(Finished {
+            text,
+            is_reply: self.is_reply,
+            meaning: self.meaning.copy(),
+        })
+    }
+}
