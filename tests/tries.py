@@ -3,14 +3,16 @@
 The toolchain proves a crate that has edits once more, and checks it whole for each edit. Here the function whose body an
 edit changes is checked with it, and those that this one calls (`rattle check --only`): the edit is refused where that
 function is then not proved. Where it still is, or an edit changes no function, the crate is checked whole, as the toolchain
-does. The gate keeps what a try came to as the toolchain keeps it.
+does. The gate keeps what a try came to as the toolchain keeps it; an older one keeps nothing.
 """
 
 import contextlib
 import re
 import threading
+from concurrent.futures import ThreadPoolExecutor
 
 FLAGS = ["--jobs", "1"]
+AT_ONCE = 2  # tries of one crate's edits, where the toolchain makes one task of them
 
 
 def function_of(edit, folder):
@@ -39,11 +41,16 @@ def function_at(before, module):
     return names[-1] if module in ("lib", "main") else f"{module.replace('/', '::')}::{names[-1]}"
 
 
+def is_settled(rt, found):
+    """Whether a try came to its end. The toolchain names what it came to; an older one says whether the edit is refused."""
+    return found[0] in rt.SETTLED if isinstance(found[0], str) else found[0]
+
+
 def must_fail(rt, crate, edit, kept=None):
     """What a try of the crate with this edit comes to, and what to say, as the toolchain has it."""
-    function = function_of(edit, crate.folder) if hasattr(rt, "SETTLED") else ""
+    function = function_of(edit, crate.folder)
     found = rt.must_fail(crate, edit, [*FLAGS, "--only", function], kept) if function else None
-    return found if found and found[0] in rt.SETTLED else rt.must_fail(crate, edit, FLAGS, kept)
+    return found if found and is_settled(rt, found) else rt.must_fail(crate, edit, FLAGS, kept)
 
 
 class Tries:
@@ -89,9 +96,7 @@ class Tries:
 
 
 def tries_functions(rt):
-    """Lets the toolchain try edits so; an older one goes on in its own way."""
-    if not hasattr(rt, "SETTLED"):
-        return
+    """Lets the toolchain try edits so, also an older one, for which the edits of a crate are one task."""
     whole = rt.checked
 
     def checked(crate, texts, flags, kept):
@@ -108,4 +113,12 @@ def tries_functions(rt):
         tries.add(tasks, waits)
         return tries.results, tries.known
 
-    rt.checked, rt.add_edits = checked, add_edits
+    def must_fail_all(crate, edits, _flags):
+        with ThreadPoolExecutor(AT_ONCE) as pool:
+            return list(pool.map(lambda it: must_fail(rt, crate, it), edits))
+
+    rt.checked = checked
+    if hasattr(rt, "SETTLED"):
+        rt.add_edits = add_edits
+    else:
+        rt.must_fail_all = must_fail_all
