@@ -8,8 +8,8 @@ Each is played to a new database. ovsdb-server (Debian's package openvswitch-swi
 nothing is compared, and the exit status is 0. OVSDB_SERVER and OVSDB_TOOL name the programs where they aren't in the path.
 
 Answers are compared for each session apart, as JSON. Before that identifiers are renamed (inserted rows U1, U2, ..
-as the transcripts number them, others X1, X2, .. as they come), and the rows of a `select` and the members of a set
-are sorted, as the other server's identifiers are random. A moment of a script is 250 milliseconds of its life.
+as the transcripts number them, others X1, X2, .. as they come), and the rows of a `select`, the members of a set and
+the pairs of a map are sorted, as the other server's identifiers are random. A moment of a script is 250 milliseconds of its life.
 Transcripts that hold back what a session is sent (`!hold`), wait for longer than 1,000 moments, or have other sessions
 than A, B and C or a fault of the schema are left out, and counted: nothing of the other server corresponds to them.
 """
@@ -74,7 +74,7 @@ class Identifiers:
 
 
 def settled(value):
-    """A JSON value whose selected rows are sorted."""
+    """A JSON value whose selected rows, members of sets and pairs of maps are sorted."""
     if isinstance(value, dict):
         value = {key: settled(value[key]) for key in sorted(value)}
         if isinstance(value.get("rows"), list):
@@ -82,7 +82,7 @@ def settled(value):
         return value
     if isinstance(value, list):
         value = [settled(member) for member in value]
-        if len(value) == 2 and value[0] == "set" and isinstance(value[1], list):
+        if len(value) == 2 and value[0] in ("set", "map") and isinstance(value[1], list):
             value[1].sort(key=json.dumps)
     return value
 
@@ -269,16 +269,24 @@ def show(ours, theirs):
                 print("  %s ours   %s\n  %s theirs %s" % (session, a[:600], session, b[:600]))
 
 
+def programs():
+    """The other server and its tool, or None, which it says, where they aren't there."""
+    server = os.environ.get("OVSDB_SERVER") or shutil.which("ovsdb-server")
+    tool = os.environ.get("OVSDB_TOOL") or shutil.which("ovsdb-tool")
+    if server and tool:
+        return server, tool
+    print("skipped: ovsdb-server isn't installed (Debian's package openvswitch-switch)")
+    return None
+
+
 def main():
     sys.stdout.reconfigure(errors="backslashreplace")
     words = [word for word in sys.argv[1:] if word != "--all"]
-    server = os.environ.get("OVSDB_SERVER") or shutil.which("ovsdb-server")
-    tool = os.environ.get("OVSDB_TOOL") or shutil.which("ovsdb-tool")
-    if not server or not tool:
-        print("skipped: ovsdb-server isn't installed (Debian's package openvswitch-switch)")
+    there = programs()
+    if not there:
         return
     counts = {"same": 0, "words": 0, "differs": 0}
-    theirs, found = Theirs(server, tool), store()
+    theirs, found = Theirs(*there), store()
     alike = [it for it in found if is_alike(it)]
     for transcript in alike:
         if words and words[0] not in transcript.title:
@@ -293,4 +301,5 @@ def main():
     print("%(same)d the same, %(words)d but for what errors say besides their names, %(differs)d different" % counts)
 
 
-main()
+if __name__ == "__main__":
+    main()
