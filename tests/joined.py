@@ -122,7 +122,7 @@ def put_code(crate, folder, modules):
 
 
 def put_logic(crate, folder, part):
-    """A module that its crate keeps to itself is public here: who answers for the code stands in another one."""
+    """A module that its crate keeps to itself is public here: the answers for its code stand in another one."""
     for file in files_below(os.path.join(CRATES, crate, part)):
         text, to = logic(read(CRATES, crate, part, file)), file
         if is_module(crate):

@@ -180,6 +180,20 @@ class Plan:
         print(f"prove: {minutes}:{seconds:02} {text}", flush=True)
 
 
+def build_statements(rt, crate, jobs):
+    """Proves a library and writes its statements: crates above load them alone, which is quicker than loading its proofs. The
+    sum over all that it is made from is noted, so that a change of it or of a crate below is seen."""
+    folder, made_from = os.path.dirname(crate.rlib), crate.stamp()
+    shutil.rmtree(folder, ignore_errors=True)
+    os.makedirs(folder)
+    words = crate.words(["--jobs", str(jobs), "--statements"], keeps=False)
+    status = crate.call(rt.rtlib.RATTLE, "build", *words, "-o", crate.rlib)
+    if not status and made_from == crate.stamp():
+        with open(os.path.join(folder, "stamp"), "w") as file:
+            file.write(made_from)
+    return status
+
+
 def main(words):
     rt = toolchain()
     if words[:1] == ["--afresh"]:
