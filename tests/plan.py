@@ -180,6 +180,11 @@ class Plan:
         print(f"prove: {minutes}:{seconds:02} {text}", flush=True)
 
 
+def carry_out(rt, tasks, says=True):
+    """Does all of these: by a plan, or in as many of the toolchain's own lanes as RT_JOBS says."""
+    return rt.in_lanes(tasks) if os.environ.get("RT_JOBS", "").isdigit() else Plan(rt, tasks, says).run()
+
+
 def build_statements(rt, crate, jobs):
     """Proves a library and writes its statements: crates above load them alone, which is quicker than loading its proofs. The
     sum over all that it is made from is noted, so that a change of it or of a crate below is seen."""
