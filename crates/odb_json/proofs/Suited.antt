@@ -22,7 +22,7 @@ use Rattle.odb_json.specs.Operation as model
 use Rattle.odb_json.specs.Represented.Fault.{Reads}
 use Rattle.odb_json.specs.Represented.Operation.{op_of}
 use Rattle.odb_json.specs.declared.fault.OpFault.{OpFault}
-use Rattle.odb_json.specs.declared.operation.Op as declared
+use Rattle.odb_json.specs.declared.op.Op as declared
 use Rattle.odb_json.specs.Operation.{Op}
 use Rattle.odb_json.specs.Suited.{IsFor, are_of_kind, are_taken}
 use Rattle.odb_mutate.specs.Mutation as mutation

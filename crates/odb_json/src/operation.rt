@@ -15,79 +15,12 @@ use crate::fault::OpFault;
 use crate::leaf::{needed, no_other, read_bool, read_id, read_natural, read_object, read_text};
 use crate::mutation::read_mutations;
 use crate::names::Names;
+use crate::op::{Delete, Insert, Mutate, Op, Select, Until, Update, Wait};
 use crate::row::{WrittenBy, read_expected_rows, read_row};
 use odb_atoms::Error;
-use odb_cond::{Selector, Where};
-use odb_mutate::Mutation;
-use odb_schema::{ColumnId, Schema, TableId, TableSchema, member};
+use odb_schema::{Schema, TableId, TableSchema, member};
 use serde_json::{Map, Value};
 use std::alloc::Global;
-
-/// An operation (RFC 7047, section 5.2), with its tables and columns by their places.
-#[derive(Drop)]
-pub enum Op {
-    /// `insert` (section 5.2.1) of a row with these values.
-    Insert {
-        table: TableId,
-        row: Vec<(ColumnId, odb_atoms::Value)>,
-        /// `uuid-name`, which stands for the row's identifier in the transaction.
-        name: Option<String>,
-    },
-    /// `select` (section 5.2.2) of these columns, in their order.
-    Select {
-        table: TableId,
-        conditions: Where,
-        columns: Vec<Selector>,
-    },
-    /// `update` (section 5.2.3), which writes these values.
-    Update {
-        table: TableId,
-        conditions: Where,
-        row: Vec<(ColumnId, odb_atoms::Value)>,
-    },
-    /// `mutate` (section 5.2.4), in this order.
-    Mutate {
-        table: TableId,
-        conditions: Where,
-        mutations: Vec<Mutation>,
-    },
-    /// `delete` (section 5.2.5).
-    Delete {
-        table: TableId,
-        conditions: Where,
-    },
-    /// `wait` (section 5.2.6) until these columns of the rows that match are these rows, or aren't.
-    Wait {
-        table: TableId,
-        conditions: Where,
-        columns: Vec<Selector>,
-        until: Until,
-        rows: Vec<Vec<(Selector, odb_atoms::Value)>>,
-        /// In milliseconds; `None` is for ever.
-        timeout: Option<u64>,
-    },
-    /// `commit` (section 5.2.7).
-    Commit {
-        durable: bool,
-    },
-    /// `abort` (section 5.2.8).
-    Abort,
-    /// `comment` (section 5.2.9), whose text nothing needs.
-    Comment,
-    /// `assert` (section 5.2.10) that the session has the lock.
-    Assert {
-        lock: String,
-    },
-}
-
-/// `until` of `wait` (RFC 7047, section 5.2.6).
-#[derive(Clone, Copy)]
-pub enum Until {
-    /// `==`: the same set of rows.
-    Equal,
-    /// `!=`: another set of rows.
-    NotEqual,
-}
 
 /// What `op` names.
 #[derive(Clone, Copy)]
@@ -197,11 +130,11 @@ impl OnTable<'_> {
         let row = read_row(self.alloc, row, self.table, WrittenBy::Insert, self.names)?;
         let name = read_name(self.alloc, self.members)?;
         no_other(&["op", "table", "row", "uuid-name"], self.members)?;
-        Ok(Op::Insert {
+        Ok(Op::Insert(Insert {
             table: self.id,
             row,
             name,
-        })
+        }))
     }
 
     /// `select`.
@@ -211,11 +144,11 @@ impl OnTable<'_> {
         let conditions = read_where(self.alloc, self.members, self.table, self.names)?;
         let columns = read_columns(self.alloc, self.table, self.members)?;
         no_other(&["op", "table", "where", "columns"], self.members)?;
-        Ok(Op::Select {
+        Ok(Op::Select(Select {
             table: self.id,
             conditions,
             columns,
-        })
+        }))
     }
 
     /// `update`.
@@ -226,11 +159,11 @@ impl OnTable<'_> {
         let row = needed("row", self.members)?;
         let row = read_row(self.alloc, row, self.table, WrittenBy::Update, self.names)?;
         no_other(&["op", "table", "where", "row"], self.members)?;
-        Ok(Op::Update {
+        Ok(Op::Update(Update {
             table: self.id,
             conditions,
             row,
-        })
+        }))
     }
 
     /// `mutate`.
@@ -240,11 +173,11 @@ impl OnTable<'_> {
         let conditions = read_where(self.alloc, self.members, self.table, self.names)?;
         let mutations = read_mutations(self.alloc, self.members, self.table, self.names)?;
         no_other(&["op", "table", "where", "mutations"], self.members)?;
-        Ok(Op::Mutate {
+        Ok(Op::Mutate(Mutate {
             table: self.id,
             conditions,
             mutations,
-        })
+        }))
     }
 
     /// `delete`.
@@ -253,10 +186,10 @@ impl OnTable<'_> {
     {
         let conditions = read_where(self.alloc, self.members, self.table, self.names)?;
         no_other(&["op", "table", "where"], self.members)?;
-        Ok(Op::Delete {
+        Ok(Op::Delete(Delete {
             table: self.id,
             conditions,
-        })
+        }))
     }
 
     /// `wait`.
@@ -274,14 +207,14 @@ impl OnTable<'_> {
             ],
             self.members,
         )?;
-        Ok(Op::Wait {
+        Ok(Op::Wait(Wait {
             table: self.id,
             conditions,
             columns,
             until,
             rows,
             timeout,
-        })
+        }))
     }
 
     /// The operation that `op` names.

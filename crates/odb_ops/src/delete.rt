@@ -8,7 +8,7 @@ ghost use Rattle.odb_tables.specs.Database.{table_at};
 ghost use Rattle.odb_tables.specs.Matching.{matching};
 
 use crate::results;
-use odb_cond::Where;
+use odb_json::Delete;
 use odb_schema::TableId;
 use odb_tables::Draft;
 use serde_json::Value;
@@ -28,20 +28,15 @@ fn remove_all(draft: &mut Draft, table: TableId, uuids: &[Uuid]) -> Result<(), A
 }
 
 /// Takes the rows that match out of the table; the result is how many they are.
-pub fn delete(
-    alloc: Global,
-    draft: &mut Draft,
-    table: TableId,
-    conditions: &Where,
-) -> Result<Value, AllocError>
-    requires { table < length draft.old.old }
+pub fn delete(alloc: Global, draft: &mut Draft, asked: &Delete) -> Result<Value, AllocError>
+    requires { asked.now.table < length draft.old.old }
     ensures result { IfOk result (λ v. view v
-        ≡ count (matching conditions.now (table_at draft.old.now table))) }
+        ≡ count (matching asked.now.conditions (table_at draft.old.now asked.now.table))) }
     ensures draft { OnOk result (draft.new
-        ≡ without_found table (matching conditions.now (table_at draft.old.now table)) draft.old) }
+        ≡ without_found asked.now.table (matching asked.now.conditions (table_at draft.old.now asked.now.table)) draft.old) }
     ensures base { draft.new.old ≡ draft.old.old }
 {
-    let found = draft.matching(table, conditions)?;
-    remove_all(draft, table, found.as_slice())?;
+    let found = draft.matching(asked.table, &asked.conditions)?;
+    remove_all(draft, asked.table, found.as_slice())?;
     results::count(alloc, found.as_slice())
 }

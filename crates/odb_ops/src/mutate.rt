@@ -29,8 +29,7 @@ use crate::insert::set;
 use crate::merging::{Run, halves, one_run, runs_of, type_at};
 use crate::results;
 use odb_atoms::{ColType, Error, Kind, Row, Value};
-use odb_cond::Where;
-use odb_json::OpFault;
+use odb_json::{Mutate, OpFault};
 use odb_mutate::{Mutation, MutationFault};
 use odb_schema::{Column, ColumnId};
 use odb_tables::Draft;
@@ -311,19 +310,18 @@ fn error_in(fault: MutationFault) -> Error
 pub fn mutate(
     target: &Target<'_>,
     draft: &mut Draft,
-    conditions: &Where,
-    mutations: &[Mutation],
+    asked: &Mutate,
 ) -> Result<serde_json::Value, OpFault>
     requires inside { target.now.table < length draft.old.old }
     requires fit { AllFit target.now.columns.now (table_at draft.old.now target.now.table) }
-    requires suit { are_taken target.now.columns.now mutations.now ≡ true }
+    requires suit { are_taken target.now.columns.now asked.now.mutations.items ≡ true }
     ensures rows { Reads (λ v. (draft.new, view v)) result
-        (mutate_rows target.entry.now.columns.now target.entry.now.table conditions.now mutations.now draft.old) }
+        (mutate_rows target.entry.now.columns.now target.entry.now.table asked.now.conditions asked.now.mutations.items draft.old) }
     ensures base { draft.new.old ≡ draft.old.old }
 {
-    let found = draft.matching(target.table, conditions)?;
+    let found = draft.matching(target.table, &asked.conditions)?;
     let uuids = found.as_slice();
-    let runs = runs_of(target.alloc, target.columns, mutations)?;
+    let runs = runs_of(target.alloc, target.columns, asked.mutations.as_slice())?;
     match mutate_all(target, draft, uuids, runs.as_slice())? {
         None => Ok(results::count(target.alloc, uuids)?),
         Some(fault) => Err(OpFault::Failed(error_in(fault))),

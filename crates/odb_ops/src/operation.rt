@@ -4,9 +4,11 @@ ghost use Rattle.std.specs.List.{list_any};
 ghost use Rattle.serde_json.specs.View.{view};
 ghost use Rattle.odb_atoms.specs.Represented.Atom.{uuid_of};
 ghost use Rattle.odb_atoms.specs.Text.{same_text};
+ghost use Rattle.odb_atoms.specs.Uuid as model_uuid;
 ghost use Rattle.odb_json.specs.Represented.Fault.{Reads};
 ghost use Rattle.odb_json.specs.Represented.Operation.{op_of};
 ghost use Rattle.odb_json.specs.Suited.{IsFor};
+ghost use Rattle.odb_json.specs.declared.op.Op.TheVariants as op;
 ghost use Rattle.odb_ops.specs.Execution as model;
 ghost use Rattle.odb_ops.specs.Represented.Context.{context_of, is_named};
 ghost use Rattle.odb_ops.specs.Represented.Draft.{naming};
@@ -26,8 +28,7 @@ use crate::stop::Stop;
 use crate::update::update;
 use crate::wait::{has_rows, is_reached};
 use odb_atoms::Error;
-use odb_json::{Names, Op, OpFault};
-use odb_schema::{ColumnId, TableId};
+use odb_json::{Insert, Names, Op, OpFault, Wait};
 use odb_tables::Draft;
 use serde_json::Value;
 use std::alloc::Global;
@@ -45,20 +46,13 @@ fn empty_result_if(alloc: Global, holds: bool, stop: Stop) -> Result<Value, Stop
     }
 }
 
-/// What an `insert` puts in.
-struct NewRow {
-    table: TableId,
-    row: Vec<(ColumnId, odb_atoms::Value)>,
-    name: Option<String>,
-}
-
 /// `insert`, whose name is taken first.
 fn insert_named(
     setting: &Setting<'_>,
     draft: &mut Draft,
     taken: &mut Names,
     uuid: Uuid,
-    new: NewRow,
+    new: Insert,
 ) -> Result<Value, OpFault>
     requires inside { new.table < length draft.old.old }
     requires in_schema { new.table < length setting.now.schema.now.tables }
@@ -73,7 +67,7 @@ fn insert_named(
         → AreTaken taken.new (model.name_list (option_map string_bytes new.name) ++ named)) }
     ensures base { draft.new.old ≡ draft.old.old }
 {
-    let NewRow { table, row, name } = new;
+    let Insert { table, row, name } = new;
     claim(taken, name, uuid)?;
     insert(&setting.target(table), draft, uuid, row)
 }
@@ -90,6 +84,23 @@ fn wait_or_go_on(
         (model.deadline (context_of context.entry.now) timeout))) }
 {
     empty_result_if(alloc, reached, unmet(context, timeout))
+}
+
+/// `wait`, which goes on where the rows are as it wants them.
+#[tactic(auto, unfolding(crate::specs::Execution::perform))]
+fn wait(setting: &Setting<'_>, draft: &Draft, asked: &Wait) -> Result<Value, Stop>
+    requires in_schema { asked.now.table < length setting.now.schema.now.tables }
+    ensures { (u : model_uuid.Uuid) (named : List (List ℕ)) → Performs (λ v. (naming named draft.now, view v)) result
+        (model.perform setting.entry.now.schema.now (context_of setting.entry.now.context.now) u
+        (naming named draft.now) (op_of (op.Wait asked.now))) }
+{
+    let same = has_rows(&setting.target(asked.table), draft, asked)?;
+    wait_or_go_on(
+        setting.alloc,
+        setting.context,
+        is_reached(asked.until, same),
+        asked.timeout,
+    )
 }
 
 /// Whether the name is among them.
@@ -129,50 +140,12 @@ pub fn perform(
 {
     let alloc = setting.alloc;
     match op {
-        Op::Insert { table, row, name } => {
-            let new = NewRow { table, row, name };
-            let inserted = insert_named(setting, draft, taken, uuid, new)?;
-            Ok(inserted)
-        }
-        Op::Select {
-            table,
-            conditions,
-            columns,
-        } => Ok(select(
-            &setting.target(table),
-            draft,
-            &conditions,
-            columns.as_slice(),
-        )?),
-        Op::Update {
-            table,
-            conditions,
-            row,
-        } => Ok(update(alloc, draft, table, &conditions, row.as_slice())?),
-        Op::Mutate {
-            table,
-            conditions,
-            mutations,
-        } => Ok(mutate(
-            &setting.target(table),
-            draft,
-            &conditions,
-            mutations.as_slice(),
-        )?),
-        Op::Delete { table, conditions } => Ok(delete(alloc, draft, table, &conditions)?),
-        Op::Wait {
-            table,
-            conditions,
-            columns,
-            until,
-            rows,
-            timeout,
-        } => {
-            let columns = columns.as_slice();
-            let rows = rows.as_slice();
-            let same = has_rows(&setting.target(table), draft, &conditions, columns, rows)?;
-            wait_or_go_on(alloc, setting.context, is_reached(until, same), timeout)
-        }
+        Op::Insert(new) => Ok(insert_named(setting, draft, taken, uuid, new)?),
+        Op::Select(asked) => Ok(select(&setting.target(asked.table), draft, &asked)?),
+        Op::Update(asked) => Ok(update(alloc, draft, &asked)?),
+        Op::Mutate(asked) => Ok(mutate(&setting.target(asked.table), draft, &asked)?),
+        Op::Delete(asked) => Ok(delete(alloc, draft, &asked)?),
+        Op::Wait(asked) => wait(setting, draft, &asked),
         Op::Commit { durable } => empty_result_if(
             alloc,
             !durable,

@@ -14,8 +14,8 @@ use crate::cells::{Cells, selected};
 use crate::contents::first_of_each;
 use crate::context::Target;
 use crate::results;
-use odb_cond::{Selector, Where};
-use odb_json::write_value;
+use odb_cond::Selector;
+use odb_json::{Select, write_value};
 use odb_schema::{Column, Object};
 use odb_tables::Draft;
 use serde_json::Value;
@@ -25,18 +25,20 @@ use std::alloc::{AllocError, Global};
 /// in the order of the least identifier with that content.
 ///
 /// What `Draft::matching` costs, and O(n log n) comparisons of rows for the n that match.
-pub fn select(
-    target: &Target<'_>,
-    draft: &Draft,
-    conditions: &Where,
-    columns: &[Selector],
-) -> Result<Value, AllocError>
+pub fn select(target: &Target<'_>, draft: &Draft, asked: &Select) -> Result<Value, AllocError>
     ensures { IfOk result (λ rows. view rows
-        ≡ rows_result target.entry.now.columns.now (map selector_of columns.now)
-        (distinct (selected (map selector_of columns.now)
-        (matching conditions.now (table_at draft.now.now target.entry.now.table))))) }
+        ≡ rows_result target.entry.now.columns.now (map selector_of asked.now.columns.items)
+        (distinct (selected (map selector_of asked.now.columns.items)
+        (matching asked.now.conditions (table_at draft.now.now target.entry.now.table))))) }
 {
-    let rows = selected(target.alloc, draft, target.table, conditions, columns)?;
+    let columns = asked.columns.as_slice();
+    let rows = selected(
+        target.alloc,
+        draft,
+        target.table,
+        &asked.conditions,
+        columns,
+    )?;
     let kept = first_of_each(target.alloc, &rows)?;
     let rows = write_rows(target.alloc, target.columns, columns, &kept)?;
     results::rows(target.alloc, rows)

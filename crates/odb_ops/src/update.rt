@@ -10,7 +10,7 @@ ghost use Rattle.odb_tables.specs.Matching.{matching};
 use crate::insert::set;
 use crate::results;
 use odb_atoms::{Row, Value};
-use odb_cond::Where;
+use odb_json::Update;
 use odb_schema::{ColumnId, TableId};
 use odb_tables::Draft;
 use std::alloc::{AllocError, Global};
@@ -71,19 +71,23 @@ fn rewrite_all(
 pub fn update(
     alloc: Global,
     draft: &mut Draft,
-    table: TableId,
-    conditions: &Where,
-    given: &[(ColumnId, Value)],
+    asked: &Update,
 ) -> Result<serde_json::Value, AllocError>
-    requires { table < length draft.old.old }
+    requires { asked.now.table < length draft.old.old }
     ensures result { IfOk result (λ v. view v
-        ≡ count (matching conditions.now (table_at draft.old.now table))) }
+        ≡ count (matching asked.now.conditions (table_at draft.old.now asked.now.table))) }
     ensures draft { OnOk result (draft.new
-        ≡ with_rows table
-        (on_matching conditions.now (replaced given.now) (table_at draft.old.now table)) draft.old) }
+        ≡ with_rows asked.now.table
+        (on_matching asked.now.conditions (replaced asked.now.row.items) (table_at draft.old.now asked.now.table)) draft.old) }
     ensures base { draft.new.old ≡ draft.old.old }
 {
-    let found = draft.matching(table, conditions)?;
-    rewrite_all(alloc, draft, table, found.as_slice(), given)?;
+    let found = draft.matching(asked.table, &asked.conditions)?;
+    rewrite_all(
+        alloc,
+        draft,
+        asked.table,
+        found.as_slice(),
+        asked.row.as_slice(),
+    )?;
     results::count(alloc, found.as_slice())
 }

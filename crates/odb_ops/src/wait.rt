@@ -17,8 +17,8 @@ use crate::cells::{Cells, selected};
 use crate::contents::{are_among, contents};
 use crate::context::Target;
 use odb_atoms::{ColType, Kind, Value, default_of};
-use odb_cond::{Selector, Where};
-use odb_json::Until;
+use odb_cond::Selector;
+use odb_json::{Until, Wait};
 use odb_schema::Column;
 use odb_tables::Draft;
 use std::alloc::{AllocError, Global};
@@ -27,20 +27,21 @@ use std::alloc::{AllocError, Global};
 ///
 /// What `Draft::matching` costs, and O((m + n) log (m + n)) comparisons of rows for the m that
 /// match and n that are given.
-pub fn has_rows(
-    target: &Target<'_>,
-    draft: &Draft,
-    conditions: &Where,
-    columns: &[Selector],
-    rows: &[Vec<(Selector, Value)>],
-) -> Result<bool, AllocError>
+pub fn has_rows(target: &Target<'_>, draft: &Draft, asked: &Wait) -> Result<bool, AllocError>
     ensures { IfOk result (λ same. same
-        ≡ model.same_rows (model.selected (map selector_of columns.now)
-        (matching conditions.now (table_at draft.now.now target.entry.now.table)))
-        (map (model.expected target.entry.now.columns.now (map selector_of columns.now)) (map cells_of rows.now))) }
+        ≡ model.same_rows (model.selected (map selector_of asked.now.columns.items)
+        (matching asked.now.conditions (table_at draft.now.now target.entry.now.table)))
+        (map (model.expected target.entry.now.columns.now (map selector_of asked.now.columns.items)) (map cells_of asked.now.rows.items))) }
 {
-    let found = selected(target.alloc, draft, target.table, conditions, columns)?;
-    let expected = all_expected(target.alloc, target.columns, columns, rows)?;
+    let columns = asked.columns.as_slice();
+    let found = selected(
+        target.alloc,
+        draft,
+        target.table,
+        &asked.conditions,
+        columns,
+    )?;
+    let expected = all_expected(target.alloc, target.columns, columns, asked.rows.as_slice())?;
     are_same(target.alloc, &found, &expected)
 }
 

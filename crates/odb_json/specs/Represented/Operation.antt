@@ -9,13 +9,13 @@ use Rattle.odb_schema.specs.Notation.{Names}
 use Rattle.odb_schema.specs.Schema.{Column}
 use Rattle.odb_json.specs.Operation as model
 use Rattle.odb_json.specs.Represented.Row.{cells_of}
+use Rattle.odb_json.specs.declared.op.Op.{Op}
+use Rattle.odb_json.specs.declared.op.Op.TheVariants as op
+use Rattle.odb_json.specs.declared.op.Until.{Until}
+use Rattle.odb_json.specs.declared.op.Until.TheVariants as until
 use Rattle.odb_json.specs.declared.operation.OnTable.{OnTable}
-use Rattle.odb_json.specs.declared.operation.Op.{Op}
-use Rattle.odb_json.specs.declared.operation.Op.TheVariants as op
 use Rattle.odb_json.specs.declared.operation.TableVerb.{TableVerb}
 use Rattle.odb_json.specs.declared.operation.TableVerb.TheVariants as table_verb
-use Rattle.odb_json.specs.declared.operation.Until.{Until}
-use Rattle.odb_json.specs.declared.operation.Until.TheVariants as until
 use Rattle.odb_json.specs.declared.operation.Verb.{Verb}
 use Rattle.odb_json.specs.declared.operation.Verb.TheVariants as verb
 
@@ -24,12 +24,12 @@ until_of until.Equal = model.until_equal
 until_of until.NotEqual = model.until_not_equal
 
 abbrev pub op_of : Op → model.Op
-op_of (op.Insert table row name) = model.Op.insert table row.items (option_map string_bytes name)
-op_of (op.Select table conditions columns) = model.Op.select table conditions (map selector_of columns.items)
-op_of (op.Update table conditions row) = model.Op.update table conditions row.items
-op_of (op.Mutate table conditions mutations) = model.Op.mutate table conditions mutations.items
-op_of (op.Delete table conditions) = model.Op.delete table conditions
-op_of (op.Wait table conditions columns until rows timeout) = model.Op.wait table conditions (map selector_of columns.items) (until_of until) (map cells_of rows.items) timeout
+op_of (op.Insert o) = model.Op.insert o.table o.row.items (option_map string_bytes o.name)
+op_of (op.Select o) = model.Op.select o.table o.conditions (map selector_of o.columns.items)
+op_of (op.Update o) = model.Op.update o.table o.conditions o.row.items
+op_of (op.Mutate o) = model.Op.mutate o.table o.conditions o.mutations.items
+op_of (op.Delete o) = model.Op.delete o.table o.conditions
+op_of (op.Wait o) = model.Op.wait o.table o.conditions (map selector_of o.columns.items) (until_of o.until) (map cells_of o.rows.items) o.timeout
 op_of (op.Commit durable) = model.Op.commit durable
 op_of op.Abort = model.Op.abort
 op_of op.Comment = model.Op.comment

@@ -10,8 +10,8 @@ use Rattle.odb_ops.proofs.delete.delete.Goals as goal
 pub returns-clause-draft : goal.returns-clause-draft
 returns-clause-draft c =
     let d = c.args.draft.now in
-    let found : Table = matching c.args.conditions.now (table_at d.now c.args.table) in
+    let found : Table = matching c.args.asked.now.conditions (table_at d.now c.args.asked.now.table) in
     let keys : map_list uuid_of c.in_ok-found.found.items ≡ map.keys found = search rules in
-    let all : c.remove_all.new.draft ≡ without_rows c.args.table (map_list uuid_of c.in_ok-found.found.items) d = search rules in
-    let same = all ∙ ap (λ us. without_rows c.args.table us d) keys ∙ without_all c.args.table found d in
+    let all : c.remove_all.new.draft ≡ without_rows c.args.asked.now.table (map_list uuid_of c.in_ok-found.found.items) d = search rules in
+    let same = all ∙ ap (λ us. without_rows c.args.asked.now.table us d) keys ∙ without_all c.args.asked.now.table found d in
     search (rules, same)

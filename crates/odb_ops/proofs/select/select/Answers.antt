@@ -13,8 +13,8 @@ use Rattle.serde_json.specs.View.{view}
 
 pub returns : goal.returns
 returns c =
-    let columns : List Selector = map selector_of c.args.columns.now in
-    let found : List (List model.Value) = selected columns (matching c.args.conditions.now (table_at c.args.draft.now.now c.args.target.now.table)) in
+    let columns : List Selector = map selector_of c.args.asked.now.columns.items in
+    let found : List (List model.Value) = selected columns (matching c.args.asked.now.conditions (table_at c.args.draft.now.now c.args.target.now.table)) in
     let kept : List (Bor (List model.Value)) = c.deref-2.result.now in
     let first : map (λ row. row.now) kept ≡ distinct found = search rules in
     let rows : view c.in_ok-rows-2.rows ≡ array_of (map (λ row. write_cells c.args.target.now.columns.now columns row.now) kept) = search rules in

@@ -12,9 +12,9 @@ use Rattle.odb_ops.proofs.update.update.Goals as goal
 pub returns-clause-draft : goal.returns-clause-draft
 returns-clause-draft c =
     let d = c.args.draft.now in
-    let f = λ (r : Row). Some (replaced c.args.given.now r) in
-    let found : Table = matching c.args.conditions.now (table_at d.now c.args.table) in
+    let f = λ (r : Row). Some (replaced c.args.asked.now.row.items r) in
+    let found : Table = matching c.args.asked.now.conditions (table_at d.now c.args.asked.now.table) in
     let keys : map_list uuid_of c.in_ok-found.found.items ≡ map.keys found = search rules in
-    let all : c.rewrite_all.new.draft ≡ all_rewritten f c.args.table (map_list uuid_of c.in_ok-found.found.items) d = search rules in
-    let same = all ∙ ap (λ us. all_rewritten f c.args.table us d) keys ∙ rewritten_at_once f c.args.table c.args.conditions.now d in
+    let all : c.rewrite_all.new.draft ≡ all_rewritten f c.args.asked.now.table (map_list uuid_of c.in_ok-found.found.items) d = search rules in
+    let same = all ∙ ap (λ us. all_rewritten f c.args.asked.now.table us d) keys ∙ rewritten_at_once f c.args.asked.now.table c.args.asked.now.conditions d in
     search (rules, same)
