@@ -1,22 +1,32 @@
 #!/usr/bin/env python3
 """Measures an echo through the script, by the microseconds of processor, with 1 and with 4,000 sessions open.
 
-usage: bench/echoes.py [PROGRAM]
+usage: bench/echoes.py [--json FILE] [PROGRAM]
 
-PROGRAM is the built program, `crates/ovsdbd/out/ovsdbd` if none is named. Each figure is the difference of two runs:
-sessions and echoes, and the sessions alone. The echoes come from one session, and from all in turn.
+PROGRAM is the built program, `crates/ovsdbd/out/ovsdbd` if none is named. --json FILE writes what was measured
+there. Each figure is the difference of two runs: sessions and echoes, and the sessions alone. The echoes come from one
+session, and from all in turn.
 
 Last seen, 2026-11-25, four runs, all other work stopped, which differ by half: 3 to 7 us with 1 session; with 4,000 of them
 0.5, 0.9, 1.1 and 2.8 of that where one sends, and 1.8, 2.1, 2.1 and 4.9 where all do: a name is looked up by a walk over the
 names. When every session was drained after each line it was 8 and 964 us.
 """
+import argparse
 import os
 import resource
 import subprocess
 import sys
 
 ROOT = os.path.dirname(os.path.dirname(os.path.realpath(__file__)))
-PROGRAM = sys.argv[1] if len(sys.argv) > 1 else f"{ROOT}/crates/ovsdbd/out/ovsdbd"
+sys.dont_write_bytecode = True
+sys.path.insert(0, f"{ROOT}/bench")
+import figures
+
+PARSER = argparse.ArgumentParser(description=__doc__.split("\n", maxsplit=1)[0])
+PARSER.add_argument("program", metavar="PROGRAM", nargs="?", default=f"{ROOT}/crates/ovsdbd/out/ovsdbd")
+figures.word(PARSER)
+WORDS = PARSER.parse_args()
+PROGRAM = WORDS.program
 SCHEMA = f"{ROOT}/crates/ovsdbd/data/net.json"
 ECHO = '{"method":"echo","params":["a"],"id":0}'
 COUNT = 20_000
@@ -38,6 +48,9 @@ def echo(sessions, senders):
 
 
 one = echo(1, 1)
+kept = {"an echo, 1 session (us)": one}
 for sessions, senders in ((4_000, 1), (4_000, 4_000)):
     many = echo(sessions, senders)
+    kept[f"an echo, {sessions:,} sessions, {senders:,} of them send (us)"] = many
     print(f"{sessions:,} sessions, {senders:,} of them send: {many:.1f} us an echo, {many / one:.2f} of {one:.1f} us with 1 session")
+figures.keep(WORDS.json, "echoes", {"ovsdbd script": kept})

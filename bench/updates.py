@@ -1,12 +1,12 @@
 #!/usr/bin/env python3
 """Measures updates and selects a second of processor through the script, on databases of several sizes.
 
-usage: bench/updates.py [PROGRAM]
+usage: bench/updates.py [--json FILE] [PROGRAM]
 
-PROGRAM is the built program, `crates/ovsdbd/out/ovsdbd` if none is named. Each figure is the difference of two runs: rows
-and calls, and the rows alone. A call is a transaction of one operation, whose `where` names the row's `_uuid`. The
-tables: C is root, with no reference and no index; Port isn't root, and each row is named by one of Bridge, which has an
-index.
+PROGRAM is the built program, `crates/ovsdbd/out/ovsdbd` if none is named. --json FILE writes what was measured there. Each
+figure is the difference of two runs: rows and calls, and the rows alone. A call is a transaction of one operation, whose
+`where` names the row's `_uuid`. The tables: C is root, with no reference and no index; Port isn't root, and each row is named
+by one of Bridge, which has an index.
 
 Last seen, 2026-11-25, on 4 cores of a slow machine, all other work stopped:
   rows        update C      select C      update Bridge   rename Bridge   update Port   select Port
@@ -14,6 +14,7 @@ Last seen, 2026-11-25, on 4 cores of a slow machine, all other work stopped:
   1,000       51,434        84,474        92,372          52,914          83,105        73,375
   10,000      107,112       65,677        53,820          47,175          125,194       144,443
 """
+import argparse
 import json
 import os
 import resource
@@ -22,7 +23,15 @@ import sys
 import tempfile
 
 ROOT = os.path.dirname(os.path.dirname(os.path.realpath(__file__)))
-PROGRAM = sys.argv[1] if len(sys.argv) > 1 else f"{ROOT}/crates/ovsdbd/out/ovsdbd"
+sys.dont_write_bytecode = True
+sys.path.insert(0, f"{ROOT}/bench")
+import figures
+
+PARSER = argparse.ArgumentParser(description=__doc__.split("\n", maxsplit=1)[0])
+PARSER.add_argument("program", metavar="PROGRAM", nargs="?", default=f"{ROOT}/crates/ovsdbd/out/ovsdbd")
+figures.word(PARSER)
+WORDS = PARSER.parse_args()
+PROGRAM = WORDS.program
 SCHEMA = {"name": "d", "version": "1.0.0", "tables": {
     "C": {"isRoot": True, "columns": {"n": {"type": "integer"}, "s": {"type": "string"}}},
     "Bridge": {"isRoot": True, "indexes": [["name"]], "columns": {
@@ -83,6 +92,7 @@ def operation(kind, table, uuid, number):
 def main():
     kinds = [("update", "C"), ("select", "C"), ("update", "Bridge"), ("rename", "Bridge"), ("update", "Port"), ("select", "Port")]
     print(f"{'rows':>8}" + "".join(f"{kind + ' ' + table:>16}" for kind, table in kinds))
+    kept = {}
     for rows in (100, 1000, 10000):
         cells = []
         for kind, table in kinds:
@@ -96,8 +106,10 @@ def main():
                 if took > 0.3 + alone / 5 or calls > 20000:
                     break
                 calls *= 4
+            kept[f"{kind} {table}, {rows:,} rows (a second of processor)"] = calls / max(took, 1e-9)
             cells.append(f"{calls / max(took, 1e-9):>16,.0f}")
         print(f"{rows:>8,}" + "".join(cells), flush=True)
+    figures.keep(WORDS.json, "updates", {"ovsdbd script": kept})
 
 
 main()

@@ -1,0 +1,64 @@
+"""What a bench measured, kept as JSON for bench/plot: the figures of each server, with the machine, the versions and the command.
+
+    figures.word(parser)                       adds --json FILE to the words of a bench
+    figures.keep(words.json, "serve", results) writes the file, where one was named; results are {server: {what: figures}}
+"""
+
+import datetime
+import json
+import os
+import shlex
+import shutil
+import subprocess
+import sys
+
+ROOT = os.path.dirname(os.path.dirname(os.path.realpath(__file__)))
+SERVER = os.environ.get("OVSDB_SERVER") or shutil.which("ovsdb-server", path=os.environ["PATH"] + ":/usr/sbin")
+
+
+def word(parser):
+    parser.add_argument("--json", metavar="FILE", help="writes what was measured there, for bench/plot")
+
+
+def said(*words):
+    """The first line that a command prints, '' where it isn't there or fails."""
+    try:
+        return subprocess.run(words, cwd=ROOT, capture_output=True, text=True, check=True).stdout.partition("\n")[0].strip()
+    except (OSError, subprocess.CalledProcessError):
+        return ""
+
+
+def machine():
+    with open("/proc/cpuinfo") as file:
+        names = [line.partition(":")[2].strip() for line in file if line.startswith("model name")]
+    with open("/proc/meminfo") as file:
+        memory = int(file.readline().split()[1])
+    return {"processor": names[0] if names else "unknown", "cores": len(os.sched_getaffinity(0)), "memory": f"{memory / 1048576:.0f} GiB", "kernel": os.uname().release}
+
+
+def versions():
+    changed = said("git", "status", "--porcelain", "crates")
+    found = {"ovsdbd": said("git", "rev-parse", "--short", "HEAD") + (" with changes" if changed else "")}
+    if SERVER:
+        found["ovsdb-server"] = said(SERVER, "--version").rpartition(" ")[2]
+    return found
+
+
+def keep(path, bench, results):
+    """Writes what was measured. How busy the machine was stands beside it: it was busy with the bench itself too."""
+    if not path:
+        return
+    whats = dict.fromkeys(what for result in results.values() for what in result)
+    numbers = lambda given: list(given) if isinstance(given, (list, tuple)) else [given]
+    data = {
+        "bench": bench,
+        "command": shlex.join([os.path.relpath(os.path.realpath(sys.argv[0]), ROOT), *sys.argv[1:]]),
+        "date": datetime.date.today().isoformat(),
+        "machine": machine(),
+        "versions": versions(),
+        "figures": {what: {server: numbers(result[what]) for server, result in results.items() if what in result} for what in whats},
+    }
+    os.makedirs(os.path.dirname(os.path.abspath(path)), exist_ok=True)
+    with open(path, "w", encoding="utf-8") as file:
+        json.dump(data, file, indent=1)
+        file.write("\n")
