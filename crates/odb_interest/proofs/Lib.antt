@@ -1,0 +1,10 @@
+pub mod Agreeing
+pub mod Asking
+pub mod Booleans
+mod Examples
+pub mod Growing
+pub mod Levels
+pub mod Listed
+pub mod Rows
+pub mod Touching
+pub mod Unselected

@@ -1,0 +1,187 @@
+//! The sessions by the keys of what they ask.
+ghost use Rattle.std.specs.Prelude.{◌≡◌, ℕ, false, true, OnErr, OnOk};
+ghost use Rattle.odb_interest.specs.Keys as model;
+ghost use Rattle.odb_interest.specs.Represented.Key.{among, has_key, key_in, same_key};
+ghost use Rattle.odb_interest.specs.Represented.Found.{Grows};
+
+use crate::asked::Asked;
+use crate::key::Key;
+use crate::watched::Watched;
+use odb_cond::{Filter, Member};
+use odb_locks::SessionId;
+use odb_schema::TableId;
+use odb_tables::{ChangeSet, TableChange};
+use std::alloc::{AllocError, Global};
+use std::collections::{BTreeMap, BTreeSet};
+
+/// The sessions by the keys of the filters that they ask, table by table.
+#[derive(Drop)]
+pub(crate) struct Index {
+    tables: BTreeMap<usize, Watched>,
+}
+
+impl Index {
+    ghost use Rattle.odb_interest.specs.Represented.Index.{Covers, CoversSome, IsUnchanged, Puts, Uncovers, UncoversAll, finds, finds_among, finds_for};
+
+    /// Makes an index of no sessions.
+    pub(crate) fn new(alloc: Global) -> Index
+        ensures { (t : ℕ) (k : model.Key) (s : ℕ) → finds result t k s ≡ false }
+    {
+        Index {
+            tables: BTreeMap::new(alloc),
+        }
+    }
+
+    /// Has the session found by the key of the table. O(log n), as `Column::insert` says it.
+    fn insert(
+        &mut self,
+        alloc: Global,
+        table: TableId,
+        key: Key<'_>,
+        session: SessionId,
+    ) -> Result<(), AllocError>
+        ensures ok { OnOk result (Puts self.old self.new table (key_in key.entry) session true) }
+        ensures err { OnErr result (IsUnchanged self.old self.new) }
+    {
+        let place = table.place();
+        if let Some(watched) = self.tables.get_mut(&place) {
+            return watched.insert(alloc, key, session);
+        }
+        let mut watched = Watched::new(alloc);
+        watched.insert(alloc, key, session)?;
+        drop(self.tables.insert(place, watched)?);
+        Ok(())
+    }
+
+    /// Has the session not found by the key of the table. O(log n), as `Column::remove` says it.
+    fn remove(&mut self, table: TableId, key: Key<'_>, session: SessionId)
+        ensures { Puts self.old self.new table (key_in key.entry) session false }
+    {
+        let place = table.place();
+        if let Some(watched) = self.tables.get_mut(&place) {
+            watched.remove(key, session);
+        }
+    }
+
+    /// Has the session found by the keys of the filter too; where memory is refused, by some of them.
+    pub(crate) fn cover(
+        &mut self,
+        alloc: Global,
+        asked: &Asked,
+        session: SessionId,
+    ) -> Result<(), AllocError>
+        ensures some { CoversSome self.old self.new asked.now.0 (λ k. has_key k asked.now.1) session }
+        ensures ok { OnOk result (Covers self.old self.new asked.now.0 (λ k. has_key k asked.now.1) session) }
+    {
+        let members = asked.filter().members();
+        if members.is_empty() {
+            return self.insert(alloc, asked.table(), Key::Any, session);
+        }
+        self.cover_each(alloc, asked.table(), members, session)
+    }
+
+    /// Has the session found by the keys of these members too.
+    fn cover_each(
+        &mut self,
+        alloc: Global,
+        table: TableId,
+        members: &[Member],
+        session: SessionId,
+    ) -> Result<(), AllocError>
+        ensures some { CoversSome self.old self.new table (among members.now) session }
+        ensures ok { OnOk result (Covers self.old self.new table (among members.now) session) }
+    {
+        for member in members {
+            if let Some(key) = Key::of(member) {
+                self.insert(alloc, table, key, session)?;
+            }
+        }
+        Ok(())
+    }
+
+    /// Has the session not found by the keys of the filter, but for those that its other filters have.
+    pub(crate) fn uncover(
+        &mut self,
+        table: TableId,
+        filter: &Filter,
+        session: SessionId,
+        others: &[Asked],
+    )
+        ensures { Uncovers self.old self.new table (λ k. has_key k filter.now) session others.now }
+    {
+        let members = filter.members();
+        if members.is_empty() {
+            return self.release(table, Key::Any, session, others);
+        }
+        self.uncover_each(table, members, session, others);
+    }
+
+    /// Has the session not found by the keys of these members, but for those that its other filters have.
+    fn uncover_each(
+        &mut self,
+        table: TableId,
+        members: &[Member],
+        session: SessionId,
+        others: &[Asked],
+    )
+        ensures { Uncovers self.old self.new table (among members.now) session others.now }
+    {
+        for member in members {
+            if let Some(key) = Key::of(member) {
+                self.release(table, key, session, others);
+            }
+        }
+    }
+
+    /// Has the session not found by the keys of these filters.
+    pub(crate) fn uncover_all(&mut self, session: SessionId, filters: &[Asked])
+        ensures { UncoversAll self.old self.new session filters.now }
+    {
+        for asked in filters {
+            self.uncover(asked.table(), asked.filter(), session, &[]);
+        }
+    }
+
+    /// Has the session not found by the key, unless one of its other filters has it.
+    fn release(&mut self, table: TableId, key: Key<'_>, session: SessionId, others: &[Asked])
+        ensures { Uncovers self.old self.new table (λ k. same_key k (key_in key.entry)) session others.now }
+    {
+        if !key.is_asked(table, others) {
+            self.remove(table, key, session);
+        }
+    }
+
+    /// Adds the sessions that are found for the change.
+    pub(crate) fn find(
+        &self,
+        change: &ChangeSet,
+        found: &mut BTreeSet<SessionId>,
+    ) -> Result<(), AllocError>
+        ensures { OnOk result (Grows found.old found.new (finds_among self.now change.now)) }
+    {
+        let tables = change.tables();
+        for place in 0..tables.len() {
+            self.find_for(place, &tables[place], found)?;
+        }
+        Ok(())
+    }
+
+    /// Adds those that are found for the change of the table at the place.
+    fn find_for(
+        &self,
+        place: usize,
+        change: &TableChange,
+        found: &mut BTreeSet<SessionId>,
+    ) -> Result<(), AllocError>
+        ensures { OnOk result (Grows found.old found.new (finds_for self.now place change.now)) }
+    {
+        let rows = change.rows();
+        if rows.is_empty() {
+            return Ok(());
+        }
+        match self.tables.get(&place) {
+            Some(watched) => watched.find(rows, found),
+            None => Ok(()),
+        }
+    }
+}

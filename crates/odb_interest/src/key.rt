@@ -1,0 +1,143 @@
+//! What the members of a filter are looked up by.
+ghost use Rattle.std.specs.Prelude.{◌≡◌, ◌&&◌, ◌==◌, map, option_map};
+ghost use Rattle.odb_atoms.specs.Represented.Atom.{atom_of};
+ghost use Rattle.odb_cond.specs.Represented.Clause.{selector_of};
+ghost use Rattle.odb_cond.specs.Represented.Filter.{member_of};
+ghost use Rattle.odb_interest.specs.Keys.{atoms_in, first_in, key_at, key_of, needed};
+ghost use Rattle.odb_interest.specs.Represented.Key.{among, has_key, held, is_asked, key_in, same_column, same_key};
+
+use crate::asked::Asked;
+use odb_atoms::{Atom, Entries, Value};
+use odb_cond::{Clause, Filter, Function, Member, Selector};
+use odb_schema::TableId;
+
+/// What a session is looked up by.
+#[derive(Clone, Copy)]
+pub(crate) enum Key<'a> {
+    /// Any row of the table.
+    Any,
+    /// A row that has the atom in the column, of a map as a key.
+    Named(Selector, &'a Atom),
+}
+
+impl<'a> Key<'a> {
+    /// Returns the key of a member, which `false` doesn't have. O(1).
+    pub(crate) fn of(member: &'a Member) -> Option<Key<'a>>
+        ensures { option_map key_in result ≡ key_of (member_of member.now) }
+    {
+        match member {
+            Member::Always(true) => Some(Key::Any),
+            Member::Always(false) => None,
+            Member::When(clause) => Some(Key::of_clause(clause)),
+        }
+    }
+
+    /// Returns the key of a condition. O(1).
+    fn of_clause(clause: &'a Clause) -> Key<'a>
+        ensures { key_in result ≡ key_at clause.now.column (needed clause.now.function clause.now.value) }
+    {
+        match needed_atom(clause) {
+            Some(atom) => Key::Named(clause.column(), atom),
+            None => Key::Any,
+        }
+    }
+
+    /// Tells whether the two are the same key.
+    fn same(self, other: Key<'_>) -> bool
+        ensures { result ≡ same_key (key_in self.entry) (key_in other.entry) }
+    {
+        match (self, other) {
+            (Key::Any, Key::Any) => true,
+            (Key::Named(column, atom), Key::Named(another, other)) => {
+                is_same_column(column, another) && *atom == *other
+            }
+            _ => false,
+        }
+    }
+
+    /// Tells whether one of the filters of the table is looked up by the key. O(their members).
+    pub(crate) fn is_asked(self, table: TableId, filters: &[Asked]) -> bool
+        ensures { result ≡ is_asked filters.now table (key_in self.entry) }
+    {
+        filters.iter().any(|asked| self.is_in(table, asked))
+    }
+
+    /// Tells whether it is a filter of the table, and is looked up by the key.
+    fn is_in(self, table: TableId, asked: &Asked) -> bool
+        ensures { result ≡ ((asked.now.0 == table) && has_key (key_in self.entry) asked.now.1) }
+    {
+        asked.table().place() == table.place() && self.is_of(asked.filter())
+    }
+
+    /// Tells whether the filter is looked up by the key.
+    fn is_of(self, filter: &Filter) -> bool
+        ensures { result ≡ has_key (key_in self.entry) filter.now }
+    {
+        let members = filter.members();
+        if members.is_empty() {
+            return self.same(Key::Any);
+        }
+        self.is_among(members)
+    }
+
+    /// Tells whether one of the members is looked up by the key.
+    fn is_among(self, members: &[Member]) -> bool
+        ensures { result ≡ among members.now (key_in self.entry) }
+    {
+        members.iter().any(|member| self.is_of_member(member))
+    }
+
+    /// Tells whether the member is looked up by the key.
+    fn is_of_member(self, member: &Member) -> bool
+        ensures { result ≡ held (same_key (key_in self.entry)) (key_of (member_of member.now)) }
+    {
+        match Key::of(member) {
+            Some(key) => self.same(key),
+            None => false,
+        }
+    }
+}
+
+/// Tells whether the two are the same column.
+fn is_same_column(column: Selector, other: Selector) -> bool
+    ensures { result ≡ same_column (selector_of column) (selector_of other) }
+{
+    match (column, other) {
+        (Selector::Uuid, Selector::Uuid) => true,
+        (Selector::Version, Selector::Version) => true,
+        (Selector::Declared(place), Selector::Declared(other)) => place == other,
+        _ => false,
+    }
+}
+
+/// Returns the atom that the column has where the condition holds, if it is one by `==` or `includes` that names
+/// an atom.
+fn needed_atom(clause: &Clause) -> Option<&Atom>
+    ensures { option_map (λ a. atom_of a.now) result ≡ needed clause.now.function clause.now.value }
+{
+    match clause.function() {
+        Function::Equal => first_atom(clause.value()),
+        Function::Includes => first_atom(clause.value()),
+        _ => None,
+    }
+}
+
+/// Returns the first element of a set, or the first key of a map.
+fn first_atom(value: &Value) -> Option<&Atom>
+    ensures { option_map (λ a. atom_of a.now) result ≡ first_in (atoms_in value.now) }
+{
+    match value.entries() {
+        Entries::Set(atoms) => atoms.first(),
+        Entries::Map(pairs) => first_key(pairs),
+    }
+}
+
+/// Returns the key of the first pair.
+fn first_key(pairs: &[(Atom, Atom)]) -> Option<&Atom>
+    ensures { option_map (λ a. atom_of a.now) result ≡ first_in (map (λ p. atom_of p.0) pairs.now) }
+{
+    match pairs {
+        [first, ..] => Some(&first.0),
+        [] => None,
+    }
+}
