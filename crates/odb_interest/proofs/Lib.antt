@@ -1,6 +1,7 @@
 pub mod Agreeing
 pub mod Asking
 pub mod Booleans
+pub mod Crossing
 mod Examples
 pub mod Growing
 pub mod Levels
