@@ -28,7 +28,7 @@ use Rattle.odb_commit.proofs.NoFloats.{done_whole, refused_whole}
 use Rattle.odb_rpc.specs.Message.{operations_of}
 use Rattle.serde_json.specs.Written.{has_float}
 use Rattle.odb_service.specs.Service.{max_rows}
-use Rattle.odb_core.specs.Represented.Sessions.{Sessions}
+use Rattle.odb_sessions.specs.Book.{Sessions}
 use Rattle.odb_sessions.specs.Asked.{ended_in}
 use Rattle.odb_sessions.specs.Posts.{at_number}
 

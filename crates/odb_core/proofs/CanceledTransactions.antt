@@ -13,7 +13,7 @@ use Rattle.odb_service.specs.Service.{Service}
 use Rattle.odb_service.specs.Session.{Item, say, to}
 use Rattle.odb_service.specs.World.{Waiting, World, cancel, close, is_of, is_untried, post, split_first, untried}
 use Rattle.odb_queue.specs.Represented.Post.{told_of}
-use Rattle.odb_core.specs.Represented.Sessions.{Sessions}
+use Rattle.odb_sessions.specs.Book.{Sessions}
 use Rattle.odb_sessions.specs.Posts.{all_posted}
 use Rattle.odb_core.proofs.Attempts.{post_as}
 use Rattle.odb_core.proofs.ClosedSessions.{cancels_at, closes_as, none_filtered, none_removed}

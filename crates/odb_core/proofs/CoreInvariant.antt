@@ -50,3 +50,8 @@ unused_closed h s n w v e unused q above =
 pub either_if : {A E G Q : Type 0} (P : A → Type 0) (r : Result A E) → IfOk r P → OnErr r Q → ((a : A) → P a → G) → (Q → G) → G
 either_if P (Ok a) ok err f g = f a ok
 either_if P (Err e) ok err f g = g err
+
+-- two facts of what a call gives, as one
+pub if_both : {A E : Type 0} {P Q R : A → Type 0} (r : Result A E) → IfOk r P → IfOk r Q → ((a : A) → P a → Q a → R a) → IfOk r R
+if_both (Ok a) p q f = f a p q
+if_both (Err e) p q f = tt

@@ -8,7 +8,6 @@ use Rattle.odb_locks.specs.contracts.locks.Locks as Locks
 use Rattle.odb_locks.proofs.locks.Locks.TheSendSync as locks
 use Rattle.odb_queue.specs.contracts.served_schema.ServedSchema as ServedSchema
 use Rattle.odb_queue.proofs.served_schema.ServedSchema.TheSendSync as served
-use Rattle.odb_core.specs.contracts.sessions.Sessions as Sessions
 use Rattle.odb_core.specs.contracts.submitted.Submitted as Submitted
 use Rattle.odb_core.specs.contracts.counts.Counts as Counts
 use Rattle.odb_core.specs.contracts.waiting.Waiting as Waiting
@@ -34,14 +33,11 @@ WaitingList-send = search (Counts-send, Waiting-send, sendable, heap.crosses) de
 Locks-send : IsSend (Locks.the_field).row
 Locks-send = locks.the_send
 
-Sessions-send : IsSend (Sessions.the_field).row
-Sessions-send = search (book.Sessions-send, sendable, heap.crosses, maps.crosses) depth 20
-
 ServedSchema-send : IsSend (ServedSchema.the_field).row
 ServedSchema-send = served.the_send
 
 State-send : IsSend (State.the_field).row
-State-send = search (Locks-send, Sessions-send, WaitingList-send, sendable, heap.crosses) depth 20
+State-send = search (Locks-send, book.Sessions-send, WaitingList-send, sendable, heap.crosses) depth 20
 
 pub Core-send : IsSend (Core.the_field).row
 Core-send = search (State-send, ServedSchema-send, sendable, heap.crosses) depth 20

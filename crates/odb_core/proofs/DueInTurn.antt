@@ -20,7 +20,7 @@ use Rattle.odb_core.specs.declared.foreseen.Told.TheVariants as told
 use Rattle.odb_core.specs.declared.submitted.Submitted.{Submitted}
 use Rattle.odb_core.specs.Represented.Due.{AreDue, IsDueForeseen}
 use Rattle.odb_core.specs.Represented.Foreseen.{Notes, Tells, reply_of, standing}
-use Rattle.odb_core.specs.Represented.Sessions.{Sessions}
+use Rattle.odb_sessions.specs.Book.{Sessions}
 use Rattle.odb_core.specs.Represented.Waiting.{outcome_in, waiting_as}
 use Rattle.odb_core.proofs.Attempts.{post_as}
 use Rattle.odb_core.proofs.ClosedSessions.{none_pushed}

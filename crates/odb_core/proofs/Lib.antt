@@ -14,9 +14,7 @@ pub mod RequestTables
 pub mod ServerSteps
 pub mod SessionNumbers
 pub mod WorldPosts
-pub mod OwedSessions
 pub mod QuietRounds
-pub mod QuietSessions
 pub mod Crossing
 pub mod AlikeDrafts
 pub mod PutChanges

@@ -12,7 +12,7 @@ use Rattle.odb_service.specs.Service.{Service}
 use Rattle.odb_service.specs.Session.{Item, say, to}
 use Rattle.odb_service.specs.World.{World, on_lock, post, post_notices, succeed}
 use Rattle.odb_queue.specs.Represented.Post.{told_of}
-use Rattle.odb_core.specs.Represented.Sessions.{Sessions}
+use Rattle.odb_sessions.specs.Book.{Sessions}
 use Rattle.odb_sessions.specs.Posts.{all_posted}
 
 -- what is posted

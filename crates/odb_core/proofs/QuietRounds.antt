@@ -12,7 +12,8 @@ use Rattle.odb_service.specs.Session.{Out, Session, take}
 use Rattle.odb_service.specs.World.{World}
 use Rattle.odb_service.proofs.SessionMaps.{get-insert, same_key}
 use Rattle.odb_core.specs.Represented.Core.{IsQuietBut}
-use Rattle.odb_core.specs.Represented.Sessions.{AreOwed, Sessions}
+use Rattle.odb_sessions.specs.Book.{Sessions}
+use Rattle.odb_sessions.specs.Owed.{AreOwed}
 use Rattle.odb_core.proofs.WorldPosts.{reinserted}
 
 -- ---- what is listed once, of some

@@ -20,7 +20,7 @@ use Rattle.odb_core.specs.declared.foreseen.Told.{Told}
 use Rattle.odb_core.specs.declared.foreseen.Told.TheVariants as told
 use Rattle.odb_core.specs.declared.submitted.Submitted.{Submitted}
 use Rattle.odb_core.specs.Represented.Foreseen.{IsForeseen, Notes, Tells, reply_of, standing}
-use Rattle.odb_core.specs.Represented.Sessions.{Sessions}
+use Rattle.odb_sessions.specs.Book.{Sessions}
 use Rattle.odb_core.specs.Represented.Waiting.{outcome_in, waiting_as}
 use Rattle.odb_core.proofs.Attempts.{post_as}
 use Rattle.odb_core.proofs.WorldPosts.{posted_append}

@@ -10,7 +10,7 @@ use Rattle.odb_service.proofs.SessionMaps.{get-insert, get-remove, key-itself, s
 use Rattle.odb_service.specs.Session.{Item, Session, no_request, say}
 use Rattle.odb_service.specs.World.{World, notice_of, post, post_notices, post_to, push}
 use Rattle.odb_queue.specs.Represented.Post.{told_of}
-use Rattle.odb_core.specs.Represented.Sessions.{Sessions}
+use Rattle.odb_sessions.specs.Book.{Sessions}
 use Rattle.odb_sessions.specs.Posts.{all_posted, posted}
 
 -- notices are posted as their items

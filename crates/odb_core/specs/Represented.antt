@@ -6,7 +6,6 @@ pub mod Places
 pub mod Reason
 pub mod Requests
 pub mod Rounds
-pub mod Sessions
 pub mod Foreseen
 pub mod Spared
 pub mod Counts

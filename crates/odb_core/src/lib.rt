@@ -7,20 +7,17 @@
 mod counts;
 mod due;
 mod foreseen;
-mod jobs;
 mod locking;
 mod monitors;
 mod refused;
 mod requests;
 mod server;
-mod sessions;
 mod state;
 mod submitted;
 mod waiting;
 mod waiting_list;
 
-pub use jobs::{Jobs, Prepared};
 pub use odb_locks::SessionId;
-pub use odb_sessions::{Job, Out};
+pub use odb_sessions::{Job, Jobs, Out, Prepared};
 pub use refused::Refused;
 pub use server::Core;

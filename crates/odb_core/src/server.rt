@@ -8,13 +8,12 @@ ghost use Rattle.odb_wire.specs.Shown.{request_data};
 ghost use Rattle.odb_service.specs.Run.{closed, max_sessions, once, opened, round, submitted, ticked};
 ghost use Rattle.odb_core.specs.declared.refused.Refused.TheVariants as refused;
 
-use crate::jobs::{Jobs, Prepared};
 use crate::refused::Refused;
 use crate::state::State;
 use odb_locks::SessionId;
 use odb_queue::ServedSchema;
 use odb_schema::Schema;
-use odb_sessions::Out;
+use odb_sessions::{Jobs, Out, Prepared};
 use odb_wire::Request;
 use std::alloc::{AllocError, Global};
 use std::collections::BTreeSet;
@@ -126,8 +125,9 @@ impl Core {
     /// an earlier one than the clock's counts as the clock's. It is refused with `Gone` where no
     /// such session is open, with `Busy` where the request needs a reply and the session is owed
     /// 256, and with `Memory`; the request is handed back then. A `transact` costs what its
-    /// operations and its settlement do, by the rows touched where these suffice, and a copy of all
-    /// where transactions wait; any other call costs what its request asks for, and O(log n + w).
+    /// operations and its settlement do, by the rows touched where these suffice, what those that wait cost that it
+    /// tries again, and a copy of all where one of these may change the database; any other call costs what its
+    /// request asks for, and O(log n + w).
     pub fn submit(
         &mut self,
         session: SessionId,
@@ -159,7 +159,7 @@ impl Core {
 
     /// Advances the clock to `now` (milliseconds); it never goes back, so that an earlier `now`
     /// leaves it. Then the waiting transactions whose deadline has come are tried once each, in
-    /// order of arrival. O(w), and over all rows where a deadline has come.
+    /// order of arrival. O(w), what the tries cost, and a copy of all where one of these may change the database.
     pub fn tick(&mut self, now: u64) -> Result<(), AllocError>
         ensures ok { OnOk result (serve (ticked now) self.old ≡ Ok (self.new, [])) }
         ensures err { OnErr result (self.new ≡ self.old) }
@@ -187,8 +187,7 @@ impl Core {
         ensures jobs { IfOk result (λ jobs. AreOfJobs jobs.jobs jobs.takings) }
     {
         let listed = once(self.alloc, ready)?;
-        let jobs = self.state.jobs(listed.as_slice())?;
-        Ok(Jobs::new(listed, jobs))
+        self.state.jobs(listed.as_slice())
     }
 
     /// Carries out a round that was planned for this core as it is, and of which everything is composed: then it is a

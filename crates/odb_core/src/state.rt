@@ -31,8 +31,6 @@ ghost use Rattle.odb_core.specs.Represented.Rounds.{book_in};
 ghost use Rattle.odb_core.specs.Represented.Waiting.{left_waiting, outcome_in, waiting_as, IsDone};
 
 use crate::foreseen::Foreseen;
-use crate::jobs::Prepared;
-use crate::sessions::Sessions;
 use crate::submitted::Submitted;
 use crate::waiting::{Tried, Waiting};
 use crate::waiting_list::WaitingList;
@@ -42,8 +40,7 @@ use odb_ops::Context;
 use odb_queue::{Finished, Post, failed, notices, replied};
 use odb_rpc::{Failure, Printable};
 use odb_schema::Schema;
-use odb_sessions as book;
-use odb_sessions::Out;
+use odb_sessions::{Jobs, Out, Prepared, Sessions};
 use odb_tables::{ChangeSet, Db, TableChange};
 use odb_wire::Request;
 use serde_json::Value;
@@ -170,17 +167,10 @@ impl State {
     {
         let number = self.commits.checked_add(1).ok_or(AllocError)?;
         let reply = replied(self.alloc, &asked.request, &Value::from(results))?;
-        let posted_to = self.sessions.post_end(asked.session, reply)?;
-        match self.sessions.install(change) {
-            Ok(()) => {
-                self.commits = number;
-                Ok(())
-            }
-            Err(_) => {
-                self.sessions.take_back(posted_to);
-                Err(AllocError)
-            }
-        }
+        let posts = Vec::new(self.alloc);
+        self.sessions.commit(asked.session, reply, posts, change)?;
+        self.commits = number;
+        Ok(())
     }
 
     /// Carries out what a transaction came to.
@@ -503,7 +493,7 @@ impl State {
     }
 
     /// A round of these sessions, as it is planned: nothing is composed, and nothing is taken.
-    pub(crate) fn jobs(&self, listed: &[SessionId]) -> Result<book::Jobs<'_>, AllocError>
+    pub(crate) fn jobs(&self, listed: &[SessionId]) -> Result<Jobs<'_>, AllocError>
         ensures sessions { IfOk result (λ jobs. sessions_in jobs.takings ≡ listed.now) }
         ensures ready { IfOk result (λ jobs. AreOf (book_in self.entry.now) jobs.takings) }
         ensures jobs { IfOk result (λ jobs. AreOfJobs jobs.jobs jobs.takings) }

@@ -98,4 +98,4 @@ Numbered-send : IsSend (Numbered.the_field).row
 Numbered-send = search (Session-send, sendable, heap.crosses, maps.crosses) depth 20
 
 pub Sessions-send : IsSend (Sessions.the_field).row
-Sessions-send = search (Past-send, Numbered-send, sendable, heap.crosses) depth 20
+Sessions-send = search (Past-send, Numbered-send, sendable, heap.crosses, maps.crosses) depth 20

@@ -19,6 +19,7 @@ mod NamedReplays
 mod Newest
 mod Numbers
 mod OtherFilters
+pub mod OwedSessions
 mod Pendings
 mod Places
 mod PlannedTexts
@@ -33,6 +34,7 @@ mod Room
 pub mod Rounds
 mod SameUpdates
 mod Seen
+pub mod StillQuiet
 mod Stops
 mod Sums
 mod TakenFilters

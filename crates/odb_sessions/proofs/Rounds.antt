@@ -51,6 +51,10 @@ module _ (s : Schema) (db : Db) where
         c ∙ texts_of p.out ∙ sym (ap (λ (r : Taken). option_map text_of r.0) taken),
       )
 
+  -- what a taking that is ready uses up is what the machine's does
+  pub uses_of : (o : Option Session) (x : Session) (r : model.Ready) → o ≡ Some x → IsReadyFor s db o r → used_by h db r.items r.monitors x ≡ (take h db x).1
+  uses_of o x r there ready = (subst (λ (p : Option Session). IsReadyFor s db p r) there ready).0
+
   -- the text that is ready is the one that the taking gives
   pub text_ready : (o : Option Session) (r : model.Ready) → IsReadyFor s db o r → text_from r.text (option_and_then (λ x. last_used r.items x.queue) o) ≡ text_taken h db o
   text_ready None r e = ap (λ t. text_from t None) e

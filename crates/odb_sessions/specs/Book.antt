@@ -5,9 +5,13 @@ use Rattle.odb_atoms.specs.FinMap.{FinMap, empty}
 use Rattle.odb_service.specs.Session.{Session}
 use Rattle.odb_tables.specs.Database.{Db}
 
+-- the open sessions by their numbers
+abbrev pub Sessions : Type 0
+Sessions = FinMap nat_cmp Session
+
 pub record Book : Type 0 where
   pub db : Db
-  pub sessions : FinMap nat_cmp Session
+  pub sessions : Sessions
 
 -- nothing is queued, and there is no monitor
 abbrev pub fresh_session : Session

@@ -2,6 +2,7 @@ pub mod Alike
 pub mod Asked
 pub mod Book
 pub mod Carried
+pub mod Committed
 pub mod Composed
 pub mod Concerned
 pub mod Foreseen
@@ -10,6 +11,7 @@ pub mod Jobs
 pub mod Moved
 pub mod Named
 pub mod Newest
+pub mod Owed
 pub mod Planned
 pub mod Posts
 pub mod Quiet

@@ -35,6 +35,10 @@ pub record Ready : Type 0 where
   pub monitors : ℕ
   pub text : Text
 
+-- so many items and monitors are what a taking of the session uses up, if it is open
+abbrev pub UsesUp : Book → ℕ → ℕ → ℕ → Type 0
+UsesUp b n items monitors = (s : Schema) (x : Session) → get b.sessions n ≡ Some x → used_by (served_by s) b.db items monitors x ≡ (take (served_by s) b.db x).1
+
 abbrev pub IsReadyFor : Schema → Db → Option Session → Ready → Type 0
 IsReadyFor s db None r = r.text ≡ no_text
 IsReadyFor s db (Some x) r =

@@ -10,7 +10,6 @@ ghost use Rattle.odb_sessions.specs.Concerned.{are_concerned, is_concerned};
 ghost use Rattle.odb_sessions.specs.Held.{marks_in, marks_of, seen};
 ghost use Rattle.odb_sessions.specs.Quiet.{IsQuiet, IsQuietAt};
 ghost use Rattle.odb_sessions.specs.Tied.{AreLive};
-ghost use Rattle.odb_tables.specs.Change.{all_changed_by};
 
 use crate::monitor::{Monitor, Watching};
 use crate::planning::are_now;
@@ -27,7 +26,7 @@ impl Sessions {
     /// they are now, under the filters that are asked; so it is where the session isn't open. A taking gives it
     /// nothing then, and changes nothing. `false` says nothing. O(log n) for n sessions, and O(1) for each table
     /// of its monitors.
-    pub fn rests(&self, session: SessionId) -> bool
+    fn rests(&self, session: SessionId) -> bool
         ensures { OnTrue result (IsQuietAt self.now session) }
     {
         let Some(of) = self.sessions.get(session) else {
@@ -36,19 +35,14 @@ impl Sessions {
         of.rests(self.past.chains())
     }
 
-    /// Adds to the set the sessions of which a monitor asks for a table that the change has rows of: before the
-    /// change is made. Any other session that is owed nothing is owed nothing after it. Where memory is refused
-    /// some are added. For n sessions and m tables of monitors O(n + m), and O(log n) for each session added.
-    pub fn add_concerned(
-        &self,
-        owed: &mut BTreeSet<SessionId>,
-        change: &ChangeSet,
-    ) -> Result<(), AllocError>
-        ensures kept { (s : ℕ) → contains nat_cmp owed.old s ≡ true → contains nat_cmp owed.new s ≡ true }
-        ensures concerned { OnOk result ((s : ℕ) → contains nat_cmp owed.new s ≡ false → IsQuietAt self.now s
-            → IsQuietAt (record (self.now) { db = all_changed_by self.now.db change.now }) s) }
+    /// Forgets that a session may be owed something, where it rests.
+    pub(crate) fn forget_if_resting(&mut self, session: SessionId)
+        ensures { self.new ≡ self.old }
     {
-        self.sessions.add_concerned(owed, change)
+        if !self.rests(session) {
+            return;
+        }
+        self.owed.remove(&session);
     }
 }
 

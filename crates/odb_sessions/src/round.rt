@@ -103,6 +103,7 @@ impl Sessions {
             coming,
         } = ready;
         let queued = self.carry_out(session, items, monitors);
+        self.forget_if_resting(session);
         match coming {
             Coming::Nothing => None,
             Coming::Queued => Some(finished(self.alloc, session, queued?)),

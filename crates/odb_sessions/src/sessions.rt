@@ -1,5 +1,5 @@
 //! The database with its past, and the open sessions. [P 9.1, 9.5, 9.6, 10.1, 10.2, 10.3]
-ghost use Rattle.std.specs.Prelude.{◌≡◌, ◌+◌, ◌&&◌, false, is_some, not, nat_lt, map, option_and_then, option_map, None, IfErr, IfOk, OnErr, OnOk};
+ghost use Rattle.std.specs.Prelude.{◌≡◌, ◌+◌, ◌&&◌, [], false, is_some, not, nat_lt, map, option_and_then, option_map, None, IfOk, OnErr, OnOk};
 ghost use Rattle.odb_atoms.specs.FinMap as finite;
 ghost use Rattle.odb_queue.specs.Represented.Answer.{call_at};
 ghost use Rattle.odb_queue.specs.Represented.Item.{item_of};
@@ -15,10 +15,13 @@ ghost use Rattle.odb_service.specs.World.{asked_of, watched};
 ghost use Rattle.odb_sessions.specs.Asked.{ended_in};
 ghost use Rattle.odb_sessions.specs.Book.{book_of, fresh_session};
 ghost use Rattle.odb_sessions.specs.Carried.{last_finished, used_by};
+ghost use Rattle.odb_sessions.specs.Committed.{ended_with, posted_with};
 ghost use Rattle.odb_sessions.specs.Named.{named};
+ghost use Rattle.odb_sessions.specs.Owed.{AreNoted, AreOwed};
 ghost use Rattle.odb_sessions.specs.Posts.{all_posted, at_number, posted, unposted};
 ghost use Rattle.odb_sessions.specs.Started.{AreApart, AreOfTables, started};
 ghost use Rattle.odb_sessions.specs.Stopped.{changed_in, stopped_in};
+ghost use Rattle.odb_sessions.specs.Taken.{UsesUp};
 ghost use Rattle.odb_tables.specs.Change.{all_changed_by};
 ghost use Rattle.odb_tables.specs.Installing.{IsChangeOf};
 ghost use Rattle.odb_wire.specs.Message.{has_left_out, id_of};
@@ -39,31 +42,32 @@ use odb_queue::{Finished, Post};
 use odb_rpc::Printable;
 use odb_tables::{ChangeSet, Db};
 use odb_wire::Request;
-use std::alloc::{AllocError, AllocFailed, Global};
+use std::alloc::{AllocError, Global};
+use std::collections::BTreeSet;
 use std::hash::RandomState;
 use std::marker::Model;
 
-/// The database, the open sessions, and what is kept of the past for these. Contracts see the database and
-/// the machine's sessions (`specs/Book.antt`).
+/// The database, the open sessions with what is kept of the past for these, and which of them may be owed
+/// something. Contracts see the database and the machine's sessions (`specs/Book.antt`).
 pub struct Sessions {
     pub(crate) alloc: Global,
     pub(crate) past: Past,
     pub(crate) sessions: Numbered,
+    pub(crate) owed: BTreeSet<SessionId>,
 }
 
 impl Model for Sessions {
     ghost use Rattle.odb_sessions.specs.Book.{Book};
-    ghost use Rattle.odb_sessions.specs.Held.{all_seen};
     ghost use Rattle.odb_sessions.specs.Represented.Codes.{book_code};
-    ghost use Rattle.odb_sessions.specs.Tied.{IsTied};
+    ghost use Rattle.odb_sessions.specs.Owed.{HangTogether, book_seen};
 
     ghost Value = { Book };
 
     ghost coded = { book_code };
 
-    ghost view = { λ s. record { db = s.past.db; sessions = all_seen s.sessions } };
+    ghost view = { λ s. book_seen s.past s.sessions };
 
-    ghost invariant = { λ s. IsTied s.past s.sessions };
+    ghost invariant = { λ s. HangTogether s.past s.sessions s.owed };
 }
 
 impl Sessions {
@@ -75,6 +79,7 @@ impl Sessions {
             alloc,
             past: Past::new(alloc, db, hashing)?,
             sessions: Numbered::new(alloc),
+            owed: BTreeSet::new(alloc),
         })
     }
 
@@ -99,6 +104,13 @@ impl Sessions {
         self.sessions.has(session)
     }
 
+    /// Which sessions may be owed something: a taking of any other gives nothing and changes nothing. O(1).
+    pub fn owed(&self) -> &BTreeSet<SessionId>
+        ensures { AreOwed result.now self.now }
+    {
+        &self.owed
+    }
+
     /// Opens a session, for which nothing is queued and which has no monitors. O(log n) for n sessions.
     pub fn open(&mut self, session: SessionId) -> Result<(), AllocError>
         requires { finite.get self.old.sessions session ≡ None }
@@ -108,8 +120,9 @@ impl Sessions {
         self.sessions.insert(session, Session::new(self.alloc))
     }
 
-    /// Whether the request has a reply while the session is owed as many as it may be, `waiting` of them as
-    /// replies of its transactions that wait; `None` where no such session is open. O(log n).
+    /// Says whether to refuse the request as Busy: it has a reply, and the session is owed as many as it may be,
+    /// `waiting` of them by its transactions that wait. `None` where no such session is open. O(log n) for n
+    /// sessions.
     pub fn owes_too_many(
         &self,
         session: SessionId,
@@ -129,6 +142,7 @@ impl Sessions {
         ensures back { IfOk result (λ posted_to. unposted posted_to.items self.new.sessions ≡ self.old.sessions) }
         ensures err { OnErr result (self.new ≡ self.old) }
     {
+        note_all(&mut self.owed, posts.as_slice())?;
         self.sessions.post_all(self.alloc, posts)
     }
 
@@ -165,6 +179,7 @@ impl Sessions {
         if !self.sessions.has(session) {
             return Ok(());
         }
+        self.owed.insert(session)?;
         let start = starting.begin(self.alloc, &mut self.past)?;
         match self.sessions.hand(session, Item::Start(start)) {
             Ok(()) => Ok(()),
@@ -200,10 +215,50 @@ impl Sessions {
         Ok(first_of(named, id))
     }
 
+    /// Makes a change of the database, posts the reply of the transaction that made it, after a sync for each of
+    /// its session's monitors as asked, if that session is open, and then these posts; or does nothing, where memory
+    /// is refused. What `asked` costs, O(log n) for each post, for n sessions what finding those that the change
+    /// concerns costs, O(n + tables of their monitors), and what `odb_chain::Chains::absorb` does.
+    pub fn commit(
+        &mut self,
+        session: SessionId,
+        reply: Finished,
+        posts: Vec<Post>,
+        change: ChangeSet,
+    ) -> Result<(), AllocError>
+        requires { IsChangeOf self.old.db change }
+        ensures ok { OnOk result ((schema : Schema) → self.new ≡ ended_with schema session (item_of reply) (map post_of posts.items) change self.old) }
+        ensures err { OnErr result (self.new ≡ self.old) }
+    {
+        let posted_to = self.post_end(session, reply)?;
+        match self.post_and_install(posts, change) {
+            Ok(()) => Ok(()),
+            Err(_) => {
+                self.take_back(posted_to);
+                Err(AllocError)
+            }
+        }
+    }
+
+    /// Makes a change of the database and posts each item to its session, or does nothing.
+    fn post_and_install(&mut self, posts: Vec<Post>, change: ChangeSet) -> Result<(), AllocError>
+        requires { IsChangeOf self.old.db change }
+        ensures ok { OnOk result (self.new ≡ posted_with (map post_of posts.items) change self.old) }
+        ensures err { OnErr result (self.new ≡ self.old) }
+    {
+        let queued_for = self.post_all(posts)?;
+        match self.install(change) {
+            Ok(()) => Ok(()),
+            Err(_) => {
+                self.take_back(queued_for);
+                Err(AllocError)
+            }
+        }
+    }
+
     /// Posts the reply of a transaction that ended with a commit, after a sync for each of the session's
-    /// monitors as asked, if the session is open. It returns what `post_all` does. O(log n) for each, and what
-    /// `asked` costs.
-    pub fn post_end(
+    /// monitors as asked, if the session is open. It returns what `post_all` does.
+    fn post_end(
         &mut self,
         session: SessionId,
         reply: Finished,
@@ -217,6 +272,7 @@ impl Sessions {
         };
         let ids = of.asked(self.alloc)?;
         let items = ending(self.alloc, ids, reply)?;
+        self.owed.insert(session)?;
         self.sessions.post_each(self.alloc, session, items)
     }
 
@@ -234,6 +290,7 @@ impl Sessions {
         ensures err { OnErr result (self.new ≡ self.old) }
     {
         let items = stopping(self.alloc, request, id)?;
+        self.owed.insert(session)?;
         drop(self.sessions.post_each(self.alloc, session, items)?);
         Ok(())
     }
@@ -246,20 +303,21 @@ impl Sessions {
         ensures err { OnErr result (self.new ≡ self.old) }
     {
         let items = changing.items(self.alloc)?;
+        self.owed.insert(session)?;
         drop(self.sessions.post_each(self.alloc, session, items)?);
         Ok(())
     }
 
     /// Makes the whole change of the database, or none; what clients have stays. Where memory is refused
-    /// nothing changed, and the change comes back; so it does after 2^64 - 1 changes of one table. The costs are
-    /// those of `odb_chain::Chains::absorb`.
-    pub fn install(&mut self, change: ChangeSet) -> Result<(), AllocFailed<ChangeSet>>
+    /// nothing changed; so it does after 2^64 - 1 changes of one table.
+    fn install(&mut self, change: ChangeSet) -> Result<(), AllocError>
         requires { IsChangeOf self.old.db change }
         ensures ok { OnOk result (self.new ≡ record (self.old) { db = all_changed_by self.old.db change }) }
         ensures err { OnErr result (self.new ≡ self.old) }
-        ensures handed_back { IfErr result (λ refused. refused.value ≡ change) }
     {
-        self.past.absorb(change)
+        self.sessions.add_concerned(&mut self.owed, &change)?;
+        self.past.absorb(change)?;
+        Ok(())
     }
 
     /// Ends a session, if it is open: its queue and its monitors go, and what was kept for them alone. O(log n)
@@ -267,6 +325,7 @@ impl Sessions {
     pub fn close(&mut self, session: SessionId)
         ensures { self.new ≡ record (self.old) { sessions = finite.remove self.old.sessions session } }
     {
+        self.owed.remove(&session);
         let Some(closed) = self.sessions.remove(session) else {
             return;
         };
@@ -283,6 +342,7 @@ impl Sessions {
         items: usize,
         monitors: usize,
     ) -> Option<Finished>
+        requires { UsesUp self.old session items monitors }
         ensures book { (s : Schema) → self.new ≡ record (self.old) { sessions = at_number (used_by (served_by s) self.old.db items monitors) self.old.sessions session } }
         ensures text { option_map item_of result ≡ option_and_then (λ x. last_finished items x.queue) (finite.get self.old.sessions session) }
     {
@@ -296,12 +356,25 @@ impl Sessions {
     {
         let past = self.past.try_copy()?;
         let sessions = self.sessions.try_copy()?;
+        let owed = self.owed.clone()?;
         Ok(Sessions {
             alloc: self.alloc,
             past,
             sessions,
+            owed,
         })
     }
+}
+
+/// Notes the sessions of these posts. Where memory is refused some of them are noted.
+fn note_all(owed: &mut BTreeSet<SessionId>, posts: &[Post]) -> Result<(), AllocError>
+    ensures kept { AreNoted owed.old owed.new [] }
+    ensures noted { OnOk result (AreNoted owed.old owed.new (map post_of posts.now)) }
+{
+    for post in posts {
+        owed.insert(post.session)?;
+    }
+    Ok(())
 }
 
 // Written, and not derived, so that each end of a scope is one call to prove.
@@ -311,6 +384,7 @@ impl Drop for Sessions {
             alloc: _,
             past: _,
             sessions: _,
+            owed: _,
         } = self;
     }
 }

@@ -5,7 +5,7 @@ use Rattle.odb_service.specs.Server.{served_by}
 use Rattle.odb_service.specs.Session.{Item}
 use Rattle.odb_service.specs.World.{Waiting, World, is_untried, retry_all, split_first, try_due}
 use Rattle.odb_core.specs.Represented.Foreseen.{standing}
-use Rattle.odb_core.specs.Represented.Sessions.{Sessions}
+use Rattle.odb_sessions.specs.Book.{Sessions}
 
 -- Whatever sessions are open in the world: of those that wait these are left and this is posted, and the rest is yet to be looked at. All of them were tried.
 pub record AreDue (s : Schema) (w : World) (left rest : List Waiting) (posts : List (ℕ × Item)) : Type 0 where

@@ -25,7 +25,7 @@ use Rattle.odb_wire.specs.Shown.{request_data}
 use Rattle.odb_core.specs.declared.foreseen.Told.{Told}
 use Rattle.odb_core.specs.declared.foreseen.Told.TheVariants as told
 use Rattle.odb_core.specs.declared.submitted.Submitted.{Submitted}
-use Rattle.odb_core.specs.Represented.Sessions.{Sessions}
+use Rattle.odb_sessions.specs.Book.{Sessions}
 use Rattle.odb_core.specs.Represented.Waiting.{outcome_in}
 
 -- the table with this row under the identifier, or with none

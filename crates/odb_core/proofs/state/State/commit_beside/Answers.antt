@@ -13,7 +13,7 @@ use Rattle.odb_service.proofs.Results.{either_way}
 use Rattle.odb_service.specs.Server.{served_by}
 use Rattle.odb_service.specs.World.{World, retry_all, untried}
 use Rattle.odb_core.specs.Represented.Foreseen.{IsForeseen, committed, reply_with, standing}
-use Rattle.odb_core.specs.Represented.Sessions.{Sessions}
+use Rattle.odb_sessions.specs.Book.{Sessions}
 use Rattle.odb_core.proofs.Attempts.{commit_as}
 use Rattle.odb_core.proofs.state.State.commit_beside.Goals as goal
 

@@ -4,7 +4,7 @@ use Rattle.odb_queue.specs.Represented.Post.{post_of}
 use Rattle.odb_service.specs.World.{World}
 use Rattle.odb_sessions.specs.Book.{Book}
 use Rattle.odb_core.specs.Represented.Foreseen.{reply_with}
-use Rattle.odb_core.specs.Represented.Sessions.{ended_with}
+use Rattle.odb_sessions.specs.Committed.{ended_with}
 use Rattle.odb_core.proofs.state.State.commit_foreseen.Goals as goal
 
 pub returns-clause-ok : goal.returns-clause-ok

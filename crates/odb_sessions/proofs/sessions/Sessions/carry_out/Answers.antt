@@ -1,20 +1,33 @@
-use Rattle.std.proofs.Common.{ap, ◌∙◌}
+use Rattle.std.proofs.Common.{Option, ap, subst, sym, ◌∙◌}
 use Rattle.std.specs.Prelude.{option_and_then}
 use Rattle.odb_atoms.specs.FinMap as finite
 use Rattle.odb_service.specs.Server.{served_by}
-use Rattle.odb_service.specs.Session.{Session}
+use Rattle.odb_service.specs.Session.{Out, Session}
 use Rattle.odb_sessions.specs.Book.{Book}
 use Rattle.odb_sessions.specs.Carried.{last_finished, used_by}
+use Rattle.odb_sessions.specs.Owed.{book_seen}
 use Rattle.odb_sessions.specs.Posts.{at_number}
+use Rattle.odb_sessions.specs.Taken.{UsesUp}
 use Rattle.odb_sessions.proofs.Carried.{ready_at}
+use Rattle.odb_sessions.proofs.OwedSessions.{together, used_owed}
+use Rattle.odb_sessions.proofs.Rounds.{no_schema}
 use Rattle.odb_sessions.proofs.CarriedOut.{seen_after, text_seen, tied_after}
 use Rattle.odb_sessions.proofs.sessions.Sessions.carry_out.Goals as goal
 
 pub carry_out-requires : goal.carry_out-requires
-carry_out-requires c = λ x there. ready_at c.self.inside.past c.self.inside.sessions c.args.session x c.self.invariant there
+carry_out-requires c = λ x there. ready_at c.self.inside.past c.self.inside.sessions c.args.session x c.self.invariant.0 there
 
 pub invariant_of-self : goal.invariant_of-self
-invariant_of-self c = tied_after c.self.inside.past c.carry_out.new.past c.self.inside.sessions c.carry_out.new.self c.args.session c.args.items c.args.monitors c.carry_out.ensures.carried c.self.invariant
+invariant_of-self c =
+    let old = c.self.inside in
+    let b : Book = book_seen old.past old.sessions in
+    let s = c.args.session in
+    let f : Session → Session = used_by (served_by no_schema) b.db c.args.items c.args.monitors in
+    let uses : UsesUp b s c.args.items c.args.monitors = subst (λ (d : Book). UsesUp d s c.args.items c.args.monitors) (sym c.self.view_is) c.requires in
+    together c.carry_out.new.past c.carry_out.new.self old.owed (record b { sessions = at_number f b.sessions s })
+    (tied_after old.past c.carry_out.new.past old.sessions c.carry_out.new.self s c.args.items c.args.monitors c.carry_out.ensures.carried c.self.invariant.0)
+    (seen_after old.past c.carry_out.new.past old.sessions c.carry_out.new.self s c.args.items c.args.monitors c.carry_out.ensures.carried no_schema)
+    (used_owed old.owed b s f (λ x there quiet. uses no_schema x there ∙ ap (λ (t : Option Out × Session). t.1) (quiet.1 no_schema)) c.self.invariant.1)
 
 pub returns-clause-book : goal.returns-clause-book
 returns-clause-book c = λ s.

@@ -15,7 +15,7 @@ use Rattle.odb_sessions.proofs.sessions.Sessions.jobs.Goals as goal
 pub takings_at-requires : goal.takings_at-requires
 takings_at-requires c =
     let planner : c.new-planner.result.chains ≡ c.self.inside.past = ap (λ (f : Foreseen). f.chains) c.new-planner.ensures ∙ c.chains.ensures in
-    subst (λ (k : Chains). AreAllLive k c.self.inside.sessions) (sym planner) c.self.invariant.2
+    subst (λ (k : Chains). AreAllLive k c.self.inside.sessions) (sym planner) c.self.invariant.0.2
 
 pub returns-clause-sessions : goal.returns-clause-sessions
 returns-clause-sessions c = ap (λ (r : Round). sessions_in r.takings) c.new.ensures ∙ sessions_by c.into_jobs.result.items c.in_ok-takings.takings.items ∙ c.in_ok-takings.ensures.sessions

@@ -4,7 +4,9 @@ use Rattle.odb_atoms.specs.FinMap as finite
 use Rattle.odb_chain.specs.Chains.{Chains}
 use Rattle.odb_sessions.specs.Book.{Book, fresh_session}
 use Rattle.odb_sessions.specs.Held.{Sessions, all_seen, nothing_kept}
+use Rattle.odb_sessions.specs.Owed.{HangTogether, book_seen}
 use Rattle.odb_sessions.specs.Tied.{IsTied}
+use Rattle.odb_sessions.proofs.OwedSessions.{opened_owed, together}
 use Rattle.odb_sessions.proofs.Ties.{either, none_kept, seen-insert, tied_opened}
 use Rattle.odb_sessions.proofs.sessions.Sessions.open.Goals as goal
 
@@ -14,9 +16,14 @@ invariant_of-self c =
     let m : Sessions = c.self.inside.sessions in
     let s = c.args.session in
     let shut : finite.get (all_seen m) s ≡ None = ap (λ (b : Book). finite.get b.sessions s) c.self.view_is ∙ c.requires in
+    let o = c.self.inside.owed in
     either c.insert.result c.insert.ensures.ok c.insert.ensures.err
-    (λ is. subst (IsTied k) (sym (is ∙ ap (finite.insert m s) c.new.ensures)) (tied_opened k m s c.self.invariant (none_kept m s shut)))
-    (λ is. subst (IsTied k) (sym is) c.self.invariant)
+    (λ is.
+    let made = is ∙ ap (finite.insert m s) c.new.ensures in
+    together k c.insert.new.self o (record (book_seen k m) { sessions = finite.insert (all_seen m) s fresh_session }) (subst (IsTied k) (sym made) (tied_opened k m s c.self.invariant.0 (none_kept m s shut)))
+    (λ i. let x : Book = record { db = k.db; sessions = (ap all_seen made ∙ seen-insert m s nothing_kept) i } in x)
+    (opened_owed o (book_seen k m) s c.self.invariant.1))
+    (λ is. subst (λ (n : Sessions). HangTogether k n o) (sym is) c.self.invariant)
 
 pub returns-clause-ok : goal.returns-clause-ok
 returns-clause-ok c =

@@ -1,4 +1,4 @@
-use Rattle.std.proofs.Common.{rules, ◌≡◌, List, Some, None, map, option_map, subst, sym, ap, ◌∙◌}
+use Rattle.std.proofs.Common.{rules, ◌≡◌, true, List, Some, None, map, option_map, subst, sym, ap, ◌∙◌}
 use Rattle.std.proofs.lemmas.Result.{IfOk-weaker, on_err_weaker}
 use Rattle.std.specs.Arc.{arc_value}
 use Rattle.odb_atoms.specs.FinMap as finite
@@ -8,7 +8,13 @@ use Rattle.odb_sessions.specs.Book.{Book}
 use Rattle.odb_sessions.specs.Held.{Kept, Queued, Sessions, all_seen, seen}
 use Rattle.odb_sessions.specs.Posts.{at_number}
 use Rattle.odb_sessions.specs.Represented.Queued.{queued_of}
+use Rattle.std.specs.BTreeSet.{Updates}
+use Rattle.std.specs.Ordering.{nat_cmp}
+use Rattle.odb_service.specs.Session.{Session}
+use Rattle.odb_sessions.specs.Owed.{HangTogether, book_seen}
 use Rattle.odb_sessions.specs.Tied.{IsTied}
+use Rattle.odb_sessions.proofs.OwedSessions.{grown_owed, posted_owed, together}
+use Rattle.odb_sessions.proofs.Rounds.{no_schema}
 use Rattle.odb_sessions.proofs.Endings.{ending_seen, ending_tied}
 use Rattle.odb_sessions.proofs.Posts.{at_shut}
 use Rattle.odb_sessions.proofs.Seen.{either_posted, unposts_seen}
@@ -24,15 +30,25 @@ returns-in_default-clause-ok c = λ schema.
     subst (λ (b : Book). b ≡ (let y : Book = record b { sessions = at_number (ended_in schema (item_of c.args.reply)) b.sessions s } in y)) c.self.view_is
     (λ i. let x : Book = record { db = c.self.inside.past.db; sessions = sym (at_shut (ended_in schema (item_of c.args.reply)) (all_seen m) s none) i } in x)
 
-pub invariant_of-self : goal.invariant_of-self
-invariant_of-self c =
-    let k = c.self.inside.past in
-    let m : Sessions = c.self.inside.sessions in
+pub invariant_of-self-2 : goal.invariant_of-self-2
+invariant_of-self-2 c =
+    let old = c.self.inside in
+    let k = old.past in
+    let m : Sessions = old.sessions in
+    let b : Book = book_seen k m in
+    let s = c.args.session in
+    let o = c.insert.new.self in
+    let x : Kept = c.in-Some.of.now in
+    let there : finite.get m s ≡ Some x = search rules in
     let qs : List Queued = map queued_of c.in_ok-items.items.items in
-    either_posted c.post_each.result (IsTied k c.post_each.new.self)
+    let grown : Updates nat_cmp old.owed o s true = search rules in
+    let f : Session → Session = ended_in no_schema (item_of c.args.reply) in
+    either_posted c.post_each.result (HangTogether k c.post_each.new.self o)
     (c.post_each.ensures.ok) (c.post_each.ensures.err)
-    (λ p is. subst (IsTied k) (sym is) (ending_tied arc_value (item_of c.args.reply) k m c.args.session qs c.in_ok-ids.ids.items c.in_ok-items.ensures c.self.invariant))
-    (λ is. subst (IsTied k) (sym is) c.self.invariant)
+    (λ p is. together k c.post_each.new.self o (record b { sessions = at_number f b.sessions s }) (subst (IsTied k) (sym is) (ending_tied arc_value (item_of c.args.reply) k m s qs c.in_ok-ids.ids.items c.in_ok-items.ensures c.self.invariant.0))
+    (λ i. let d : Book = record { db = k.db; sessions = (ap all_seen is ∙ ending_seen arc_value (item_of c.args.reply) no_schema m s x qs c.in_ok-ids.ids.items there c.in_ok-items.ensures c.in_ok-ids.ensures) i } in d)
+    (posted_owed old.owed o b s f c.self.invariant.1 grown))
+    (λ is. subst (λ (n : Sessions). HangTogether k n o) (sym is) (c.self.invariant.0, grown_owed old.owed o b s c.self.invariant.1 grown))
 
 pub returns-clause-ok : goal.returns-clause-ok
 returns-clause-ok c =

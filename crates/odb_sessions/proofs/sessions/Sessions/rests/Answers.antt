@@ -13,7 +13,7 @@ rests-requires c =
     let m : Sessions = c.self.inside.sessions in
     let x : Kept = c.in-Some.of.now in
     let there : finite.get m c.args.session ≡ Some x = search rules in
-    subst (λ (k : Chains). AreLive k (marks_of x)) (sym c.chains.ensures) (c.self.invariant.2 c.args.session x there)
+    subst (λ (k : Chains). AreLive k (marks_of x)) (sym c.chains.ensures) (c.self.invariant.0.2 c.args.session x there)
 
 pub returns-in_default : goal.returns-in_default
 returns-in_default c =

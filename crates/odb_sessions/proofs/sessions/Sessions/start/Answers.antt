@@ -1,4 +1,4 @@
-use Rattle.std.proofs.Common.{rules, ◌≡◌, false, is_some, [], ◌∷◌, Some, None, option_map, subst, sym, ap, ◌∙◌}
+use Rattle.std.proofs.Common.{rules, ◌≡◌, true, false, is_some, [], ◌∷◌, Some, None, option_map, subst, sym, ap, ◌∙◌}
 use Rattle.odb_atoms.specs.FinMap as finite
 use Rattle.odb_chain.specs.Chains.{Chains}
 use Rattle.odb_service.specs.World.{push}
@@ -7,7 +7,12 @@ use Rattle.odb_sessions.specs.Held.{Kept, Queued, Sessions, all_seen, due, marks
 use Rattle.odb_sessions.specs.Posts.{at_number, posted}
 use Rattle.odb_sessions.specs.Represented.Queued.{queued_of}
 use Rattle.odb_sessions.specs.Started.{started}
+use Rattle.std.specs.BTreeSet.{Updates}
+use Rattle.std.specs.Ordering.{nat_cmp}
+use Rattle.odb_service.specs.Session.{Session}
+use Rattle.odb_sessions.specs.Owed.{book_seen}
 use Rattle.odb_sessions.specs.Tied.{Frees, IsTied}
+use Rattle.odb_sessions.proofs.OwedSessions.{grown_owed, posted_owed, together}
 use Rattle.odb_sessions.specs.declared.item.Item.{Item}
 use Rattle.odb_sessions.proofs.Books.{nothing_is, there_is}
 use Rattle.odb_sessions.proofs.Moved.{given_back, tied_handed}
@@ -32,7 +37,14 @@ invariant_of-self-in-Ok c =
     let new : Chains = c.begin.new.past in
     let q : Queued = due c.in_ok-start.start.origin c.in_ok-start.start.monitor in
     let found : (x : Kept) × (finite.get m s ≡ Some x) = there_is (finite.get m s) c.in-Ok.ensures.is_open in
-    subst (IsTied new) (sym c.in-Ok.ensures.ok) (tied_handed c.self.inside.past new m s q c.self.invariant found.0 found.1 c.in_ok-start.ensures.ok)
+    let b : Book = book_seen c.self.inside.past m in
+    let o = c.insert.new.self in
+    let grown : Updates nat_cmp c.self.inside.owed o s true = search rules in
+    let f : Session → Session = push (started c.args.starting ∷ []) in
+    together new c.hand.new.self o (record b { sessions = at_number f b.sessions s })
+    (subst (IsTied new) (sym c.in-Ok.ensures.ok) (tied_handed c.self.inside.past new m s q c.self.invariant.0 found.0 found.1 c.in_ok-start.ensures.ok))
+    (λ i. let x : Book = record { db = c.in_ok-start.ensures.ok.0 i; sessions = (ap all_seen c.in-Ok.ensures.ok ∙ handed_seen m q s ∙ ap (λ j. at_number (push (j ∷ [])) (all_seen m) s) c.in_ok-start.ensures.item) i } in x)
+    (posted_owed c.self.inside.owed o b s f c.self.invariant.1 grown)
 
 pub invariant_of-self-in-Err : goal.invariant_of-self-in-Err
 invariant_of-self-in-Err c =
@@ -40,7 +52,15 @@ invariant_of-self-in-Err c =
     let made : Chains = c.begin.new.past in
     let new : Chains = c.release.new.past in
     let frees : Frees made new (marks_in c.in_ok-start.start.monitor) = subst (λ (i : Item). Frees made new (marks_due (queued_of i))) c.in-Err.ensures.handed_back c.release.ensures in
-    subst (IsTied new) (sym c.in-Err.ensures.err) (given_back c.self.inside.past made new m (marks_in c.in_ok-start.start.monitor) c.self.invariant c.in_ok-start.ensures.ok frees)
+    let k : Chains = c.self.inside.past in
+    let o = c.insert.new.self in
+    let b : Book = book_seen k m in
+    let grown : Updates nat_cmp c.self.inside.owed o c.args.session true = search rules in
+    let same : new.db ≡ k.db = frees.0 ∙ c.in_ok-start.ensures.ok.0 in
+    together new c.hand.new.self o b
+    (subst (IsTied new) (sym c.in-Err.ensures.err) (given_back k made new m (marks_in c.in_ok-start.start.monitor) c.self.invariant.0 c.in_ok-start.ensures.ok frees))
+    (λ i. let x : Book = record { db = same i; sessions = all_seen (c.in-Err.ensures.err i) } in x)
+    (grown_owed c.self.inside.owed o b c.args.session c.self.invariant.1 grown)
 
 pub returns-in-Ok-clause-ok : goal.returns-in-Ok-clause-ok
 returns-in-Ok-clause-ok c =

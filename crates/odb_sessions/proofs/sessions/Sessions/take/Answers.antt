@@ -14,9 +14,12 @@ use Rattle.odb_sessions.specs.Represented.Out.{sent_in}
 use Rattle.odb_sessions.specs.Represented.Ready.{ready_of, text_coming}
 use Rattle.odb_sessions.specs.Taken.{Text, composed_text, last_text, no_text, text_from, text_taken}
 use Rattle.odb_sessions.specs.declared.out.Out.{Out}
-use Rattle.odb_sessions.proofs.Rounds.{book_ready, queued_text, text_ready}
+use Rattle.odb_sessions.proofs.Rounds.{book_ready, queued_text, text_ready, uses_of}
 use Rattle.odb_sessions.proofs.sessions.Sessions.take.Goals as goal
 use Rattle.odb_sessions.proofs.sessions.Sessions.take.Goals.{in-Nothing+in-Some-1, in-Nothing+in-None-1, in-Queued+in_ok-queued-in-Queued, in-Composed+in-Some-1, in-Composed+in-None-1}
+
+pub carry_out-queued-requires : goal.carry_out-queued-requires
+carry_out-queued-requires c = λ s x there. uses_of s c.args.self.now.db (get c.args.self.now.sessions c.args.ready.session) x (ready_of c.args.ready) there (c.requires s)
 
 abbrev as_sent : ℕ → Option (List ℕ) → Option (ℕ × List ℕ)
 as_sent n t = option_map (λ t. let p : ℕ × List ℕ = (n, t) in p) t
@@ -24,7 +27,7 @@ as_sent n t = option_map (λ t. let p : ℕ × List ℕ = (n, t) in p) t
 pub returns-in_err-queued-in-Queued-clause-book : goal.returns-in_err-queued-in-Queued-clause-book
 returns-in_err-queued-in-Queued-clause-book c = λ s.
     let b : Book = c.args.self.now in
-    c.in_err-queued-in-Queued.ensures.book s ∙ ap (λ m. record b { sessions = m }) (book_ready s b.db b.sessions c.args.ready.session (ready_of c.args.ready) (c.requires s))
+    c.forget_if_resting.ensures ∙ c.carry_out-queued.ensures.book s ∙ ap (λ m. record b { sessions = m }) (book_ready s b.db b.sessions c.args.ready.session (ready_of c.args.ready) (c.requires s))
 
 pub returns-in_err-queued-in-Queued-clause-out : goal.returns-in_err-queued-in-Queued-clause-out
 returns-in_err-queued-in-Queued-clause-out c = λ s.
@@ -40,7 +43,7 @@ returns-in_err-queued-in-Queued-clause-out c = λ s.
 pub returns-clause-book : goal.returns-clause-book
 returns-clause-book c = λ s.
     let b : Book = c.args.self.now in
-    c.carry_out-queued.ensures.book s ∙ ap (λ m. record b { sessions = m }) (book_ready s b.db b.sessions c.args.ready.session (ready_of c.args.ready) (c.requires s))
+    c.forget_if_resting.ensures ∙ c.carry_out-queued.ensures.book s ∙ ap (λ m. record b { sessions = m }) (book_ready s b.db b.sessions c.args.ready.session (ready_of c.args.ready) (c.requires s))
 
 pub returns-clause-out : goal.returns-clause-out
 returns-clause-out c = λ s.

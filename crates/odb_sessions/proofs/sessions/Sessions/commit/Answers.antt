@@ -3,7 +3,7 @@ use Rattle.odb_sessions.proofs.Rounds.{no_schema}
 use Rattle.odb_sessions.specs.Book.{Book}
 use Rattle.odb_sessions.specs.Posts.{unposted}
 use Rattle.odb_tables.specs.Installing.{IsChangeOf}
-use Rattle.odb_core.proofs.sessions.Sessions.commit.Goals as goal
+use Rattle.odb_sessions.proofs.sessions.Sessions.commit.Goals as goal
 
 pub post_and_install-requires : goal.post_and_install-requires
 post_and_install-requires c =

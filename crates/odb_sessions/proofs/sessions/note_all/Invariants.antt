@@ -1,8 +1,8 @@
 use Rattle.std.proofs.Common.{◌≡◌, ℕ, [], drop, map}
 use Rattle.std.specs.BTreeSet.{BTreeSet}
 use Rattle.odb_queue.specs.Represented.Post.{post_of}
-use Rattle.odb_core.specs.Represented.Sessions.{AreNoted}
-use Rattle.odb_core.proofs.sessions.note_all.Given as goal
+use Rattle.odb_sessions.specs.Owed.{AreNoted}
+use Rattle.odb_sessions.proofs.sessions.note_all.Given as goal
 
 abbrev pub invariant-loop-post : goal.invariant-loop-post
 invariant-loop-post l =

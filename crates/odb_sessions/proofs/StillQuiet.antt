@@ -11,14 +11,11 @@ use Rattle.odb_service.specs.Service.{Service}
 use Rattle.odb_service.specs.Session.{Item, Out, Session, take}
 use Rattle.odb_service.specs.World.{World, push}
 use Rattle.odb_service.proofs.SessionMaps.{get-insert, key-itself, same_key}
-use Rattle.odb_sessions.specs.Book.{Book, fresh_session}
+use Rattle.odb_sessions.specs.Book.{Book, Sessions, fresh_session}
 use Rattle.odb_sessions.specs.Posts.{all_posted, at_number, posted, unposted}
 use Rattle.odb_sessions.specs.Quiet.{IsQuiet, IsQuietAt}
 use Rattle.odb_tables.specs.Database.{Db}
-use Rattle.odb_core.specs.Represented.Sessions.{is_posted_to}
-
-abbrev Sessions : Type 0
-Sessions = FinMap nat_cmp Session
+use Rattle.odb_sessions.specs.Owed.{is_posted_to}
 
 -- what f makes of a session, if there is one
 abbrev found_at : (Session → Session) → Sessions → ℕ → Option Session → Sessions
@@ -46,7 +43,7 @@ quiet_back db x quiet =
     subst (IsQuiet db) (sym same) quiet
 
 -- a change of a session that leaves quiet ones quiet
-pub quiet_at : (db : Db) (m : Sessions) (s q : ℕ) (f : Session → Session) → ((x : Session) → IsQuiet db x → IsQuiet db (f x)) → IsQuietAt (record { db = db; sessions = m }) q → IsQuietAt (record { db = db; sessions = at_number f m s }) q
+pub quiet_at : (db : Db) (m : Sessions) (s q : ℕ) (f : Session → Session) → ((x : Session) → get m s ≡ Some x → IsQuiet db x → IsQuiet db (f x)) → IsQuietAt (record { db = db; sessions = m }) q → IsQuietAt (record { db = db; sessions = at_number f m s }) q
 quiet_at db m s q f kept quiet = by (get m s) refl
   where
     by : (slot : Option Session) → get m s ≡ slot → (y : Session) → get (found_at f m s slot) q ≡ Some y → IsQuiet db y
@@ -54,12 +51,12 @@ quiet_at db m s q f kept quiet = by (get m s) refl
     by (Some x) is y there = at (eq_by_cmp nat_cmp q s) refl (sym (get-insert m s (f x) q) ∙ there)
       where
         at : (b : Bool) → eq_by_cmp nat_cmp q s ≡ b → cond b (Some (f x)) (get m q) ≡ Some y → IsQuiet db y
-        at true tie e = subst (IsQuiet db) (same_Some (f x) y e) (kept x (quiet x (ap (get m) (same_key q s tie) ∙ is)))
+        at true tie e = subst (IsQuiet db) (same_Some (f x) y e) (kept x is (quiet x (ap (get m) (same_key q s tie) ∙ is)))
         at false apart e = quiet y e
 
 pub quiet_unposted : (db : Db) (m : Sessions) (ss : List ℕ) (q : ℕ) → IsQuietAt (record { db = db; sessions = m }) q → IsQuietAt (record { db = db; sessions = unposted ss m }) q
 quiet_unposted db m [] q quiet = quiet
-quiet_unposted db m (s ∷ ss) q quiet = quiet_at db (unposted ss m) s q without_last (quiet_back db) (quiet_unposted db m ss q quiet)
+quiet_unposted db m (s ∷ ss) q quiet = quiet_at db (unposted ss m) s q without_last (λ x there. quiet_back db x) (quiet_unposted db m ss q quiet)
 
 -- to whom nothing is posted
 either_false : (a b : Bool) → (a || b) ≡ false → (a ≡ false) × (b ≡ false)

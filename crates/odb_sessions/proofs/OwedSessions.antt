@@ -1,6 +1,8 @@
 -- Those that may be owed something, along each change of the sessions.
 use Rattle.std.proofs.Common.{◌≡◌, ℕ, Bool, true, false, cond, ◌||◌, List, [], ◌∷◌, map, Option, Some, None, refl, sym, ap, subst, ◌∙◌}
 use Rattle.std.specs.BTreeSet.{BTreeSet, Updates, contains}
+use Rattle.std.specs.BTreeMap.{is_at}
+use Rattle.std.specs.List.{AllZip, list_any}
 use Rattle.std.specs.Ordering.{eq_by_cmp, nat_cmp}
 use Rattle.std.proofs.lemmas.Option.{none-some, same_Some}
 use mathlib.Core.Bool.{true≢false}
@@ -15,8 +17,15 @@ use Rattle.odb_sessions.specs.Book.{Book, book_of, fresh_session}
 use Rattle.odb_sessions.specs.Posts.{all_posted, at_number, unposted}
 use Rattle.odb_sessions.specs.Quiet.{IsQuiet, IsQuietAt}
 use Rattle.odb_tables.specs.Database.{Db}
-use Rattle.odb_core.specs.Represented.Sessions.{AreNoted, AreOwed, is_posted_to}
-use Rattle.odb_core.proofs.QuietSessions.{not_posted, other_session, quiet_fresh, quiet_same, quiet_taken, quiet_unposted}
+use Rattle.odb_chain.specs.Chains.{Chains}
+use Rattle.odb_sessions.specs.Held as held
+use Rattle.odb_sessions.specs.Owed.{AreNoted, AreOwed, HangTogether, book_seen, is_posted_to}
+use Rattle.odb_sessions.specs.Tied.{IsTied}
+use Rattle.odb_sessions.proofs.StillQuiet.{not_posted, other_session, quiet_at, quiet_fresh, quiet_same, quiet_taken, quiet_unposted}
+
+-- what is tied, and what the machine sees of it
+pub together : (k : Chains) (m : held.Sessions) (o : BTreeSet ℕ) (b : Book) → IsTied k m → book_seen k m ≡ b → AreOwed o b → HangTogether k m o
+together k m o b tied is owed = (tied, subst (AreOwed o) (sym is) owed)
 
 pub none_owed : (o : BTreeSet ℕ) (db : Db) → AreOwed o (book_of db)
 none_owed o db q out x there = absurd (none-some x (sym (get-empty q) ∙ there))
@@ -58,6 +67,16 @@ posted_owed o o' b s f before changed q out =
 pub grown_owed : (o o' : BTreeSet ℕ) (b : Book) (s : ℕ) → AreOwed o b → Updates nat_cmp o o' s true → AreOwed o' b
 grown_owed o o' b s before changed q out = before q (out_before o o' s q changed out).1
 
+-- a copy of the set
+equal_keys : (ks ls : List ℕ) → AllZip (λ k l. l ≡ k) ks ls → ls ≡ ks
+equal_keys [] [] h = refl
+equal_keys [] (l ∷ ls) h = absurd h
+equal_keys (k ∷ ks) [] h = absurd h
+equal_keys (k ∷ ks) (l ∷ ls) h = λ i. h.0 i ∷ equal_keys ks ls h.1 i
+
+pub copied_owed : (o o' : BTreeSet ℕ) (b : Book) → AllZip (λ k l. l ≡ k) o.keys o'.keys → AreOwed o b → AreOwed o' b
+copied_owed o o' b same before q out = before q (ap (λ ks. list_any (is_at (nat_cmp q)) ks) (sym (equal_keys o.keys o'.keys same)) ∙ out)
+
 -- one that rests leaves the set
 pub resting_owed : (o o' : BTreeSet ℕ) (b : Book) (s : ℕ) → AreOwed o b → Updates nat_cmp o o' s false → IsQuietAt b s → AreOwed o' b
 resting_owed o o' b s before changed rests q out = by (eq_by_cmp nat_cmp q s) refl
@@ -78,6 +97,10 @@ still_noted o o' b ps before noted q out = before q (noted q out).0
 pub unposted_owed : (o : BTreeSet ℕ) (b : Book) (ss : List ℕ) → AreOwed o b → AreOwed o (record b { sessions = unposted ss b.sessions })
 unposted_owed o b ss before q out = quiet_unposted b.db b.sessions ss q (before q out)
 
+-- what leaves a session as it is that is owed nothing leaves who is owed nothing
+pub used_owed : (o : BTreeSet ℕ) (b : Book) (s : ℕ) (f : Session → Session) → ((x : Session) → get b.sessions s ≡ Some x → IsQuiet b.db x → f x ≡ x) → AreOwed o b → AreOwed o (record b { sessions = at_number f b.sessions s })
+used_owed o b s f same before q out = quiet_at b.db b.sessions s q f (λ x there quiet. subst (IsQuiet b.db) (sym (same x there quiet)) quiet) (before q out)
+
 -- ---- those that a change concerns
 
 abbrev Keeps : BTreeSet ℕ → BTreeSet ℕ → Type 0
@@ -95,14 +118,6 @@ kept_owed o o' b before kept q out = before q (was_out o o' kept q out)
 
 pub changed_owed : (o o' : BTreeSet ℕ) (b c : Book) → AreOwed o b → Keeps o o' → ((s : ℕ) → contains nat_cmp o' s ≡ false → IsQuietAt b s → IsQuietAt c s) → AreOwed o' c
 changed_owed o o' b c before kept concerned q out = concerned q out (before q (was_out o o' kept q out))
-
--- ---- a round
-
-pub round_owed : (s : Schema) (o : BTreeSet ℕ) (b c : Book) (ss : List ℕ) (w : World) → w.db ≡ b.db → w.sessions ≡ b.sessions
-    → (take_each (served_by s) ss w).0 ≡ record w { sessions = c.sessions } → c.db ≡ b.db → AreOwed o b → AreOwed o c
-round_owed s o b c ss w db sessions taken stays before q out =
-    let quiet : (x : Session) → get w.sessions q ≡ Some x → take (served_by s) w.db x ≡ (None, x) = λ x there. subst (λ d. take (served_by s) d x ≡ (None, x)) (sym db) ((before q out x (ap (λ m. get m q) (sym sessions) ∙ there)).1 s) in
-    quiet_same b c q stays (ap (λ (v : World). get v.sessions q) (sym taken) ∙ quiet_taken (served_by s) ss w q quiet ∙ ap (λ m. get m q) sessions) (before q out)
 
 -- ---- posts that are noted one by one
 

@@ -3,9 +3,9 @@ use Rattle.std.specs.BTreeSet.{BTreeSet, Updates}
 use Rattle.std.specs.Ordering.{nat_cmp}
 use Rattle.std.proofs.lemmas.List.{drop_more}
 use Rattle.odb_queue.specs.Represented.Post.{post_of}
-use Rattle.odb_core.specs.Represented.Sessions.{AreNoted}
-use Rattle.odb_core.proofs.OwedSessions.{kept_noted, one_noted}
-use Rattle.odb_core.proofs.sessions.note_all.Goals as goal
+use Rattle.odb_sessions.specs.Owed.{AreNoted}
+use Rattle.odb_sessions.proofs.OwedSessions.{kept_noted, one_noted}
+use Rattle.odb_sessions.proofs.sessions.note_all.Goals as goal
 
 pub loop-post-preserved : goal.loop-post-preserved
 loop-post-preserved c =
