@@ -1,6 +1,5 @@
 pub mod Command
 pub mod Draining
-pub mod Ending
 pub mod Names
 pub mod Run
 pub mod Steps

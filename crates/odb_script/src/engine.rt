@@ -223,7 +223,7 @@ impl Engine {
             return print_line(text, name, "!gone");
         };
         let session = self.sessions[place].session;
-        let fed = self.sessions[place].feed(self.alloc, bytes)?;
+        let fed = self.sessions[place].feed(bytes)?;
         self.deliver_all(name, session, fed.messages, text)?;
         self.end(name, session, fed.fault, text)
     }
@@ -245,7 +245,6 @@ impl Engine {
             None => Ok(()),
             Some(WireFault::TooLong) => self.shut_with(name, session, "!fault 2", text),
             Some(WireFault::BadStream) => self.shut_with(name, session, "!fault 3", text),
-            Some(WireFault::Memory) => Err(AllocError),
         }
     }
 

@@ -30,10 +30,8 @@ pub(crate) fn core(alloc: Global, hashing: RandomState) -> Result<Core, AllocErr
 /// The request of this text.
 pub(crate) fn request(alloc: Global, text: &[u8]) -> Result<Submission, AllocError> {
     let mut framer = Framer::new(alloc);
-    let Ok(messages) = framer.feed(text) else {
-        return Err(AllocError);
-    };
-    for message in messages {
+    let fed = framer.feed(text)?;
+    for message in fed.messages {
         if let Message::Request(request) = message {
             return submission(alloc, request);
         }

@@ -1,4 +1,4 @@
-//! Clients that subscribe alike are sent one text, which is composed and stored once.
+//! Clients that subscribe alike are sent one text, which is stored once.
 
 use crate::requests::{core, request};
 use odb_core::{Core, Out, SessionId};

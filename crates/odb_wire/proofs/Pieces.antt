@@ -4,15 +4,10 @@ use Rattle.std.proofs.lemmas.List.{append-nil, take_more, map-append}
 use Rattle.std.proofs.lemmas.List.Elements.{All-append}
 use Rattle.std.proofs.lemmas.Grind.{flat_map-append}
 use Rattle.std.specs.List.{flat_map}
-use Rattle.odb_wire.specs.Stream.{Ending, fault_too_long, fault_bad}
 use Rattle.odb_wire.specs.Stream as stream
-use Rattle.odb_wire.specs.Feeding.{Adds, StopsAt, Leaves}
+use Rattle.odb_wire.specs.Feeding.{Adds}
 use Rattle.odb_wire.specs.Shown.{message_data, IsOfItsKind}
 use Rattle.odb_wire.specs.declared.message.Message.{Message}
-use Rattle.odb_wire.specs.declared.fault.WireFault.{WireFault}
-use Rattle.odb_wire.specs.declared.fault.WireFault.TheVariants as fault
-use Rattle.odb_wire.specs.contracts.fault.WireFault.{the_type}
-use denote.Enum.Bare.{sameb}
 
 -- so many of the pieces were taken in, and these messages were found
 pub record ReadUpTo (pieces : List (Bor (List ℕ))) (i : ℕ) (framer : List ℕ) (found : List Message) : Type 0 where
@@ -36,24 +31,3 @@ read-adds pieces i d old new found ms all h so grown kinds e =
       messages = map-append message_data found ms ∙ ap (λ ds. ds ++ map message_data ms) so.messages ∙ sym grown.messages;
       kinds = All-append IsOfItsKind found ms so.kinds kinds;
     })
-
--- a piece at which the stream stands at a fault
-pub read-stops : (pieces : List (Bor (List ℕ))) (i : ℕ) (d : Bor (List ℕ)) (old new : List ℕ) (fault : Ending) (found all : List Message) → i < length pieces → ReadUpTo pieces i old found
-    → StopsAt old (get_or pieces i d).now new fault → all ≡ found → ReadUpTo pieces (i + 1) new all
-read-stops pieces i d old new fault found all h so stops e =
-    subst (λ (ws : List Message). ReadUpTo pieces (i + 1) new ws) (sym e)
-    (record {
-      bytes = stops.bytes ∙ ap (λ bs. bs ++ (get_or pieces i d).now) so.bytes ∙ sym (bytes-more pieces i d h);
-      messages = so.messages ∙ sym (ap (λ x. x.0) stops.messages);
-      kinds = so.kinds;
-    })
-
--- any fault but want of memory
-pub read-left : (pieces : List (Bor (List ℕ))) (i : ℕ) (d : Bor (List ℕ)) (old new : List ℕ) (f : WireFault) (found all : List Message) → i < length pieces → ReadUpTo pieces i old found
-    → false ≡ sameb the_type f fault.Memory → Leaves old (get_or pieces i d).now new f → all ≡ found → ReadUpTo pieces (i + 1) new all
-read-left pieces i d old new fault.Memory found all h so isnt left e = absurd (apart isnt)
-  where
-    apart : false ≡ true → ⊥
-    apart same = cc
-read-left pieces i d old new fault.TooLong found all h so isnt left e = read-stops pieces i d old new fault_too_long found all h so left e
-read-left pieces i d old new fault.BadStream found all h so isnt left e = read-stops pieces i d old new fault_bad found all h so left e

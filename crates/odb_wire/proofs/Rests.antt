@@ -10,10 +10,10 @@ use Rattle.odb_wire.specs.Feeding.{fault_of}
 use Rattle.odb_wire.specs.Standing.{IsUnfinished, IsRest, IsStanding, ReadsOn, messages_after}
 use Rattle.odb_wire.specs.declared.message.Message.{Message}
 use Rattle.odb_wire.specs.declared.scan.Scan.{Scan}
-use Rattle.odb_wire.specs.declared.split.Rest.{Rest}
-use Rattle.odb_wire.specs.declared.split.State.{State}
-use Rattle.odb_wire.specs.declared.split.State.TheVariants.{Going, Stopped}
-use Rattle.odb_wire.specs.declared.split.Stop.TheVariants as stop
+use Rattle.odb_wire.specs.declared.split.Unfinished.{Unfinished}
+use Rattle.odb_wire.specs.declared.split.StreamState.{StreamState}
+use Rattle.odb_wire.specs.declared.split.StreamState.TheVariants.{Going, Stopped}
+use Rattle.odb_wire.specs.declared.fault.WireFault.TheVariants as fault
 use Rattle.odb_wire.proofs.Fronts.{closed_at-text, goes_on-both, goes_on-unclosed, front_of-text, front_of-endless, take_within}
 use Rattle.odb_wire.proofs.Streams.{messages-too_long, messages-incomplete}
 use Rattle.odb_wire.proofs.Steps.{SoFar, going}
@@ -46,7 +46,7 @@ front_of-completed k limit text piece last scan m n begun room end e =
 
 -- it has none, and as many bytes as a message may have are there
 pub reads_too_long : (k : ℕ) → max_message ≡ k → (text piece : List ℕ) (scan : Scan) (m : ℕ) (p : Place) (d : ℕ) (none : List Message) → IsUnfinished text scan → m ≡ min (length piece) (k - length text)
-    → k - length text ≤ length piece → GoesOn (place_of scan.place) scan.depth (take m piece) p d → none ≡ [] → ReadsOn [] (text ++ piece) (map message_data none) (Stopped stop.TooLong)
+    → k - length text ≤ length piece → GoesOn (place_of scan.place) scan.depth (take m piece) p d → none ≡ [] → ReadsOn [] (text ++ piece) (map message_data none) (Stopped fault.TooLong)
 reads_too_long k limit text piece scan m p d none begun is_m long goes empty =
     let all : GoesOn outside 0 (text ++ take m piece) p d = goes_on-both outside 0 text (place_of scan.place) scan.depth (take m piece) p d begun.further goes in
     let size : length text + m ≡ max_message = omega (arith, is_m, long, limit, begun.short) in
@@ -56,7 +56,7 @@ reads_too_long k limit text piece scan m p d none begun is_m long goes empty =
     record { stands = tt; further = λ more. messages-too_long (text ++ piece) more is ∙ ap (λ ms. (map message_data ms ++ [], stream.fault_too_long)) (sym empty) }
 
 -- it has none, and the message goes on
-pub reads_on : (k : ℕ) → max_message ≡ k → (text piece : List ℕ) (scan : Scan) (m : ℕ) (rest : Rest) (none : List Message) → IsUnfinished text scan → m ≡ min (length piece) (k - length text)
+pub reads_on : (k : ℕ) → max_message ≡ k → (text piece : List ℕ) (scan : Scan) (m : ℕ) (rest : Unfinished) (none : List Message) → IsUnfinished text scan → m ≡ min (length piece) (k - length text)
     → length piece < k - length text → GoesOn (place_of scan.place) scan.depth (take m piece) (place_of rest.scan.place) rest.scan.depth
     → rest.scan.depth ≤ scan.depth + length (take m piece) → rest.text.items ≡ text ++ piece → none ≡ [] → ReadsOn [] (text ++ piece) (map message_data none) (Going rest)
 reads_on k limit text piece scan m rest none begun is_m short goes bound is_text empty =
@@ -83,7 +83,7 @@ messages-rest (c ∷ cs) scan rest =
     ∙ messages-incomplete c cs rest.brace rest.short (goes_on-unclosed outside 0 (c ∷ cs) (place_of scan.place) scan.depth rest.further)
 
 -- a stream that goes on is at no fault
-pub no_fault : (s : State) (rest : Rest) → IsStanding s → s ≡ Going rest → None ≡ fault_of (messages_after s []).1
+pub no_fault : (s : StreamState) (rest : Unfinished) → IsStanding s → s ≡ Going rest → None ≡ fault_of (messages_after s []).1
 no_fault (Going r) rest stands e = sym (ap (λ x. fault_of x.1) (messages-rest r.text.items r.scan stands))
 no_fault (Stopped f) rest stands e = absurd (apart e)
   where

@@ -8,11 +8,11 @@ use Rattle.odb_wire.specs.Standing.{prepended}
 use Rattle.odb_wire.specs.Shown.{message_data, IsOfItsKind}
 use Rattle.odb_wire.specs.declared.message.Message.{Message}
 use Rattle.odb_wire.specs.Standing.{IsWhole, IsUnfinished, IsRest, IsStanding, ReadsOn, messages_after, ending_of}
-use Rattle.odb_wire.specs.declared.split.Stop.{Stop}
-use Rattle.odb_wire.specs.declared.split.Stop.TheVariants as stop
-use Rattle.odb_wire.specs.declared.split.Rest.{Rest}
-use Rattle.odb_wire.specs.declared.split.State.{State}
-use Rattle.odb_wire.specs.declared.split.State.TheVariants.{Going, Stopped}
+use Rattle.odb_wire.specs.declared.fault.WireFault.{WireFault}
+use Rattle.odb_wire.specs.declared.fault.WireFault.TheVariants as fault
+use Rattle.odb_wire.specs.declared.split.Unfinished.{Unfinished}
+use Rattle.odb_wire.specs.declared.split.StreamState.{StreamState}
+use Rattle.odb_wire.specs.declared.split.StreamState.TheVariants.{Going, Stopped}
 use Rattle.odb_wire.proofs.Streams.{messages-skip, messages-whole, messages-no_message, messages-too_long, messages-bad, not_blank, no_brace, front_of-length, skip_blanks-length}
 
 -- after the messages given, those of the bytes were found so far, and these bytes are left
@@ -37,29 +37,29 @@ so_far-message given bytes found left n d after so is_whole is e =
     }
 
 -- a fault
-stopped : (given : List Data) (bytes : List ℕ) (found : List Data) (left : List ℕ) (stop : Stop) → SoFar given bytes found left → ((more : List ℕ) → messages (left ++ more) ≡ ([], ending_of stop))
+stopped : (given : List Data) (bytes : List ℕ) (found : List Data) (left : List ℕ) (stop : WireFault) → SoFar given bytes found left → ((more : List ℕ) → messages (left ++ more) ≡ ([], ending_of stop))
     → ReadsOn given bytes found (Stopped stop)
 stopped given bytes found left stop so at = record { stands = tt; further = λ more. so.further more ∙ ap (prepended found) (at more) }
 
 -- a whole object that is no message
 pub stopped-no_message : (given : List Data) (bytes : List ℕ) (found : List Data) (left : List ℕ) (n : ℕ) → SoFar given bytes found left → IsWhole left n → message_of (take n left) ≡ None
-    → ReadsOn given bytes found (Stopped stop.BadStream)
+    → ReadsOn given bytes found (Stopped fault.BadStream)
 stopped-no_message given bytes found left n so is_whole is =
-    stopped given bytes found left stop.BadStream so (λ more. messages-no_message left more (take n left) is_whole.text is)
+    stopped given bytes found left fault.BadStream so (λ more. messages-no_message left more (take n left) is_whole.text is)
 
-pub stopped-too_long : (given : List Data) (bytes : List ℕ) (found : List Data) (left : List ℕ) → SoFar given bytes found left → front_of left ≡ too_long → ReadsOn given bytes found (Stopped stop.TooLong)
-stopped-too_long given bytes found left so is = stopped given bytes found left stop.TooLong so (λ more. messages-too_long left more is)
+pub stopped-too_long : (given : List Data) (bytes : List ℕ) (found : List Data) (left : List ℕ) → SoFar given bytes found left → front_of left ≡ too_long → ReadsOn given bytes found (Stopped fault.TooLong)
+stopped-too_long given bytes found left so is = stopped given bytes found left fault.TooLong so (λ more. messages-too_long left more is)
 
 pub stopped-bad : (given : List Data) (bytes : List ℕ) (found : List Data) (left : List ℕ) → SoFar given bytes found left → skip_blanks left ≡ left → front_of left ≡ bad
-    → ReadsOn given bytes found (Stopped stop.BadStream)
-stopped-bad given bytes found left so clean is = stopped given bytes found left stop.BadStream so (λ more. at left clean is more)
+    → ReadsOn given bytes found (Stopped fault.BadStream)
+stopped-bad given bytes found left so clean is = stopped given bytes found left fault.BadStream so (λ more. at left clean is more)
   where
     at : (s : List ℕ) → skip_blanks s ≡ s → front_of s ≡ bad → (more : List ℕ) → messages (s ++ more) ≡ ([], fault_bad)
     at [] no_blank is_bad more = absurd (cc)
     at (c ∷ cs) no_blank is_bad more = messages-bad c cs more (not_blank c cs no_blank) (no_brace c cs is_bad)
 
 -- an object that goes on
-pub going : (given : List Data) (bytes : List ℕ) (found : List Data) (left : List ℕ) (rest : Rest) → SoFar given bytes found left → IsUnfinished left rest.scan → rest.text.items ≡ left
+pub going : (given : List Data) (bytes : List ℕ) (found : List Data) (left : List ℕ) (rest : Unfinished) → SoFar given bytes found left → IsUnfinished left rest.scan → rest.text.items ≡ left
     → ReadsOn given bytes found (Going rest)
 going given bytes found left rest so unfinished e =
     record {
@@ -72,7 +72,7 @@ going given bytes found left rest so unfinished e =
     is_rest (c ∷ cs) h = h
 
 -- nothing is left
-pub between : (given : List Data) (bytes : List ℕ) (found : List Data) (left : List ℕ) (new : State) → SoFar given bytes found left → left ≡ [] → IsStanding new
+pub between : (given : List Data) (bytes : List ℕ) (found : List Data) (left : List ℕ) (new : StreamState) → SoFar given bytes found left → left ≡ [] → IsStanding new
     → ((more : List ℕ) → messages_after new more ≡ messages more) → ReadsOn given bytes found new
 between given bytes found left new so e stands fresh =
     record { stands = stands; further = λ more. so.further more ∙ ap (λ u. prepended found (messages (u ++ more))) e ∙ ap (prepended found) (sym (fresh more)) }
@@ -87,7 +87,7 @@ left_shorter left n after is_whole e =
 -- ---- the same in the words of the code: o is what was read of a text
 
 pub stopped-none : (given : List Data) (bytes : List ℕ) (found : List Data) (left : List ℕ) (n : ℕ) (text : List ℕ) (o : Option Message) → SoFar given bytes found left → IsWhole left n
-    → text ≡ take n left → option_map message_data o ≡ message_of text → o ≡ None → ReadsOn given bytes found (Stopped stop.BadStream)
+    → text ≡ take n left → option_map message_data o ≡ message_of text → o ≡ None → ReadsOn given bytes found (Stopped fault.BadStream)
 stopped-none given bytes found left n text o so is_whole e read none =
     stopped-no_message given bytes found left n so is_whole (ap message_of (sym e) ∙ sym read ∙ ap (option_map message_data) none)
 
@@ -109,7 +109,7 @@ kinds-push before after o m all kind some pushed =
 nothing_left : (t : List ℕ) → drop (length t) t ≡ []
 nothing_left t = drop_all (length t) t (omega arith)
 
-first_message : (t behind_it : List ℕ) (d : Data) (found : List Data) (new : State) → front_of t ≡ whole t → message_of t ≡ Some d → ReadsOn (d ∷ []) behind_it found new → ReadsOn [] (t ++ behind_it) found new
+first_message : (t behind_it : List ℕ) (d : Data) (found : List Data) (new : StreamState) → front_of t ≡ whole t → message_of t ≡ Some d → ReadsOn (d ∷ []) behind_it found new → ReadsOn [] (t ++ behind_it) found new
 first_message t behind_it d found new front is reads =
     record {
       stands = reads.stands;
@@ -117,7 +117,7 @@ first_message t behind_it d found new front is reads =
           ∙ ap (λ u. prepended (d ∷ []) (messages (u ++ (behind_it ++ more)))) (nothing_left t) ∙ reads.further more;
     }
 
-pub reads_first : (t behind_it text : List ℕ) (o : Option Message) (m : Message) (none pushed : List Message) (found : List Data) (new : State) → front_of t ≡ whole t → text ≡ t
+pub reads_first : (t behind_it text : List ℕ) (o : Option Message) (m : Message) (none pushed : List Message) (found : List Data) (new : StreamState) → front_of t ≡ whole t → text ≡ t
     → option_map message_data o ≡ message_of text → o ≡ Some m → none ≡ [] → pushed ≡ none ++ m ∷ [] → ReadsOn (map message_data pushed) behind_it found new → ReadsOn [] (t ++ behind_it) found new
 reads_first t behind_it text o m none pushed found new front e read some empty push reads =
     let is : message_of t ≡ Some (message_data m) = ap message_of (sym e) ∙ sym read ∙ ap (option_map message_data) some in
@@ -125,7 +125,7 @@ reads_first t behind_it text o m none pushed found new front e read some empty p
     first_message t behind_it (message_data m) found new front is (subst (λ (ds : List Data). ReadsOn ds behind_it found new) only reads)
 
 pub reads_none : (t behind_it text : List ℕ) (o : Option Message) (none : List Message) → front_of t ≡ whole t → text ≡ t → option_map message_data o ≡ message_of text → o ≡ None → none ≡ []
-    → ReadsOn [] (t ++ behind_it) (map message_data none) (Stopped stop.BadStream)
+    → ReadsOn [] (t ++ behind_it) (map message_data none) (Stopped fault.BadStream)
 reads_none t behind_it text o none front e read absent empty =
     let is : message_of t ≡ None = ap message_of (sym e) ∙ sym read ∙ ap (option_map message_data) absent in
     record {

@@ -1,12 +1,9 @@
 //! Why a stream can't be read on.
 use thiserror::Error;
 
-/// Why a call of `Framer::feed` returns no messages.
+/// The fault at which a stream of messages stands. No message comes of it any more.
 #[derive(Clone, Copy, Debug, Drop, PartialEq, Eq, Error)]
 pub enum WireFault {
-    /// An allocation failed. Nothing was taken in.
-    #[error("out of memory")]
-    Memory,
     /// A message has no end in its first 16,777,216 bytes.
     #[error("a message is too long")]
     TooLong,

@@ -1,14 +1,14 @@
 //! The framer: pieces of a stream go in, and messages come out. [P 7.1]
-ghost use Rattle.std.specs.Prelude.{◌≡◌, [], map, All, IfOk, IfErr, IfSome, Err, Some, None};
+ghost use Rattle.std.specs.Prelude.{◌≡◌, [], map, All, IfOk, IfSome, OnErr, None};
 ghost use Rattle.std.specs.List.{flat_map};
-ghost use Rattle.odb_wire.specs.Stream.{goes_on, messages};
-ghost use Rattle.odb_wire.specs.Feeding.{fault_of, Adds, Leaves};
+ghost use Rattle.odb_wire.specs.Stream.{messages};
+ghost use Rattle.odb_wire.specs.Feeding.{fault_of, Adds, StaysAt};
 ghost use Rattle.odb_wire.specs.Shown.{message_data, IsOfItsKind};
 
 use crate::fault::WireFault;
-use crate::history::History;
+use crate::history::FedBytes;
 use crate::message::Message;
-use crate::split::{State, Step};
+use crate::split::{Step, StreamState};
 use std::alloc::{AllocError, Global};
 use std::marker::Model;
 use std::mem;
@@ -20,8 +20,8 @@ use std::mem;
 /// It keeps the text of the message that isn't whole yet, at most 16,777,215 bytes, and nothing between messages.
 pub struct Framer {
     alloc: Global,
-    state: State,
-    history: History,
+    state: StreamState,
+    history: FedBytes,
 }
 
 impl Model for Framer {
@@ -35,6 +35,14 @@ impl Model for Framer {
     ghost invariant = { λ f. Follows f.history.bytes f.state };
 }
 
+/// What a piece of a stream completed: the messages that it made whole, and the fault that the stream stands at after
+/// them, if it does.
+#[derive(Drop)]
+pub struct Fed {
+    pub messages: Vec<Message>,
+    pub fault: Option<WireFault>,
+}
+
 impl Framer {
     /// A framer that has taken in nothing.
     pub fn new(alloc: Global) -> Framer
@@ -42,85 +50,59 @@ impl Framer {
     {
         Framer {
             alloc,
-            state: State::between(alloc),
-            history: History::new(),
+            state: StreamState::between(alloc),
+            history: FedBytes::new(),
         }
     }
 
-    /// Takes the next piece in, and returns the messages that are whole now. A fault of the stream
-    /// comes with this call where no message stands before it, and else with the next one, whose
-    /// piece may be empty; from then on each call returns it. After `Memory` nothing was taken in,
-    /// and the same piece can be fed again.
+    /// Takes the next piece in, and returns the messages that are whole with it, and the fault that the stream stands
+    /// at after them, if it does; from then on each call returns that fault, and no message. Where memory is refused
+    /// nothing was taken in, and the same piece can be fed again.
     ///
     /// Each byte is looked at once to find where messages end, and each message is read once, so a call costs what its
     /// piece and the messages that it makes whole are long. What an unfinished message grows into is given back with
     /// the message: after it only the bytes that follow it are kept, in a buffer of their own.
-    pub fn feed(&mut self, piece: &[u8]) -> Result<Vec<Message>, WireFault>
-        ensures ok { IfOk result (λ found. Adds self.old piece.now self.new (map message_data found.items)) }
-        ensures kinds { IfOk result (λ found. All IsOfItsKind found.items) }
-
-        // Where no message is returned, no fault is kept for the next call.
-        ensures quiet { IfOk result (λ found. found.items ≡ [] → (messages self.new).1 ≡ goes_on) }
-
-        ensures err { IfErr result (Leaves self.old piece.now self.new) }
-        ensures for_good { IfSome (fault_of (messages self.old).1) (λ fault. result ≡ Err fault) }
+    pub fn feed(&mut self, piece: &[u8]) -> Result<Fed, AllocError>
+        ensures ok { IfOk result (λ fed. Adds self.old piece.now self.new (map message_data fed.messages.items)) }
+        ensures kinds { IfOk result (λ fed. All IsOfItsKind fed.messages.items) }
+        ensures fault { IfOk result (λ fed. fed.fault ≡ fault_of (messages self.new).1) }
+        ensures err { OnErr result (self.new ≡ self.old) }
+        ensures for_good { IfSome (fault_of (messages self.old).1) (StaysAt result) }
     {
-        let state = mem::replace(&mut self.state, State::between(self.alloc));
+        let state = mem::replace(&mut self.state, StreamState::between(self.alloc));
         match state.advance(self.alloc, piece) {
             Ok(Step { messages, state }) => {
                 let fault = state.fault();
                 self.state = state;
                 self.history.add(piece);
-                answer(messages, fault)
+                Ok(Fed { messages, fault })
             }
             Err(state) => {
                 self.state = state;
-                Err(WireFault::Memory)
+                Err(AllocError)
             }
         }
-    }
-}
-
-/// The messages; where there are none and the stream is at a fault, the fault.
-fn answer(messages: Vec<Message>, fault: Option<WireFault>) -> Result<Vec<Message>, WireFault>
-    ensures ok { IfOk result (λ found. found ≡ messages) }
-    ensures quiet { IfOk result (λ found. found.items ≡ [] → fault ≡ None) }
-    ensures err { IfErr result (λ found. (fault ≡ Some found) × (messages.items ≡ [])) }
-{
-    match fault {
-        Some(fault) if messages.is_empty() => Err(fault),
-        _ => Ok(messages),
     }
 }
 
 /// The messages of a stream that comes in these pieces, and the fault that it stands at after them. They are those of
 /// the pieces joined together: two ways to cut one stream give the same.
-pub fn read_pieces(
-    alloc: Global,
-    pieces: &[&[u8]],
-) -> Result<(Vec<Message>, Option<WireFault>), AllocError>
-    ensures messages { IfOk result (λ read. map message_data read.0.items
+pub fn read_pieces(alloc: Global, pieces: &[&[u8]]) -> Result<Fed, AllocError>
+    ensures messages { IfOk result (λ read. map message_data read.messages.items
         ≡ (messages (flat_map (λ piece. piece.now) pieces.now)).0) }
-    ensures kinds { IfOk result (λ read. All IsOfItsKind read.0.items) }
-    ensures fault { IfOk result (λ read. read.1
+    ensures kinds { IfOk result (λ read. All IsOfItsKind read.messages.items) }
+    ensures fault { IfOk result (λ read. read.fault
         ≡ fault_of (messages (flat_map (λ piece. piece.now) pieces.now)).1) }
 {
     let mut framer = Framer::new(alloc);
-    let mut found = Vec::new(alloc);
+    let mut messages = Vec::new(alloc);
+    let mut fault = None;
     for piece in pieces {
-        match framer.feed(*piece) {
-            Ok(mut messages) => found.append(&mut messages)?,
-            // A fault of the stream comes again below.
-            Err(fault) => if fault == WireFault::Memory {
-                return Err(AllocError);
-            },
-        }
+        let mut fed = framer.feed(*piece)?;
+        messages.append(&mut fed.messages)?;
+        fault = fed.fault;
     }
-    match framer.feed(&[]) {
-        Ok(_) => Ok((found, None)),
-        Err(WireFault::Memory) => Err(AllocError),
-        Err(fault) => Ok((found, Some(fault))),
-    }
+    Ok(Fed { messages, fault })
 }
 
 // Written, and not derived, so that each end of a scope is one call to prove.

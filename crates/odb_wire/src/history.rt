@@ -5,22 +5,22 @@ ghost use Rattle.std.specs.Borrow.{ftrue};
 use std::marker::Model;
 
 #[derive(Drop)]
-pub(crate) struct History {
+pub(crate) struct FedBytes {
     pub(crate) ghost bytes: { List ℕ },
 }
 
-impl Model for History {
+impl Model for FedBytes {
     ghost also_owns = { λ _. ftrue };
 }
 
 // It owns nothing.
-unsafe impl Send for History {}
+unsafe impl Send for FedBytes {}
 
-impl History {
-    pub(crate) fn new() -> History
+impl FedBytes {
+    pub(crate) fn new() -> FedBytes
         ensures { result.bytes ≡ [] }
     {
-        History {}
+        FedBytes {}
     }
 
     /// Notes a piece.

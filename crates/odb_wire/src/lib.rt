@@ -5,9 +5,8 @@
 //! has and how it ends, and `specs/Message.antt` what a request, a notification and a response are. A `Framer` takes a
 //! stream in by pieces.
 //!
-//! Where memory is refused a call returns `AllocError` or the fault `Memory`, and what it was
-//! given is as it was, unless its own page says otherwise. A call whose result has no such error
-//! takes no memory.
+//! Where memory is refused a call returns `AllocError`, and what it was given is as it was, unless its own page says
+//! otherwise. A call whose result has no such error takes no memory.
 #![tactic(auto)]
 
 mod fault;
@@ -19,6 +18,6 @@ mod scan;
 mod split;
 
 pub use fault::WireFault;
-pub use framer::{Framer, read_pieces};
+pub use framer::{Fed, Framer, read_pieces};
 pub use left_out::has_left_out_number;
 pub use message::{Message, Request, Response};

@@ -3,7 +3,7 @@ ghost use Rattle.std.specs.Prelude.{◌≡◌, ℕ, List, ◌+◌, ◌<◌, ◌+
 ghost use Rattle.odb_wire.specs.Stream.{is_blank, skip_blanks, front_of, whole, messages};
 ghost use Rattle.odb_wire.specs.Feeding.{fault_of};
 ghost use Rattle.odb_wire.specs.Shown.{message_data, IsOfItsKind};
-ghost use Rattle.odb_wire.specs.declared.split.State.TheVariants as state;
+ghost use Rattle.odb_wire.specs.declared.split.StreamState.TheVariants as state;
 ghost use Rattle.odb_wire.specs.Standing.{IsStanding, IsRest, IsFront, ReadsOn, TakesIn, IsAsBefore, ending_of, messages_after};
 
 use crate::fault::WireFault;
@@ -14,42 +14,24 @@ use std::alloc::{AllocError, Global};
 /// The most bytes of one message.
 const MAX_MESSAGE: usize = 16_777_216;
 
-/// Why a stream can't go on.
-#[derive(Clone, Copy)]
-pub(crate) enum Stop {
-    TooLong,
-    BadStream,
-}
-
-impl Stop {
-    pub(crate) fn fault(self) -> WireFault
-        ensures { fault_of (ending_of self) ≡ Some result }
-    {
-        match self {
-            Stop::TooLong => WireFault::TooLong,
-            Stop::BadStream => WireFault::BadStream,
-        }
-    }
-}
-
 /// What stands between whole messages: the text of an object so far, or nothing.
 #[derive(Drop)]
-pub(crate) struct Rest {
+pub(crate) struct Unfinished {
     text: Vec<u8>,
     scan: Scan,
 }
 
 /// How a stream stands after the messages that were returned.
-pub(crate) enum State {
-    Going(Rest),
-    Stopped(Stop),
+pub(crate) enum StreamState {
+    Going(Unfinished),
+    Stopped(WireFault),
 }
 
 /// The messages that became whole, and how the stream stands after them.
 #[derive(Drop)]
 pub(crate) struct Step {
     pub(crate) messages: Vec<Message>,
-    pub(crate) state: State,
+    pub(crate) state: StreamState,
 }
 
 /// What stands at the front of bytes that don't begin with a blank.
@@ -61,32 +43,32 @@ enum Front {
 }
 
 impl Step {
-    fn stopped(messages: Vec<Message>, stop: Stop) -> Step
-        ensures { result ≡ record { messages = messages; state = state.Stopped stop } }
+    fn stopped(messages: Vec<Message>, fault: WireFault) -> Step
+        ensures { result ≡ record { messages = messages; state = state.Stopped fault } }
     {
         Step {
             messages,
-            state: State::Stopped(stop),
+            state: StreamState::Stopped(fault),
         }
     }
 
-    fn going(messages: Vec<Message>, rest: Rest) -> Step
+    fn going(messages: Vec<Message>, rest: Unfinished) -> Step
         ensures { result ≡ record { messages = messages; state = state.Going rest } }
     {
         Step {
             messages,
-            state: State::Going(rest),
+            state: StreamState::Going(rest),
         }
     }
 }
 
-impl State {
+impl StreamState {
     /// Before the first byte, or between two messages.
-    pub(crate) fn between(alloc: Global) -> State
+    pub(crate) fn between(alloc: Global) -> StreamState
         ensures stands { IsStanding result }
         ensures fresh { (more : List ℕ) → messages_after result more ≡ messages more }
     {
-        State::Going(Rest {
+        StreamState::Going(Unfinished {
             text: Vec::new(alloc),
             scan: Scan::begun(),
         })
@@ -98,13 +80,13 @@ impl State {
         ensures { result ≡ fault_of (messages_after self.now []).1 }
     {
         match self {
-            State::Stopped(stop) => Some(stop.fault()),
-            State::Going(_) => None,
+            StreamState::Stopped(fault) => Some(*fault),
+            StreamState::Going(_) => None,
         }
     }
 
     /// Takes a piece in. For want of memory it gives back what it was.
-    pub(crate) fn advance(self, alloc: Global, piece: &[u8]) -> Result<Step, State>
+    pub(crate) fn advance(self, alloc: Global, piece: &[u8]) -> Result<Step, StreamState>
         requires { IsStanding self }
         ensures ok { IfOk result (λ step. TakesIn self piece.now (map message_data step.messages.items) step.state) }
         ensures kinds { IfOk result (λ step. All IsOfItsKind step.messages.items) }
@@ -112,17 +94,17 @@ impl State {
         ensures only_going { OnErr result (fault_of (messages_after self []).1 ≡ None) }
     {
         match self {
-            State::Stopped(stop) => Ok(Step::stopped(Vec::new(alloc), stop)),
-            State::Going(rest) => match rest.advance(alloc, piece) {
+            StreamState::Stopped(fault) => Ok(Step::stopped(Vec::new(alloc), fault)),
+            StreamState::Going(rest) => match rest.advance(alloc, piece) {
                 Ok(step) => Ok(step),
-                Err(rest) => Err(State::Going(rest)),
+                Err(rest) => Err(StreamState::Going(rest)),
             },
         }
     }
 }
 
-impl Rest {
-    fn advance(self, alloc: Global, piece: &[u8]) -> Result<Step, Rest>
+impl Unfinished {
+    fn advance(self, alloc: Global, piece: &[u8]) -> Result<Step, Unfinished>
         requires { IsRest self.text.items self.scan }
         ensures ok { IfOk result (λ step. ReadsOn [] (self.text.items ++ piece.now)
             (map message_data step.messages.items) step.state) }
@@ -130,11 +112,11 @@ impl Rest {
         ensures text { IfErr result (λ rest. rest.text.items ≡ self.text.items) }
         ensures scan { IfErr result (λ rest. rest.scan ≡ self.scan) }
     {
-        let Rest { mut text, scan } = self;
+        let Unfinished { mut text, scan } = self;
         if text.is_empty() {
             return match split(alloc, Vec::new(alloc), piece) {
                 Ok(step) => Ok(step),
-                Err(_) => Err(Rest { text, scan }),
+                Err(_) => Err(Unfinished { text, scan }),
             };
         }
         let kept = text.len();
@@ -147,19 +129,19 @@ impl Rest {
                     Ok(step) => Ok(step),
                     Err(_) => {
                         text.truncate(kept);
-                        Err(Rest { text, scan })
+                        Err(Unfinished { text, scan })
                     }
                 }
             }
             None => {
                 if piece.len() >= room {
-                    return Ok(Step::stopped(Vec::new(alloc), Stop::TooLong));
+                    return Ok(Step::stopped(Vec::new(alloc), WireFault::TooLong));
                 }
                 if text.extend_from_slice(piece).is_err() {
-                    return Err(Rest { text, scan });
+                    return Err(Unfinished { text, scan });
                 }
                 let scan = further;
-                Ok(Step::going(Vec::new(alloc), Rest { text, scan }))
+                Ok(Step::going(Vec::new(alloc), Unfinished { text, scan }))
             }
         }
     }
@@ -185,7 +167,7 @@ fn complete(
             messages.push(message)?;
             split(alloc, messages, later)
         }
-        None => Ok(Step::stopped(messages, Stop::BadStream)),
+        None => Ok(Step::stopped(messages, WireFault::BadStream)),
     }
 }
 
@@ -203,21 +185,21 @@ fn split(alloc: Global, mut messages: Vec<Message>, bytes: &[u8]) -> Result<Step
                 let (text, later) = left.split_at(end);
                 match Message::read(alloc, text)? {
                     Some(message) => messages.push(message)?,
-                    None => return Ok(Step::stopped(messages, Stop::BadStream)),
+                    None => return Ok(Step::stopped(messages, WireFault::BadStream)),
                 }
                 left = skip_blanks(later);
             }
             Front::Incomplete(scan) => {
                 let text = Vec::from_slice(alloc, left)?;
-                return Ok(Step::going(messages, Rest { text, scan }));
+                return Ok(Step::going(messages, Unfinished { text, scan }));
             }
-            Front::TooLong => return Ok(Step::stopped(messages, Stop::TooLong)),
-            Front::Bad => return Ok(Step::stopped(messages, Stop::BadStream)),
+            Front::TooLong => return Ok(Step::stopped(messages, WireFault::TooLong)),
+            Front::Bad => return Ok(Step::stopped(messages, WireFault::BadStream)),
         }
     }
     Ok(Step {
         messages,
-        state: State::between(alloc),
+        state: StreamState::between(alloc),
     })
 }
 
@@ -259,11 +241,11 @@ fn front_at(bytes: &[u8]) -> Front
 }
 
 // Written, and not derived, so that each end of a scope is one call to prove.
-impl Drop for State {
+impl Drop for StreamState {
     fn drop(self) {
         match self {
-            State::Going(_) => {}
-            State::Stopped(_) => {}
+            StreamState::Going(_) => {}
+            StreamState::Stopped(_) => {}
         }
     }
 }

@@ -162,14 +162,14 @@ fn read_for_session<L: Ledger, R: Wait + Clock>(
         if read == 0 || seat.bell().has_failed() {
             return Ok(());
         }
-        let Ok(messages) = framer.feed(&piece[..read]) else {
+        let Ok(fed) = framer.feed(&piece[..read]) else {
             return Ok(());
         };
-        if submit_messages(rt, daemon, seat, messages, rng).is_err() {
+        if submit_messages(rt, daemon, seat, fed.messages, rng).is_err() {
             return Ok(());
         }
         // A fault that comes after the messages stops the reading at once.
-        if framer.feed(&[]).is_err() {
+        if fed.fault.is_some() {
             return Ok(());
         }
     }

@@ -1,5 +1,8 @@
+use Rattle.std.proofs.Common.{◌≡◌}
+use Rattle.odb_wire.specs.Feeding.{fault_of}
+use Rattle.odb_wire.specs.Stream.{messages}
 use Rattle.odb_wire.proofs.Pieces.{ReadUpTo}
 use Rattle.odb_wire.proofs.framer.read_pieces.Given as goal
 
 abbrev pub invariant-loop-piece : goal.invariant-loop-piece
-invariant-loop-piece l = ReadUpTo l.pieces l.piece-index l.framer l.found.items
+invariant-loop-piece l = ReadUpTo l.pieces l.piece-index l.framer l.messages.items × (l.fault ≡ fault_of (messages l.framer).1)

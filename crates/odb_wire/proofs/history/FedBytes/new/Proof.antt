@@ -20,11 +20,11 @@ use denote.Triple.Entry.{on_entry, alive}
 use denote.Triple.Spec.{Meets, triple_of}
 use denote.Triple.Table.{entered}
 use denote.Triple.Walked.{says, Stays, walk_of, Walks, ends_at, walked, walk_Meets}
-use Rattle.odb_wire.specs.contracts.history.History.new.Key.{name as key}
-use Rattle.odb_wire.specs.contracts.history.History.new as f
-use Rattle.odb_wire.proofs.history.History.new.Statement as stated
-use Rattle.odb_wire.proofs.history.History.new.Code as code
-use Rattle.odb_wire.specs.contracts.history.History as made
+use Rattle.odb_wire.specs.contracts.history.FedBytes.new.Key.{name as key}
+use Rattle.odb_wire.specs.contracts.history.FedBytes.new as f
+use Rattle.odb_wire.proofs.history.FedBytes.new.Statement as stated
+use Rattle.odb_wire.proofs.history.FedBytes.new.Code as code
+use Rattle.odb_wire.specs.contracts.history.FedBytes as made
 
 abbrev stayed : Stays (f.ended).signature.params (f.ended).kept
 stayed = tt

@@ -28,26 +28,26 @@ use denote.Triple.Entry.{on_entry}
 use denote.Triple.Spec.{Meets, triple_of}
 use denote.Triple.Table.{entered}
 use denote.Triple.Walked.{says, Stays, stay_ref, stay_none_slice, walk_of, AllGo, Goes-ref, Goes-none_slice, Walks, ends_at, walked, walk_Meets}
-use Rattle.odb_wire.specs.declared.history.History.{History}
-use Rattle.odb_wire.specs.contracts.history.History as T
-use Rattle.odb_wire.specs.contracts.history.History.add.Key.{name as #it}
-use Rattle.odb_wire.specs.contracts.history.History.add as it
-use Rattle.odb_wire.proofs.history.History.add.Statement as stated
-use Rattle.odb_wire.proofs.history.History.add.Code as code
+use Rattle.odb_wire.specs.declared.history.FedBytes.{FedBytes}
+use Rattle.odb_wire.specs.contracts.history.FedBytes as T
+use Rattle.odb_wire.specs.contracts.history.FedBytes.add.Key.{name as #it}
+use Rattle.odb_wire.specs.contracts.history.FedBytes.add as it
+use Rattle.odb_wire.proofs.history.FedBytes.add.Statement as stated
+use Rattle.odb_wire.proofs.history.FedBytes.add.Code as code
 
 abbrev Arg : Type 0
-Arg = MutBor History × (Bor (List ℕ) × Unit {0})
+Arg = MutBor FedBytes × (Bor (List ℕ) × Unit {0})
 
 abbrev stayed : Stays (it.ended).signature.params (it.ended).kept
 stayed = (stay_ref (0 ∷ []) tt (plain (λ _. T.the_row)), (stay_none_slice (1 ∷ []) tt (plain (λ _. u8)) yes, tt))
 
-module _ {M : Type 1} {𝓤 : Ura M} (𝓛 : Logic 𝓤) (at_mem : Memory → SProp 𝓤) (run : Routine → Fun 𝓤) (κ κ' : Lft) (q q' : Share) (b o : ℕ) (γ : GName) (h : History) (s : Bor (List ℕ)) where
+module _ {M : Type 1} {𝓤 : Ura M} (𝓛 : Logic 𝓤) (at_mem : Memory → SProp 𝓤) (run : Routine → Fun 𝓤) (κ κ' : Lft) (q q' : Share) (b o : ℕ) (γ : GName) (h : FedBytes) (s : Bor (List ℕ)) where
   open 𝓛 use {H, A}
 
   abbrev x : Arg
   x = (record { ref_ptr = (b, o); ghost_name = γ; now = h }, (s, tt))
 
-  abbrev h' : History
+  abbrev h' : FedBytes
   h' = record { bytes = h.bytes ++ s.now }
 
   abbrev at : List Val × (List Val × Unit {0})

@@ -2,7 +2,7 @@ use Rattle.std.proofs.Common.{rules, ◌≡◌, ◌++◌, arith}
 use Rattle.odb_wire.specs.Standing.{IsUnfinished}
 use Rattle.odb_wire.proofs.Fronts.{max_message-is}
 use Rattle.odb_wire.proofs.Rests.{unfinished, front_of-completed, reads_too_long, reads_on}
-use Rattle.odb_wire.proofs.split.Rest.advance.Goals as goal
+use Rattle.odb_wire.proofs.split.Unfinished.advance.Goals as goal
 
 pub overflow_sub-room : goal.overflow_sub-room
 overflow_sub-room c =
