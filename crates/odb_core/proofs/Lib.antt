@@ -5,6 +5,7 @@ pub mod ChangedTables
 pub mod ClosedSessions
 pub mod CoreInvariant
 pub mod DoneCalls
+pub mod EarliestDeadlines
 pub mod HandledRequests
 pub mod ListPlaces
 pub mod ListedSessions

@@ -6,6 +6,7 @@ ghost use Rattle.odb_atoms.specs.Represented.Atom.{uuid_of};
 ghost use Rattle.odb_wire.specs.Message.{inserts_of};
 ghost use Rattle.odb_wire.specs.Shown.{request_data};
 ghost use Rattle.odb_service.specs.Run.{closed, max_sessions, once, opened, round, submitted, ticked};
+ghost use Rattle.odb_core.specs.Deadlines.{earliest};
 ghost use Rattle.odb_core.specs.declared.refused.Refused.TheVariants as refused;
 
 use crate::refused::Refused;
@@ -206,6 +207,14 @@ impl Core {
         ensures { IsQuietBut result.now self.now }
     {
         self.state.sessions.owed()
+    }
+
+    /// The earliest moment, in milliseconds, at which a transaction that waits is due: a `tick` of an earlier moment
+    /// tries none. `None` where none waits, or each for ever. O(1).
+    pub fn next_deadline(&self) -> Option<u64>
+        ensures { result ≡ earliest self.now.world.waiting }
+    {
+        self.state.waiting.earliest()
     }
 
     /// An equal core: the same state, whose rows and waiting transactions are shared with this one.

@@ -92,6 +92,13 @@ impl Waiting {
         }
     }
 
+    /// Until when it waits, in milliseconds; `None` is for ever. O(1).
+    pub(crate) fn deadline(&self) -> Option<u64>
+        ensures { result ≡ self.now.deadline }
+    {
+        self.deadline
+    }
+
     /// Whether there was a commit since it was tried. O(1).
     pub(crate) fn is_untried(&self, commits: u64) -> bool
         ensures { result ≡ is_untried commits self.now }

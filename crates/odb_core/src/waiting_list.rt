@@ -2,6 +2,7 @@
 
 ghost use Rattle.std.specs.Prelude.{◌≡◌, ◌==◌, ◌<◌, ◌++◌, ◌∷◌, [], count_by, filter, length, not, slice_get, slice_index_or, IfErr, IfOk, OnErr, OnOk, Some};
 ghost use Rattle.std.specs.List.{remove};
+ghost use Rattle.odb_core.specs.Deadlines.{earlier, earliest};
 ghost use Rattle.odb_core.specs.Represented.Waiting.{waiting_as};
 
 use crate::counts::Counts;
@@ -12,19 +13,21 @@ use std::alloc::{AllocError, Global};
 use std::marker::Model;
 use std::mem;
 
-/// The transactions that wait, in order of arrival, and how many of them each session has. In the costs below
-/// `w` of them wait, of `n` sessions.
+/// The transactions that wait, in order of arrival, how many of them each session has, and their earliest deadline.
+/// In the costs below `w` of them wait, of `n` sessions.
 pub(crate) struct WaitingList {
     alloc: Global,
     items: Vec<Waiting>,
     counts: Counts,
+    earliest: Option<u64>,
 }
 
 impl Model for WaitingList {
-    ghost use Rattle.std.specs.Prelude.{List};
+    ghost use Rattle.std.specs.Prelude.{◌≡◌, List};
     ghost use Rattle.std.specs.Coded.{coded_list};
     ghost use Rattle.odb_service.specs.World as model;
     ghost use Rattle.odb_service.specs.WorldCode.{waiting_code};
+    ghost use Rattle.odb_core.specs.Deadlines as deadlines;
     ghost use Rattle.odb_core.specs.Represented.Counts.{AreCounted};
 
     ghost Value = { List model.Waiting };
@@ -33,7 +36,7 @@ impl Model for WaitingList {
 
     ghost view = { λ l. l.items.items };
 
-    ghost invariant = { λ l. AreCounted l.counts l.items.items };
+    ghost invariant = { λ l. AreCounted l.counts l.items.items × (l.earliest ≡ deadlines.earliest l.items.items) };
 }
 
 impl WaitingList {
@@ -45,7 +48,15 @@ impl WaitingList {
             alloc,
             items: Vec::new(alloc),
             counts: Counts::new(alloc),
+            earliest: None,
         }
+    }
+
+    /// The earliest moment, in milliseconds, at which one of them is due; `None` where each waits for ever. O(1).
+    pub(crate) fn earliest(&self) -> Option<u64>
+        ensures { result ≡ earliest self.now }
+    {
+        self.earliest
     }
 
     /// All of them. O(1).
@@ -91,6 +102,7 @@ impl WaitingList {
         }
         match Waiting::new(self.alloc, submitted, deadline, tried) {
             Ok(waiting) => {
+                self.earliest = earlier(self.earliest, waiting.deadline());
                 self.items.push_reserved(waiting);
                 Ok(())
             }
@@ -108,6 +120,7 @@ impl WaitingList {
     {
         self.items.reserve(1)?;
         self.counts.add(waiting.session())?;
+        self.earliest = earlier(self.earliest, waiting.deadline());
         self.items.push_reserved(waiting);
         Ok(())
     }
@@ -120,6 +133,7 @@ impl WaitingList {
     {
         let waiting = self.items.remove(place);
         self.counts.take(waiting.session());
+        self.earliest = earliest_of(self.items.as_slice());
         waiting
     }
 
@@ -129,6 +143,7 @@ impl WaitingList {
     {
         self.items.retain(|waiting| !waiting.belongs_to(session));
         self.counts.forget(session);
+        self.earliest = earliest_of(self.items.as_slice());
     }
 
     /// Takes all of them out. O(1), and what the counts take.
@@ -138,6 +153,7 @@ impl WaitingList {
     {
         let all = mem::replace(&mut self.items, Vec::new(self.alloc));
         self.counts = Counts::new(self.alloc);
+        self.earliest = None;
         all
     }
 
@@ -149,8 +165,33 @@ impl WaitingList {
             alloc: self.alloc,
             items: self.items.clone()?,
             counts: self.counts.try_copy()?,
+            earliest: self.earliest,
         })
     }
+}
+
+/// The earlier of two moments, of which each may be never.
+fn earlier(one: Option<u64>, other: Option<u64>) -> Option<u64>
+    ensures { result ≡ earlier one other }
+{
+    let Some(first) = one else {
+        return other;
+    };
+    match other {
+        Some(second) => Some(first.min(second)),
+        None => one,
+    }
+}
+
+/// The earliest of their deadlines. O(w).
+fn earliest_of(waiting: &[Waiting]) -> Option<u64>
+    ensures { result ≡ earliest waiting.now }
+{
+    let mut found = None;
+    for each in waiting {
+        found = earlier(found, each.deadline());
+    }
+    found
 }
 
 // Written, and not derived, so that each end of a scope is one call to prove.
@@ -160,6 +201,7 @@ impl Drop for WaitingList {
             alloc: _,
             items: _,
             counts: _,
+            earliest: _,
         } = self;
     }
 }

@@ -41,6 +41,7 @@ impl<L: Ledger> Model for Counted<L> {
 impl<L: Ledger> Counted<L> {
     ghost use Rattle.odb_atoms.specs.FinMap.{empty, get, insert};
     ghost use Rattle.odb_service.specs.Server.{serve};
+    ghost use Rattle.odb_core.specs.Deadlines.{earliest};
     ghost use Rattle.odb_core.specs.Represented.Reason.{IsReason};
     ghost use Rattle.odb_hub.specs.Batch.{Submits};
     ghost use Rattle.odb_hub.specs.Counted.{Closes, IsCounted, SameCount, submits};
@@ -157,6 +158,13 @@ impl<L: Ledger> Counted<L> {
         ensures flushed { OnErr result ((s : ℕ) → IsFlushedAt (get self.old.kept.rings s) (get self.new.kept.rings s)) }
     {
         self.state.round()
+    }
+
+    /// As [`HubState::next_deadline`].
+    pub fn next_deadline(&self) -> Option<u64>
+        ensures { result ≡ earliest self.now.kept.server.world.waiting }
+    {
+        self.state.next_deadline()
     }
 
     /// As `HubState::has_more`.

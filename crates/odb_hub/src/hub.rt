@@ -21,6 +21,17 @@ pub struct Round {
     pub more: bool,
     /// How long it took from when it had the lock, zero where the clock can't be read.
     pub took: Duration,
+    /// The earliest moment, in milliseconds, at which a transaction that waits is due.
+    pub deadline: Option<u64>,
+}
+
+/// What came of a batch.
+#[derive(Drop)]
+pub struct BatchOutcome {
+    /// Whether a session may be owed something, where all was taken; else why the batch stopped.
+    pub owes: Result<bool, Refused>,
+    /// Whether a transaction waits that is due sooner than any was before.
+    pub due_sooner: bool,
 }
 
 /// A server that many threads share. Each call takes the lock and makes one call of [`Counted`] under it, whose
@@ -59,18 +70,24 @@ impl<L: Ledger> Hub<L> {
     /// Submits what stands in the batch, from its last to its first, under one lock. At a refusal it stops, and the
     /// submission that was refused is the last of the batch again. The seat is answered each submission that was taken. Then
     /// its session, and no other, is given what it is owed, so that replies wait for nobody. It returns whether a session
-    /// may be owed something then: a round is to be run.
+    /// may be owed something then, so that a round is to be run, and whether a transaction is due sooner than any was.
     pub fn submit_all<R: Wait>(
         &self,
         rt: &R,
         seat: &mut Seat<L>,
         batch: &mut Vec<Submission>,
         now: u64,
-    ) -> Result<bool, Refused>
-        ensures all { OnOk result (batch.new.items ≡ []) }
+    ) -> BatchOutcome
+        ensures all { OnOk result.owes (batch.new.items ≡ []) }
         ensures seat { seat.new ≡ record { session = seat.old.session; answered = seat.old.answered + (length batch.old.items - length batch.new.items) } }
     {
-        self.state.lock(rt).submit_all(seat, batch, now)
+        let mut state = self.state.lock(rt);
+        let before = state.next_deadline();
+        let owes = state.submit_all(seat, batch, now);
+        BatchOutcome {
+            owes,
+            due_sooner: is_sooner(state.next_deadline(), before),
+        }
     }
 
     /// The moment is `now`.
@@ -87,6 +104,7 @@ impl<L: Ledger> Hub<L> {
             given,
             more: state.has_more(),
             took: time_since(rt, begun),
+            deadline: state.next_deadline(),
         })
     }
 
@@ -106,6 +124,15 @@ impl<L: Ledger> Hub<L> {
         ensures seat { IfErr result (λ back. back ≡ seat) }
     {
         self.state.lock(rt).part(seat)
+    }
+}
+
+/// Says whether a moment comes before another, of which each may be never.
+fn is_sooner(moment: Option<u64>, other: Option<u64>) -> bool {
+    match (moment, other) {
+        (Some(moment), Some(other)) => moment < other,
+        (Some(_), None) => true,
+        (None, _) => false,
     }
 }
 

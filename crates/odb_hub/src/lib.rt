@@ -17,7 +17,7 @@ mod submission;
 
 pub use bell::Bell;
 pub use counted::Counted;
-pub use hub::{Hub, Round};
+pub use hub::{BatchOutcome, Hub, Round};
 pub use mailbox::{Mailbox, write_outs};
 pub use seat::Seat;
 pub use state::HubState;

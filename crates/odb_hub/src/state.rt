@@ -48,6 +48,7 @@ impl Model for HubState {
 impl HubState {
     ghost use Rattle.odb_atoms.specs.FinMap.{empty, get, insert, len, remove};
     ghost use Rattle.odb_service.specs.Server.{serve};
+    ghost use Rattle.odb_core.specs.Deadlines.{earliest};
     ghost use Rattle.odb_core.specs.Represented.Reason.{IsReason};
     ghost use Rattle.odb_hub.specs.Batch.{RefusesFirst, TakesUpTo};
     ghost use Rattle.odb_hub.specs.Kept.{IsKept, IsQuiet, Takes, TakesRound, counted};
@@ -224,17 +225,28 @@ impl HubState {
     }
 
     /// Gives this session alone what it is owed, until it is owed nothing more or its ring holds one back. An error says that
-    /// memory was refused to the last of these rounds. It costs what the rounds cost.
+    /// memory was refused to the last of these rounds. It costs what the rounds cost, of which none is planned where nothing
+    /// is owed.
     pub fn rounds_for(&mut self, session: SessionId) -> Result<(), AllocError>
         ensures { GivesOwn session self.old self.new }
     {
         for _ in 0..u64::MAX {
+            if !self.core.owed().contains(&session) {
+                return Ok(());
+            }
             let given = self.round_for(session)?;
             if given == 0 {
                 return Ok(());
             }
         }
         Ok(())
+    }
+
+    /// As [`Core::next_deadline`].
+    pub fn next_deadline(&self) -> Option<u64>
+        ensures { result ≡ earliest self.now.server.world.waiting }
+    {
+        self.core.next_deadline()
     }
 
     /// Whether a session may be owed something. O(1).

@@ -8,15 +8,10 @@ use Rattle.std.specs.declared.sync.ledger.Ledger.{Ghosts}
 use Rattle.odb_hub.proofs.Crossing.{Hub-sync}
 use Rattle.odb_hub.proofs.mailbox.Mailbox.TheSendSync as mailbox
 use Rattle.odb_hub.specs.contracts.mailbox.Mailbox as Mailbox
-use Rattle.std.proofs.MapsCrossing as maps
 use Rattle.ovsdbd.specs.contracts.daemon.Daemon as Daemon
-use Rattle.ovsdbd.specs.contracts.deadlines.Deadlines as Deadlines
-
-pub Deadlines-sync : IsSync (Deadlines.the_field).row
-Deadlines-sync = search (sendable, heap.crosses, maps.crosses) depth 40
 
 pub Daemon-sync : (L : RattleType) (g : Ghosts L.Denot) → IsSend L → IsSync (Daemon.the_field L g).row
-Daemon-sync L g s = search (Hub-sync, Deadlines-sync, sendable, heap.crosses) depth 20
+Daemon-sync L g s = search (Hub-sync, sendable, heap.crosses) depth 20
 
 pub Mailbox-send : IsSend Mailbox.the_row
 Mailbox-send = mailbox.the_send

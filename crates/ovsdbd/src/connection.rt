@@ -1,7 +1,6 @@
 //! A connection: a thread that reads from it, and one that writes to it. [P 15.2]
 
 use crate::daemon::Daemon;
-use crate::deadlines::push_waits;
 use odb_core::{Refused, SessionId};
 use odb_hub::{Mailbox, Seat, Submission, write_outs};
 use odb_wire::{Framer, Message, Request};
@@ -239,16 +238,17 @@ fn submit_all<L: Ledger, R: Wait + Clock>(
     submissions: Vec<Submission>,
 ) -> Result<(), Stopped> {
     let mut submissions = submissions;
-    let waits = waits_of(daemon.alloc, submissions.as_slice())?;
     for _ in rt.forever() {
         let submitted = daemon
             .hub
             .submit_all(rt, seat, &mut submissions, daemon.now(rt));
-        if !is_quiet(&submitted) {
+        if submitted.due_sooner {
+            daemon.pace.wake();
+        }
+        if !is_quiet(&submitted.owes) {
             daemon.tell_all(rt);
         }
-        keep_deadlines(rt, daemon, waits.as_slice())?;
-        match submitted {
+        match submitted.owes {
             Ok(_) => return Ok(()),
             Err(Refused::Busy) => seat.bell().wait_to_submit(rt),
             Err(_) => return Err(Stopped),
@@ -263,29 +263,4 @@ fn submit_all<L: Ledger, R: Wait + Clock>(
 /// Whether all was taken, and no session is owed anything.
 fn is_quiet(submitted: &Result<bool, Refused>) -> bool {
     matches!(submitted, Ok(false))
-}
-
-fn waits_of(alloc: Global, submissions: &[Submission]) -> Result<Vec<u64>, AllocError> {
-    let mut waits = Vec::new(alloc);
-    for submission in submissions {
-        push_waits(&submission.request, &mut waits)?;
-    }
-    Ok(waits)
-}
-
-/// The pump wakes when one of these waits ends. They began before now.
-fn keep_deadlines<L: Ledger, R: Wait + Clock>(
-    rt: &R,
-    daemon: &Daemon<L>,
-    waits: &[u64],
-) -> Result<(), AllocError> {
-    if waits.is_empty() {
-        return Ok(());
-    }
-    let now = daemon.now(rt);
-    for wait in waits {
-        daemon.deadlines.add(rt, now.saturating_add(*wait))?;
-    }
-    daemon.pace.wake();
-    Ok(())
 }

@@ -1,6 +1,5 @@
 //! What all threads of the daemon share. [P 15.2]
 
-use crate::deadlines::Deadlines;
 use crate::pace::Pace;
 use odb_core::{Core, SessionId};
 use odb_hub::Hub;
@@ -20,7 +19,6 @@ const REFUSED: u64 = 3;
 pub(crate) struct Daemon<L: Ledger> {
     pub(crate) alloc: Global,
     pub(crate) hub: Hub<L>,
-    pub(crate) deadlines: Deadlines,
     pub(crate) pace: Pace,
     start: Instant,
     ended: AtomicU64,
@@ -45,7 +43,6 @@ impl<L: Ledger> Daemon<L> {
         Daemon {
             alloc,
             hub: Hub::new(alloc, core, blank, seats),
-            deadlines: Deadlines::new(alloc),
             pace: Pace::new(),
             start,
             ended: AtomicU64::new(0),
@@ -104,20 +101,18 @@ impl<L: Ledger> Daemon<L> {
     /// and sleeps where nothing is owed until something may be, or a transaction may be due.
     fn turn<R: Wait + Clock>(&self, rt: &R) {
         self.pace.begin();
-        let ticked = self.now(rt);
-        drop(self.hub.tick(rt, ticked));
-        let round = self.hub.round(rt);
-        let left = self.left(rt, ticked);
-        match round {
-            Ok(round) => self.pace.pause(rt, round, left),
-            Err(_) => self.pace.rest(rt, Duration::from_millis(REFUSED), left),
+        drop(self.hub.tick(rt, self.now(rt)));
+        match self.hub.round(rt) {
+            Ok(round) => self.pace.pause(rt, round, self.left(rt, round.deadline)),
+            Err(_) => self.pace.rest(rt, Duration::from_millis(REFUSED), None),
         }
     }
 
-    /// How long it is until the earliest moment that no tick was told of, which may be over by now.
-    fn left<R: Wait + Clock>(&self, rt: &R, ticked: u64) -> Option<Duration> {
-        let moment = self.deadlines.next_later(rt, ticked)?;
-        Some(Duration::from_millis(moment.saturating_sub(self.now(rt))))
+    /// How long it is until a moment, and a millisecond where that is over: a tick for which memory was refused is made
+    /// again.
+    fn left<R: Clock>(&self, rt: &R, moment: Option<u64>) -> Option<Duration> {
+        let left = moment?.saturating_sub(self.now(rt));
+        Some(Duration::from_millis(left.max(1)))
     }
 }
 
@@ -127,7 +122,6 @@ impl<L: Ledger> Drop for Daemon<L> {
         let Daemon {
             alloc: _,
             hub: _,
-            deadlines: _,
             pace: _,
             start: _,
             ended: _,

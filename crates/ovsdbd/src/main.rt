@@ -9,7 +9,6 @@
 
 mod connection;
 mod daemon;
-mod deadlines;
 mod pace;
 mod serve;
 

@@ -19,7 +19,7 @@ use std::thread;
 use std::thread::{Builder, Scope, Threads};
 use std::time::{Clock, Duration, Instant};
 
-/// How many seats may be given at once. No core has so many sessions open.
+/// How many seats may be given at once. No core has more sessions open.
 const SEATS: u64 = 4_096;
 
 /// For how many milliseconds the daemon waits after a connection couldn't be accepted, as where no file descriptor is left.
