@@ -19,6 +19,54 @@ pub a_condition_of_one_member : Plays operations (
 unfolding shows
 a_condition_of_one_member = refl
 
+-- An optional integer is ordered where there is one
+pub an_optional_integer_is_ordered_where_there_is_one : Plays net (
+    codes "> B transact 1 {\"op\":\"insert\",\"table\":\"Bridge\",\"row\":{\"name\":\"br0\",\"ports\":[\"named-uuid\",\"p\"]}},{\"op\":\"insert\",\"table\":\"Port\",\"row\":{\"name\":\"p1\"},\"uuid-name\":\"p\"}"
+    ∷ codes "< B reply 1 [{\"uuid\":[\"uuid\",\"U1\"]},{\"uuid\":[\"uuid\",\"U2\"]}]"
+    ∷ codes "> B transact 2 {\"op\":\"select\",\"table\":\"Port\",\"where\":[[\"tag\",\"<\",6]],\"columns\":[\"name\"]}"
+    ∷ codes "< B reply 2 [{\"rows\":[]}]"
+    ∷ codes "> B transact 3 {\"op\":\"select\",\"table\":\"Port\",\"where\":[[\"tag\",\">=\",6]],\"columns\":[\"name\"]}"
+    ∷ codes "< B reply 3 [{\"rows\":[]}]"
+    ∷ codes "> B transact 4 {\"op\":\"select\",\"table\":\"Port\",\"where\":[[\"tag\",\"<=\",6]],\"columns\":[\"name\"]}"
+    ∷ codes "< B reply 4 [{\"rows\":[]}]"
+    ∷ codes "> B transact 5 {\"op\":\"select\",\"table\":\"Port\",\"where\":[[\"tag\",\">\",0]],\"columns\":[\"name\"]}"
+    ∷ codes "< B reply 5 [{\"rows\":[]}]"
+    ∷ codes "> B transact 6 {\"op\":\"update\",\"table\":\"Port\",\"where\":[],\"row\":{\"tag\":5}}"
+    ∷ codes "< B reply 6 [{\"count\":1}]"
+    ∷ codes "> B transact 7 {\"op\":\"select\",\"table\":\"Port\",\"where\":[[\"tag\",\"<\",6]],\"columns\":[\"name\"]}"
+    ∷ codes "< B reply 7 [{\"rows\":[{\"name\":\"p1\"}]}]"
+    ∷ codes "> B transact 8 {\"op\":\"select\",\"table\":\"Port\",\"where\":[[\"tag\",\">=\",6]],\"columns\":[\"name\"]}"
+    ∷ codes "< B reply 8 [{\"rows\":[]}]"
+    ∷ codes "> B transact 9 {\"op\":\"select\",\"table\":\"Port\",\"where\":[[\"tag\",\"<\",5]],\"columns\":[\"name\"]}"
+    ∷ codes "< B reply 9 [{\"rows\":[]}]"
+    ∷ codes "> B transact 10 {\"op\":\"select\",\"table\":\"Port\",\"where\":[[\"tag\",\"<=\",5]],\"columns\":[\"name\"]}"
+    ∷ codes "< B reply 10 [{\"rows\":[{\"name\":\"p1\"}]}]"
+    ∷ codes "> B transact 11 {\"op\":\"select\",\"table\":\"Port\",\"where\":[[\"tag\",\">=\",5]],\"columns\":[\"name\"]}"
+    ∷ codes "< B reply 11 [{\"rows\":[{\"name\":\"p1\"}]}]"
+    ∷ codes "> B transact 12 {\"op\":\"select\",\"table\":\"Port\",\"where\":[[\"tag\",\">\",5]],\"columns\":[\"name\"]}"
+    ∷ codes "< B reply 12 [{\"rows\":[]}]"
+    ∷ codes "> B transact 13 {\"op\":\"select\",\"table\":\"Port\",\"where\":[[\"tag\",\">\",4]],\"columns\":[\"name\"]}"
+    ∷ codes "< B reply 13 [{\"rows\":[{\"name\":\"p1\"}]}]"
+    ∷ codes "> B transact 14 {\"op\":\"select\",\"table\":\"Port\",\"where\":[[\"tag\",\"<\",5000]],\"columns\":[\"name\"]}"
+    ∷ codes "< B reply 14 [{\"rows\":[{\"name\":\"p1\"}]}]"
+    ∷ codes "> B transact 15 {\"op\":\"select\",\"table\":\"Port\",\"where\":[[\"tag\",\">\",-1]],\"columns\":[\"name\"]}"
+    ∷ codes "< B reply 15 [{\"rows\":[{\"name\":\"p1\"}]}]"
+    ∷ codes "> B transact 16 {\"op\":\"select\",\"table\":\"Port\",\"where\":[[\"tag\",\"<\",[\"set\",[6]]]],\"columns\":[\"name\"]}"
+    ∷ codes "< B reply 16 [{\"rows\":[{\"name\":\"p1\"}]}]"
+    ∷ codes "> B transact 17 {\"op\":\"select\",\"table\":\"Port\",\"where\":[[\"tag\",\"<\",[\"set\",[]]]],\"columns\":[\"name\"]}"
+    ∷ codes "< B reply 17 [{\"error\":\"syntax error\"}]"
+    ∷ codes "> B transact 18 {\"op\":\"select\",\"table\":\"Port\",\"where\":[[\"tag\",\"<\",[\"set\",[6,7]]]],\"columns\":[\"name\"]}"
+    ∷ codes "< B reply 18 [{\"error\":\"syntax error\"}]"
+    ∷ codes "> B transact 19 {\"op\":\"select\",\"table\":\"Port\",\"where\":[[\"tag\",\"<\",\"6\"]],\"columns\":[\"name\"]}"
+    ∷ codes "< B reply 19 [{\"error\":\"syntax error\"}]"
+    ∷ codes "> B transact 20 {\"op\":\"select\",\"table\":\"Port\",\"where\":[[\"tag\",\"<\",[\"map\",[]]]],\"columns\":[\"name\"]}"
+    ∷ codes "< B reply 20 [{\"error\":\"syntax error\"}]"
+    ∷ codes "> B transact 21 {\"op\":\"delete\",\"table\":\"Port\",\"where\":[[\"tag\",\">\",5]]},{\"op\":\"mutate\",\"table\":\"Port\",\"where\":[[\"tag\",\"<=\",5]],\"mutations\":[[\"tag\",\"+=\",1]]},{\"op\":\"select\",\"table\":\"Port\",\"where\":[[\"tag\",\">\",5]],\"columns\":[\"tag\"]}"
+    ∷ codes "< B reply 21 [{\"count\":0},{\"count\":1},{\"rows\":[{\"tag\":6}]}]"
+    ∷ [])
+unfolding shows
+an_optional_integer_is_ordered_where_there_is_one = refl
+
 -- Conditions are tested from the front
 pub conditions_are_tested_from_the_front : Plays operations (
     codes "> A transact 1 {\"op\":\"select\",\"table\":\"A\",\"where\":[[\"i\",\"~\",1],[\"zz\",\"==\",1]]}"
@@ -67,8 +115,8 @@ pub each_function_and_the_columns_that_have_it : Plays operations (
     ∷ codes "< A reply 3 [{\"error\":\"syntax error\"}]"
     ∷ codes "> A transact 4 {\"op\":\"select\",\"table\":\"A\",\"where\":[[\"u\",\"<=\",[\"uuid\",\"V0\"]]]}"
     ∷ codes "< A reply 4 [{\"error\":\"syntax error\"}]"
-    ∷ codes "> A transact 5 {\"op\":\"select\",\"table\":\"A\",\"where\":[[\"o\",\"<\",5]]}"
-    ∷ codes "< A reply 5 [{\"error\":\"syntax error\"}]"
+    ∷ codes "> A transact 5 {\"op\":\"select\",\"table\":\"A\",\"where\":[[\"o\",\"<\",5]],\"columns\":[\"o\"]}"
+    ∷ codes "< A reply 5 [{\"rows\":[{\"o\":4}]}]"
     ∷ codes "> A transact 6 {\"op\":\"select\",\"table\":\"A\",\"where\":[[\"o\",\">\",[\"set\",[]]]]}"
     ∷ codes "< A reply 6 [{\"error\":\"syntax error\"}]"
     ∷ codes "> A transact 7 {\"op\":\"select\",\"table\":\"A\",\"where\":[[\"m\",\"<\",[\"map\",[]]]]}"
@@ -125,6 +173,10 @@ pub each_function_and_the_columns_that_have_it : Plays operations (
     ∷ codes "< A reply 32 [{\"error\":\"syntax error\"}]"
     ∷ codes "> A transact 33 {\"op\":\"select\",\"table\":\"A\",\"where\":[[]]}"
     ∷ codes "< A reply 33 [{\"error\":\"syntax error\"}]"
+    ∷ codes "> A transact 34 {\"op\":\"select\",\"table\":\"A\",\"where\":[[\"s\",\"<\",5]]}"
+    ∷ codes "< A reply 34 [{\"error\":\"syntax error\"}]"
+    ∷ codes "> A transact 35 {\"op\":\"select\",\"table\":\"A\",\"where\":[[\"_version\",\">=\",[\"uuid\",\"V0\"]]]}"
+    ∷ codes "< A reply 35 [{\"error\":\"syntax error\"}]"
     ∷ [])
 unfolding shows
 each_function_and_the_columns_that_have_it = refl
@@ -176,6 +228,34 @@ pub numbers_that_are_compared : Plays cnt (
     ∷ [])
 unfolding shows
 numbers_that_are_compared = refl
+
+-- Sets of two integers and more, maps and texts are not ordered
+pub sets_of_two_integers_and_more_maps_and_texts_are_not_ordered : Plays kinds (
+    codes "> A transact 1 {\"op\":\"insert\",\"table\":\"T\",\"row\":{\"few\":4,\"is\":4,\"mi\":[\"map\",[[\"a\",4]]],\"s\":\"a\"}}"
+    ∷ codes "< A reply 1 [{\"uuid\":[\"uuid\",\"U1\"]}]"
+    ∷ codes "> A transact 2 {\"op\":\"select\",\"table\":\"T\",\"where\":[[\"few\",\"<\",5]]}"
+    ∷ codes "< A reply 2 [{\"error\":\"syntax error\"}]"
+    ∷ codes "> A transact 3 {\"op\":\"select\",\"table\":\"T\",\"where\":[[\"few\",\"<\",[\"set\",[]]]]}"
+    ∷ codes "< A reply 3 [{\"error\":\"syntax error\"}]"
+    ∷ codes "> A transact 4 {\"op\":\"select\",\"table\":\"T\",\"where\":[[\"is\",\"<\",5]]}"
+    ∷ codes "< A reply 4 [{\"error\":\"syntax error\"}]"
+    ∷ codes "> A transact 5 {\"op\":\"select\",\"table\":\"T\",\"where\":[[\"mi\",\"<\",5]]}"
+    ∷ codes "< A reply 5 [{\"error\":\"syntax error\"}]"
+    ∷ codes "> A transact 6 {\"op\":\"select\",\"table\":\"T\",\"where\":[[\"mi\",\"<\",[\"map\",[[\"a\",5]]]]]}"
+    ∷ codes "< A reply 6 [{\"error\":\"syntax error\"}]"
+    ∷ codes "> A transact 7 {\"op\":\"select\",\"table\":\"T\",\"where\":[[\"s\",\"<\",\"b\"]]}"
+    ∷ codes "< A reply 7 [{\"error\":\"syntax error\"}]"
+    ∷ codes "> A transact 8 {\"op\":\"select\",\"table\":\"T\",\"where\":[[\"short\",\"<\",\"b\"]]}"
+    ∷ codes "< A reply 8 [{\"error\":\"syntax error\"}]"
+    ∷ codes "> A transact 9 {\"op\":\"select\",\"table\":\"T\",\"where\":[[\"us\",\"<\",[\"uuid\",\"V0\"]]]}"
+    ∷ codes "< A reply 9 [{\"error\":\"syntax error\"}]"
+    ∷ codes "> A transact 10 {\"op\":\"select\",\"table\":\"T\",\"where\":[[\"bs\",\"<\",true]]}"
+    ∷ codes "< A reply 10 [{\"error\":\"syntax error\"}]"
+    ∷ codes "> A transact 11 {\"op\":\"select\",\"table\":\"T\",\"where\":[[\"i\",\"<\",5],[\"tag\",\"<\",5]],\"columns\":[\"few\"]}"
+    ∷ codes "< A reply 11 [{\"rows\":[{\"few\":4}]}]"
+    ∷ [])
+unfolding shows
+sets_of_two_integers_and_more_maps_and_texts_are_not_ordered = refl
 
 -- The column of a condition comes before its function
 pub the_column_of_a_condition_comes_before_its_function : Plays operations (

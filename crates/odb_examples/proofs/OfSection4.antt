@@ -408,7 +408,7 @@ pub rows_that_are_selected : Plays net (
     ∷ codes "> A transact 5 {\"op\":\"select\",\"table\":\"Port\",\"where\":[[\"tag\",\"excludes\",5]],\"columns\":[\"name\"]}"
     ∷ codes "< A reply 5 [{\"rows\":[{\"name\":\"p\"}]}]"
     ∷ codes "> A transact 6 {\"op\":\"select\",\"table\":\"Port\",\"where\":[[\"tag\",\"<\",6]],\"columns\":[\"name\"]}"
-    ∷ codes "< A reply 6 [{\"error\":\"syntax error\"}]"
+    ∷ codes "< A reply 6 [{\"rows\":[{\"name\":\"q\"}]}]"
     ∷ codes "> A transact 7 {\"op\":\"select\",\"table\":\"Port\",\"where\":[[\"name\",\"<\",\"q\"]],\"columns\":[\"name\"]}"
     ∷ codes "< A reply 7 [{\"error\":\"syntax error\"}]"
     ∷ codes "> A transact 8 {\"op\":\"select\",\"table\":\"Port\",\"where\":[[\"opts\",\"includes\",[\"map\",[[\"a\",\"2\"]]]]],\"columns\":[\"name\"]}"

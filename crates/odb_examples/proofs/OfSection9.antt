@@ -3,6 +3,35 @@ use Rattle.std.specs.Prelude.{◌∷◌, [], codes, refl}
 use Rattle.odb_examples.proofs.TestSchemas.{caps, net}
 use Rattle.odb_examples.proofs.Transcripts.{Plays, shows}
 
+-- A filter orders an optional integer
+pub a_filter_orders_an_optional_integer : Plays net (
+    codes "> B transact 1 {\"op\":\"insert\",\"table\":\"Bridge\",\"row\":{\"name\":\"br0\",\"ports\":[\"named-uuid\",\"p\"]}},{\"op\":\"insert\",\"table\":\"Port\",\"row\":{\"name\":\"p1\"},\"uuid-name\":\"p\"}"
+    ∷ codes "< B reply 1 [{\"uuid\":[\"uuid\",\"U1\"]},{\"uuid\":[\"uuid\",\"U2\"]}]"
+    ∷ codes "> A monitor_cond 1 [\"net\",\"m\",{\"Port\":{\"columns\":[\"name\"],\"where\":[[\"tag\",\"<\",6]]}}]"
+    ∷ codes "< A reply 1 {}"
+    ∷ codes "> B transact 2 {\"op\":\"update\",\"table\":\"Port\",\"where\":[],\"row\":{\"tag\":5}}"
+    ∷ codes "< A update2 [\"m\",{\"Port\":{\"U2\":{\"insert\":{\"name\":\"p1\"}}}}]"
+    ∷ codes "< B reply 2 [{\"count\":1}]"
+    ∷ codes "> B transact 3 {\"op\":\"update\",\"table\":\"Port\",\"where\":[],\"row\":{\"tag\":6}}"
+    ∷ codes "< A update2 [\"m\",{\"Port\":{\"U2\":{\"delete\":null}}}]"
+    ∷ codes "< B reply 3 [{\"count\":1}]"
+    ∷ codes "> B transact 4 {\"op\":\"update\",\"table\":\"Port\",\"where\":[],\"row\":{\"tag\":[\"set\",[]]}}"
+    ∷ codes "< B reply 4 [{\"count\":1}]"
+    ∷ codes "> A monitor_cond_change 2 [\"m\",\"m\",{\"Port\":[{\"where\":[[\"tag\",\">\",[\"set\",[]]]]}]}]"
+    ∷ codes "< A error 2 syntax error"
+    ∷ codes "> A monitor_cond_change 3 [\"m\",\"m\",{\"Port\":[{\"where\":[[\"tag\",\">=\",6]]}]}]"
+    ∷ codes "< A reply 3 {}"
+    ∷ codes "> B transact 5 {\"op\":\"update\",\"table\":\"Port\",\"where\":[],\"row\":{\"tag\":7}}"
+    ∷ codes "< A update2 [\"m\",{\"Port\":{\"U2\":{\"insert\":{\"name\":\"p1\"}}}}]"
+    ∷ codes "< B reply 5 [{\"count\":1}]"
+    ∷ codes "> A monitor_cond 4 [\"net\",\"n\",{\"Port\":{\"columns\":[\"name\"],\"where\":[[\"tag\",\"<\",[\"set\",[6,7]]]]}}]"
+    ∷ codes "< A error 4 syntax error"
+    ∷ codes "> A monitor_cond 5 [\"net\",\"n\",{\"Port\":{\"columns\":[\"tag\"],\"where\":[[\"tag\",\"<=\",6],[\"tag\",\">\",6]]}}]"
+    ∷ codes "< A reply 5 {\"Port\":{\"U2\":{\"initial\":{\"tag\":7}}}}"
+    ∷ [])
+unfolding shows
+a_filter_orders_an_optional_integer = refl
+
 -- An empty filter selects all, false nothing, and one member is enough
 pub an_empty_filter_selects_all_false_nothing_and_one_member_is_enough : Plays net (
     codes "> B transact 1 {\"op\":\"insert\",\"table\":\"Bridge\",\"row\":{\"name\":\"br0\",\"ports\":[\"named-uuid\",\"p\"]}},{\"op\":\"insert\",\"table\":\"Port\",\"row\":{\"name\":\"p1\",\"tag\":5},\"uuid-name\":\"p\"}"

@@ -1,11 +1,12 @@
 -- The notation of conditions, `[column, function, value]` (RFC 7047, <condition>). [P 3.1]
-use Rattle.std.specs.Prelude.{ℕ, Bool, true, false, cond, not, ◌&&◌, ◌||◌, List, codes, Option, Some, None}
+use Rattle.std.specs.Prelude.{ℕ, Bool, true, false, cond, not, ◌&&◌, ◌||◌, List, codes, is_some, Option, Some, None}
 use Rattle.odb_atoms.specs.Atom.{integers, same_kind}
-use Rattle.odb_atoms.specs.ColType.{ColType, is_scalar}
+use Rattle.odb_atoms.specs.ColType.{ColType, is_single, scalar}
 use Rattle.odb_atoms.specs.Error.{Error, syntax_error, unknown_column}
 use Rattle.odb_atoms.specs.First.{Ok, Result, demand, ok_or, ◌>>=◌, ◌>>◌}
 use Rattle.odb_atoms.specs.Row.{Selector}
 use Rattle.odb_atoms.specs.Text.{same_text}
+use Rattle.odb_atoms.specs.Value.{Value}
 use Rattle.odb_cond.specs.Condition.{Clause, Function, equal, excludes, greater, greater_or_equal, includes, less, less_or_equal, not_equal}
 use Rattle.odb_json.specs.ColumnValue.{read_by_kind}
 use Rattle.odb_schema.specs.Json.{Data, array, as_str, item, no_items}
@@ -23,7 +24,6 @@ function_named s =
     (cond (same_text s (codes "includes")) (Some includes)
     (cond (same_text s (codes "excludes")) (Some excludes) None)))))))
 
--- the ordered functions want a scalar of integers
 abbrev pub is_ordered : Function → Bool
 is_ordered less = true
 is_ordered less_or_equal = true
@@ -34,8 +34,17 @@ is_ordered greater = true
 is_ordered includes = false
 is_ordered excludes = false
 
+-- one integer, or one at most: a scalar, or a set with `max` 1
+abbrev pub is_comparable : ColType → Bool
+is_comparable t = is_single t && not (is_some t.value) && same_kind t.key.kind integers
+
+-- the ordered functions want integers of which there is no second
 abbrev pub takes_function : ColType → Function → Bool
-takes_function t f = not (is_ordered f) || (is_scalar t && same_kind t.key.kind integers)
+takes_function t f = not (is_ordered f) || is_comparable t
+
+-- what a column of the type is compared with: by the ordered functions one integer
+abbrev pub operand : ColType → Function → ColType
+operand t f = cond (is_ordered f) (scalar integers) t
 
 -- `[a, b, c]`
 abbrev pub triple : Data → Option (Data × Data × Data)
@@ -58,11 +67,15 @@ read_function t d = do
   demand (takes_function t function) syntax_error
   Ok function
 
+-- the value of a condition by the function of a column of the type
+abbrev pub read_operand : Option Names → ColType → Function → Data → Result Value Error
+read_operand names t f = read_by_kind names (operand t f)
+
 -- three members, then from the front the column, the function and the value
 abbrev pub read_clause : Option Names → List Column → Data → Result Clause Error
 read_clause names cs d = do
   parts ← ok_or (triple d) syntax_error
   column ← read_selector cs parts.0
   function ← read_function (selector_type cs column) parts.1
-  value ← read_by_kind names (selector_type cs column) parts.2
+  value ← read_operand names (selector_type cs column) function parts.2
   Ok (record { column = column; function = function; value = value })

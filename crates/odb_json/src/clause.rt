@@ -18,7 +18,7 @@ use crate::column::{read_selector, type_of};
 use crate::fault::OpFault;
 use crate::leaf::{needed, read_array, read_text};
 use crate::names::Names;
-use crate::value::read_by_kind;
+use crate::value::{read_by_kind, read_of_type};
 use odb_atoms::{ColType, Kind};
 use odb_cond::{Clause, Function, Where};
 use odb_schema::TableSchema;
@@ -54,11 +54,19 @@ fn is_ordered(function: Function) -> bool
     }
 }
 
-/// Whether a column of the type takes the function: the ordered ones are for scalars of integers.
+/// Whether there is one integer, or one at most: in a scalar, or in a set whose `max` is 1.
+fn is_comparable(column: &ColType) -> bool
+    ensures { result ≡ model.is_comparable (type_of column.now) }
+{
+    column.is_single() && column.value.is_none() && column.key.kind == Kind::Integer
+}
+
+/// Whether a column of the type takes the function: the ordered ones are for integers of which
+/// there is no second.
 fn takes_function(column: &ColType, function: Function) -> bool
     ensures { result ≡ model.takes_function (type_of column.now) (function_of function) }
 {
-    !is_ordered(function) || (column.is_scalar() && column.key.kind == Kind::Integer)
+    !is_ordered(function) || is_comparable(column)
 }
 
 /// The three members of an array of three.
@@ -84,6 +92,25 @@ fn read_function(column: &ColType, value: &Value) -> Result<Function, OpFault>
     Ok(function)
 }
 
+/// The value of a condition: for the ordered functions one integer, else one of the column's kind.
+fn read_operand(
+    alloc: Global,
+    value: &Value,
+    column: &ColType,
+    function: Function,
+    names: Option<&Names>,
+) -> Result<odb_atoms::Value, OpFault>
+    ensures { Reads (λ v. v) result
+        (model.read_operand (option_map (λ n. n.now) names.entry) (type_of column.now)
+        (function_of function) (view value.now)) }
+{
+    if is_ordered(function) {
+        read_of_type(alloc, value, ColType::scalar(Kind::Integer), names)
+    } else {
+        read_by_kind(alloc, value, column, names)
+    }
+}
+
 /// A condition on rows of the table, `[column, function, value]` (RFC 7047, section 5.1,
 /// `<condition>`). `names` are the identifiers that the names of a transaction stand for; outside a
 /// transaction there are none, and no `["named-uuid", name]`.
@@ -91,8 +118,9 @@ fn read_function(column: &ColType, value: &Value) -> Result<Function, OpFault>
 /// The first of these faults is returned: an array of three members, else `syntax error`; the
 /// column's name, a string (`syntax error`) that the table has (`unknown column`); the function,
 /// one of `<`, `<=`, `==`, `!=`, `>=`, `>`, `includes` and `excludes`, of which `<`, `<=`, `>=` and
-/// `>` are for scalars of integers alone, else `syntax error`; and last the faults of the value, as
-/// `read_by_kind` says them. `Memory` may come in place of any of these.
+/// `>` are for scalars of integers and for sets of at most one integer, else `syntax error`; and
+/// last the faults of the value, as `read_by_kind` says them: for `<`, `<=`, `>=` and `>` of one
+/// integer. `Memory` may come in place of any of these.
 ///
 /// O(log c) comparisons of names for c columns, and what `read_by_kind` takes.
 pub fn read_clause(
@@ -128,7 +156,7 @@ fn read_triple(
     let column = read_selector(table, first)?;
     let column_type = type_of(table, column, uuid);
     let function = read_function(column_type, second)?;
-    let value = read_by_kind(alloc, third, column_type, names)?;
+    let value = read_operand(alloc, third, column_type, function, names)?;
     Ok(Clause::new(column, function, value))
 }
 

@@ -11,7 +11,6 @@ ghost use Rattle.odb_mutate.specs.Represented.Mutation.{mutator_of};
 ghost use Rattle.odb_schema.specs.Json.{items_list};
 ghost use Rattle.odb_schema.specs.Notation.{is_map_notation};
 ghost use Rattle.odb_schema.specs.Schema as model_schema;
-ghost use Rattle.odb_json.specs.ColumnValue as column_value;
 ghost use Rattle.odb_json.specs.MutationNotation as model;
 ghost use Rattle.odb_json.specs.Operation as operation;
 ghost use Rattle.odb_json.specs.Represented.Fault.{Gives, Reads};
@@ -22,7 +21,7 @@ use crate::column::{selector, type_of};
 use crate::fault::OpFault;
 use crate::leaf::{needed, read_array, read_text};
 use crate::names::Names;
-use crate::value::read_by_kind;
+use crate::value::{read_by_kind, read_of_type};
 use odb_atoms::{Base, ColType, Error, Kind};
 use odb_cond::Selector;
 use odb_mutate::{Mutation, Mutator, Operator};
@@ -125,22 +124,6 @@ fn is_map_notation(value: &Value) -> bool
     ensures { result ≡ is_map_notation (view value.now) }
 {
     tagged("map", value).is_some()
-}
-
-/// A value of the type's kind.
-fn read_of_type(
-    alloc: Global,
-    value: &Value,
-    column_type: ColType,
-    names: Option<&Names>,
-) -> Result<odb_atoms::Value, OpFault>
-    ensures { Reads (λ v. v) result
-        (column_value.read_by_kind (option_map (λ n. n.now) names.entry) (type_of column_type)
-        (view value.now)) }
-{
-    let read = read_by_kind(alloc, value, &column_type, names);
-    drop(column_type);
-    read
 }
 
 /// The value of a mutation: for arithmetic one integer; for `delete` also a set of keys; else a

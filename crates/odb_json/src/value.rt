@@ -108,6 +108,22 @@ pub fn read_by_kind(
     limited(read)
 }
 
+/// What `read_by_kind` reads, by a type that is handed over.
+pub fn read_of_type(
+    alloc: Global,
+    value: &Value,
+    column_type: ColType,
+    names: Option<&Names>,
+) -> Result<odb_atoms::Value, OpFault>
+    ensures { Reads (λ v. v) result
+        (model.read_by_kind (option_map (λ n. n.now) names.entry) (type_of column_type)
+        (view value.now)) }
+{
+    let read = read_by_kind(alloc, value, &column_type, names);
+    drop(column_type);
+    read
+}
+
 /// The notation of a value: a set of exactly one element as the atom, any other as
 /// `["set", [atom, ..]]`, a map as `["map", [[key, value], ..]]`, with elements and keys ascending
 /// (RFC 7047, section 5.1, `<value>`).
