@@ -46,7 +46,8 @@ def inserted(number):
 
 
 class Identifiers:
-    """The numbers of inserted rows: each member of a `transact` that is an insert has one."""
+    """The numbers of inserted rows: each member of a `transact` that is an insert has one. One with an identifier of its
+    own keeps that."""
 
     def __init__(self):
         self.count = 0
@@ -59,7 +60,8 @@ class Identifiers:
             request = json.loads(text)
             inserts = [i for i, op in enumerate(request["params"][1:]) if isinstance(op, dict) and op.get("op") == "insert"]
             if request["method"] == "transact":
-                self.asked[session, json.dumps(request["id"])] = {i: self.count + n for n, i in enumerate(inserts, 1)}
+                numbers = {i: self.count + n for n, i in enumerate(inserts, 1) if "uuid" not in request["params"][1 + i]}
+                self.asked[session, json.dumps(request["id"])] = numbers
                 self.count += len(inserts)
         except (ValueError, KeyError, TypeError):
             pass

@@ -55,6 +55,24 @@ pub a_session_that_is_opened_again_is_the_last_in_the_order_of_opening : Plays n
 unfolding shows
 a_session_that_is_opened_again_is_the_last_in_the_order_of_opening = refl
 
+-- An insert with an identifier of its own counts too
+pub an_insert_with_an_identifier_of_its_own_counts_too : Plays net (
+    codes "> A transact 1 {\"op\":\"insert\",\"table\":\"Bridge\",\"row\":{\"name\":\"a\"},\"uuid\":\"00000000-0000-4000-9000-000000000001\"},{\"op\":\"insert\",\"table\":\"Bridge\",\"row\":{\"name\":\"b\"}}"
+    ∷ codes "< A reply 1 [{\"uuid\":[\"uuid\",\"00000000-0000-4000-9000-000000000001\"]},{\"uuid\":[\"uuid\",\"U2\"]}]"
+    ∷ codes "> A transact 2 {\"op\":\"insert\",\"table\":\"Bridge\",\"row\":{\"name\":\"c\"},\"uuid\":\"U4\"},{\"op\":\"insert\",\"table\":\"Bridge\",\"row\":{\"name\":\"d\"}}"
+    ∷ codes "< A reply 2 [{\"uuid\":[\"uuid\",\"U4\"]},{\"error\":\"duplicate uuid\"}]"
+    ∷ codes "> A transact 3 {\"op\":\"insert\",\"table\":\"Bridge\",\"row\":{\"name\":\"c\"},\"uuid\":\"U6\"}"
+    ∷ codes "< A reply 3 [{\"uuid\":[\"uuid\",\"U6\"]}]"
+    ∷ codes "> A transact 4 {\"op\":\"insert\",\"table\":\"Bridge\",\"row\":{\"name\":\"e\"}}"
+    ∷ codes "< A reply 4 [{\"error\":\"duplicate uuid\"}]"
+    ∷ codes "> A transact 5 {\"op\":\"insert\",\"table\":\"Bridge\",\"row\":{\"name\":\"e\"},\"uuid\":\"x\"}"
+    ∷ codes "< A reply 5 [{\"error\":\"syntax error\"}]"
+    ∷ codes "> A transact 6 {\"op\":\"insert\",\"table\":\"Bridge\",\"row\":{\"name\":\"e\"}}"
+    ∷ codes "< A reply 6 [{\"uuid\":[\"uuid\",\"U8\"]}]"
+    ∷ [])
+unfolding shows
+an_insert_with_an_identifier_of_its_own_counts_too = refl
+
 -- Each insert that is read has an identifier, whatever becomes of it
 pub each_insert_that_is_read_has_an_identifier_whatever_becomes_of_it : Plays net (
     codes "> A transact 1 {\"op\":\"insert\",\"table\":\"Bridge\",\"row\":{\"name\":\"x\"}},{\"op\":\"insert\",\"k\":1.5}"

@@ -111,8 +111,60 @@ commits_aborts_comments_asserts_and_deletes = refl
 
 -- Inserts with an identifier of their own
 pub inserts_with_an_identifier_of_their_own : Plays net (
-    codes "> A transact 1 {\"op\":\"insert\",\"table\":\"Bridge\",\"row\":{\"name\":\"b\"},\"uuid\":\"00000000-0000-4000-8000-00000000000a\"}"
-    ∷ codes "< A reply 1 [{\"error\":\"syntax error\"}]"
+    codes "> A transact 1 {\"op\":\"insert\",\"table\":\"Bridge\",\"row\":{\"name\":\"a\"},\"uuid\":\"00000000-0000-4000-9000-00000000000a\"}"
+    ∷ codes "< A reply 1 [{\"uuid\":[\"uuid\",\"00000000-0000-4000-9000-00000000000a\"]}]"
+    ∷ codes "> A transact 2 {\"op\":\"insert\",\"table\":\"Bridge\",\"row\":{\"name\":\"b\"},\"uuid\":[\"uuid\",\"00000000-0000-4000-9000-00000000000b\"]}"
+    ∷ codes "< A reply 2 [{\"uuid\":[\"uuid\",\"00000000-0000-4000-9000-00000000000b\"]}]"
+    ∷ codes "> A transact 3 {\"op\":\"insert\",\"table\":\"Bridge\",\"row\":{\"name\":\"c\"},\"uuid\":\"00000000-0000-4000-9000-00000000ABCD\"}"
+    ∷ codes "< A reply 3 [{\"uuid\":[\"uuid\",\"00000000-0000-4000-9000-00000000abcd\"]}]"
+    ∷ codes "> A transact 4 {\"op\":\"insert\",\"table\":\"Bridge\",\"row\":{\"name\":\"d\"},\"uuid\":[\"uuid\",\"FFFFFFFF-FFFF-FFFF-FFFF-FFFFFFFFFFFF\"]}"
+    ∷ codes "< A reply 4 [{\"uuid\":[\"uuid\",\"ffffffff-ffff-ffff-ffff-ffffffffffff\"]}]"
+    ∷ codes "> A transact 5 {\"op\":\"insert\",\"table\":\"Bridge\",\"row\":{\"name\":\"e\"},\"uuid\":\"00000000-0000-4000-9000-00000000000A\"}"
+    ∷ codes "< A reply 5 [{\"error\":\"duplicate uuid\"}]"
+    ∷ codes "> A transact 6 {\"op\":\"insert\",\"table\":\"Bridge\",\"row\":{\"name\":\"f\"},\"uuid\":\"V0\"}"
+    ∷ codes "< A reply 6 [{\"uuid\":[\"uuid\",\"V0\"]}]"
+    ∷ codes "> A transact 7 {\"op\":\"insert\",\"table\":\"Bridge\",\"row\":{\"name\":\"g\"},\"uuid\":\"x\"}"
+    ∷ codes "< A reply 7 [{\"error\":\"syntax error\"}]"
+    ∷ codes "> A transact 8 {\"op\":\"insert\",\"table\":\"Bridge\",\"row\":{\"name\":\"g\"},\"uuid\":\"\"}"
+    ∷ codes "< A reply 8 [{\"error\":\"syntax error\"}]"
+    ∷ codes "> A transact 9 {\"op\":\"insert\",\"table\":\"Bridge\",\"row\":{\"name\":\"g\"},\"uuid\":\"00000000-0000-4000-9000-00000000000\"}"
+    ∷ codes "< A reply 9 [{\"error\":\"syntax error\"}]"
+    ∷ codes "> A transact 10 {\"op\":\"insert\",\"table\":\"Bridge\",\"row\":{\"name\":\"g\"},\"uuid\":\"00000000-0000-4000-9000-0000000000011\"}"
+    ∷ codes "< A reply 10 [{\"error\":\"syntax error\"}]"
+    ∷ codes "> A transact 11 {\"op\":\"insert\",\"table\":\"Bridge\",\"row\":{\"name\":\"g\"},\"uuid\":\"00000000000040009000000000000007\"}"
+    ∷ codes "< A reply 11 [{\"error\":\"syntax error\"}]"
+    ∷ codes "> A transact 12 {\"op\":\"insert\",\"table\":\"Bridge\",\"row\":{\"name\":\"g\"},\"uuid\":\"{00000000-0000-4000-9000-000000000007}\"}"
+    ∷ codes "< A reply 12 [{\"error\":\"syntax error\"}]"
+    ∷ codes "> A transact 13 {\"op\":\"insert\",\"table\":\"Bridge\",\"row\":{\"name\":\"g\"},\"uuid\":\"00000000-0000-4000-9000-00000000000g\"}"
+    ∷ codes "< A reply 13 [{\"error\":\"syntax error\"}]"
+    ∷ codes "> A transact 14 {\"op\":\"insert\",\"table\":\"Bridge\",\"row\":{\"name\":\"g\"},\"uuid\":5}"
+    ∷ codes "< A reply 14 [{\"error\":\"syntax error\"}]"
+    ∷ codes "> A transact 15 {\"op\":\"insert\",\"table\":\"Bridge\",\"row\":{\"name\":\"g\"},\"uuid\":null}"
+    ∷ codes "< A reply 15 [{\"error\":\"syntax error\"}]"
+    ∷ codes "> A transact 16 {\"op\":\"insert\",\"table\":\"Bridge\",\"row\":{\"name\":\"g\"},\"uuid\":true}"
+    ∷ codes "< A reply 16 [{\"error\":\"syntax error\"}]"
+    ∷ codes "> A transact 17 {\"op\":\"insert\",\"table\":\"Bridge\",\"row\":{\"name\":\"g\"},\"uuid\":[\"uuid\"]}"
+    ∷ codes "< A reply 17 [{\"error\":\"syntax error\"}]"
+    ∷ codes "> A transact 18 {\"op\":\"insert\",\"table\":\"Bridge\",\"row\":{\"name\":\"g\"},\"uuid\":[\"uuid\",\"x\"]}"
+    ∷ codes "< A reply 18 [{\"error\":\"syntax error\"}]"
+    ∷ codes "> A transact 19 {\"op\":\"insert\",\"table\":\"Bridge\",\"row\":{\"name\":\"g\"},\"uuid\":[\"uuid\",5]}"
+    ∷ codes "< A reply 19 [{\"error\":\"syntax error\"}]"
+    ∷ codes "> A transact 20 {\"op\":\"insert\",\"table\":\"Bridge\",\"row\":{\"name\":\"g\"},\"uuid\":[\"named-uuid\",\"a\"]}"
+    ∷ codes "< A reply 20 [{\"error\":\"syntax error\"}]"
+    ∷ codes "> A transact 21 {\"op\":\"insert\",\"table\":\"Bridge\",\"row\":{\"name\":\"g\"},\"uuid\":[\"set\",[[\"uuid\",\"00000000-0000-4000-9000-000000000007\"]]]}"
+    ∷ codes "< A reply 21 [{\"error\":\"syntax error\"}]"
+    ∷ codes "> A transact 22 {\"op\":\"insert\",\"table\":\"Bridge\",\"row\":{\"name\":\"g\"},\"uuid\":{\"uuid\":\"00000000-0000-4000-9000-000000000007\"}}"
+    ∷ codes "< A reply 22 [{\"error\":\"syntax error\"}]"
+    ∷ codes "> A transact 23 {\"op\":\"insert\",\"table\":\"Bridge\",\"row\":{\"name\":\"g\"},\"uuid\":[]}"
+    ∷ codes "< A reply 23 [{\"error\":\"syntax error\"}]"
+    ∷ codes "> A transact 24 {\"op\":\"insert\",\"table\":\"Bridge\",\"row\":{\"zz\":1},\"uuid\":\"x\"}"
+    ∷ codes "< A reply 24 [{\"error\":\"unknown column\"}]"
+    ∷ codes "> A transact 25 {\"op\":\"insert\",\"table\":\"Q\",\"row\":{},\"uuid\":\"x\"}"
+    ∷ codes "< A reply 25 [{\"error\":\"unknown table\"}]"
+    ∷ codes "> A transact 26 {\"op\":\"update\",\"table\":\"Bridge\",\"where\":[],\"row\":{},\"uuid\":\"00000000-0000-4000-9000-000000000007\"}"
+    ∷ codes "< A reply 26 [{\"error\":\"syntax error\"}]"
+    ∷ codes "> A transact 27 {\"op\":\"select\",\"table\":\"Bridge\",\"where\":[[\"_uuid\",\"==\",[\"uuid\",\"00000000-0000-4000-9000-00000000000A\"]]],\"columns\":[\"_uuid\",\"name\"]}"
+    ∷ codes "< A reply 27 [{\"rows\":[{\"_uuid\":[\"uuid\",\"00000000-0000-4000-9000-00000000000a\"],\"name\":\"a\"}]}]"
     ∷ [])
 unfolding shows
 inserts_with_an_identifier_of_their_own = refl
@@ -165,8 +217,8 @@ pub members_of_an_insert_and_the_columns_of_its_row_in_order : Plays operations 
     ∷ codes "< A reply 13 [{\"error\":\"syntax error\"}]"
     ∷ codes "> A transact 14 {\"op\":\"insert\",\"table\":\"A\",\"row\":{},\"uuid-name\":null}"
     ∷ codes "< A reply 14 [{\"error\":\"syntax error\"}]"
-    ∷ codes "> A transact 15 {\"op\":\"insert\",\"table\":\"A\",\"row\":{},\"uuid\":\"00000000-0000-4000-9000-000000000001\"}"
-    ∷ codes "< A reply 15 [{\"error\":\"syntax error\"}]"
+    ∷ codes "> A transact 15 {\"op\":\"insert\",\"table\":\"A\",\"row\":{\"zz\":1},\"uuid\":5}"
+    ∷ codes "< A reply 15 [{\"error\":\"unknown column\"}]"
     ∷ codes "> A transact 16 {\"op\":\"insert\",\"table\":\"A\",\"row\":{},\"uuid-name\":\"_1\"}"
     ∷ codes "< A reply 16 [{\"uuid\":[\"uuid\",\"U16\"]}]"
     ∷ codes "> A transact 17 {\"op\":\"insert\",\"table\":\"A\",\"row\":{\"k\":4}}"
@@ -281,6 +333,39 @@ pub a_wait_without_time_sees_the_work_of_its_own_transaction : Plays net (
 unfolding shows
 a_wait_without_time_sees_the_work_of_its_own_transaction = refl
 
+-- An identifier that is taken, that was deleted, and that comes again
+pub an_identifier_that_is_taken_that_was_deleted_and_that_comes_again : Plays net (
+    codes "> A monitor_cond 1 [\"net\",\"m\",{\"Bridge\":{\"columns\":[\"name\"]}}]"
+    ∷ codes "< A reply 1 {}"
+    ∷ codes "> B transact 1 {\"op\":\"insert\",\"table\":\"Bridge\",\"row\":{\"name\":\"br0\"},\"uuid\":\"00000000-0000-4000-9000-000000000001\"}"
+    ∷ codes "< A update2 [\"m\",{\"Bridge\":{\"00000000-0000-4000-9000-000000000001\":{\"insert\":{\"name\":\"br0\"}}}}]"
+    ∷ codes "< B reply 1 [{\"uuid\":[\"uuid\",\"00000000-0000-4000-9000-000000000001\"]}]"
+    ∷ codes "> B transact 2 {\"op\":\"insert\",\"table\":\"Bridge\",\"row\":{\"name\":\"br0\"},\"uuid\":\"00000000-0000-4000-9000-000000000001\"}"
+    ∷ codes "< B reply 2 [{\"error\":\"duplicate uuid\"}]"
+    ∷ codes "> B transact 3 {\"op\":\"delete\",\"table\":\"Bridge\",\"where\":[]},{\"op\":\"insert\",\"table\":\"Bridge\",\"row\":{\"name\":\"br0\"},\"uuid\":\"00000000-0000-4000-9000-000000000001\"}"
+    ∷ codes "< B reply 3 [{\"count\":1},{\"error\":\"duplicate uuid\"}]"
+    ∷ codes "> !hold A"
+    ∷ codes "> B transact 4 {\"op\":\"delete\",\"table\":\"Bridge\",\"where\":[]}"
+    ∷ codes "< B reply 4 [{\"count\":1}]"
+    ∷ codes "> B transact 5 {\"op\":\"insert\",\"table\":\"Bridge\",\"row\":{\"name\":\"br1\"},\"uuid\":\"00000000-0000-4000-9000-000000000001\"}"
+    ∷ codes "< B reply 5 [{\"uuid\":[\"uuid\",\"00000000-0000-4000-9000-000000000001\"]}]"
+    ∷ codes "> !take A"
+    ∷ codes "< A update2 [\"m\",{\"Bridge\":{\"00000000-0000-4000-9000-000000000001\":{\"modify\":{\"name\":\"br1\"}}}}]"
+    ∷ codes "> !hold A"
+    ∷ codes "> B transact 6 {\"op\":\"delete\",\"table\":\"Bridge\",\"where\":[]}"
+    ∷ codes "< B reply 6 [{\"count\":1}]"
+    ∷ codes "> B transact 7 {\"op\":\"insert\",\"table\":\"Bridge\",\"row\":{\"name\":\"br1\"},\"uuid\":\"00000000-0000-4000-9000-000000000001\"}"
+    ∷ codes "< B reply 7 [{\"uuid\":[\"uuid\",\"00000000-0000-4000-9000-000000000001\"]}]"
+    ∷ codes "> !take A"
+    ∷ codes "> !hold A"
+    ∷ codes "> B transact 8 {\"op\":\"delete\",\"table\":\"Bridge\",\"where\":[]}"
+    ∷ codes "< B reply 8 [{\"count\":1}]"
+    ∷ codes "> !take A"
+    ∷ codes "< A update2 [\"m\",{\"Bridge\":{\"00000000-0000-4000-9000-000000000001\":{\"delete\":null}}}]"
+    ∷ [])
+unfolding shows
+an_identifier_that_is_taken_that_was_deleted_and_that_comes_again = refl
+
 -- Bridges are added to the set of bridges, and taken out
 pub bridges_are_added_to_the_set_of_bridges_and_taken_out : Plays vsw (
     codes "> A transact 1 {\"op\":\"insert\",\"table\":\"Bridge\",\"row\":{\"name\":\"br0\"},\"uuid-name\":\"row1\"},{\"op\":\"insert\",\"table\":\"Open_vSwitch\",\"row\":{\"bridges\":[\"named-uuid\",\"row1\"]}}"
@@ -354,6 +439,22 @@ pub each_operation_has_its_result : Plays cnt (
     ∷ [])
 unfolding shows
 each_operation_has_its_result = refl
+
+-- One identifier in two tables
+pub one_identifier_in_two_tables : Plays net (
+    codes "> A transact 1 {\"op\":\"insert\",\"table\":\"Bridge\",\"row\":{\"name\":\"b\",\"ports\":[\"uuid\",\"00000000-0000-4000-9000-000000000001\"]},\"uuid\":\"00000000-0000-4000-9000-000000000001\"},{\"op\":\"insert\",\"table\":\"Port\",\"row\":{\"name\":\"p\"},\"uuid\":\"00000000-0000-4000-9000-000000000001\"},{\"op\":\"insert\",\"table\":\"Port\",\"row\":{\"name\":\"q\"},\"uuid\":\"00000000-0000-4000-9000-000000000001\"}"
+    ∷ codes "< A reply 1 [{\"uuid\":[\"uuid\",\"00000000-0000-4000-9000-000000000001\"]},{\"uuid\":[\"uuid\",\"00000000-0000-4000-9000-000000000001\"]},{\"error\":\"duplicate uuid\"}]"
+    ∷ codes "> A transact 2 {\"op\":\"insert\",\"table\":\"Bridge\",\"row\":{\"name\":\"b\",\"ports\":[\"uuid\",\"00000000-0000-4000-9000-000000000001\"]},\"uuid\":\"00000000-0000-4000-9000-000000000001\"},{\"op\":\"insert\",\"table\":\"Port\",\"row\":{\"name\":\"p\"},\"uuid\":\"00000000-0000-4000-9000-000000000001\"}"
+    ∷ codes "< A reply 2 [{\"uuid\":[\"uuid\",\"00000000-0000-4000-9000-000000000001\"]},{\"uuid\":[\"uuid\",\"00000000-0000-4000-9000-000000000001\"]}]"
+    ∷ codes "> A transact 3 {\"op\":\"select\",\"table\":\"Bridge\",\"where\":[[\"_uuid\",\"==\",[\"uuid\",\"00000000-0000-4000-9000-000000000001\"]]],\"columns\":[\"name\",\"ports\"]},{\"op\":\"select\",\"table\":\"Port\",\"where\":[[\"_uuid\",\"==\",[\"uuid\",\"00000000-0000-4000-9000-000000000001\"]]],\"columns\":[\"name\"]}"
+    ∷ codes "< A reply 3 [{\"rows\":[{\"name\":\"b\",\"ports\":[\"uuid\",\"00000000-0000-4000-9000-000000000001\"]}]},{\"rows\":[{\"name\":\"p\"}]}]"
+    ∷ codes "> A transact 4 {\"op\":\"delete\",\"table\":\"Bridge\",\"where\":[]},{\"op\":\"insert\",\"table\":\"Port\",\"row\":{\"name\":\"q\"},\"uuid\":\"00000000-0000-4000-9000-000000000001\"}"
+    ∷ codes "< A reply 4 [{\"count\":1},{\"error\":\"duplicate uuid\"}]"
+    ∷ codes "> A transact 5 {\"op\":\"delete\",\"table\":\"Port\",\"where\":[]},{\"op\":\"insert\",\"table\":\"Bridge\",\"row\":{\"name\":\"c\"},\"uuid\":\"00000000-0000-4000-9000-000000000001\"}"
+    ∷ codes "< A reply 5 [{\"count\":1},{\"error\":\"duplicate uuid\"}]"
+    ∷ [])
+unfolding shows
+one_identifier_in_two_tables = refl
 
 -- Operations without tables
 pub operations_without_tables : Plays choices (

@@ -71,6 +71,22 @@ pub a_name_may_be_used_before_its_insert : Plays net (
 unfolding shows
 a_name_may_be_used_before_its_insert = refl
 
+-- A name stands for the identifier that its insert has of its own
+pub a_name_stands_for_the_identifier_that_its_insert_has_of_its_own : Plays net (
+    codes "> A transact 1 {\"op\":\"insert\",\"table\":\"Bridge\",\"row\":{\"name\":\"b\",\"ports\":[\"named-uuid\",\"p\"]}},{\"op\":\"insert\",\"table\":\"Port\",\"row\":{\"name\":\"p\"},\"uuid-name\":\"p\",\"uuid\":\"00000000-0000-4000-9000-000000000001\"},{\"op\":\"select\",\"table\":\"Port\",\"where\":[[\"_uuid\",\"==\",[\"named-uuid\",\"p\"]]],\"columns\":[\"_uuid\"]}"
+    ∷ codes "< A reply 1 [{\"uuid\":[\"uuid\",\"U1\"]},{\"uuid\":[\"uuid\",\"00000000-0000-4000-9000-000000000001\"]},{\"rows\":[{\"_uuid\":[\"uuid\",\"00000000-0000-4000-9000-000000000001\"]}]}]"
+    ∷ codes "> A transact 2 {\"op\":\"select\",\"table\":\"Bridge\",\"where\":[],\"columns\":[\"ports\"]}"
+    ∷ codes "< A reply 2 [{\"rows\":[{\"ports\":[\"uuid\",\"00000000-0000-4000-9000-000000000001\"]}]}]"
+    ∷ codes "> A transact 3 {\"op\":\"insert\",\"table\":\"Bridge\",\"row\":{\"name\":\"c\"},\"uuid-name\":\"c\",\"uuid\":\"00000000-0000-4000-9000-00000000000c\"},{\"op\":\"insert\",\"table\":\"Bridge\",\"row\":{\"name\":\"d\"},\"uuid-name\":\"c\",\"uuid\":\"00000000-0000-4000-9000-00000000000c\"}"
+    ∷ codes "< A reply 3 [{\"uuid\":[\"uuid\",\"00000000-0000-4000-9000-00000000000c\"]},{\"error\":\"duplicate uuid-name\"}]"
+    ∷ codes "> A transact 4 {\"op\":\"insert\",\"table\":\"Bridge\",\"row\":{\"name\":\"c\"},\"uuid-name\":\"c\",\"uuid\":\"00000000-0000-4000-9000-00000000000c\"},{\"op\":\"insert\",\"table\":\"Bridge\",\"row\":{\"name\":\"d\"},\"uuid-name\":\"d\",\"uuid\":\"00000000-0000-4000-9000-00000000000c\"}"
+    ∷ codes "< A reply 4 [{\"uuid\":[\"uuid\",\"00000000-0000-4000-9000-00000000000c\"]},{\"error\":\"duplicate uuid\"}]"
+    ∷ codes "> A transact 5 {\"op\":\"insert\",\"table\":\"Bridge\",\"row\":{\"name\":\"d\",\"ports\":[\"named-uuid\",\"d\"]}},{\"op\":\"select\",\"table\":\"Bridge\",\"where\":[[\"name\",\"==\",\"d\"]],\"columns\":[\"ports\"]},{\"op\":\"insert\",\"table\":\"Bridge\",\"row\":{\"name\":\"e\"},\"uuid-name\":\"d\",\"uuid\":\"00000000-0000-4000-9000-00000000000d\"},{\"op\":\"insert\",\"table\":\"Bridge\",\"row\":{\"name\":\"f\"},\"uuid-name\":\"d\",\"uuid\":\"00000000-0000-4000-9000-00000000000e\"}"
+    ∷ codes "< A reply 5 [{\"uuid\":[\"uuid\",\"U7\"]},{\"rows\":[{\"ports\":[\"uuid\",\"00000000-0000-4000-9000-00000000000d\"]}]},{\"uuid\":[\"uuid\",\"00000000-0000-4000-9000-00000000000d\"]},{\"error\":\"duplicate uuid-name\"}]"
+    ∷ [])
+unfolding shows
+a_name_stands_for_the_identifier_that_its_insert_has_of_its_own = refl
+
 -- A transaction that is tried again keeps its identifiers
 pub a_transaction_that_is_tried_again_keeps_its_identifiers : Plays net (
     codes "> A transact 1 {\"op\":\"wait\",\"table\":\"Bridge\",\"where\":[],\"columns\":[\"name\"],\"until\":\"!=\",\"rows\":[]},{\"op\":\"insert\",\"table\":\"Bridge\",\"row\":{\"name\":\"c\"}},{\"op\":\"insert\",\"table\":\"Bridge\",\"row\":{\"name\":\"d\"}}"
@@ -80,6 +96,18 @@ pub a_transaction_that_is_tried_again_keeps_its_identifiers : Plays net (
     ∷ [])
 unfolding shows
 a_transaction_that_is_tried_again_keeps_its_identifiers = refl
+
+-- An identifier that can not be read leaves the one that was handed in
+pub an_identifier_that_can_not_be_read_leaves_the_one_that_was_handed_in : Plays net (
+    codes "> A transact 1 {\"op\":\"insert\",\"table\":\"Bridge\",\"row\":{\"name\":\"b\",\"ports\":[\"named-uuid\",\"p\"]}},{\"op\":\"select\",\"table\":\"Bridge\",\"where\":[],\"columns\":[\"ports\"]},{\"op\":\"insert\",\"table\":\"Port\",\"row\":{\"name\":\"p\"},\"uuid-name\":\"p\",\"uuid\":\"x\"}"
+    ∷ codes "< A reply 1 [{\"uuid\":[\"uuid\",\"U1\"]},{\"rows\":[{\"ports\":[\"uuid\",\"U2\"]}]},{\"error\":\"syntax error\"}]"
+    ∷ codes "> A transact 2 {\"op\":\"insert\",\"table\":\"Bridge\",\"row\":{\"name\":\"b\",\"ports\":[\"named-uuid\",\"p\"]}},{\"op\":\"select\",\"table\":\"Bridge\",\"where\":[],\"columns\":[\"ports\"]},{\"op\":\"insert\",\"table\":\"Port\",\"row\":{\"zz\":1},\"uuid-name\":\"p\",\"uuid\":[\"uuid\",\"00000000-0000-4000-9000-000000000001\"]}"
+    ∷ codes "< A reply 2 [{\"uuid\":[\"uuid\",\"U3\"]},{\"rows\":[{\"ports\":[\"uuid\",\"00000000-0000-4000-9000-000000000001\"]}]},{\"error\":\"unknown column\"}]"
+    ∷ codes "> A transact 3 {\"op\":\"insert\",\"table\":\"Bridge\",\"row\":{\"name\":\"b\",\"ports\":[\"named-uuid\",\"p\"]}},{\"op\":\"select\",\"table\":\"Bridge\",\"where\":[],\"columns\":[\"ports\"]},{\"op\":\"insert\",\"table\":\"Port\",\"row\":{\"name\":\"p\"},\"uuid-name\":\"p\",\"uuid\":[\"named-uuid\",\"p\"]}"
+    ∷ codes "< A reply 3 [{\"uuid\":[\"uuid\",\"U5\"]},{\"rows\":[{\"ports\":[\"uuid\",\"U6\"]}]},{\"error\":\"syntax error\"}]"
+    ∷ [])
+unfolding shows
+an_identifier_that_can_not_be_read_leaves_the_one_that_was_handed_in = refl
 
 -- Names of inserts that refer to each other, that repeat and that stand for nothing
 pub names_of_inserts_that_refer_to_each_other_that_repeat_and_that_stand_for_nothing : Plays operations (

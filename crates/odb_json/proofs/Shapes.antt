@@ -1,5 +1,6 @@
 -- Identifiers by their tags, and arrays of two.
 use Rattle.std.specs.Prelude.{◌≡◌, ℕ, Bool, true, false, cond, List, [], ◌∷◌, codes, length, Option, Some, None}
+use Rattle.std.proofs.lemmas.Option.{none-some, same_Some}
 use mathlib.Core.Path.{refl, sym, ap, ◌∙◌}
 use Rattle.serde_json.specs.declared.value.Value.{Value}
 use Rattle.serde_json.specs.View.{items_view}
@@ -7,9 +8,10 @@ use Rattle.odb_atoms.specs.Error.{Error, syntax_error}
 use Rattle.odb_atoms.specs.First.{Err, Result, ok_or}
 use Rattle.odb_atoms.specs.Text.{same_text}
 use Rattle.odb_atoms.specs.Uuid.{Uuid, uuid_of_text}
-use Rattle.odb_schema.specs.Json.{Data, array, as_array, boolean, item, no_items, null, number, object, string}
+use Rattle.odb_schema.specs.Json.{Data, array, as_array, as_str, boolean, item, no_items, null, number, object, string}
 use Rattle.odb_schema.specs.Notation.{Names, named_uuid, pair_of, read_uuid, tagged}
 use Rattle.odb_schema.proofs.Uuids.{array_of}
+use Rattle.odb_json.specs.Operation.{read_own_uuid}
 use Rattle.odb_json.specs.Represented.Parts.{behind_name, behind_uuid}
 
 module _ (names : Option Names) where
@@ -43,6 +45,24 @@ module _ (names : Option Names) where
 
   pub name_tagged : (d content : Data) → None ≡ tagged (codes "uuid") d → Some content ≡ tagged (codes "named-uuid") d → behind_name names content ≡ read_uuid names d
   name_tagged d content none is = (λ i. by_tags (none i) (is i)) ∙ sym (tags d)
+
+-- ---- identifiers of inserts
+
+pub own_text : (d : Data) (s : List ℕ) → Some s ≡ as_str d → ok_or (uuid_of_text s) syntax_error ≡ read_own_uuid d
+own_text (string r) s e = ap (λ q. ok_or (uuid_of_text q) syntax_error) (same_Some _ _ e)
+own_text null s e = absurd (none-some s (sym e))
+own_text (boolean b) s e = absurd (none-some s (sym e))
+own_text (number n) s e = absurd (none-some s (sym e))
+own_text (array ds) s e = absurd (none-some s (sym e))
+own_text (object ms) s e = absurd (none-some s (sym e))
+
+pub own_tagged : (d : Data) → None ≡ as_str d → read_uuid None d ≡ read_own_uuid d
+own_tagged (string s) e = absurd (none-some s e)
+own_tagged null e = refl
+own_tagged (boolean b) e = refl
+own_tagged (number n) e = refl
+own_tagged (array ds) e = refl
+own_tagged (object ms) e = refl
 
 -- ---- arrays of another length than two are no pairs
 

@@ -226,7 +226,9 @@ module _ (s : Schema) (names : Names) (ms : Members) where
   insert_suits : (t : ℕ) → t < length s.tables → Suits (model.read_insert names t (columns_at s t) ms)
   insert_suits t h =
       any (model.read_needed (codes "row") (model.read_row names (columns_at s t) (model.insertable (columns_at s t))) ms) _ (λ row.
-      any (json.if_given model.read_id (json.get_member (codes "uuid-name") ms)) _ (λ name. ends (Op.insert t row name) h (model.refuse_other_members (codes "table" ∷ codes "row" ∷ codes "uuid-name" ∷ []) ms)))
+      any (json.if_given model.read_id (json.get_member (codes "uuid-name") ms)) _ (λ name.
+      any (json.if_given model.read_own_uuid (json.get_member (codes "uuid") ms)) _ (λ own.
+      ends (Op.insert t row name own) h (model.refuse_other_members (codes "table" ∷ codes "row" ∷ codes "uuid-name" ∷ codes "uuid" ∷ []) ms))))
 
   select_suits : (t : ℕ) → t < length s.tables → Suits (model.read_select names t (columns_at s t) ms)
   select_suits t h = any (model.read_where names (columns_at s t) ms) _ (λ clauses. any (model.read_columns (columns_at s t) (json.get_member (codes "columns") ms)) _ (λ columns. ends (Op.select t clauses columns) h (model.refuse_other_members (codes "table" ∷ codes "where" ∷ codes "columns" ∷ []) ms)))

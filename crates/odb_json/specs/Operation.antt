@@ -6,22 +6,23 @@ use Rattle.odb_atoms.specs.Error.{Error, constraint_violation, syntax_error, unk
 use Rattle.odb_atoms.specs.First.{Err, Ok, Result, demand, each, ok_or, ◌>>=◌, ◌>>◌}
 use Rattle.odb_atoms.specs.Row.{Selector, declared, own_uuid, own_version, place_of, same_selector}
 use Rattle.odb_atoms.specs.Text.{is_id, same_text}
+use Rattle.odb_atoms.specs.Uuid.{Uuid, uuid_of_text}
 use Rattle.odb_atoms.specs.Value.{Value}
 use Rattle.odb_cond.specs.Condition.{Clause}
 use Rattle.odb_json.specs.ColumnValue.{read_by_kind, read_value}
 use Rattle.odb_json.specs.ConditionNotation.{read_clause, read_selector, read_text}
 use Rattle.odb_json.specs.MutationNotation.{changeable, read_mutation}
 use Rattle.odb_mutate.specs.Mutation.{Mutation}
-use Rattle.odb_schema.specs.Json.{Data, Members, get_member, if_given, items_list, members_list, needed}
-use Rattle.odb_schema.specs.Notation.{Names}
+use Rattle.odb_schema.specs.Json.{Data, Members, get_member, if_given, items_list, members_list, needed, string}
+use Rattle.odb_schema.specs.Notation.{Names, read_uuid}
 use Rattle.odb_schema.specs.Schema.{Column, Schema, column_type, columns_at, selector, selector_type, table_place}
 
 pub data Until : Type 0 where
   until_equal until_not_equal : Until
 
--- Tables and columns stand for their places. A row is the values that it names.
+-- Tables and columns stand for their places. A row is the values that it names. An `insert` may have a name, and an identifier of its own.
 pub data Op : Type 0 where
-  insert : ℕ → List (ℕ × Value) → Option (List ℕ) → Op
+  insert : ℕ → List (ℕ × Value) → Option (List ℕ) → Option Uuid → Op
   select : ℕ → List Clause → List Selector → Op
   update : ℕ → List Clause → List (ℕ × Value) → Op
   mutate : ℕ → List Clause → List Mutation → Op
@@ -42,6 +43,11 @@ read_id d = do
   s ← read_text d
   demand (is_id s) syntax_error
   Ok s
+
+-- the identifier that an insert has of its own: its text, or `["uuid", text]`
+abbrev pub read_own_uuid : Data → Result Uuid Error
+read_own_uuid (string s) = ok_or (uuid_of_text s) syntax_error
+read_own_uuid d = read_uuid None d
 
 abbrev pub read_list : {A : Type 0} → (Data → Result A Error) → Data → Result (List A) Error
 read_list read d = do
@@ -167,8 +173,9 @@ module _ (names : Names) (table : ℕ) (cs : List Column) (ms : Members) where
   read_insert = do
     row ← read_needed (codes "row") (read_row names cs (insertable cs)) ms
     name ← if_given read_id (get_member (codes "uuid-name") ms)
-    refuse_other_members (codes "table" ∷ codes "row" ∷ codes "uuid-name" ∷ []) ms
-    Ok (Op.insert table row name)
+    own ← if_given read_own_uuid (get_member (codes "uuid") ms)
+    refuse_other_members (codes "table" ∷ codes "row" ∷ codes "uuid-name" ∷ codes "uuid" ∷ []) ms
+    Ok (Op.insert table row name own)
 
   abbrev pub read_select : Result Op Error
   read_select = do

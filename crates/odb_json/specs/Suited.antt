@@ -18,7 +18,7 @@ are_taken cs ms = list_all (λ m. takes (column_type cs m.column) m.mutator m.va
 
 -- its table is one of the schema's, the values that it writes are of their columns' kinds, and its mutations are ones that their columns have
 abbrev pub IsFor : Schema → Op → Type 0
-IsFor s (insert t given name) = t < length s.tables
+IsFor s (insert t given name own) = t < length s.tables
 IsFor s (select t clauses columns) = t < length s.tables
 IsFor s (update t clauses given) = (t < length s.tables) × (are_of_kind (columns_at s t) given ≡ true)
 IsFor s (mutate t clauses ms) = (t < length s.tables) × (are_taken (columns_at s t) ms ≡ true)

@@ -1,9 +1,10 @@
-//! Atoms (RFC 7047, section 5.1, `<atom>`), in a transaction or outside. [P 2.2, 2.3]
+//! Atoms (RFC 7047, section 5.1, `<atom>`), in a transaction or outside. [P 2.2, 2.3, 4.1]
 
 ghost use Rattle.std.specs.Prelude.{option_map};
 ghost use Rattle.serde_json.specs.View.{view};
 ghost use Rattle.odb_atoms.specs.Represented.Atom.{atom_of, kind_in, uuid_of};
 ghost use Rattle.odb_schema.specs.Notation as notation;
+ghost use Rattle.odb_json.specs.Operation.{read_own_uuid};
 ghost use Rattle.odb_json.specs.Represented.Fault.{Gives, Reads};
 ghost use Rattle.odb_json.specs.Represented.Parts.{behind_name, behind_uuid};
 
@@ -58,6 +59,17 @@ fn read_uuid(value: &Value, names: Option<&Names>) -> Result<Uuid, OpFault>
     match tagged("named-uuid", value) {
         Some(content) => named_behind(content, names),
         None => Err(SYNTAX),
+    }
+}
+
+/// The identifier that an insert has of its own (ovsdb-server(7), 5.2.1, `uuid`): its text of 36
+/// characters, or `["uuid", text]`; `SyntaxError` for all else. O(1).
+pub fn read_own_uuid(value: &Value) -> Result<Uuid, OpFault>
+    ensures { Gives uuid_of result (read_own_uuid (view value.now)) }
+{
+    match value.as_str() {
+        Some(text) => parse_uuid(text).ok_or(SYNTAX),
+        None => read_uuid(value, None),
     }
 }
 

@@ -20,6 +20,7 @@ mod pairs;
 mod row;
 mod value;
 
+pub use atom::read_own_uuid;
 pub use clause::read_clause;
 pub use column::read_columns;
 pub use fault::OpFault;

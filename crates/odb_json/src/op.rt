@@ -3,6 +3,7 @@
 use odb_cond::{Selector, Where};
 use odb_mutate::Mutation;
 use odb_schema::{ColumnId, TableId};
+use uuid::Uuid;
 
 /// An operation (RFC 7047, section 5.2), with its tables and columns by their places.
 #[derive(Drop)]
@@ -30,6 +31,8 @@ pub struct Insert {
     pub row: Vec<(ColumnId, odb_atoms::Value)>,
     /// `uuid-name`, which stands for the row's identifier in the transaction.
     pub name: Option<String>,
+    /// `uuid` (ovsdb-server(7), 5.2.1), the identifier that the row is to have.
+    pub uuid: Option<Uuid>,
 }
 
 /// `select` (RFC 7047, section 5.2.2) of these columns, in their order.

@@ -2,13 +2,14 @@
 
 ghost use Rattle.std.specs.Prelude.{◌≡◌, ◌<◌, IfOk, codes, length, option_map, string_bytes};
 ghost use Rattle.serde_json.specs.View.{members_view, view};
+ghost use Rattle.odb_atoms.specs.Represented.Atom.{uuid_of};
 ghost use Rattle.odb_schema.specs.Json.{get_member, if_given};
 ghost use Rattle.odb_json.specs.Operation as model;
 ghost use Rattle.odb_json.specs.Represented.Fault.{Gives, Reads};
 ghost use Rattle.odb_json.specs.Suited.{IsFor};
 ghost use Rattle.odb_json.specs.Represented.Operation.{on_table_of, op_of, read_by, table_reader, until_of, verb_of};
 
-use crate::atom::SYNTAX;
+use crate::atom::{SYNTAX, read_own_uuid};
 use crate::clause::read_where;
 use crate::column::read_columns;
 use crate::fault::OpFault;
@@ -21,6 +22,7 @@ use odb_atoms::Error;
 use odb_schema::{Schema, TableId, TableSchema, member};
 use serde_json::{Map, Value};
 use std::alloc::Global;
+use uuid::Uuid;
 
 /// What `op` names.
 #[derive(Clone, Copy)]
@@ -86,6 +88,18 @@ fn read_name(alloc: Global, members: &Map<String, Value>) -> Result<Option<Strin
     }
 }
 
+/// `uuid` of `insert`, where it is given.
+fn read_uuid(members: &Map<String, Value>) -> Result<Option<Uuid>, OpFault>
+    ensures { Gives (option_map uuid_of) result
+        (if_given model.read_own_uuid
+        (get_member (codes "uuid") (members_view members.now.entries))) }
+{
+    match member("uuid", members) {
+        None => Ok(None),
+        Some(value) => Ok(Some(read_own_uuid(value)?)),
+    }
+}
+
 /// `until` of `wait`.
 fn read_until(members: &Map<String, Value>) -> Result<Until, OpFault>
     ensures { Gives until_of result
@@ -129,11 +143,13 @@ impl OnTable<'_> {
         let row = needed("row", self.members)?;
         let row = read_row(self.alloc, row, self.table, WrittenBy::Insert, self.names)?;
         let name = read_name(self.alloc, self.members)?;
-        no_other(&["op", "table", "row", "uuid-name"], self.members)?;
+        let uuid = read_uuid(self.members)?;
+        no_other(&["op", "table", "row", "uuid-name", "uuid"], self.members)?;
         Ok(Op::Insert(Insert {
             table: self.id,
             row,
             name,
+            uuid,
         }))
     }
 
@@ -320,7 +336,7 @@ fn read_members(
 /// right, where one that has to be there and isn't, or has another JSON kind, is `syntax error`;
 /// and last a member that isn't one of them (`syntax error`).
 ///
-/// - `insert`: `table`, `row`, [`uuid-name`], an id;
+/// - `insert`: `table`, `row`, [`uuid-name`], an id, [`uuid`], as `read_own_uuid` reads it;
 /// - `select`: `table`, `where`, [`columns`];
 /// - `update`: `table`, `where`, `row`;
 /// - `mutate`: `table`, `where`, `mutations`;

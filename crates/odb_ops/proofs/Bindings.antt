@@ -9,7 +9,7 @@ use Rattle.odb_atoms.specs.Text.{text_cmp}
 use Rattle.odb_atoms.specs.Uuid.{Uuid}
 use Rattle.odb_atoms.proofs.FinMaps.{get-empty, get-insert, same_key, same_map}
 use Rattle.odb_atoms.proofs.TextMaps.{text_cmp-IsAntisymmetric}
-use Rattle.odb_ops.specs.Execution.{bind_name, first_fresh, fresh_after, is_insert, names_of}
+use Rattle.odb_ops.specs.Execution.{bind_name, fresh_after, identifier_of, is_insert, names_of}
 use Rattle.odb_ops.specs.Represented.Parts.{AreTaken, bound}
 use Rattle.odb_schema.specs.Json.{Data, string_member}
 use Rattle.odb_schema.specs.Notation.{Names}
@@ -53,11 +53,11 @@ abbrev pub stands : Names → List Data → List Uuid → List ℕ → Option Uu
 stands names ds fresh q = option_or (map.get names q) (map.get (names_of ds fresh) q)
 
 pub one_more : (names new : Names) (d : Data) (ds : List Data) (fresh : List Uuid)
-    → new ≡ cond (is_insert d) (bound (string_member (codes "uuid-name") d) (first_fresh fresh) names) names
+    → new ≡ cond (is_insert d) (bound (string_member (codes "uuid-name") d) (identifier_of d fresh) names) names
     → (q : List ℕ) → stands new ds (fresh_after d fresh) q ≡ stands names (d ∷ ds) fresh q
 one_more names new d ds fresh e q =
     ap (λ m. stands m ds (fresh_after d fresh) q) e
-    ∙ one_operation (is_insert d) (string_member (codes "uuid-name") d) (first_fresh fresh) names (names_of ds (fresh_after d fresh)) q
+    ∙ one_operation (is_insert d) (string_member (codes "uuid-name") d) (identifier_of d fresh) names (names_of ds (fresh_after d fresh)) q
 
 pub none_bound : (names : Names) (ds : List Data) (fresh : List Uuid) → names ≡ map.empty → (q : List ℕ) → stands names ds fresh q ≡ map.get (names_of ds fresh) q
 none_bound names ds fresh e q = ap (λ m. stands m ds fresh q) e ∙ ap (λ o. option_or o (map.get (names_of ds fresh) q)) (get-empty text_cmp q)

@@ -1,5 +1,5 @@
 -- Inserts whose name is taken first.
-use Rattle.std.proofs.Common.{◌≡◌, ℕ, Bool, true, false, not, List, [], ◌∷◌, ◌++◌, codes, Option, Some, None, Result, Ok, Err, refl, sym, ap, subst, ◌∙◌}
+use Rattle.std.proofs.Common.{◌≡◌, ℕ, Bool, true, false, not, List, [], ◌∷◌, ◌++◌, codes, unwrap_or, option_map, Option, Some, None, Result, Ok, Err, refl, sym, ap, subst, ◌∙◌}
 use Rattle.odb_atoms.specs.FinMap as map
 use Rattle.odb_atoms.specs.Error.{Error, constraint_violation, duplicate_uuid, duplicate_uuid_name}
 use Rattle.odb_atoms.specs.First.{demand, ◌>>◌}
@@ -18,6 +18,10 @@ use Rattle.odb_schema.specs.Notation.{Names, write_uuid}
 use Rattle.odb_schema.specs.Schema.{Schema, columns_at}
 use Rattle.odb_tables.specs.Database.{table_at}
 use Rattle.odb_tables.specs.Draft.{Draft}
+
+pub unwrap_or-map : {A B : Type 0} (f : A → B) (o : Option A) (x : A) → unwrap_or (option_map f o) (f x) ≡ f (unwrap_or o x)
+unwrap_or-map f None x = refl
+unwrap_or-map f (Some y) x = refl
 
 -- the draft of the tables as one of the operations
 abbrev pub renamed : List (List ℕ) → Result (Draft × Data) Error → Result (model.Draft × Data) Error

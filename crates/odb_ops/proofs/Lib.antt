@@ -8,6 +8,7 @@ pub mod Inserts
 pub mod Loops
 pub mod Mutates
 pub mod NoFloats
+pub mod OwnIdentifiers
 pub mod Readers
 pub mod Rewrites
 pub mod RowSets

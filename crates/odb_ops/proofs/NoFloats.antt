@@ -1,5 +1,5 @@
 -- Results have no fractions, so that their texts are exact.
-use Rattle.std.specs.Prelude.{◌≡◌, ℕ, zero, suc, pos, negsuc, Bool, true, false, ◌||◌, not, codes, length, replicate, zip, List, [], ◌∷◌, ◌++◌, map as map_list, ⊤, Option, Some, None, Result, Ok, Err}
+use Rattle.std.specs.Prelude.{◌≡◌, ℕ, zero, suc, pos, negsuc, Bool, true, false, ◌||◌, not, codes, length, replicate, zip, List, [], ◌∷◌, ◌++◌, map as map_list, ⊤, unwrap_or, Option, Some, None, Result, Ok, Err}
 use mathlib.Core.Bool.{true≢false}
 use mathlib.Core.Path.{refl}
 use Rattle.std.specs.declared.cmp.Ordering.{Ordering}
@@ -139,7 +139,7 @@ inserted_whole s d u t given name =
 
 perform_whole : (s : Schema) (c : Context) (u : Uuid) (d : Draft) (o : Op) → GivesWhole (model.perform s c u d o)
 unfolding model.perform
-perform_whole s c u d (Op.insert t given name) = or_stop_whole (model.inserted s d u t given name) (inserted_whole s d u t given name)
+perform_whole s c u d (Op.insert t given name own) = or_stop_whole (model.inserted s d (unwrap_or own u) t given name) (inserted_whole s d (unwrap_or own u) t given name)
 perform_whole s c u d (Op.select t clauses columns) = read_in Stop (λ p. IsWhole p.1) _ (rows_whole (columns_at s t) columns (model.distinct (model.selected columns (model.found d t clauses))))
 perform_whole s c u d (Op.update t clauses given) = read_in Stop (λ p. IsWhole p.1) _ refl
 perform_whole s c u d (Op.mutate t clauses ms) = or_fault_whole (model.first_fault (model.faults (columns_at s t) ms (model.found d t clauses))) _ refl

@@ -24,8 +24,8 @@ use Rattle.odb_tables.specs.Database.{Db}
 
 -- ---- reading
 
-abbrev IsReader : Op → Type 0
-IsReader (Op.insert t given name) = ⊥
+abbrev pub IsReader : Op → Type 0
+IsReader (Op.insert t given name own) = ⊥
 IsReader (Op.select t clauses columns) = ⊤
 IsReader (Op.update t clauses given) = ⊥
 IsReader (Op.mutate t clauses ms) = ⊥
@@ -55,16 +55,16 @@ module _ (s : Schema) (names : Names) (ms : Members) where
   ends : (o : Op) → IsReader o → (r : Result ⊤ Error) → Reads (behind r (Ok o))
   ends o h r = tested_holds IsReader r _ (read_in Error IsReader o h)
 
-  on_table : (read : Names → ℕ → List Column → Members → Result Op Error) → ((t : ℕ) → Reads (read names t (columns_at s t) ms)) → Reads (operation.on_table read s names ms)
+  pub on_table : (read : Names → ℕ → List Column → Members → Result Op Error) → ((t : ℕ) → Reads (read names t (columns_at s t) ms)) → Reads (operation.on_table read s names ms)
   on_table read h = any (operation.read_table s ms) _ h
 
-  select_reads : (t : ℕ) → Reads (operation.read_select names t (columns_at s t) ms)
+  pub select_reads : (t : ℕ) → Reads (operation.read_select names t (columns_at s t) ms)
   select_reads t =
       any (operation.read_where names (columns_at s t) ms) _ (λ clauses.
       any (operation.read_columns (columns_at s t) (json.get_member (codes "columns") ms)) _ (λ columns.
       ends (Op.select t clauses columns) tt (operation.refuse_other_members (codes "table" ∷ codes "where" ∷ codes "columns" ∷ []) ms)))
 
-  wait_reads : (t : ℕ) → Reads (operation.read_wait names t (columns_at s t) ms)
+  pub wait_reads : (t : ℕ) → Reads (operation.read_wait names t (columns_at s t) ms)
   wait_reads t =
       any (operation.read_where names (columns_at s t) ms) _ (λ clauses.
       any (operation.read_columns (columns_at s t) (json.get_member (codes "columns") ms)) _ (λ columns.
@@ -73,16 +73,16 @@ module _ (s : Schema) (names : Names) (ms : Members) where
       any (json.if_given operation.read_natural (json.get_member (codes "timeout") ms)) _ (λ timeout.
       ends (Op.wait t clauses columns until rows timeout) tt (operation.refuse_other_members (codes "table" ∷ codes "where" ∷ codes "columns" ∷ codes "until" ∷ codes "rows" ∷ codes "timeout" ∷ []) ms))))))
 
-  commit_reads : Reads (operation.read_commit ms)
+  pub commit_reads : Reads (operation.read_commit ms)
   commit_reads = any (operation.read_needed (codes "durable") operation.read_bool ms) _ (λ durable. ends (Op.commit durable) tt (operation.refuse_other_members (codes "durable" ∷ []) ms))
 
-  abort_reads : Reads (operation.read_abort ms)
+  pub abort_reads : Reads (operation.read_abort ms)
   abort_reads = ends Op.abort tt (operation.refuse_other_members [] ms)
 
-  comment_reads : Reads (operation.read_comment ms)
+  pub comment_reads : Reads (operation.read_comment ms)
   comment_reads = any (operation.read_needed (codes "comment") read_text ms) _ (λ text. ends Op.comment tt (operation.refuse_other_members (codes "comment" ∷ []) ms))
 
-  assert_reads : Reads (operation.read_assert ms)
+  pub assert_reads : Reads (operation.read_assert ms)
   assert_reads = any (operation.read_needed (codes "lock") operation.read_id ms) _ (λ lock. ends (Op.assert lock) tt (operation.refuse_other_members (codes "lock" ∷ []) ms))
 
   -- what is read after this name
@@ -122,7 +122,7 @@ goes_on false d stop = none_read (KeepsDb d.db) stop
 
 perform_keeps : (s : Schema) (c : Context) (u : Uuid) (d : Draft) (o : Op) → IsReader o → Holds (KeepsDb d.db) (model.perform s c u d o)
 unfolding model.perform
-perform_keeps s c u d (Op.insert t given name) h = absurd h
+perform_keeps s c u d (Op.insert t given name own) h = absurd h
 perform_keeps s c u d (Op.select t clauses columns) h = read_in Stop (KeepsDb d.db) (d, model.rows_result (columns_at s t) columns (model.distinct (model.selected columns (model.found d t clauses)))) refl
 perform_keeps s c u d (Op.update t clauses given) h = absurd h
 perform_keeps s c u d (Op.mutate t clauses ms) h = absurd h

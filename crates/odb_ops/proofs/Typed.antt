@@ -142,7 +142,7 @@ inserted_typed s d u t given name h =
 
 pub perform_typed : (s : Schema) (c : Context) (u : Uuid) (d : Draft) (o : Op) → IsFor s o → IsTyped s d.db → KeepsTyped s (model.perform s c u d o)
 unfolding model.perform
-perform_typed s c u d (Op.insert t given name) suits h = or_stop_holds (λ p. IsTyped s p.0.db) (model.inserted s d u t given name) (inserted_typed s d u t given name h)
+perform_typed s c u d (Op.insert t given name own) suits h = or_stop_holds (λ p. IsTyped s p.0.db) (model.inserted s d (unwrap_or own u) t given name) (inserted_typed s d (unwrap_or own u) t given name h)
 perform_typed s c u d (Op.select t clauses columns) suits h = read_in Stop (λ p. IsTyped s p.0.db) _ h
 perform_typed s c u d (Op.update t clauses given) suits h =
     read_in Stop (λ p. IsTyped s p.0.db) _ (typed_with s d.db t _ h (rows_changed (columns_at s t) clauses (model.replaced given) (table_at d.db t) (h.1 t) (λ r g. replaced_fits (columns_at s t) given r suits.1 g)))

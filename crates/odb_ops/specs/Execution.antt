@@ -1,5 +1,5 @@
 -- What each operation makes of the database, and its result (RFC 7047, Database Operations). [P 4.2, 6.1, 6.2, 12.1]
-use Rattle.std.specs.Prelude.{ℕ, ◌+◌, ◌^◌, pos, Bool, true, false, cond, not, ◌&&◌, ◌||◌, ◌==◌, List, [], ◌∷◌, ◌++◌, map as map_list, length, codes, find, filter, filter_map, zip, drop, replicate, slice_get, slice_set, nat_lt, nat_le, unwrap_or, Option, Some, None, option_map}
+use Rattle.std.specs.Prelude.{ℕ, ◌+◌, ◌^◌, pos, Bool, true, false, cond, not, ◌&&◌, ◌||◌, ◌==◌, List, [], ◌∷◌, ◌++◌, map as map_list, length, codes, find, filter, filter_map, zip, drop, replicate, slice_get, slice_set, nat_lt, nat_le, unwrap_or, Option, Some, None, option_and_then, option_map}
 use Rattle.std.specs.List.{list_any, list_all, enumerate_from}
 use Rattle.std.specs.Result.{result_ok, result_err}
 use Rattle.odb_atoms.specs.FinMap as map
@@ -13,9 +13,9 @@ use Rattle.odb_atoms.specs.Text.{same_text}
 use Rattle.odb_atoms.specs.Uuid.{Uuid, uuid_cmp, zero_uuid}
 use Rattle.odb_atoms.specs.Value.{Value, same_values}
 use Rattle.odb_cond.specs.Condition.{Clause, holds_all}
-use Rattle.odb_json.specs.Operation.{Op, Until, read_op, until_equal, until_not_equal}
+use Rattle.odb_json.specs.Operation.{Op, Until, read_op, read_own_uuid, until_equal, until_not_equal}
 use Rattle.odb_mutate.specs.Mutation.{Mutation, mutate}
-use Rattle.odb_schema.specs.Json.{Data, array_of, null, object_of, string, string_member}
+use Rattle.odb_schema.specs.Json.{Data, array_of, get_member, null, object_of, string, string_member}
 use Rattle.odb_schema.specs.Notation.{Names, write_uuid, write_value}
 use Rattle.odb_schema.specs.Schema.{Column, Schema, column_type, columns_at, selector_name, selector_type}
 use Rattle.odb_tables.specs.Database.{Db, Table, table_at}
@@ -186,9 +186,9 @@ unmet c moment = cond (has_passed c moment) (fails timed_out) (must_wait moment)
 abbrev pub without : Draft → ℕ → Table → Draft
 without d t gone = record (with_table d t (map.retain_keys (table_of d t) (λ u. not (map.contains_key gone u)))) { deleted = slice_set d.deleted t (set.insert_all (deleted_at d t) (map.keys gone)) }
 
--- What the operation makes of the draft, and its result. u is the identifier of an `insert`.
+-- What the operation makes of the draft, and its result. u is the identifier of an `insert` that has none of its own.
 unfoldable pub perform : Schema → Context → Uuid → Draft → Op → Result (Draft × Data) Stop
-perform s c u d (Op.insert t given name) = or_stop (inserted s d u t given name)
+perform s c u d (Op.insert t given name own) = or_stop (inserted s d (unwrap_or own u) t given name)
 perform s c u d (Op.select t clauses columns) =
     Ok (d, rows_result (columns_at s t) columns (distinct (selected columns (found d t clauses))))
 perform s c u d (Op.update t clauses given) =
@@ -218,13 +218,21 @@ bind_name (Some name) u names = map.insert names name u
 abbrev pub first_fresh : List Uuid → Uuid
 first_fresh fresh = unwrap_or (slice_get fresh 0) zero_uuid
 
+-- what an insert has of its own under `uuid`, where it can be read
+abbrev pub own_uuid : Data → Option Uuid
+own_uuid d = option_and_then (λ v. result_ok (read_own_uuid v)) (option_and_then (get_member (codes "uuid")) (json.as_object d))
+
+-- the identifier of an insert: its own, or the first of the fresh ones
+abbrev pub identifier_of : Data → List Uuid → Uuid
+identifier_of d fresh = unwrap_or (own_uuid d) (first_fresh fresh)
+
 abbrev pub fresh_after : Data → List Uuid → List Uuid
 fresh_after d fresh = cond (is_insert d) (drop 1 fresh) fresh
 
 -- each insert has its identifier, and a name stands for that of the first insert that has it
 abbrev pub names_of : List Data → List Uuid → Names
 names_of [] fresh = map.empty
-names_of (d ∷ ds) fresh = cond (is_insert d) (bind_name (string_member (codes "uuid-name") d) (first_fresh fresh) (names_of ds (fresh_after d fresh))) (names_of ds (fresh_after d fresh))
+names_of (d ∷ ds) fresh = cond (is_insert d) (bind_name (string_member (codes "uuid-name") d) (identifier_of d fresh) (names_of ds (fresh_after d fresh))) (names_of ds (fresh_after d fresh))
 
 -- all operations went through, one failed, or a `wait` has time until its deadline
 pub data Ran : Type 0 where

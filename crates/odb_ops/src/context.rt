@@ -10,7 +10,8 @@ use uuid::Uuid;
 /// What a transaction is given beside its operations (RFC 7047, section 4.1.3).
 #[derive(Clone, Copy)]
 pub struct Context<'a> {
-    /// Identifiers for its inserts, in their order. An insert past their end has the zero identifier.
+    /// Identifiers for its inserts, in their order. An insert past their end has the zero identifier,
+    /// and one that has its own takes its place here too.
     pub fresh: &'a [Uuid],
     /// When the request arrived, in milliseconds.
     pub arrival: u64,

@@ -5,6 +5,7 @@ ghost use Rattle.odb_atoms.specs.Represented.Atom.{uuid_of};
 ghost use Rattle.odb_ops.specs.Execution as model;
 ghost use Rattle.odb_schema.specs.Json as json;
 
+use odb_json::read_own_uuid;
 use odb_schema::member;
 use serde_json::Value;
 use uuid::Uuid;
@@ -33,6 +34,27 @@ pub fn next_uuid(fresh: &[Uuid]) -> Uuid
     match fresh.first() {
         Some(uuid) => *uuid,
         None => Uuid::nil(),
+    }
+}
+
+/// What an insert has of its own under `uuid` (ovsdb-server(7), 5.2.1), where it can be read. O(log n)
+/// comparisons of names for n members.
+pub fn own_uuid(operation: &Value) -> Option<Uuid>
+    ensures { option_map uuid_of result ≡ model.own_uuid (view operation.now) }
+{
+    match read_own_uuid(member("uuid", operation.as_object()?)?) {
+        Ok(uuid) => Some(uuid),
+        Err(_) => None,
+    }
+}
+
+/// The identifier of an insert: its own, or the first of those that are left.
+pub fn identifier_of(operation: &Value, fresh: &[Uuid]) -> Uuid
+    ensures { uuid_of result ≡ model.identifier_of (view operation.now) (map uuid_of fresh.now) }
+{
+    match own_uuid(operation) {
+        Some(uuid) => uuid,
+        None => next_uuid(fresh),
     }
 }
 

@@ -25,5 +25,6 @@ mod wait;
 
 pub use context::Context;
 pub use execution::{Ran, run};
+pub use fresh::own_uuid;
 pub use reading::only_reads;
 pub use results::failure;

@@ -8,7 +8,7 @@ ghost use Rattle.odb_ops.specs.Execution as model;
 ghost use Rattle.odb_ops.specs.Represented.Parts.{bound, claimed};
 ghost use Rattle.odb_schema.specs.Json.{string_member};
 
-use crate::fresh::{is_insert, next_uuid, remaining_uuids, string_member};
+use crate::fresh::{identifier_of, is_insert, remaining_uuids, string_member};
 use odb_atoms::Error;
 use odb_json::{Names, OpFault};
 use serde_json::Value;
@@ -49,8 +49,9 @@ fn bind_insert(
     bind(alloc, names, string_member("uuid-name", operation), uuid)
 }
 
-/// What the names of a transaction stand for: each insert takes the next identifier, and a name
-/// stands for that of the first insert that has it. O(log n) for each of n names.
+/// What the names of a transaction stand for: each insert takes the next identifier, in whose place
+/// one has its own, and a name stands for that of the first insert that has it. O(log n) for each of
+/// n names.
 pub fn names_of(alloc: Global, operations: &[Value], fresh: &[Uuid]) -> Result<Names, AllocError>
     ensures { IfOk result (λ names. names
         ≡ model.names_of (map view operations.now) (map uuid_of fresh.now)) }
@@ -58,7 +59,7 @@ pub fn names_of(alloc: Global, operations: &[Value], fresh: &[Uuid]) -> Result<N
     let mut names = Names::new(alloc);
     let mut left = fresh;
     for operation in operations {
-        bind_insert(alloc, &mut names, operation, next_uuid(left))?;
+        bind_insert(alloc, &mut names, operation, identifier_of(operation, left))?;
         left = remaining_uuids(operation, left);
     }
     Ok(names)

@@ -1,5 +1,5 @@
 //! Operations (RFC 7047, section 5.2), carried out on a draft. [P 4.2]
-ghost use Rattle.std.specs.Prelude.{◌≡◌, ◌<◌, ◌++◌, List, OnOk, Some, length, map, option_map, string_bytes, ℕ};
+ghost use Rattle.std.specs.Prelude.{◌≡◌, ◌<◌, ◌++◌, List, OnOk, Some, length, map, option_map, string_bytes, unwrap_or, ℕ};
 ghost use Rattle.std.specs.List.{list_any};
 ghost use Rattle.serde_json.specs.View.{view};
 ghost use Rattle.odb_atoms.specs.Represented.Atom.{uuid_of};
@@ -46,7 +46,7 @@ fn empty_result_if(alloc: Global, holds: bool, stop: Stop) -> Result<Value, Stop
     }
 }
 
-/// `insert`, whose name is taken first.
+/// `insert`, whose name is taken first, under its own identifier or the one that is handed in.
 fn insert_named(
     setting: &Setting<'_>,
     draft: &mut Draft,
@@ -61,13 +61,20 @@ fn insert_named(
           naming (model.name_list (option_map string_bytes new.name) ++ named) draft.new,
           view v,
         )) result
-        (model.inserted setting.entry.now.schema.now (naming named draft.old) (uuid_of uuid) new.table
-        new.row.items (option_map string_bytes new.name)) }
+        (model.inserted setting.entry.now.schema.now (naming named draft.old)
+        (unwrap_or (option_map uuid_of new.uuid) (uuid_of uuid)) new.table new.row.items
+        (option_map string_bytes new.name)) }
     ensures taken { OnOk result ((named : List (List ℕ)) → AreTaken taken.old named
         → AreTaken taken.new (model.name_list (option_map string_bytes new.name) ++ named)) }
     ensures base { draft.new.old ≡ draft.old.old }
 {
-    let Insert { table, row, name } = new;
+    let Insert {
+        table,
+        row,
+        name,
+        uuid: own,
+    } = new;
+    let uuid = own.unwrap_or(uuid);
     claim(taken, name, uuid)?;
     insert(&setting.target(table), draft, uuid, row)
 }
@@ -117,8 +124,8 @@ fn owns(context: &Context, lock: &str) -> bool
     is_among(context.owned, lock)
 }
 
-/// Carries an operation out on the draft; its result. An insert has the identifier `uuid`, and its
-/// name may not be among those `taken`, to which it is added.
+/// Carries an operation out on the draft; its result. An insert has its own identifier or `uuid`, and
+/// its name may not be among those `taken`, to which it is added.
 #[tactic(auto, unfolding(crate::specs::Execution::perform))]
 pub fn perform(
     setting: &Setting<'_>,

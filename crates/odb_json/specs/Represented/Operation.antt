@@ -3,6 +3,7 @@ use Rattle.std.specs.Prelude.{ℕ, List, map, option_map, string_bytes}
 use Rattle.serde_json.specs.View.{members_view}
 use Rattle.odb_atoms.specs.Error.{Error}
 use Rattle.odb_atoms.specs.First.{Result}
+use Rattle.odb_atoms.specs.Represented.Atom.{uuid_of}
 use Rattle.odb_cond.specs.Represented.Clause.{selector_of}
 use Rattle.odb_schema.specs.Json.{Members}
 use Rattle.odb_schema.specs.Notation.{Names}
@@ -24,7 +25,7 @@ until_of until.Equal = model.until_equal
 until_of until.NotEqual = model.until_not_equal
 
 abbrev pub op_of : Op → model.Op
-op_of (op.Insert o) = model.Op.insert o.table o.row.items (option_map string_bytes o.name)
+op_of (op.Insert o) = model.Op.insert o.table o.row.items (option_map string_bytes o.name) (option_map uuid_of o.uuid)
 op_of (op.Select o) = model.Op.select o.table o.conditions (map selector_of o.columns.items)
 op_of (op.Update o) = model.Op.update o.table o.conditions o.row.items
 op_of (op.Mutate o) = model.Op.mutate o.table o.conditions o.mutations.items

@@ -41,7 +41,7 @@ Performs view (Err s) r = IsStopped (stop_of s) r
 
 -- the names that inserts have had after the operation
 abbrev pub named_after : Op → List (List ℕ) → List (List ℕ)
-named_after (insert t given name) named = name_list name ++ named
+named_after (insert t given name own) named = name_list name ++ named
 named_after op named = named
 
 -- an operation that went through: its result, and the draft, of the schema, with some names that inserts have had

@@ -26,11 +26,11 @@ loop-operation-preserved c =
     let inside : i < length ops = search rules in
     let here : op ≡ get_or ops i op = search rules in
     let split : map view (drop i ops) ≡ view op ∷ rest = ap (map view) (drop_more ops i op inside ∙ ap (λ x. x ∷ drop (i + 1) ops) (sym here)) in
-    let first : uuid_of c.next_uuid.result ≡ model.first_fresh left = search rules in
+    let own : uuid_of c.identifier_of.result ≡ model.identifier_of (view op) left = search rules in
     let after : map uuid_of c.remaining_uuids-left.result.now ≡ model.fresh_after (view op) left = search rules in
-    let made : new ≡ cond (model.is_insert (view op)) (bound (string_member (codes "uuid-name") (view op)) (uuid_of c.next_uuid.result) names) names = search rules in
-    let bound_first : new ≡ cond (model.is_insert (view op)) (bound (string_member (codes "uuid-name") (view op)) (model.first_fresh left) names) names = made ∙ ap (λ u. cond (model.is_insert (view op)) (bound (string_member (codes "uuid-name") (view op)) u names) names) first in
-    λ q. ap (λ us. stands new rest us q) after ∙ one_more names new (view op) rest left bound_first q ∙ ap (λ ds. stands names ds left q) (sym split) ∙ c.loop-operation.invariant q
+    let made : new ≡ cond (model.is_insert (view op)) (bound (string_member (codes "uuid-name") (view op)) (uuid_of c.identifier_of.result) names) names = search rules in
+    let bound_own : new ≡ cond (model.is_insert (view op)) (bound (string_member (codes "uuid-name") (view op)) (model.identifier_of (view op) left) names) names = made ∙ ap (λ u. cond (model.is_insert (view op)) (bound (string_member (codes "uuid-name") (view op)) u names) names) own in
+    λ q. ap (λ us. stands new rest us q) after ∙ one_more names new (view op) rest left bound_own q ∙ ap (λ ds. stands names ds left q) (sym split) ∙ c.loop-operation.invariant q
 
 pub returns : goal.returns
 returns c =

@@ -1,4 +1,4 @@
-use Rattle.std.proofs.Common.{rules, ◌≡◌, ◌++◌, List, ℕ, Ok, Option, Result, option_map, string_bytes, sym, ap, subst, ◌∙◌}
+use Rattle.std.proofs.Common.{rules, ◌≡◌, ◌++◌, List, ℕ, Ok, Option, Result, option_map, string_bytes, unwrap_or, sym, ap, subst, ◌∙◌}
 use Rattle.serde_json.specs.View.{view}
 use Rattle.odb_atoms.specs.Error.{Error}
 use Rattle.odb_atoms.specs.Represented.Atom.{uuid_of}
@@ -6,7 +6,7 @@ use Rattle.odb_json.specs.Represented.Fault.{Reads}
 use Rattle.odb_ops.specs.Execution as model
 use Rattle.odb_ops.specs.Represented.Draft.{naming}
 use Rattle.odb_ops.specs.Represented.Parts.{AreTaken, claimed, insert_row}
-use Rattle.odb_ops.proofs.Inserts.{claimed_free, inserted_is, reads_renamed, renamed}
+use Rattle.odb_ops.proofs.Inserts.{claimed_free, inserted_is, reads_renamed, renamed, unwrap_or-map}
 use Rattle.odb_schema.specs.Json.{Data}
 use Rattle.odb_schema.specs.Notation.{Names}
 use Rattle.odb_schema.specs.Schema.{columns_at}
@@ -19,7 +19,9 @@ returns-clause-ran c = λ named h.
     let d : Draft = c.args.draft.now in
     let new : Draft = c.insert.new.draft in
     let t = c.args.new.table in
-    let u = uuid_of c.args.uuid in
+    let own = option_map uuid_of c.args.new.uuid in
+    let taken_as : uuid_of c.unwrap_or-uuid.result ≡ unwrap_or own (uuid_of c.args.uuid) = ap uuid_of c.unwrap_or-uuid.ensures ∙ sym (unwrap_or-map uuid_of c.args.new.uuid c.args.uuid) in
+    let u = uuid_of c.unwrap_or-uuid.result in
     let given = c.args.new.row.items in
     let name : Option (List ℕ) = option_map string_bytes c.args.new.name in
     let taken : Names = c.args.taken.now in
@@ -29,12 +31,12 @@ returns-clause-ran c = λ named h.
     let free = claimed_free taken after named name u d h claim in
     let named_after = model.name_list name ++ named in
     let reads = reads_renamed named_after (λ v. (new, view v)) c.insert.result (insert_row c.target.result.columns.now c.target.result.table u given d) c.insert.ensures.row in
-    let same : renamed named_after (insert_row c.target.result.columns.now c.target.result.table u given d) ≡ model.inserted s (naming named d) u t given name = (λ i. renamed named_after (insert_row (columns i) (c.target.ensures.table i) u given d)) ∙ sym (inserted_is s d named u t given name free.0) in
+    let same : renamed named_after (insert_row c.target.result.columns.now c.target.result.table u given d) ≡ model.inserted s (naming named d) (unwrap_or own (uuid_of c.args.uuid)) t given name = (λ i. renamed named_after (insert_row (columns i) (c.target.ensures.table i) u given d)) ∙ sym (inserted_is s d named u t given name free.0) ∙ ap (λ x. model.inserted s (naming named d) x t given name) taken_as in
     subst (λ (r : Result (model.Draft × Data) Error). Reads (λ v. (naming named_after new, view v)) c.insert.result r) same reads
 
 pub returns-clause-taken : goal.returns-clause-taken
 returns-clause-taken c =
-    let u = uuid_of c.args.uuid in
+    let u = uuid_of c.unwrap_or-uuid.result in
     let name : Option (List ℕ) = option_map string_bytes c.args.new.name in
     let taken : Names = c.args.taken.now in
     let after : Names = c.claim.new.taken in
