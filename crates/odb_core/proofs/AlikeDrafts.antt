@@ -1,5 +1,5 @@
--- Operations on two drafts that differ in deleted rows alone, of which none is under an identifier that an insert takes.
-use Rattle.std.proofs.Common.{◌≡◌, ℕ, zero, suc, Bool, true, false, cond, not, ◌||◌, ◌<◌, ◌≤◌, nat_lt, List, [], ◌∷◌, ◌++◌, codes, length, slice_set, drop, replicate, Option, Some, None, Result, Ok, Err, refl, sym, ap, subst, ◌∙◌, arith}
+-- Operations on two drafts that differ in deleted rows alone, of which none is under an identifier that an insert takes or has of its own.
+use Rattle.std.proofs.Common.{◌≡◌, ℕ, zero, suc, Bool, true, false, cond, not, ◌||◌, ◌<◌, ◌≤◌, nat_lt, List, [], ◌∷◌, ◌++◌, codes, length, slice_set, drop, replicate, unwrap_or, IfSome, Option, Some, None, Result, Ok, Err, refl, sym, ap, subst, ◌∙◌, arith}
 use Rattle.std.proofs.Math.ListN.{length-set}
 use Rattle.std.proofs.lemmas.Bool.Decides.{nat_tests}
 use Rattle.std.specs.List.{AllByRecursion}
@@ -12,13 +12,16 @@ use Rattle.odb_atoms.specs.Uuid.{Uuid, uuid_cmp, zero_uuid}
 use Rattle.odb_atoms.specs.Value.{Value}
 use Rattle.odb_atoms.proofs.FinSets.{contains-insert}
 use Rattle.odb_json.specs.Operation.{Op, read_op}
-use Rattle.odb_ops.specs.Execution.{Context, Draft, Ran, Stop, all_admit, draft_of, failed, faults, finished, first_fault, first_fresh, found, fresh_after, go_on, has_used, is_insert, name_list, new_row, or_fault, or_stop, perform, read_and_perform, run, run_from, stopped, takes_name, waiting, with_result}
+use Rattle.odb_ops.proofs.OwnIdentifiers.{HasOwn, own_is}
+use Rattle.odb_ops.specs.Execution as operations
+use Rattle.odb_ops.specs.Execution.{Context, Draft, Ran, Stop, all_admit, draft_of, failed, faults, finished, first_fault, first_fresh, found, fresh_after, go_on, has_used, is_insert, name_list, new_row, or_fault, or_stop, own_uuid, perform, read_and_perform, run, run_from, stopped, takes_name, waiting, with_result}
+use Rattle.odb_schema.proofs.Holds.{Holds, in_read}
 use Rattle.odb_schema.specs.Json.{Data, object_of}
 use Rattle.odb_schema.specs.Notation.{Names, write_uuid}
 use Rattle.odb_schema.specs.Schema.{Schema, columns_at}
 use Rattle.odb_tables.specs.Database.{Db, table_at}
 use Rattle.odb_tables.specs.Represented.Key.{uuid_cmp_total}
-use Rattle.odb_core.specs.Represented.Spared.{AreSpared, IsSpared, Removed, removed_of}
+use Rattle.odb_core.specs.Represented.Spared.{AreOwnSpared, AreSpared, IsSpared, Removed, removed_of}
 
 -- of these identifiers the sets have the same
 abbrev pub Agree : (Uuid → Type 0) → Removed → Removed → Type 0
@@ -74,7 +77,7 @@ module _ (P : Uuid → Type 0) where
   goes_alike true stop d e h = (h, refl)
   goes_alike false stop d e h = refl
 
-module _ (P : Uuid → Type 0) (s : Schema) (c : Context) (u : Uuid) (db : Db) (named : List (List ℕ)) (xs ys : Removed) (long : length xs ≡ length ys) (agree : Agree P xs ys) (here : P u) where
+module _ (P : Uuid → Type 0) (s : Schema) (c : Context) (u : Uuid) (db : Db) (named : List (List ℕ)) (xs ys : Removed) (long : length xs ≡ length ys) (agree : Agree P xs ys) (o : Option Uuid) (here : P (unwrap_or o u)) where
   abbrev d : Draft
   d = record { db = db; deleted = xs; named = named }
 
@@ -87,8 +90,8 @@ module _ (P : Uuid → Type 0) (s : Schema) (c : Context) (u : Uuid) (db : Db) (
   same : (new : Db) (names : List (List ℕ)) → Alike P (laid xs new names) (laid ys new names)
   same new names = record { db = refl; named = refl; long = long; deleted = agree }
 
-  used : (t : ℕ) → has_used d t u ≡ has_used e t u
-  used t = ap (λ b. map.contains_key (table_at db t) u || b) (agree t u here)
+  used : (t : ℕ) (v : Uuid) → P v → has_used d t v ≡ has_used e t v
+  used t v h = ap (λ b. map.contains_key (table_at db t) v || b) (agree t v h)
 
   deletes : (t : ℕ) (new : Db) (ks : List Uuid)
       → Alike P (laid (slice_set xs t (set.insert_all (removed_of xs t) ks)) new named) (laid (slice_set ys t (set.insert_all (removed_of ys t) ks)) new named)
@@ -100,34 +103,38 @@ module _ (P : Uuid → Type 0) (s : Schema) (c : Context) (u : Uuid) (db : Db) (
   }
 
   -- an insert that goes through
-  abbrev inserted_in : Removed → ℕ → List (ℕ × Value) → Option (List ℕ) → Draft × Data
-  inserted_in zs t given name = (laid zs (slice_set db t (map.insert (table_at db t) u (new_row (columns_at s t) given))) (name_list name ++ named), object_of ((codes "uuid", write_uuid u) ∷ []))
+  abbrev inserted_in : Removed → ℕ → Uuid → List (ℕ × Value) → Option (List ℕ) → Draft × Data
+  inserted_in zs t v given name = (laid zs (slice_set db t (map.insert (table_at db t) v (new_row (columns_at s t) given))) (name_list name ++ named), object_of ((codes "uuid", write_uuid v) ∷ []))
 
-  performs : (op : Op) → EndAlike P (perform s c u d op) (perform s c u e op)
+  -- under this identifier
+  inserted : (t : ℕ) (given : List (ℕ × Value)) (name : Option (List ℕ)) (v : Uuid) → P v → EndAlike P (or_stop (operations.inserted s d v t given name)) (or_stop (operations.inserted s e v t given name))
+  inserted t given name v h =
+      subst (λ b. EndAlike P (or_stop (operations.inserted s d v t given name)) (inserts P (takes_name e name) b (all_admit (columns_at s t) (new_row (columns_at s t) given).columns) (inserted_in ys t v given name))) (used t v h)
+      (inserts_alike P (takes_name d name) (has_used d t v) (all_admit (columns_at s t) (new_row (columns_at s t) given).columns) (inserted_in xs t v given name) (inserted_in ys t v given name) (same (slice_set db t (map.insert (table_at db t) v (new_row (columns_at s t) given))) (name_list name ++ named), refl))
+
+  performs : (op : Op) → HasOwn o op → EndAlike P (perform s c u d op) (perform s c u e op)
   unfolding perform
-  performs (Op.insert t given name) =
-      subst (λ b. EndAlike P (perform s c u d (Op.insert t given name)) (inserts P (takes_name e name) b (all_admit (columns_at s t) (new_row (columns_at s t) given).columns) (inserted_in ys t given name))) (used t)
-      (inserts_alike P (takes_name d name) (has_used d t u) (all_admit (columns_at s t) (new_row (columns_at s t) given).columns) (inserted_in xs t given name) (inserted_in ys t given name) (same (slice_set db t (map.insert (table_at db t) u (new_row (columns_at s t) given))) (name_list name ++ named), refl))
-  performs (Op.select t clauses columns) = (same db named, refl)
-  performs (Op.update t clauses given) = (same _ named, refl)
-  performs (Op.mutate t clauses ms) = faults_alike P (first_fault (faults (columns_at s t) ms (found d t clauses))) _ _ (same _ named, refl)
-  performs (Op.delete t clauses) = (deletes t _ (map.keys (found d t clauses)), refl)
-  performs (Op.wait t clauses columns until rows timeout) = goes_alike P _ _ d e (same db named)
-  performs (Op.commit durable) = goes_alike P _ _ d e (same db named)
-  performs Op.abort = refl
-  performs Op.comment = (same db named, refl)
-  performs (Op.assert lock) = goes_alike P _ _ d e (same db named)
+  performs (Op.insert t given name own) has = inserted t given name (unwrap_or own u) (subst (λ q. P (unwrap_or q u)) (sym has) here)
+  performs (Op.select t clauses columns) has = (same db named, refl)
+  performs (Op.update t clauses given) has = (same _ named, refl)
+  performs (Op.mutate t clauses ms) has = faults_alike P (first_fault (faults (columns_at s t) ms (found d t clauses))) _ _ (same _ named, refl)
+  performs (Op.delete t clauses) has = (deletes t _ (map.keys (found d t clauses)), refl)
+  performs (Op.wait t clauses columns until rows timeout) has = goes_alike P _ _ d e (same db named)
+  performs (Op.commit durable) has = goes_alike P _ _ d e (same db named)
+  performs Op.abort has = refl
+  performs Op.comment has = (same db named, refl)
+  performs (Op.assert lock) has = goes_alike P _ _ d e (same db named)
 
 module _ (P : Uuid → Type 0) (s : Schema) (c : Context) (names : Names) where
-  performed : (u : Uuid) (d e : Draft) → Alike P d e → P u → (op : Op) → EndAlike P (perform s c u d op) (perform s c u e op)
-  performed u d e h here op =
+  performed : (u : Uuid) (d e : Draft) → Alike P d e → (o : Option Uuid) → P (unwrap_or o u) → (op : Op) → HasOwn o op → EndAlike P (perform s c u d op) (perform s c u e op)
+  performed u d e h o here op has =
       subst (λ (x : Db × List (List ℕ)). EndAlike P (perform s c u d op) (perform s c u (record { db = x.0; deleted = e.deleted; named = x.1 }) op))
       (λ i. let x : Db × List (List ℕ) = (h.db i, h.named i) in x)
-      (performs P s c u d.db d.named d.deleted e.deleted h.long h.deleted here op)
+      (performs P s c u d.db d.named d.deleted e.deleted h.long h.deleted o here op has)
 
-  reads : (u : Uuid) (d e : Draft) → Alike P d e → P u → (r : Result Op Stop) → EndAlike P (◌>>=◌ r (λ o. perform s c u d o)) (◌>>=◌ r (λ o. perform s c u e o))
-  reads u d e h here (Ok o) = performed u d e h here o
-  reads u d e h here (Err x) = refl
+  reads : (u : Uuid) (d e : Draft) → Alike P d e → (o : Option Uuid) → P (unwrap_or o u) → (r : Result Op Error) → Holds (HasOwn o) r → EndAlike P (◌>>=◌ (or_stop r) (λ op. perform s c u d op)) (◌>>=◌ (or_stop r) (λ op. perform s c u e op))
+  reads u d e h o here (Ok op) has = performed u d e h o here op (in_read Error (HasOwn o) op has)
+  reads u d e h o here (Err x) has = refl
 
 -- ---- a list of operations
 
@@ -175,6 +182,10 @@ module _ (P : Uuid → Type 0) where
   first_is [] z all = z
   first_is (u ∷ us) z all = all.0
 
+  own_or : (o : Option Uuid) (u : Uuid) → IfSome o P → P u → P (unwrap_or o u)
+  own_or None u own h = h
+  own_or (Some v) u own h = own
+
   dropped : (fresh : List Uuid) → AllByRecursion P fresh → AllByRecursion P (drop 1 fresh)
   dropped [] all = tt
   dropped (u ∷ us) all = all.1
@@ -183,13 +194,13 @@ module _ (P : Uuid → Type 0) where
   left op fresh all = elim (is_insert op) as (λ b. AllByRecursion P (cond b (drop 1 fresh) fresh)) [ true ↦ dropped fresh all | false ↦ all ]
 
   module _ (s : Schema) (c : Context) (names : Names) where
-    pub runs : (ops : List Data) (fresh : List Uuid) (d e : Draft) → P zero_uuid → AllByRecursion P fresh → Alike P d e → RanAlike (run_from s c names fresh d ops) (run_from s c names fresh e ops)
-    runs [] fresh d e z all h = (h.db, refl)
-    runs (op ∷ ops) fresh d e z all h =
+    pub runs : (ops : List Data) (fresh : List Uuid) (d e : Draft) → P zero_uuid → AllByRecursion P fresh → AllByRecursion (λ op. IfSome (own_uuid op) P) ops → Alike P d e → RanAlike (run_from s c names fresh d ops) (run_from s c names fresh e ops)
+    runs [] fresh d e z all own h = (h.db, refl)
+    runs (op ∷ ops) fresh d e z all own h =
         goes (λ x. run_from s c names (fresh_after op fresh) x ops) (λ x. run_from s c names (fresh_after op fresh) x ops) (length ops)
-        (λ x y k. runs ops (fresh_after op fresh) x y z (left op fresh all) k)
+        (λ x y k. runs ops (fresh_after op fresh) x y z (left op fresh all) own.1 k)
         (read_and_perform s c names (first_fresh fresh) d op) (read_and_perform s c names (first_fresh fresh) e op)
-        (reads P s c names (first_fresh fresh) d e h (first_is fresh z all) (or_stop (read_op s names op)))
+        (reads P s c names (first_fresh fresh) d e h (own_uuid op) (own_or (own_uuid op) (first_fresh fresh) own.0 (first_is fresh z all)) (read_op s names op) (own_is s names op))
 
 -- ---- a transaction's beginning
 
@@ -203,12 +214,12 @@ pub length-none : (n : ℕ) → length (replicate n (set.empty {R = uuid_cmp})) 
 length-none zero = refl
 length-none (suc n) = ap suc (length-none n)
 
--- where its identifiers are spared, a transaction comes to the same as if nothing had been deleted before it
-pub runs_begun : (s : Schema) (c : Context) (db : Db) (xs : Removed) (ops : List Data) → length xs ≡ length db → IsSpared xs zero_uuid → AreSpared xs c.fresh
+-- where its identifiers are spared, and those that its operations have of their own, a transaction comes to the same as if nothing had been deleted before it
+pub runs_begun : (s : Schema) (c : Context) (db : Db) (xs : Removed) (ops : List Data) → length xs ≡ length db → IsSpared xs zero_uuid → AreSpared xs c.fresh → AreOwnSpared xs ops
     → RanAlike (run s c (record { db = db; deleted = xs; named = [] }) ops) (run s c (draft_of db) ops)
 unfolding run
-runs_begun s c db xs ops long z all =
-    runs (IsSpared xs) s c _ ops c.fresh _ (draft_of db) z all
+runs_begun s c db xs ops long z all own =
+    runs (IsSpared xs) s c _ ops c.fresh _ (draft_of db) z all own
     (record { db = refl; named = refl; long = long ∙ sym (length-none (length db)); deleted = λ t u h. h t ∙ sym (none_at (length db) t u) })
 
 -- ---- what was taken out of a draft

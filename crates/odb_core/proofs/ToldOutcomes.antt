@@ -29,7 +29,7 @@ use Rattle.odb_core.specs.declared.foreseen.Told.{Told}
 use Rattle.odb_core.specs.declared.foreseen.Told.TheVariants as told
 use Rattle.odb_core.specs.declared.submitted.Submitted.{Submitted}
 use Rattle.odb_core.specs.Represented.Foreseen.{Tells, TellsRead, is_reading, over}
-use Rattle.odb_core.specs.Represented.Spared.{AreSpared, IsSpared}
+use Rattle.odb_core.specs.Represented.Spared.{AreOwnSpared, AreSpared, IsSpared}
 use Rattle.odb_core.specs.Represented.Waiting.{context_in, outcome_in}
 use Rattle.odb_core.proofs.AlikeDrafts.{RanAlike, length-none, runs_begun}
 
@@ -37,7 +37,7 @@ transact_is : (s : Schema) (max number : ℕ) (c : Context) (db : Db) (ops : Lis
 unfolding transact
 transact_is s max number c db ops r e = ap (outcome s max number db) e
 
-module _ (s : Schema) (w : World) (a : Submitted) (d : Draft) (long : length d.removed ≡ length d.now) (zero_spared : IsSpared d.removed zero_uuid) (spared : AreSpared d.removed (context_in w a).fresh) where
+module _ (s : Schema) (w : World) (a : Submitted) (d : Draft) (long : length d.removed ≡ length d.now) (zero_spared : IsSpared d.removed zero_uuid) (spared : AreSpared d.removed (context_in w a).fresh) (own : AreOwnSpared d.removed (operations_of (request_data a.request))) where
   abbrev ops : List Data
   ops = operations_of (request_data a.request)
 
@@ -45,7 +45,7 @@ module _ (s : Schema) (w : World) (a : Submitted) (d : Draft) (long : length d.r
   there = run s (context_in w a) (draft_of d.now) ops
 
   alike : RanAlike (run s (context_in w a) (begun d) ops) there
-  alike = runs_begun s (context_in w a) d.now d.removed ops long zero_spared spared
+  alike = runs_begun s (context_in w a) d.now d.removed ops long zero_spared spared own
 
   pub tells_failed : (results : Vec Value Global) (new : Db) → Answers (ran.Failed results) new (run s (context_in w a) (begun d) ops) → (n : ℕ) → Tells s (over d.now n w) a (told.Ends results)
   tells_failed results new answers n = by (run s (context_in w a) (begun d) ops) there refl answers alike

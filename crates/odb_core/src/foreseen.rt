@@ -2,19 +2,22 @@
 //! (RFC 7047, section 5.2.6). [P 12.2]
 
 ghost use Rattle.std.specs.Prelude.{◌≡◌, ◌<◌, ◌++◌, ◌∷◌, [], ℕ, false, length, map, slice_set, true, IfOk, IfSome, None, OnOk};
+ghost use Rattle.serde_json.specs.View.{view};
 ghost use Rattle.odb_atoms.specs.Represented.Atom.{uuid_of};
 ghost use Rattle.odb_atoms.specs.Uuid.{zero_uuid};
 ghost use Rattle.odb_commit.specs.Sound.{IsSound};
 ghost use Rattle.odb_integrity.specs.Settled.{IsSettled};
 ghost use Rattle.odb_queue.specs.Represented.Post.{post_of};
+ghost use Rattle.odb_rpc.specs.Message.{operations_of};
 ghost use Rattle.odb_service.specs.Service.{Service};
 ghost use Rattle.odb_service.specs.World.{untried};
 ghost use Rattle.odb_tables.specs.Change.{all_changed_by, changed_by};
 ghost use Rattle.odb_tables.specs.Database.{table_at};
 ghost use Rattle.odb_tables.specs.Installing.{IsChangeOf};
 ghost use Rattle.odb_tables.specs.Typed.{IsTyped};
+ghost use Rattle.odb_wire.specs.Shown.{request_data};
 ghost use Rattle.odb_core.specs.declared.foreseen.Told.TheVariants as told;
-ghost use Rattle.odb_core.specs.Represented.Spared.{AreSpared, IsSpared};
+ghost use Rattle.odb_core.specs.Represented.Spared.{AreOwnSpared, AreSpared, IsOwnSpared, IsSpared};
 ghost use Rattle.odb_core.specs.Represented.Foreseen.{committed, is_reading, over, with_side, with_sides, IsForeseen, IsPrintable, Notes, Tells, TellsRead};
 
 use crate::state::{MAX_ROWS, State};
@@ -22,7 +25,7 @@ use crate::submitted::Submitted;
 use crate::waiting::Waiting;
 use crate::waiting_list::WaitingList;
 use odb_integrity::stays_settled;
-use odb_ops::{Context, Ran, only_reads, run};
+use odb_ops::{Context, Ran, only_reads, own_uuid, run};
 use odb_queue::{Post, replied};
 use odb_schema::{Schema, TableId};
 use odb_tables::{ChangeSet, Draft, RowChange, TableChange};
@@ -164,6 +167,9 @@ impl State {
         if is_one_removed(&draft, asked.fresh.as_slice()) {
             return Ok(Told::Nothing);
         }
+        if is_one_own_removed(&draft, asked.operations()) {
+            return Ok(Told::Nothing);
+        }
         self.tell_on(schema, &mut draft, asked)
     }
 
@@ -179,6 +185,7 @@ impl State {
         requires long { length draft.old.removed ≡ length draft.old.now }
         requires zero { IsSpared draft.old.removed zero_uuid }
         requires fresh { AreSpared draft.old.removed (map uuid_of asked.now.fresh.items) }
+        requires own { AreOwnSpared draft.old.removed (operations_of (request_data asked.now.request)) }
         ensures { IfOk result (λ told. (n : ℕ) → Tells schema.now (over draft.old.now n self.entry.now) asked.now told) }
     {
         let owned = self.locks.owned(self.alloc, asked.session)?;
@@ -234,6 +241,30 @@ fn is_one_removed(draft: &Draft<'_>, uuids: &[Uuid]) -> bool
 {
     for uuid in uuids {
         if is_removed(draft, *uuid) {
+            return true;
+        }
+    }
+    false
+}
+
+/// Whether a row was taken out of the draft whose identifier the operation has of its own. O(tables).
+fn is_own_removed(draft: &Draft<'_>, operation: &Value) -> bool
+    requires { length draft.now.removed ≡ length draft.now.now }
+    ensures { result ≡ false → IsOwnSpared draft.now.removed (view operation.now) }
+{
+    match own_uuid(operation) {
+        Some(uuid) => is_removed(draft, uuid),
+        None => false,
+    }
+}
+
+/// The same of one of these operations. O(tables) for each.
+fn is_one_own_removed(draft: &Draft<'_>, operations: &[Value]) -> bool
+    requires { length draft.now.removed ≡ length draft.now.now }
+    ensures { result ≡ false → AreOwnSpared draft.now.removed (map view operations.now) }
+{
+    for operation in operations {
+        if is_own_removed(draft, operation) {
             return true;
         }
     }

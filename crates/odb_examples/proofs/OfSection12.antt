@@ -140,6 +140,28 @@ pub a_transaction_that_waited_and_only_reads_may_change_the_database : Plays set
 unfolding shows
 a_transaction_that_waited_and_only_reads_may_change_the_database = refl
 
+-- A transaction that waits inserts under the identifier that a commit deletes
+pub a_transaction_that_waits_inserts_under_the_identifier_that_a_commit_deletes : Plays net (
+    codes "> B transact 1 {\"op\":\"insert\",\"table\":\"Bridge\",\"row\":{\"name\":\"b\"},\"uuid\":\"00000000-0000-4000-9000-000000000001\"}"
+    ∷ codes "< B reply 1 [{\"uuid\":[\"uuid\",\"00000000-0000-4000-9000-000000000001\"]}]"
+    ∷ codes "> A transact 1 {\"op\":\"wait\",\"table\":\"Bridge\",\"where\":[],\"columns\":[\"name\"],\"until\":\"==\",\"rows\":[]},{\"op\":\"insert\",\"table\":\"Bridge\",\"row\":{\"name\":\"c\"},\"uuid\":\"00000000-0000-4000-9000-000000000001\"}"
+    ∷ codes "> B transact 2 {\"op\":\"delete\",\"table\":\"Bridge\",\"where\":[]}"
+    ∷ codes "< A reply 1 [{},{\"uuid\":[\"uuid\",\"00000000-0000-4000-9000-000000000001\"]}]"
+    ∷ codes "< B reply 2 [{\"count\":1}]"
+    ∷ codes "> B transact 3 {\"op\":\"select\",\"table\":\"Bridge\",\"where\":[],\"columns\":[\"_uuid\",\"_version\",\"name\"]}"
+    ∷ codes "< B reply 3 [{\"rows\":[{\"_uuid\":[\"uuid\",\"00000000-0000-4000-9000-000000000001\"],\"_version\":[\"uuid\",\"V3\"],\"name\":\"c\"}]}]"
+    ∷ codes "> A transact 2 {\"op\":\"wait\",\"table\":\"Bridge\",\"where\":[],\"columns\":[\"name\"],\"until\":\"==\",\"rows\":[{\"name\":\"d\"}]},{\"op\":\"insert\",\"table\":\"Bridge\",\"row\":{\"name\":\"e\"},\"uuid\":\"00000000-0000-4000-9000-000000000001\"}"
+    ∷ codes "> C transact 1 {\"op\":\"wait\",\"table\":\"Bridge\",\"where\":[],\"columns\":[\"name\"],\"until\":\"==\",\"rows\":[]},{\"op\":\"delete\",\"table\":\"Bridge\",\"where\":[]},{\"op\":\"insert\",\"table\":\"Bridge\",\"row\":{\"name\":\"f\"},\"uuid\":[\"uuid\",\"00000000-0000-4000-9000-000000000001\"]}"
+    ∷ codes "> B transact 4 {\"op\":\"update\",\"table\":\"Bridge\",\"where\":[],\"row\":{\"name\":\"d\"}}"
+    ∷ codes "< A reply 2 [{},{\"error\":\"duplicate uuid\"}]"
+    ∷ codes "< B reply 4 [{\"count\":1}]"
+    ∷ codes "> B transact 5 {\"op\":\"delete\",\"table\":\"Bridge\",\"where\":[]}"
+    ∷ codes "< B reply 5 [{\"count\":1}]"
+    ∷ codes "< C reply 1 [{},{\"count\":0},{\"uuid\":[\"uuid\",\"00000000-0000-4000-9000-000000000001\"]}]"
+    ∷ [])
+unfolding shows
+a_transaction_that_waits_inserts_under_the_identifier_that_a_commit_deletes = refl
+
 -- A wait that is met ends beside one that waits on
 pub a_wait_that_is_met_ends_beside_one_that_waits_on : Plays net (
     codes "> A transact 1 {\"op\":\"wait\",\"table\":\"Bridge\",\"where\":[[\"name\",\"==\",\"c\"]],\"columns\":[\"name\"],\"until\":\"==\",\"rows\":[{\"name\":\"c\"}]}"

@@ -7,7 +7,7 @@ use Rattle.odb_service.specs.World.{World}
 use Rattle.odb_tables.specs.Change.{all_changed_by}
 use Rattle.odb_tables.specs.Database.{Db}
 use Rattle.odb_tables.specs.Draft.{Draft, draft_of}
-use Rattle.odb_core.specs.Represented.Spared.{IsSpared}
+use Rattle.odb_core.specs.Represented.Spared.{AreOwnSpared, IsSpared}
 use Rattle.odb_core.proofs.ToldOutcomes.{as_long}
 use Rattle.odb_core.proofs.state.State.tell.Goals as goal
 
@@ -20,6 +20,13 @@ is_removed-requires c =
 
 pub is_one_removed-requires : goal.is_one_removed-requires
 is_one_removed-requires c =
+    let w : World = c.args.self.now in
+    let d : Draft = c.in_ok-draft.draft in
+    let made : d ≡ draft_of w.db = search rules in
+    as_long w.db c.args.change.now d c.put_change.new.draft c.requires.change.0 made c.put_change.ensures.removed c.in_ok-put_change.ensures.now
+
+pub is_one_own_removed-requires : goal.is_one_own_removed-requires
+is_one_own_removed-requires c =
     let w : World = c.args.self.now in
     let d : Draft = c.in_ok-draft.draft in
     let made : d ≡ draft_of w.db = search rules in
@@ -46,3 +53,7 @@ pub tell_on-requires-clause-zero : goal.tell_on-requires-clause-zero
 tell_on-requires-clause-zero c =
     let nil : uuid_of c.nil.result ≡ zero_uuid = ap uuid_of c.nil.ensures ∙ nil_uuid in
     subst (IsSpared c.put_change.new.draft.removed) nil (c.is_removed.ensures c.if-is_removed.false)
+
+pub tell_on-requires-clause-own : goal.tell_on-requires-clause-own
+tell_on-requires-clause-own c =
+    subst (AreOwnSpared c.put_change.new.draft.removed) c.operations.ensures (c.is_one_own_removed.ensures c.if-is_one_own_removed.false)

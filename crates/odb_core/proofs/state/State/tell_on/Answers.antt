@@ -20,7 +20,7 @@ told_read-requires-clause-typed c = λ reads.
     let a = c.args.asked.now in
     let d : Draft = c.args.draft.now in
     let answers : Answers (ran.Finished c.in-Finished.results) c.run.new.draft.now (run s (context_in w a) (begun d) (operations_of (request_data a.request))) = search rules in
-    subst (IsTyped s) (sym (left_by_reading s w a d c.requires.long c.requires.zero c.requires.fresh c.in-Finished.results c.run.new.draft.now answers reads)) c.requires.typed
+    subst (IsTyped s) (sym (left_by_reading s w a d c.requires.long c.requires.zero c.requires.fresh c.requires.own c.in-Finished.results c.run.new.draft.now answers reads)) c.requires.typed
 
 pub told_read-requires-clause-settled : goal.told_read-requires-clause-settled
 told_read-requires-clause-settled c = λ reads.
@@ -29,7 +29,7 @@ told_read-requires-clause-settled c = λ reads.
     let a = c.args.asked.now in
     let d : Draft = c.args.draft.now in
     let answers : Answers (ran.Finished c.in-Finished.results) c.run.new.draft.now (run s (context_in w a) (begun d) (operations_of (request_data a.request))) = search rules in
-    subst (IsSettled s) (sym (left_by_reading s w a d c.requires.long c.requires.zero c.requires.fresh c.in-Finished.results c.run.new.draft.now answers reads)) c.requires.settled
+    subst (IsSettled s) (sym (left_by_reading s w a d c.requires.long c.requires.zero c.requires.fresh c.requires.own c.in-Finished.results c.run.new.draft.now answers reads)) c.requires.settled
 
 pub returns-in-Finished : goal.returns-in-Finished
 returns-in-Finished c = λ n.
@@ -38,7 +38,7 @@ returns-in-Finished c = λ n.
     let a = c.args.asked.now in
     let d : Draft = c.args.draft.now in
     let answers : Answers (ran.Finished c.in-Finished.results) c.run.new.draft.now (run s (context_in w a) (begun d) (operations_of (request_data a.request))) = search rules in
-    tells_read s w a d c.requires.long c.requires.zero c.requires.fresh c.in-Finished.results c.run.new.draft.now c.told_read.result answers c.told_read.ensures n
+    tells_read s w a d c.requires.long c.requires.zero c.requires.fresh c.requires.own c.in-Finished.results c.run.new.draft.now c.told_read.result answers c.told_read.ensures n
 
 pub returns-in-Failed : goal.returns-in-Failed
 returns-in-Failed c = λ n.
@@ -47,7 +47,7 @@ returns-in-Failed c = λ n.
     let a = c.args.asked.now in
     let d : Draft = c.args.draft.now in
     let answers : Answers (ran.Failed c.in-Failed.results) c.run.new.draft.now (run s (context_in w a) (begun d) (operations_of (request_data a.request))) = search rules in
-    tells_failed s w a d c.requires.long c.requires.zero c.requires.fresh c.in-Failed.results c.run.new.draft.now answers n
+    tells_failed s w a d c.requires.long c.requires.zero c.requires.fresh c.requires.own c.in-Failed.results c.run.new.draft.now answers n
 
 pub returns : goal.returns
 returns c = λ n.
@@ -56,4 +56,4 @@ returns c = λ n.
     let a = c.args.asked.now in
     let d : Draft = c.args.draft.now in
     let answers : Answers (ran.Waiting c.in-Waiting.deadline) c.run.new.draft.now (run s (context_in w a) (begun d) (operations_of (request_data a.request))) = search rules in
-    tells_waiting s w a d c.requires.long c.requires.zero c.requires.fresh c.in-Waiting.deadline c.run.new.draft.now answers n
+    tells_waiting s w a d c.requires.long c.requires.zero c.requires.fresh c.requires.own c.in-Waiting.deadline c.run.new.draft.now answers n
