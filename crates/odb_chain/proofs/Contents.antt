@@ -1,5 +1,6 @@
 -- Contents of tables at places: what leaves them, and what they are.
 use Rattle.std.proofs.Common.{◌≡◌, ℕ, ◌+◌, Bool, true, false, nat_le, nat_lt, cond, [], Option, Some, None, is_some, option_and_then, refl, sym, ap, subst, ◌∙◌, true≢false}
+use mathlib.Core.Logic.{inl, inr}
 use Rattle.std.specs.List.{IsDistinct}
 use Rattle.std.specs.Ordering.{eq_by_cmp}
 use Rattle.odb_atoms.specs.FinMap as finite
@@ -14,10 +15,9 @@ use Rattle.std.proofs.Common.{arith}
 use Rattle.odb_chain.specs.Represented.Places.{is_place}
 use Rattle.std.proofs.lemmas.Bool.Decides.{nat_tests}
 use Rattle.odb_chain.specs.Kept.{History, Rows, at, at_place, content_at, is_reached, reaches}
-use Rattle.odb_chain.specs.Represented.Chain.{Chain, IsReadyFor, since_place}
-use Rattle.odb_chain.specs.Represented.Places.{IsPast}
+use Rattle.odb_chain.specs.Represented.Chain.{Chain, IsReadyFor}
+use Rattle.odb_chain.specs.Represented.Places.{IsPast, StaysOrGoes}
 use Rattle.odb_tables.proofs.KeyedMaps.{len-from_entries}
-use Rattle.odb_chain.proofs.Keeps.{where_reached}
 use Rattle.odb_chain.proofs.Histories.{beyond, found, past_at, past_moved, reached_before, unreached_after}
 
 pub get-content : (p : ℕ) (t : Table) (rows : Rows) (u : Uuid) → finite.get (content_at p t rows) u ≡ at_place p (finite.get t u) (finite.get rows u)
@@ -67,30 +67,17 @@ moved_past v r s (Some es) h = past_moved v r s es h
 
 -- ---- rows that didn't change since a place
 
-dropped : (q p : ℕ) (r : Option Row) (h : Option History) → nat_le q p ≡ true → at_place p r (option_and_then (where_reached q) h) ≡ at_place p r h
-dropped q p r None le = refl
-dropped q p r (Some es) le = by (reaches q es) refl
-  where
-    by : (b : Bool) → reaches q es ≡ b → at_place p r (cond b (Some es) None) ≡ at p r es
-    by true is = refl
-    by false is = sym (beyond p r es (unreached_after q p es le is))
+stays_at : (q p : ℕ) (r : Option Row) (old new : Option History) → nat_le q p ≡ true → StaysOrGoes q old new → at_place p r new ≡ at_place p r old
+stays_at q p r old new le (inl stay) = ap (at_place p r) stay
+stays_at q p r None new le (inr gone) = ap (at_place p r) gone.0
+stays_at q p r (Some es) new le (inr gone) = ap (at_place p r) gone.0 ∙ sym (beyond p r es (unreached_after q p es le gone.1))
 
-pub get-since : (q : ℕ) (rows : Rows) (u : Uuid) → finite.get (since_place q rows) u ≡ option_and_then (where_reached q) (finite.get rows u)
-get-since q rows u = get-map_entries uuid_cmp_total uuid_cmp-IsAntisymmetric (λ k h. where_reached q h) rows u
+pub stays_content : (q p : ℕ) (t : Table) (old new : Rows) → nat_le q p ≡ true → ((u : Uuid) → StaysOrGoes q (finite.get old u) (finite.get new u)) → content_at p t new ≡ content_at p t old
+stays_content q p t old new le stays = same_content p t t new old (λ u. stays_at q p (finite.get t u) (finite.get old u) (finite.get new u) le (stays u))
 
-pub since_content : (q p : ℕ) (t : Table) (rows : Rows) → nat_le q p ≡ true → content_at p t (since_place q rows) ≡ content_at p t rows
-since_content q p t rows le = same_content p t t (since_place q rows) rows (λ u. ap (at_place p (finite.get t u)) (get-since q rows u) ∙ dropped q p (finite.get t u) (finite.get rows u) le)
-
-dropped_past : (v q : ℕ) (r : Option Row) (h : Option History) → IsPast v r h → IsPast v r (option_and_then (where_reached q) h)
-dropped_past v q r None e = tt
-dropped_past v q r (Some es) e = by (reaches q es)
-  where
-    by : (b : Bool) → IsPast v r (cond b (Some es) None)
-    by true = e
-    by false = tt
-
-pub since_past : (v q : ℕ) (t : Table) (rows : Rows) → ((u : Uuid) → IsPast v (finite.get t u) (finite.get rows u)) → (u : Uuid) → IsPast v (finite.get t u) (finite.get (since_place q rows) u)
-since_past v q t rows h u = subst (IsPast v (finite.get t u)) (sym (get-since q rows u)) (dropped_past v q (finite.get t u) (finite.get rows u) (h u))
+pub stays_past : (v q : ℕ) (r : Option Row) (old new : Option History) → StaysOrGoes q old new → IsPast v r old → IsPast v r new
+stays_past v q r old new (inl stay) h = subst (IsPast v r) (sym stay) h
+stays_past v q r old new (inr gone) h = subst (IsPast v r) (sym gone.0) tt
 
 pub empty_past : (v : ℕ) (t : Table) (u : Uuid) → IsPast v (finite.get t u) (finite.get (let none : Rows = finite.empty in none) u)
 empty_past v t u = subst (IsPast v (finite.get t u)) (sym (get-empty uuid_cmp u)) tt

@@ -1,5 +1,6 @@
 -- What is kept of a row says the same as before: that is so of itself, and goes on.
 use Rattle.std.proofs.Common.{◌≡◌, ℕ, ◌+◌, ◌<◌, Bool, true, false, cond, ◌||◌, filter, List, [], ◌∷◌, ◌++◌, get_or, length, map, take, Option, Some, None, is_some, option_and_then, option_map, Result, Ok, Err, is_err, OnErr, OnOk, refl, sym, ap, subst, ◌∙◌, true≢false}
+use mathlib.Core.Logic.{inl, inr}
 use Rattle.std.proofs.lemmas.List.{map-append, take_more}
 use Rattle.std.proofs.lemmas.Map.Keys.{IsDistinct-head, IsDistinct-tail}
 use Rattle.std.specs.FinMap.Entries.{find, is_some-find}
@@ -19,9 +20,8 @@ use Rattle.odb_tables.proofs.KeyedMaps.{get-from_entries, get-keyed, keys-shown,
 use Rattle.odb_chain.proofs.Histories.{label_pushed, or_left, or_right}
 use Rattle.odb_chain.specs.Represented.Places.{has_label}
 use Rattle.std.proofs.Common.{nat_eq}
-use Rattle.odb_chain.specs.Represented.Chain.{since_place}
 use Rattle.odb_chain.specs.Kept.{History, Rows, at, is_reached, reaches}
-use Rattle.odb_chain.specs.Represented.Places.{AsBefore}
+use Rattle.odb_chain.specs.Represented.Places.{AsBefore, StaysOrGoes}
 use Rattle.odb_chain.proofs.Histories.{neutral, past_pushed}
 
 either_label : (b a c : Bool) → (b ≡ true → (a || c) ≡ true) → (b || c) ≡ true → (a || c) ≡ true
@@ -115,38 +115,11 @@ one_reached n old new k before was here still u e = by (before u) refl (eq_by_cm
 
 -- ---- rows that go
 
-abbrev pub where_reached : ℕ → History → Option History
-where_reached p h = cond (reaches p h) (Some h) None
-
-module _ (p : ℕ) where
-  abbrev pub stays : Uuid × History → Bool
-  stays e = reaches p e.1
-
-  abbrev pub as_shown : List (Uuid × History) → List (Uuid × History)
-  as_shown es = map (shown (λ h. h)) es
-
-  find-filtered : (q : Uuid) (es : List (Uuid × History)) → IsDistinct (eq_by_cmp uuid_cmp) (keys_of es) → find uuid_cmp q (as_shown (filter stays es)) ≡ option_and_then (where_reached p) (find uuid_cmp q (as_shown es))
-  find-filtered q [] h = refl
-  find-filtered q (e ∷ es) h = by (reaches p e.1) refl (eq_by_cmp uuid_cmp q e.0) refl (find-filtered q es (IsDistinct-tail (eq_by_cmp uuid_cmp) e.0 (keys_of es) h))
-    where
-      rest_has : eq_by_cmp uuid_cmp q e.0 ≡ true → find uuid_cmp q (as_shown es) ≡ None
-      rest_has at =
-          let distinct : IsDistinct (eq_by_cmp uuid_cmp) (keys_of (as_shown (e ∷ es))) = subst (IsDistinct (eq_by_cmp uuid_cmp)) (keys-shown (λ h. h) (e ∷ es)) h in
-          ap (λ u. find uuid_cmp u (as_shown es)) (same_key uuid_cmp-IsAntisymmetric q e.0 at) ∙ none_behind e.0 (as_shown es) (IsDistinct-head (eq_by_cmp uuid_cmp) e.0 (keys_of (as_shown es)) distinct)
-
-      by : (b : Bool) → reaches p e.1 ≡ b → (c : Bool) → eq_by_cmp uuid_cmp q e.0 ≡ c → find uuid_cmp q (as_shown (filter stays es)) ≡ option_and_then (where_reached p) (find uuid_cmp q (as_shown es))
-          → find uuid_cmp q (as_shown (cond b (e ∷ filter stays es) (filter stays es))) ≡ option_and_then (where_reached p) (cond c (Some e.1) (find uuid_cmp q (as_shown es)))
-      by true is true at rest = ap (λ c. cond c (Some e.1) (find uuid_cmp q (as_shown (filter stays es)))) at ∙ sym (ap (λ b. cond b (Some e.1) None) is)
-      by true is false at rest = ap (λ c. cond c (Some e.1) (find uuid_cmp q (as_shown (filter stays es)))) at ∙ rest
-      by false is true at rest = rest ∙ ap (option_and_then (where_reached p)) (rest_has at) ∙ sym (ap (λ b. cond b (Some e.1) None) is)
-      by false is false at rest = rest
-
-  pub forgotten : (es : List (Uuid × History)) → IsDistinct (eq_by_cmp uuid_cmp) (keys_of es) → finite.from_entries {R = uuid_cmp} (as_shown (filter stays es)) ≡ since_place p (finite.from_entries (as_shown es))
-  forgotten es h =
-      let rows : Rows = finite.from_entries {R = uuid_cmp} (as_shown es) in
-      same_map uuid_cmp_total uuid_cmp-IsAntisymmetric _ _
-      (λ q. get-from_entries (as_shown (filter stays es)) q ∙ find-filtered q es h ∙ ap (option_and_then (where_reached p)) (sym (get-from_entries (as_shown es) q))
-      ∙ sym (get-map_entries uuid_cmp_total uuid_cmp-IsAntisymmetric (λ u h. where_reached p h) rows q))
+pub goes_further : (p : ℕ) (a b c : Option History) → StaysOrGoes p a b → StaysOrGoes p b c → StaysOrGoes p a c
+goes_further p a b c (inl s) (inl t) = inl (t ∙ s)
+goes_further p a b c (inl s) (inr t) = inr (t.0, ap (is_reached p) (sym s) ∙ t.1)
+goes_further p a b c (inr s) (inl t) = inr (t ∙ s.0, s.1)
+goes_further p a b c (inr s) (inr t) = inr (t.0, s.1)
 
 pub reached_else : (n : ℕ) (old new : Rows) (k : Uuid) → is_reached n (finite.get old k) ≡ false → ((u : Uuid) → eq_by_cmp uuid_cmp u k ≡ false → finite.get new u ≡ finite.get old u)
     → (u : Uuid) → is_reached n (finite.get old u) ≡ true → is_reached n (finite.get new u) ≡ true

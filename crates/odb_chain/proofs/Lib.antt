@@ -4,6 +4,7 @@ mod Contents
 mod Counts
 mod Histories
 mod Keeps
+mod Lasts
 mod Noted
 mod Numbers
 mod Places

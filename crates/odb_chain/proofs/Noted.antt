@@ -1,6 +1,8 @@
 -- Which rows are noted: all of which something is kept, also after notes that aren't needed are gone; and what the rows since a place come to.
 use Rattle.std.proofs.Common.{Bor, ◌≡◌, ℕ, zero, suc, ◌+◌, ◌<◌, ◌≤◌, arith, Bool, true, false, cond, not, ◌&&◌, ◌||◌, nat_eq, nat_le, nat_lt, filter, List, [], ◌∷◌, ◌++◌, drop, get_or, length, map, take, option_and_then, Option, Some, None, refl, sym, ap, subst, ◌∙◌, true≢false}
+use mathlib.Core.Logic.{inl, inr}
 use Rattle.std.proofs.lemmas.Bool.Decides.{nat_tests}
+use Rattle.std.proofs.lemmas.List.{take-append-drop}
 use Rattle.std.proofs.lemmas.List.Folds.{list_any_more}
 use Rattle.std.specs.BTreeSet.{BTreeSet, contains}
 use Rattle.std.specs.FinMap.Entries.{find}
@@ -19,10 +21,8 @@ use Rattle.odb_tables.specs.Represented.Key.{keys_equivalent}
 use Rattle.odb_tables.proofs.KeyedMaps.{get-from_entries}
 use Rattle.odb_chain.specs.Kept.{History, Rows, at, at_place, content_at, is_reached, reaches}
 use Rattle.odb_chain.specs.Represented.Log.{AllFrom, AllUpTo, AreInOrder, AreNoted, Noted, is_latest, is_named, is_needed, is_noted, passes}
-use Rattle.odb_chain.specs.Represented.Places.{has_label, is_label}
-use Rattle.odb_chain.specs.Represented.Chain.{since_place}
-use Rattle.odb_chain.proofs.Contents.{get-content, get-since}
-use Rattle.odb_chain.proofs.Keeps.{where_reached}
+use Rattle.odb_chain.specs.Represented.Places.{StaysOrGoes, has_label, is_label}
+use Rattle.odb_chain.proofs.Contents.{get-content}
 use Rattle.odb_chain.proofs.Histories.{beyond, or_left, or_right}
 use Rattle.odb_chain.proofs.Since.{Sides, changes_of, find-changes, unchanged}
 
@@ -140,19 +140,6 @@ still_noted old new ns n k h here others labels p u e = by (same u k) refl
 pub fewer_noted : (old new : Rows) (ns : List Noted) → AreNoted old ns → ((u : Uuid) (q : ℕ) → has_label q (finite.get new u) ≡ true → has_label q (finite.get old u) ≡ true) → AreNoted new ns
 fewer_noted old new ns h f p u e = h p u (f u p e)
 
-pub since_noted : (p : ℕ) (rows : Rows) (ns : List Noted) → AreNoted rows ns → AreNoted (since_place p rows) ns
-since_noted p rows ns h =
-    fewer_noted rows (since_place p rows) ns h
-    (λ u q e. by q (finite.get rows u) (sym (ap (has_label q) (get-since p rows u)) ∙ e))
-  where
-    stays : (q : ℕ) (x : History) (b : Bool) → has_label q (cond b (Some x) None) ≡ true → is_label q x ≡ true
-    stays q x true e = e
-    stays q x false e = absurd (true≢false (sym e))
-
-    by : (q : ℕ) (o : Option History) → has_label q (option_and_then (where_reached p) o) ≡ true → has_label q o ≡ true
-    by q None e = e
-    by q (Some x) e = stays q x (reaches p x) e
-
 pub none_noted : (ns : List Noted) → AreNoted finite.empty ns
 none_noted ns p u e = absurd (true≢false (sym e ∙ ap (has_label p) (get-empty uuid_cmp u)))
 
@@ -253,6 +240,35 @@ cleaned_noted rows ns h p u e = by (finite.get rows u) refl e
         noted_before p m.place u (filter (is_needed rows) ns) (m.above p e)
         (left_noted rows u (x ∷ xs) is m.place m.none ns (h m.place u (ap (has_label m.place) is ∙ m.label)))
 
+-- also where some of the first are done with
+any-filtered : (f g : Noted → Bool) (xs ys : List Noted) → list_any f (filter g ys) ≡ true → list_any f (filter g (xs ++ ys)) ≡ true
+any-filtered f g [] ys e = e
+any-filtered f g (x ∷ xs) ys e = by (g x) (any-filtered f g xs ys e)
+  where
+    by : (b : Bool) → list_any f (filter g (xs ++ ys)) ≡ true → list_any f (cond b (x ∷ filter g (xs ++ ys)) (filter g (xs ++ ys))) ≡ true
+    by true rest = or_right (f x) (list_any f (filter g (xs ++ ys))) rest
+    by false rest = rest
+
+pub rest_cleaned : (rows : Rows) (ns : List Noted) (d : ℕ) → AreNoted rows (drop d ns) → AreNoted rows (filter (is_needed rows) ns)
+rest_cleaned rows ns d h p u e =
+    ap (λ xs. is_noted p u (filter (is_needed rows) xs)) (sym (take-append-drop d ns))
+    ∙ any-filtered (λ n. same u n.1 && nat_le p n.0) (is_needed rows) (take d ns) (drop d ns) (cleaned_noted rows (drop d ns) h p u e)
+
+from_dropped : (p d : ℕ) (ns : List Noted) → AllFrom p ns → AllFrom p (drop d ns)
+from_dropped p zero ns h = h
+from_dropped p (suc d) [] h = h
+from_dropped p (suc d) (n ∷ ns) h = from_dropped p d ns h.1
+
+pub order_dropped : (d : ℕ) (ns : List Noted) → AreInOrder ns → AreInOrder (drop d ns)
+order_dropped zero ns h = h
+order_dropped (suc d) [] h = h
+order_dropped (suc d) (n ∷ ns) h = order_dropped d ns h.1
+
+pub up_to_dropped : (p d : ℕ) (ns : List Noted) → AllUpTo p ns → AllUpTo p (drop d ns)
+up_to_dropped p zero ns h = h
+up_to_dropped p (suc d) [] h = h
+up_to_dropped p (suc d) (n ∷ ns) h = up_to_dropped p d ns h.1
+
 -- ---- the notes from a place on
 
 pub named_after : (p : ℕ) (u : Uuid) (ns : List Noted) (i : ℕ) → ((k : ℕ) (d : Noted) → k < i → k < length ns → nat_lt (get_or ns k d).0 p ≡ true) → is_noted p u ns ≡ true → is_named u (drop i ns) ≡ true
@@ -307,6 +323,37 @@ reached_noted rows ns p u h e = by (finite.get rows u) refl e
     by : (o : Option History) → finite.get rows u ≡ o → is_reached p o ≡ true → is_noted p u ns ≡ true
     by None is e = absurd (true≢false (sym e))
     by (Some x) is e = let r = label_reached p x e in noted_before p r.0 u ns r.1 (h r.0 u (ap (has_label r.0) is ∙ r.2))
+
+-- the first note is done with: its row didn't change since the place, and goes, or is noted later too
+pub popped_noted : (rows new : Rows) (p place : ℕ) (k : Uuid) (ns : List Noted) → nat_lt p place ≡ true → AreNoted rows ((p, k) ∷ ns) → (is_reached place (finite.get rows k) ≡ false → finite.get new k ≡ None)
+    → ((u : Uuid) → StaysOrGoes place (finite.get rows u) (finite.get new u)) → AreNoted new ns
+popped_noted rows new p place k ns before noted goes stays q u e = by (stays u)
+  where
+    late : nat_le place p ≡ false
+    late = grind (arith, nat_tests)
+
+    own : same u k ≡ true → nat_le q p ≡ true → (b : Bool) → is_reached place (finite.get rows k) ≡ b → is_noted q u ns ≡ true
+    own at low true is =
+        let key : u ≡ k = same_key uuid_cmp-IsAntisymmetric u k at in
+        let up : nat_le q place ≡ true = grind (arith, nat_tests) in
+        let there : is_noted place k ns ≡ true = (λ i. sym (ap (λ b. same k k && b) late ∙ never (same k k)) i || is_noted place k ns) ∙ reached_noted rows ((p, k) ∷ ns) place k noted is in
+        ap (λ v. is_noted q v ns) key ∙ noted_before q place k ns up there
+      where
+        never : (b : Bool) → (b && false) ≡ false
+        never true = refl
+        never false = refl
+    own at low false is =
+        let key : u ≡ k = same_key uuid_cmp-IsAntisymmetric u k at in
+        absurd (true≢false (sym e ∙ ap (λ v. has_label q (finite.get new v)) key ∙ ap (has_label q) (goes is)))
+
+    split : (b c : Bool) → same u k ≡ b → nat_le q p ≡ c → ((b && c) || is_noted q u ns) ≡ true → is_noted q u ns ≡ true
+    split true true at low t = own at low (is_reached place (finite.get rows k)) refl
+    split true false at low t = t
+    split false c at low t = t
+
+    by : StaysOrGoes place (finite.get rows u) (finite.get new u) → is_noted q u ns ≡ true
+    by (inl stay) = split (same u k) (nat_le q p) refl refl (noted q u (ap (has_label q) (sym stay) ∙ e))
+    by (inr gone) = absurd (true≢false (sym e ∙ ap (has_label q) gone.0))
 
 module _ (p : ℕ) (t : Table) (rows : Rows) where
   -- what a row became since the place

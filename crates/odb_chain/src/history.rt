@@ -1,5 +1,5 @@
 //! What one row was.
-ghost use Rattle.std.specs.Prelude.{◌≡◌, ℕ, true, false, [], ◌∷◌, nat_eq, nat_le, ◌||◌, IfOk, OnOk, Option};
+ghost use Rattle.std.specs.Prelude.{◌≡◌, ℕ, ◌≤◌, true, false, [], ◌∷◌, nat_eq, nat_le, ◌||◌, vec_capacity, vec_len, IfOk, OnOk, Option};
 ghost use Rattle.std.specs.Option.{option_copied};
 ghost use Rattle.odb_atoms.specs.Row as model_row;
 ghost use Rattle.odb_chain.specs.Kept.{at, reaches};
@@ -46,65 +46,76 @@ impl Old {
     }
 }
 
-/// What a row was, the earliest first, each up to its place. Once there are as many as the limit it is looked
-/// whether each is needed, at O(log n) each for n places; the limit is then twice those that are left. So a push costs
-/// O(log n) for this on the average.
-#[derive(Drop)]
+/// What a row was, the earliest first, each up to its place. The first lies here itself, so that one old row, which is what
+/// most rows have, takes no memory. Once there are as many as the limit it is looked whether each is needed, at O(log n)
+/// each for n places; the limit is then twice those that are left. So a push costs O(log n) for this on the average.
 pub(crate) struct History {
-    olds: Vec<Old>,
+    first: Old,
+    more: Vec<Old>,
+    latest: u64,
     limit: usize,
 }
 
 impl Model for History {
+    ghost use Rattle.std.specs.Prelude.{◌∷◌};
     ghost use Rattle.odb_chain.specs.Kept as model;
     ghost use Rattle.odb_chain.specs.Represented.Codes.{history_code};
+    ghost use Rattle.odb_chain.specs.Represented.Log.{IsLast};
 
     ghost Value = { model.History };
 
     ghost coded = { history_code };
 
-    ghost view = { λ h. h.olds.items };
+    ghost view = { λ h. h.first ∷ h.more.items };
+
+    ghost invariant = { λ h. IsLast h.latest (h.first ∷ h.more.items) };
 }
 
 impl History {
-    /// One old row.
-    pub(crate) fn of(alloc: Global, old: Old) -> Result<History, AllocError>
-        ensures { IfOk result (λ history. history ≡ old ∷ []) }
+    /// Makes a history of one old row. O(1); it takes no memory.
+    pub(crate) fn of(alloc: Global, old: Old) -> History
+        ensures { result ≡ old ∷ [] }
     {
-        let mut olds = Vec::new(alloc);
-        olds.push(old)?;
-        Ok(History { olds, limit: 4 })
+        History {
+            latest: old.place,
+            first: old,
+            more: Vec::new(alloc),
+            limit: 4,
+        }
     }
 
-    /// The same once more, with the rows shared.
+    /// Makes the same once more, with the rows shared. O(old rows).
     pub(crate) fn try_copy(&self, alloc: Global) -> Result<History, AllocError>
-        ensures { IfOk result (λ copy. copy ≡ self.now) }
+        ensures { IfOk result (λ history. history ≡ self.now) }
     {
-        let mut olds = Vec::with_capacity(alloc, self.olds.len())?;
-        for old in &self.olds {
-            olds.push(old.try_copy()?)?;
+        let mut more = Vec::with_capacity(alloc, self.more.len())?;
+        for old in &self.more {
+            more.push(old.try_copy()?)?;
         }
+        let first = self.first.try_copy()?;
         Ok(History {
-            olds,
+            first,
+            more,
+            latest: self.latest,
             limit: self.limit,
         })
     }
 
-    /// Whether it is kept what the row was at the place.
+    /// Tells whether it is kept what the row was at the place. O(1).
     pub(crate) fn reaches(&self, place: u64) -> bool
         ensures { result ≡ reaches place self.now }
     {
-        self.olds.iter().any(|old| place <= old.place)
+        place <= self.latest
     }
 
-    /// Whether it is kept what the row was up to a later place.
+    /// Tells whether it is kept what the row was up to a later place. O(1).
     pub(crate) fn passes(&self, place: u64) -> bool
         ensures { result ≡ passes place self.now }
     {
-        self.olds.iter().any(|old| place < old.place)
+        place < self.latest
     }
 
-    /// What the row was at the place, where it is this now.
+    /// Returns what the row was at the place, where it is this now. O(old rows).
     pub(crate) fn row_at<'a>(
         &'a self,
         place: u64,
@@ -112,15 +123,13 @@ impl History {
     ) -> Option<&'a Arc<Row>>
         ensures { row_of (option_copied result) ≡ at place (row_of (option_copied now.entry)) self.now }
     {
-        for old in &self.olds {
-            if place <= old.place {
-                return old.row.as_ref();
-            }
+        if place <= self.first.place {
+            return self.first.row.as_ref();
         }
-        now
+        row_among(&self.more, place, now)
     }
 
-    /// Adds what the row is now, up to the newest place.
+    /// Adds what the row is now, up to the newest place. Where memory is refused nothing changed.
     pub(crate) fn push(&mut self, old: Old, live: &Places<'_>) -> Result<(), AllocError>
         requires { reaches old.0 self.old ≡ false }
         ensures ok { OnOk result (reaches old.0 self.new ≡ true) }
@@ -128,28 +137,59 @@ impl History {
         ensures past { (v : ℕ) → nat_le old.0 v ≡ true → Past v old.1 self.old → Past v old.1 self.new }
         ensures labels { (q : ℕ) → is_label q self.new ≡ true → (is_label q self.old || nat_eq q old.0) ≡ true }
     {
-        self.tidy(live);
-        Ok(self.olds.push(old)?)
+        self.more.reserve(1)?;
+        tidy(&mut self.more, &mut self.limit, live);
+        self.latest = old.place;
+        self.more.push_reserved(old);
+        Ok(())
     }
+}
 
-    /// Leaves out what no place needs, once there is as much as the limit.
-    fn tidy(&mut self, live: &Places<'_>)
-        ensures same { (n p : ℕ) (r : Option model_row.Row) → reaches n self.old ≡ false → is_kept n live.now p ≡ true → at p r self.new ≡ at p r self.old }
-        ensures past { (v : ℕ) (r : Option model_row.Row) → Past v r self.old → Past v r self.new }
-        ensures labels { (q : ℕ) → is_label q self.new ≡ true → is_label q self.old ≡ true }
-    {
-        if self.olds.len() < self.limit {
-            return;
+/// Returns what the row was at the place by these, where it is this now.
+fn row_among<'a>(olds: &'a [Old], place: u64, now: Option<&'a Arc<Row>>) -> Option<&'a Arc<Row>>
+    ensures { row_of (option_copied result) ≡ at place (row_of (option_copied now.entry)) olds.now }
+{
+    for old in olds {
+        if place <= old.place {
+            return old.row.as_ref();
         }
-        self.clean(live);
     }
+    now
+}
 
-    /// Leaves out what no place needs: where two old rows have no place between them, the later one.
-    fn clean(&mut self, live: &Places<'_>)
-        ensures { self.new ≡ cleaned live.now self.old }
-    {
-        self.olds.dedup_by(|later, earlier| !live.is_between(earlier.place, later.place));
-        self.limit = twice(self.olds.len());
+/// Leaves out what no place needs, once there is as much as the limit.
+fn tidy(olds: &mut Vec<Old>, limit: &mut usize, live: &Places<'_>)
+    ensures same { (n p : ℕ) (r : Option model_row.Row) → reaches n olds.old.items ≡ false → is_kept n live.now p ≡ true → at p r olds.new.items ≡ at p r olds.old.items }
+    ensures past { (v : ℕ) (r : Option model_row.Row) → Past v r olds.old.items → Past v r olds.new.items }
+    ensures labels { (q : ℕ) → is_label q olds.new.items ≡ true → is_label q olds.old.items ≡ true }
+    ensures bound { vec_len olds.new ≤ vec_len olds.old }
+    ensures capacity { vec_capacity olds.new ≡ vec_capacity olds.old }
+{
+    if olds.len() < *limit {
+        return;
+    }
+    clean(olds, live);
+    *limit = twice(olds.len());
+}
+
+/// Leaves out what no place needs: where two old rows have no place between them, the later one. O(log n) each for n places.
+fn clean(olds: &mut Vec<Old>, live: &Places<'_>)
+    ensures olds { olds.new.items ≡ cleaned live.now olds.old.items }
+    ensures bound { vec_len olds.new ≤ vec_len olds.old }
+    ensures capacity { vec_capacity olds.new ≡ vec_capacity olds.old }
+{
+    olds.dedup_by(|later, earlier| !live.is_between(earlier.place, later.place));
+}
+
+// Written, and not derived, so that each end of a scope is one call to prove.
+impl Drop for History {
+    fn drop(self) {
+        let History {
+            first: _,
+            more: _,
+            latest: _,
+            limit: _,
+        } = self;
     }
 }
 

@@ -1,5 +1,5 @@
 //! In which order rows were kept, so that those that changed since a place are found without a look at others.
-ghost use Rattle.std.specs.Prelude.{◌≡◌, ◌≤◌, ℕ, true, [], drop, filter, length, IfOk, OnOk};
+ghost use Rattle.std.specs.Prelude.{◌≡◌, ◌≤◌, ℕ, true, [], ◌∷◌, drop, length, nat_lt, IfNone, IfOk, IfSome, OnOk};
 ghost use Rattle.std.specs.BTreeSet.{contains};
 ghost use Rattle.odb_atoms.specs.Uuid as model_uuid;
 ghost use Rattle.odb_atoms.specs.Uuid.{uuid_cmp};
@@ -33,18 +33,19 @@ impl Model for Noted {
     ghost view = { λ n. (n.place, n.key) };
 }
 
-/// The rows of which something was kept, the earliest first; places never fall. Once there are as many notes as the limit,
-/// those that aren't needed go: at most one for each row is left, or a few of one place. The limit is then
-/// twice as many.
+/// The rows of which something was kept, the earliest first; places never fall. The first ones may be done with. Once
+/// there are as many notes as the limit, those that aren't needed go: at most one for each row is left, or a few of one
+/// place. The limit is then twice as many.
 #[derive(Drop)]
 pub(crate) struct Log {
     noted: Vec<Noted>,
+    done: usize,
     latest: u64,
     limit: usize,
 }
 
 impl Model for Log {
-    ghost use Rattle.std.specs.Prelude.{List};
+    ghost use Rattle.std.specs.Prelude.{◌≤◌, List, drop, length};
     ghost use Rattle.std.specs.Coded.{coded_list};
     ghost use Rattle.odb_chain.specs.Represented.Codes.{noted_code};
     ghost use Rattle.odb_chain.specs.Represented.Log.{AllUpTo, AreInOrder, Noted as Note};
@@ -53,9 +54,9 @@ impl Model for Log {
 
     ghost coded = { coded_list noted_code };
 
-    ghost view = { λ l. l.noted.items };
+    ghost view = { λ l. drop l.done l.noted.items };
 
-    ghost invariant = { λ l. AreInOrder l.noted.items × AllUpTo l.latest l.noted.items };
+    ghost invariant = { λ l. AreInOrder l.noted.items × AllUpTo l.latest l.noted.items × (l.done ≤ length l.noted.items) };
 }
 
 impl Log {
@@ -65,6 +66,7 @@ impl Log {
     {
         Log {
             noted: Vec::new(alloc),
+            done: 0,
             latest: 0,
             limit: 16,
         }
@@ -74,15 +76,9 @@ impl Log {
     pub(crate) fn try_copy(&self, alloc: Global) -> Result<Log, AllocError>
         ensures { IfOk result (λ copy. copy ≡ self.now) }
     {
-        let mut noted = Vec::with_capacity(alloc, self.noted.len())?;
-        for note in &self.noted {
-            noted.push(Noted {
-                place: note.place,
-                key: note.key,
-            })?;
-        }
         Ok(Log {
-            noted,
+            noted: copies(alloc, after(self.noted.as_slice(), self.done))?,
+            done: 0,
             latest: self.latest,
             limit: self.limit,
         })
@@ -109,7 +105,7 @@ impl Log {
     fn from(&self, place: u64) -> &[Noted]
         ensures { (u : model_uuid.Uuid) → is_noted place u self.now ≡ true → is_named u result.now ≡ true }
     {
-        let noted = self.noted.as_slice();
+        let noted = after(self.noted.as_slice(), self.done);
         let first = noted.partition_point(|note| note.place < place);
         after(noted, first)
     }
@@ -126,10 +122,28 @@ impl Log {
 
     /// Leaves out what isn't needed. O(notes).
     fn clean(&mut self, rows: &IndexMap<Key, History, RandomState>)
-        ensures { self.new ≡ filter (is_needed (keyed (λ h. h) rows.now)) self.old }
+        ensures { AreNoted (keyed (λ h. h) rows.now) self.old → AreNoted (keyed (λ h. h) rows.now) self.new }
     {
         self.noted.retain(|note| is_needed(rows, note));
+        self.done = 0;
         self.limit = twice(self.noted.len());
+    }
+
+    /// Takes the first note, if its place is before this one, and returns its row. O(1).
+    pub(crate) fn next_before(&mut self, place: u64) -> Option<Key>
+        ensures some { IfSome result (λ key. (p : ℕ) × (nat_lt p place ≡ true) × (self.old ≡ (p, key) ∷ self.new)) }
+        ensures none { IfNone result (self.new ≡ self.old) }
+    {
+        if self.done >= self.noted.len() {
+            return None;
+        }
+        let note = &self.noted[self.done];
+        if place <= note.place {
+            return None;
+        }
+        let key = note.key;
+        self.done += 1;
+        Some(key)
     }
 
     /// Leaves out all notes.
@@ -137,7 +151,22 @@ impl Log {
         ensures { self.new ≡ [] }
     {
         self.noted.clear();
+        self.done = 0;
     }
+}
+
+/// Makes the same notes once more.
+fn copies(alloc: Global, noted: &[Noted]) -> Result<Vec<Noted>, AllocError>
+    ensures { IfOk result (λ copies. copies.items ≡ noted.now) }
+{
+    let mut made = Vec::with_capacity(alloc, noted.len())?;
+    for note in noted {
+        made.push(Noted {
+            place: note.place,
+            key: note.key,
+        })?;
+    }
+    Ok(made)
 }
 
 /// The notes from this one on.

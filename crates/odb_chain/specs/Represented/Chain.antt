@@ -95,10 +95,6 @@ StandsAsBefore t old new = (new.version ≡ old.version) × (new.live ≡ old.li
 abbrev pub IsCopyOf : Chain → Chain → Type 0
 IsCopyOf old new = (new.version ≡ old.version) × (new.live ≡ old.live) × (new.fresh ≡ old.fresh) × (new.rows ≡ old.rows)
 
--- what is kept of a row where it reaches a place
-abbrev pub since_place : ℕ → Rows → Rows
-since_place p rows = map.map_entries (λ u h. cond (reaches p h) (Some h) None) rows
-
 -- ---- all tables
 
 abbrev pub change_at : List Changes → ℕ → Changes

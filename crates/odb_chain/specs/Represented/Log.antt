@@ -5,7 +5,7 @@ use Rattle.std.specs.Ordering.{eq_by_cmp}
 use Rattle.odb_atoms.specs.FinMap as map
 use Rattle.odb_atoms.specs.Uuid.{Uuid, uuid_cmp}
 use Rattle.odb_chain.specs.Kept.{History, Rows}
-use Rattle.odb_chain.specs.Represented.Places.{has_label}
+use Rattle.odb_chain.specs.Represented.Places.{has_label, is_label}
 
 -- a row that was kept up to a place, or to one before it
 abbrev pub Noted : Type 0
@@ -35,6 +35,10 @@ AreInOrder (n ∷ ns) = AllFrom n.0 ns × AreInOrder ns
 -- whether an old row is kept up to a later place
 abbrev pub passes : ℕ → History → Bool
 passes p h = list_any (λ e. nat_lt p e.0) h
+
+-- the greatest place up to which an old row is kept
+abbrev pub IsLast : ℕ → History → Type 0
+IsLast p h = (is_label p h ≡ true) × (passes p h ≡ false)
 
 abbrev pub is_latest : ℕ → Option History → Bool
 is_latest p None = false

@@ -1,8 +1,8 @@
 -- What is asked of the places of a table's marks, and what may change in what is kept of a row.
-use Rattle.std.specs.Prelude.{◌≡◌, ℕ, Bool, true, false, not, ◌||◌, ◌&&◌, nat_le, nat_lt, nat_eq, List, [], ◌∷◌, Option, Some, None}
+use Rattle.std.specs.Prelude.{◌≡◌, ◌⊎◌, ℕ, Bool, true, false, not, ◌||◌, ◌&&◌, nat_le, nat_lt, nat_eq, List, [], ◌∷◌, Option, Some, None}
 use Rattle.std.specs.List.{dedup, list_any}
 use Rattle.odb_atoms.specs.Row.{Row}
-use Rattle.odb_chain.specs.Kept.{History, at_place}
+use Rattle.odb_chain.specs.Kept.{History, at_place, is_reached}
 
 abbrev pub is_place : ℕ → List (ℕ × ℕ) → Bool
 is_place p ls = list_any (λ e. nat_eq p e.0) ls
@@ -40,3 +40,7 @@ has_label q (Some h) = is_label q h
 abbrev pub AsBefore : ℕ → List (ℕ × ℕ) → Option Row → Option History → Option History → Type 0
 AsBefore newest ls r old new = ((p : ℕ) → is_kept newest ls p ≡ true → at_place p r new ≡ at_place p r old) × ((v : ℕ) → nat_le newest v ≡ true → IsPast v r old → IsPast v r new)
     × ((q : ℕ) → has_label q new ≡ true → (has_label q old || nat_eq q newest) ≡ true)
+
+-- what is kept of a row stays, or goes where it doesn't reach the place
+abbrev pub StaysOrGoes : ℕ → Option History → Option History → Type 0
+StaysOrGoes p old new = (new ≡ old) ⊎ ((new ≡ None) × (is_reached p old ≡ false))

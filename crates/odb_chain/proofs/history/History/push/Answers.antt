@@ -1,34 +1,47 @@
-use Rattle.std.proofs.Common.{rules, ◌≡◌, ◌∷◌, [], ◌++◌, subst, sym, ap, ◌∙◌}
-use Rattle.odb_chain.proofs.Histories.{label_pushed, or_left, or_weaker}
-use Rattle.odb_chain.specs.Represented.Places.{is_label}
-use Rattle.std.proofs.Common.{nat_eq}
-use Rattle.odb_chain.specs.Kept.{at}
-use Rattle.odb_chain.specs.Represented.Places.{Past}
+use Rattle.std.proofs.Common.{rules, ◌≡◌, ℕ, false, Option, List, ◌∷◌, [], ◌++◌, nat_le, if◌then◌else◌, subst, sym, ap, ◌∙◌}
+use Rattle.odb_atoms.specs.Row.{Row}
+use Rattle.odb_chain.specs.Kept.{History, at, reaches}
+use Rattle.odb_chain.specs.Represented.Log.{IsLast}
+use Rattle.odb_chain.specs.Represented.Places.{Past, is_label}
 use Rattle.odb_chain.proofs.Histories.{neutral, past_pushed}
+use Rattle.odb_chain.proofs.Lasts.{last_pushed, unreached_more}
 use Rattle.odb_chain.proofs.history.History.push.Goals as goal
-
-pub returns-in_err-push-clause-same : goal.returns-in_err-push-clause-same
-returns-in_err-push-clause-same c = λ p kept. let as_it_was : c.push.new.self.items ≡ c.tidy.new.self = search rules in ap (at p c.args.old.1) as_it_was ∙ c.tidy.ensures.same c.args.old.0 p c.args.old.1 c.requires kept
-
-pub returns-in_err-push-clause-past : goal.returns-in_err-push-clause-past
-returns-in_err-push-clause-past c = λ v le h. let as_it_was : c.push.new.self.items ≡ c.tidy.new.self = search rules in subst (Past v c.args.old.1) (sym as_it_was) (c.tidy.ensures.past v c.args.old.1 h)
 
 pub returns-clause-same : goal.returns-clause-same
 returns-clause-same c = λ p kept.
-    let grown : c.push.new.self.items ≡ c.tidy.new.self ++ c.args.old ∷ [] = search rules in
-    ap (at p c.args.old.1) grown ∙ neutral p c.args.old.0 c.args.old.1 c.tidy.new.self ∙ c.tidy.ensures.same c.args.old.0 p c.args.old.1 c.requires kept
+    let n = c.args.old.0 in
+    let r = c.args.old.1 in
+    let first = c.self.inside.first in
+    let more : History = c.self.inside.more.items in
+    let left : History = c.tidy.new.olds.items in
+    let as_it_was : c.reserve.new.self.items ≡ more = search rules in
+    let grown : c.push_reserved.new.self.items ≡ left ++ c.args.old ∷ [] = search rules in
+    let apart : reaches n more ≡ false = unreached_more n first more (ap (reaches n) c.self.view_is ∙ c.requires) in
+    ap (λ x. if nat_le p first.0 then first.1 else x)
+    (ap (at p r) grown ∙ neutral p n r left ∙ c.tidy.ensures.same n p r (ap (reaches n) as_it_was ∙ apart) kept ∙ ap (at p r) as_it_was)
+    ∙ ap (at p r) c.self.view_is
 
 pub returns-clause-past : goal.returns-clause-past
 returns-clause-past c = λ v le h.
-    let grown : c.push.new.self.items ≡ c.tidy.new.self ++ c.args.old ∷ [] = search rules in
-    subst (Past v c.args.old.1) (sym grown) (past_pushed v c.args.old.0 c.args.old.1 c.tidy.new.self le (c.tidy.ensures.past v c.args.old.1 h))
+    let n = c.args.old.0 in
+    let r = c.args.old.1 in
+    let more : History = c.self.inside.more.items in
+    let left : History = c.tidy.new.olds.items in
+    let as_it_was : c.reserve.new.self.items ≡ more = search rules in
+    let grown : c.push_reserved.new.self.items ≡ left ++ c.args.old ∷ [] = search rules in
+    let before : Past v r (c.self.inside.first ∷ more) = subst (Past v r) (sym c.self.view_is) h in
+    (before.0, before.1, subst (Past v r) (sym grown) (past_pushed v n r left le (c.tidy.ensures.past v r (subst (Past v r) (sym as_it_was) before.2))))
 
-pub returns-in_err-push-clause-labels : goal.returns-in_err-push-clause-labels
-returns-in_err-push-clause-labels c = λ q e.
-    let as_it_was : c.push.new.self.items ≡ c.tidy.new.self = search rules in
-    or_left (is_label q c.args.self.now) (nat_eq q c.args.old.0) (c.tidy.ensures.labels q (ap (is_label q) (sym as_it_was) ∙ e))
-
-pub returns-clause-labels : goal.returns-clause-labels
-returns-clause-labels c = λ q e.
-    let grown : c.push.new.self.items ≡ c.tidy.new.self ++ c.args.old ∷ [] = search rules in
-    or_weaker (is_label q c.tidy.new.self) (is_label q c.args.self.now) (nat_eq q c.args.old.0) (c.tidy.ensures.labels q) (label_pushed q c.args.old.0 c.args.old.1 c.tidy.new.self (ap (is_label q) (sym grown) ∙ e))
+pub invariant_of-self-2 : goal.invariant_of-self-2
+invariant_of-self-2 c =
+    let n = c.args.old.0 in
+    let r = c.args.old.1 in
+    let first = c.self.inside.first in
+    let more : History = c.self.inside.more.items in
+    let left : History = c.tidy.new.olds.items in
+    let as_it_was : c.reserve.new.self.items ≡ more = search rules in
+    let grown : c.push_reserved.new.self.items ≡ left ++ c.args.old ∷ [] = search rules in
+    let place : c.old.inside.place ≡ n = ap (λ (x : ℕ × Option Row). x.0) c.old.view_is in
+    subst (λ q. IsLast q (first ∷ c.push_reserved.new.self.items)) (sym place)
+    (subst (λ (xs : History). IsLast n (first ∷ xs)) (sym grown)
+    (last_pushed n r first more left (ap (reaches n) c.self.view_is ∙ c.requires) (λ q e. ap (is_label q) (sym as_it_was) ∙ c.tidy.ensures.labels q e)))

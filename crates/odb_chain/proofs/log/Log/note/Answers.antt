@@ -1,4 +1,5 @@
-use Rattle.std.proofs.Common.{rules, ◌≡◌, List, [], ◌∷◌, ◌++◌, subst, sym, ap, ◌∙◌}
+use Rattle.std.proofs.Common.{rules, arith, ◌≡◌, ◌≤◌, List, [], ◌∷◌, ◌++◌, drop, length, length-append, subst, sym, ap, ◌∙◌}
+use Rattle.std.proofs.lemmas.List.{drop-append-le}
 use Rattle.odb_chain.specs.Represented.Log.{AllUpTo, AreInOrder, Noted, is_noted}
 use Rattle.odb_chain.proofs.Noted.{noted_here, noted_pushed, order_pushed, up_to_later, up_to_pushed}
 use Rattle.odb_chain.proofs.log.Log.note.Goals as goal
@@ -6,8 +7,11 @@ use Rattle.odb_chain.proofs.log.Log.note.Goals as goal
 pub invariant_of-self : goal.invariant_of-self
 invariant_of-self c =
     let old : List Noted = c.self.inside.noted.items in
-    let as_it_was : c.push.new.self.items ≡ old = search rules in
-    (subst AreInOrder (sym as_it_was) c.self.invariant.0, subst (AllUpTo c.later-place.result) (sym as_it_was) (up_to_later c.self.inside.latest c.later-place.result old c.later-place.ensures.first c.self.invariant.1))
+    let as_it_was : c.push.new.self.items ≡ old = search rules in (
+      subst AreInOrder (sym as_it_was) c.self.invariant.0,
+      subst (AllUpTo c.later-place.result) (sym as_it_was) (up_to_later c.self.inside.latest c.later-place.result old c.later-place.ensures.first c.self.invariant.1),
+      subst (λ xs. c.self.inside.done ≤ length xs) (sym as_it_was) c.self.invariant.2,
+    )
 
 pub invariant_of-self-2 : goal.invariant_of-self-2
 invariant_of-self-2 c =
@@ -15,23 +19,32 @@ invariant_of-self-2 c =
     let x : Noted = (c.later-place.result, c.args.key) in
     let grown : c.push.new.self.items ≡ old ++ x ∷ [] = search rules in
     let up : AllUpTo c.later-place.result old = up_to_later c.self.inside.latest c.later-place.result old c.later-place.ensures.first c.self.invariant.1 in
-    (subst AreInOrder (sym grown) (order_pushed old x c.self.invariant.0 up), subst (AllUpTo c.later-place.result) (sym grown) (up_to_pushed c.later-place.result old x up (search rules)))
+    let low : c.self.inside.done ≤ length old = c.self.invariant.2 in
+    let longer : c.self.inside.done ≤ length (old ++ x ∷ []) = omega (arith, low, length-append old (x ∷ [])) in (
+      subst AreInOrder (sym grown) (order_pushed old x c.self.invariant.0 up),
+      subst (AllUpTo c.later-place.result) (sym grown) (up_to_pushed c.later-place.result old x up (search rules)),
+      subst (λ xs. c.self.inside.done ≤ length xs) (sym grown) longer,
+    )
 
 pub returns-in_err-push-clause-still : goal.returns-in_err-push-clause-still
 returns-in_err-push-clause-still c = λ p u there.
     let as_it_was : c.push.new.self.items ≡ c.self.inside.noted.items = search rules in
-    ap (is_noted p u) (as_it_was ∙ c.self.view_is) ∙ there
+    ap (is_noted p u) (ap (drop c.self.inside.done) as_it_was ∙ c.self.view_is) ∙ there
 
 pub returns-clause-ok : goal.returns-clause-ok
 returns-clause-ok c =
     let old : List Noted = c.self.inside.noted.items in
+    let d = c.self.inside.done in
     let x : Noted = (c.later-place.result, c.args.key) in
     let grown : c.push.new.self.items ≡ old ++ x ∷ [] = search rules in
-    ap (is_noted c.args.place c.args.key) grown ∙ noted_here c.args.place c.later-place.result c.args.key old c.later-place.ensures.second
+    ap (is_noted c.args.place c.args.key) (ap (drop d) grown ∙ drop-append-le d old (x ∷ []) c.self.invariant.2)
+    ∙ noted_here c.args.place c.later-place.result c.args.key (drop d old) c.later-place.ensures.second
 
 pub returns-clause-still : goal.returns-clause-still
 returns-clause-still c = λ p u there.
     let old : List Noted = c.self.inside.noted.items in
+    let d = c.self.inside.done in
     let x : Noted = (c.later-place.result, c.args.key) in
     let grown : c.push.new.self.items ≡ old ++ x ∷ [] = search rules in
-    ap (is_noted p u) grown ∙ noted_pushed p u old x (ap (is_noted p u) c.self.view_is ∙ there)
+    ap (is_noted p u) (ap (drop d) grown ∙ drop-append-le d old (x ∷ []) c.self.invariant.2)
+    ∙ noted_pushed p u (drop d old) x (ap (is_noted p u) c.self.view_is ∙ there)
