@@ -1,5 +1,5 @@
 -- Contents of tables at places: what leaves them, and what they are.
-use Rattle.std.proofs.Common.{◌≡◌, ℕ, ◌+◌, Bool, true, false, nat_le, nat_lt, cond, [], Option, Some, None, is_some, option_and_then, refl, sym, ap, subst, ◌∙◌, true≢false}
+use Rattle.std.proofs.Common.{◌≡◌, ℕ, ◌+◌, Bool, true, false, nat_le, nat_lt, [], Option, Some, None, is_some, refl, sym, ap, subst, ◌∙◌, true≢false}
 use mathlib.Core.Logic.{inl, inr}
 use Rattle.std.specs.List.{IsDistinct}
 use Rattle.std.specs.Ordering.{eq_by_cmp}
@@ -7,14 +7,14 @@ use Rattle.odb_atoms.specs.FinMap as finite
 use Rattle.odb_atoms.specs.Row.{Row}
 use Rattle.odb_atoms.specs.Uuid.{Uuid, uuid_cmp}
 use Rattle.odb_atoms.proofs.Atoms.{uuid_cmp_total, uuid_cmp-IsAntisymmetric}
-use Rattle.odb_atoms.proofs.FinMaps.{get-combine, get-empty, get-map_entries, same_map}
+use Rattle.odb_atoms.proofs.FinMaps.{get-combine, get-empty, same_map}
 use Rattle.odb_tables.specs.Change.{Changes, after, changed_by}
 use Rattle.odb_tables.specs.Database.{Table}
 use Rattle.std.proofs.Common.{List, ◌||◌, nat_eq}
 use Rattle.std.proofs.Common.{arith}
 use Rattle.odb_chain.specs.Represented.Places.{is_place}
 use Rattle.std.proofs.lemmas.Bool.Decides.{nat_tests}
-use Rattle.odb_chain.specs.Kept.{History, Rows, at, at_place, content_at, is_reached, reaches}
+use Rattle.odb_chain.specs.Kept.{History, Rows, at_place, content_at, is_reached}
 use Rattle.odb_chain.specs.Represented.Chain.{Chain, IsReadyFor}
 use Rattle.odb_chain.specs.Represented.Places.{IsPast, StaysOrGoes}
 use Rattle.odb_tables.proofs.KeyedMaps.{len-from_entries}

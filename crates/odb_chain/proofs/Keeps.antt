@@ -1,10 +1,9 @@
 -- What is kept of a row says the same as before: that is so of itself, and goes on.
-use Rattle.std.proofs.Common.{◌≡◌, ℕ, ◌+◌, ◌<◌, Bool, true, false, cond, ◌||◌, filter, List, [], ◌∷◌, ◌++◌, get_or, length, map, take, Option, Some, None, is_some, option_and_then, option_map, Result, Ok, Err, is_err, OnErr, OnOk, refl, sym, ap, subst, ◌∙◌, true≢false}
+use Rattle.std.proofs.Common.{◌≡◌, ℕ, ◌+◌, ◌<◌, Bool, true, false, cond, ◌||◌, List, [], ◌∷◌, ◌++◌, get_or, length, take, Option, Some, None, is_some, option_map, Result, Ok, Err, is_err, OnErr, OnOk, refl, sym, ap, subst, ◌∙◌, true≢false}
 use mathlib.Core.Logic.{inl, inr}
 use Rattle.std.proofs.lemmas.List.{map-append, take_more}
-use Rattle.std.proofs.lemmas.Map.Keys.{IsDistinct-head, IsDistinct-tail}
-use Rattle.std.specs.FinMap.Entries.{find, is_some-find}
-use Rattle.std.specs.List.{IsDistinct, list_any}
+use Rattle.std.specs.FinMap.Entries.{is_some-find}
+use Rattle.std.specs.List.{list_any}
 use Rattle.std.specs.Map.{keys_of}
 use Rattle.indexmap.specs.IndexMap.{IndexMap, get_by}
 use Rattle.std.specs.Ordering.{eq_by_cmp}
@@ -12,15 +11,15 @@ use Rattle.odb_atoms.specs.FinMap as finite
 use Rattle.odb_atoms.specs.Row.{Row}
 use Rattle.odb_atoms.specs.Uuid.{Uuid, uuid_cmp}
 use Rattle.odb_atoms.proofs.Atoms.{uuid_cmp_total, uuid_cmp-IsAntisymmetric}
-use Rattle.odb_atoms.proofs.FinMaps.{get-insert, get-map_entries, same_key, same_map}
+use Rattle.odb_atoms.proofs.FinMaps.{get-insert, same_key, same_map}
 use Rattle.odb_tables.specs.Database.{Table}
 use Rattle.odb_tables.specs.Represented.Key.{keys_equivalent}
-use Rattle.odb_tables.specs.Represented.Keyed.{keyed, shown}
-use Rattle.odb_tables.proofs.KeyedMaps.{get-from_entries, get-keyed, keys-shown, none_behind}
+use Rattle.odb_tables.specs.Represented.Keyed.{keyed}
+use Rattle.odb_tables.proofs.KeyedMaps.{get-from_entries, get-keyed}
 use Rattle.odb_chain.proofs.Histories.{label_pushed, or_left, or_right}
 use Rattle.odb_chain.specs.Represented.Places.{has_label}
 use Rattle.std.proofs.Common.{nat_eq}
-use Rattle.odb_chain.specs.Kept.{History, Rows, at, is_reached, reaches}
+use Rattle.odb_chain.specs.Kept.{History, Rows, at, is_reached}
 use Rattle.odb_chain.specs.Represented.Places.{AsBefore, StaysOrGoes}
 use Rattle.odb_chain.proofs.Histories.{neutral, past_pushed}
 
@@ -73,6 +72,41 @@ either (Err e) p q f g = g q
 
 pub got : {S : Type 0} (m : IndexMap Uuid History S) (rows : Rows) (k : Uuid) → keyed (λ h. h) m ≡ rows → finite.get rows k ≡ option_map (λ h. h) (get_by (eq_by_cmp uuid_cmp k) m)
 got m rows k is = ap (λ r. finite.get r k) (sym is) ∙ get-keyed (λ h. h) m k
+
+-- a history that is put back as it was
+pub put_back : (m : Rows) (k : Uuid) (h : History) → finite.get m k ≡ Some h → finite.insert m k h ≡ m
+put_back m k h had =
+    same_map uuid_cmp_total uuid_cmp-IsAntisymmetric (finite.insert m k h) m
+    (λ q. get-insert uuid_cmp_total m k h q ∙ by q (eq_by_cmp uuid_cmp q k) refl)
+  where
+    by : (q : Uuid) (b : Bool) → eq_by_cmp uuid_cmp q k ≡ b → cond b (Some h) (finite.get m q) ≡ finite.get m q
+    by q true is = sym had ∙ ap (finite.get m) (sym (same_key uuid_cmp-IsAntisymmetric q k is))
+    by q false is = refl
+
+-- what the row is now is kept, where nothing was
+module _ {A E : Type 0} (n : ℕ) (ls : List (ℕ × ℕ)) (t : Table) (m now : Rows) (k : Uuid) (old : ℕ × Option Row) (result : Result A E) (is : old ≡ (n, finite.get t k)) (none : finite.get m k ≡ None)
+    (made : OnOk result (now ≡ finite.insert m k (old ∷ []))) (kept : OnErr result (now ≡ m)) where
+  pub start_here : AsBefore n ls (finite.get t k) (finite.get m k) (finite.get now k)
+  start_here =
+      either result made kept
+      (λ e. subst (AsBefore n ls (finite.get t k) (finite.get m k)) (sym (ap (λ (x : Rows). finite.get x k) e ∙ inserted_here m k (old ∷ []))) (subst (λ o. AsBefore n ls (finite.get t k) o (Some (old ∷ []))) (sym none) (subst (λ (x : ℕ × Option Row). AsBefore n ls (finite.get t k) None (Some (x ∷ []))) (sym is) (begun n ls (finite.get t k)))))
+      (λ e. subst (AsBefore n ls (finite.get t k) (finite.get m k)) (sym (ap (λ (x : Rows). finite.get x k) e)) (as_it_is n ls (finite.get t k) (finite.get m k)))
+
+  pub start_else : (u : Uuid) → eq_by_cmp uuid_cmp u k ≡ false → finite.get now u ≡ finite.get m u
+  start_else u apart =
+      either result made kept
+      (λ e. ap (λ (x : Rows). finite.get x u) e ∙ inserted_else m k (old ∷ []) u apart)
+      (λ e. ap (λ (x : Rows). finite.get x u) e)
+
+-- and where something was
+module _ (n : ℕ) (ls : List (ℕ × ℕ)) (t : Table) (m now : Rows) (k : Uuid) (old : ℕ × Option Row) (h w : History) (is : old ≡ (n, finite.get t k)) (had : finite.get m k ≡ Some h) (made : now ≡ finite.insert m k w) where
+  pub push_here : AsBefore old.0 ls old.1 (Some h) (Some w) → AsBefore n ls (finite.get t k) (finite.get m k) (finite.get now k)
+  push_here f =
+      subst (λ (x : ℕ × Option Row). AsBefore x.0 ls x.1 (finite.get m k) (finite.get now k)) is
+      (subst (AsBefore old.0 ls old.1 (finite.get m k)) (sym (ap (λ (x : Rows). finite.get x k) made ∙ inserted_here m k w)) (subst (λ o. AsBefore old.0 ls old.1 o (Some w)) (sym had) f))
+
+  pub push_else : (u : Uuid) → eq_by_cmp uuid_cmp u k ≡ false → finite.get now u ≡ finite.get m u
+  push_else u apart = ap (λ (x : Rows). finite.get x u) made ∙ inserted_else m k w u apart
 
 -- ---- rows one after the other
 

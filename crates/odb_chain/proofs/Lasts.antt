@@ -1,5 +1,5 @@
 -- The last place up to which a row is kept tells which places are reached.
-use Rattle.std.proofs.Common.{◌≡◌, ℕ, arith, Bool, true, false, ◌||◌, nat_eq, nat_le, nat_lt, List, [], ◌∷◌, ◌++◌, Option, refl, sym, ap, ◌∙◌, true≢false}
+use Rattle.std.proofs.Common.{◌≡◌, ℕ, arith, Bool, true, false, ◌||◌, nat_eq, nat_le, nat_lt, [], ◌∷◌, ◌++◌, Option, refl, sym, ap, ◌∙◌, true≢false}
 use Rattle.std.proofs.lemmas.Bool.Decides.{nat_tests}
 use Rattle.odb_atoms.specs.Row.{Row}
 use Rattle.odb_chain.specs.Kept.{History, reaches}

@@ -1,5 +1,5 @@
 //! What the rows of one table were.
-ghost use Rattle.std.specs.Prelude.{◌≡◌, ◌++◌, [], ◌∷◌, true, false, is_some, None, option_to_list, IfOk, OnErr, OnOk};
+ghost use Rattle.std.specs.Prelude.{◌≡◌, ℕ, ◌++◌, [], ◌∷◌, true, false, is_some, None, option_to_list, IfOk, OnErr, OnOk};
 ghost use Rattle.std.specs.BTreeSet.{contains};
 ghost use Rattle.std.specs.Option.{option_copied};
 ghost use Rattle.std.specs.Ordering.{eq_by_cmp};
@@ -7,6 +7,7 @@ ghost use Rattle.odb_atoms.specs.FinMap as finite;
 ghost use Rattle.odb_atoms.specs.Uuid as model_uuid;
 ghost use Rattle.odb_atoms.specs.Uuid.{uuid_cmp};
 ghost use Rattle.odb_chain.specs.Kept.{at_place, content_at, is_reached};
+ghost use Rattle.odb_chain.specs.Represented.Log.{is_noted};
 ghost use Rattle.odb_chain.specs.Represented.Places.{AsBefore, StaysOrGoes};
 ghost use Rattle.odb_tables.specs.Change.{change};
 ghost use Rattle.odb_tables.specs.Represented.Keyed.{keyed};
@@ -59,18 +60,8 @@ impl Kept {
         }
     }
 
-    /// Whether it is kept what the row was at the place. O(1).
-    fn reaches(&self, key: Key, place: u64) -> bool
-        ensures { result ≡ is_reached place (finite.get self.now key) }
-    {
-        match self.rows.get(&key) {
-            Some(history) => history.reaches(place),
-            None => false,
-        }
-    }
-
-    /// Keeps what the row is now, up to the newest place, unless that is kept. Where memory is refused, what
-    /// is kept says the same as before.
+    /// Keeps what the row is now, up to the newest place, unless that is kept. Where memory is refused, what is kept says
+    /// the same as before. One look-up where it is kept; else one more in the table, and one where nothing was kept.
     fn record(
         &mut self,
         newest: u64,
@@ -82,25 +73,15 @@ impl Kept {
         ensures rows { (u : model_uuid.Uuid) → AsBefore newest live.now (finite.get table.now u) (finite.get self.old u) (finite.get self.new u) }
         ensures reached { (u : model_uuid.Uuid) → is_reached newest (finite.get self.old u) ≡ true → is_reached newest (finite.get self.new u) ≡ true }
     {
-        if self.reaches(key, newest) {
-            return Ok(());
-        }
-        let row = share(table.share(key))?;
-        self.add(key, Old { place: newest, row }, live)
-    }
-
-    /// Adds what the row is now.
-    fn add(&mut self, key: Key, old: Old, live: &Places<'_>) -> Result<(), AllocError>
-        requires { is_reached old.0 (finite.get self.old key) ≡ false }
-        ensures ok { OnOk result (is_reached old.0 (finite.get self.new key) ≡ true) }
-        ensures row { AsBefore old.0 live.now old.1 (finite.get self.old key) (finite.get self.new key) }
-        ensures others { (u : model_uuid.Uuid) → eq_by_cmp uuid_cmp u key ≡ false → finite.get self.new u ≡ finite.get self.old u }
-    {
         self.log.tidy(&self.rows);
-        self.log.note(old.place, key)?;
         let Some(history) = self.rows.get_mut(&key) else {
+            let old = noted(&mut self.log, newest, key, table)?;
             return start(self.alloc, &mut self.rows, key, old);
         };
+        if history.reaches(newest) {
+            return Ok(());
+        }
+        let old = noted(&mut self.log, newest, key, table)?;
         history.push(old, live)
     }
 
@@ -206,6 +187,17 @@ impl Kept {
         self.rows.clear();
         self.log.clear();
     }
+}
+
+/// Notes that it is kept what the row is now, and returns that.
+fn noted(log: &mut Log, newest: u64, key: Key, table: &Table) -> Result<Old, AllocError>
+    ensures old { IfOk result (λ old. old ≡ (newest, finite.get table.now key)) }
+    ensures noted { OnOk result (is_noted newest key log.new ≡ true) }
+    ensures still { (p : ℕ) (u : model_uuid.Uuid) → is_noted p u log.old ≡ true → is_noted p u log.new ≡ true }
+{
+    let row = share(table.share(key))?;
+    log.note(newest, key)?;
+    Ok(Old { place: newest, row })
 }
 
 /// Leaves out the row, if it didn't change since the place.

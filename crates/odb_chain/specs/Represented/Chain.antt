@@ -1,11 +1,11 @@
 -- What is kept of one table, as the code has it, and what it stands for.
-use Rattle.std.specs.Prelude.{◌≡◌, ℕ, zero, suc, ◌+◌, ◌-◌, ◌^◌, ◌<◌, Bool, true, false, cond, nat_eq, nat_le, nat_lt, List, [], ◌∷◌, ◌++◌, length, map as map_list, slice_get, unwrap_or, zip, is_some, Some, None}
+use Rattle.std.specs.Prelude.{◌≡◌, ℕ, zero, suc, ◌+◌, ◌-◌, ◌^◌, ◌<◌, Bool, true, false, cond, nat_eq, nat_le, nat_lt, List, [], ◌∷◌, ◌++◌, length, map as map_list, slice_get, unwrap_or, zip, is_some}
 use Rattle.odb_atoms.specs.FinMap as map
 use Rattle.odb_atoms.specs.Uuid.{Uuid}
 use Rattle.odb_tables.specs.Change.{Changes}
 use Rattle.odb_tables.specs.Database.{Db, Table, table_at}
 use Rattle.odb_chain.specs.Chains.{Chains, Live, Standing}
-use Rattle.odb_chain.specs.Kept.{Rows, content_at, is_reached, reaches}
+use Rattle.odb_chain.specs.Kept.{Rows, content_at, is_reached}
 use Rattle.odb_chain.specs.Represented.Places.{IsPast, is_place}
 
 -- how many changes the table had, the places before that with their marks, how many marks are at that, the old rows, and whether there is room for one place more

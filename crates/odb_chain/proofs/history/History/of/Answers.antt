@@ -1,4 +1,4 @@
-use Rattle.std.proofs.Common.{◌≡◌, ℕ, List, Option, [], ◌∷◌, subst, sym, ap}
+use Rattle.std.proofs.Common.{◌≡◌, ℕ, Option, [], ◌∷◌, subst, sym, ap}
 use Rattle.odb_atoms.specs.Row.{Row}
 use Rattle.odb_chain.specs.Kept.{History}
 use Rattle.odb_chain.specs.Represented.Log.{IsLast}

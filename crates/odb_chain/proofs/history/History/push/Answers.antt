@@ -1,4 +1,4 @@
-use Rattle.std.proofs.Common.{rules, ◌≡◌, ℕ, false, Option, List, ◌∷◌, [], ◌++◌, nat_le, if◌then◌else◌, subst, sym, ap, ◌∙◌}
+use Rattle.std.proofs.Common.{rules, ◌≡◌, ℕ, false, Option, ◌∷◌, [], ◌++◌, nat_le, if◌then◌else◌, subst, sym, ap, ◌∙◌}
 use Rattle.odb_atoms.specs.Row.{Row}
 use Rattle.odb_chain.specs.Kept.{History, at, reaches}
 use Rattle.odb_chain.specs.Represented.Log.{IsLast}

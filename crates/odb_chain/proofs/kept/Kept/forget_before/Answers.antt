@@ -1,8 +1,8 @@
-use Rattle.std.proofs.Common.{rules, ◌≡◌, ℕ, ◌∷◌, nat_lt, true, sym, ap, subst}
+use Rattle.std.proofs.Common.{rules, ◌≡◌, ℕ, ◌∷◌, nat_lt, true, subst}
 use Rattle.odb_atoms.specs.FinMap as finite
 use Rattle.odb_tables.specs.Represented.Keyed.{keyed}
 use Rattle.odb_chain.specs.Kept.{History, Rows}
-use Rattle.odb_chain.specs.Represented.Log.{AreNoted, Noted}
+use Rattle.odb_chain.specs.Represented.Log.{AreNoted}
 use Rattle.odb_chain.proofs.Keeps.{goes_further}
 use Rattle.odb_chain.proofs.Noted.{popped_noted}
 use Rattle.odb_chain.proofs.kept.Kept.forget_before.Goals as goal

@@ -1,4 +1,4 @@
-use Rattle.std.proofs.Common.{rules, arith, ◌≡◌, List, drop, subst, sym, ap, ◌∙◌}
+use Rattle.std.proofs.Common.{rules, arith, ◌≡◌, List, drop, subst, sym}
 use Rattle.odb_chain.specs.Represented.Log.{AllUpTo, AreInOrder, Noted}
 use Rattle.odb_chain.proofs.Noted.{order_dropped, up_to_dropped}
 use Rattle.odb_chain.proofs.log.Log.try_copy.Goals as goal
