@@ -12,6 +12,7 @@ import shutil
 import signal
 import socket
 import subprocess
+import threading
 import time
 
 ROOT = os.path.dirname(os.path.dirname(os.path.abspath(__file__)))
@@ -76,13 +77,25 @@ def end(pid):
             time.sleep(0.02)
 
 
+@contextlib.contextmanager
+def bounded(process):
+    """Ends a process that takes too long to say what is waited for."""
+    timer = threading.Timer(2 * PATIENCE, process.kill)
+    timer.start()
+    try:
+        yield
+    finally:
+        timer.cancel()
+
+
 class Daemon:
     """A daemon that runs, on a port of its own where none is named."""
 
     def __init__(self, command=(PROGRAM,), schema=NET, port=0):
         words = [*command, "serve", "--schema", schema, "--listen", f"127.0.0.1:{port}"]
         self.process = subprocess.Popen(words, stdout=subprocess.PIPE, stderr=subprocess.PIPE, text=True)
-        self.line = self.process.stdout.readline().rstrip("\n")
+        with bounded(self.process):
+            self.line = self.process.stdout.readline().rstrip("\n")
         address = re.fullmatch(r"listening 127\.0\.0\.1:(\d+)", self.line)
         if not address:
             self.process.kill()
