@@ -95,7 +95,7 @@ const AFTER_HELP: &str = "Example:
   ovsdb-client list-dbs tcp:127.0.0.1:6640
 
 The exit status is 0 after a script that ran to its end, after as many connections as were asked for,
-and after help; 1 after a fault, which standard error names; 2 where the words are wrong.
+and after help and the version; 1 after a fault, which standard error names; 2 where the words are wrong.
 
 'schema: fault N' says why a file holds no schema (RFC 7047, 3.2):
   1  memory ran out
@@ -133,6 +133,7 @@ Example:
 fn command<'a>(alloc: Global) -> Result<Command<'a>, Error> {
     let command = Command::new(alloc, "ovsdbd")
         .about("An OVSDB server (RFC 7047) that begins with empty tables.")
+        .version("0.1.0")
         .after_help(AFTER_HELP)
         .subcommand_required(true)
         .subcommand(script_command(alloc)?)?
