@@ -34,8 +34,8 @@ impl Model for Noted {
 }
 
 /// The rows of which something was kept, the earliest first; places never fall. The first ones may be done with. Once
-/// there are as many notes as the limit, those that aren't needed go: at most one for each row is left, or a few of one
-/// place. The limit is then twice as many.
+/// there are as many notes as the limit, and most are done with, these are cut off. Else those that aren't needed go: at
+/// most one for each row is left, or a few of one place. The limit is then twice as many.
 #[derive(Drop)]
 pub(crate) struct Log {
     noted: Vec<Noted>,
@@ -110,17 +110,30 @@ impl Log {
         after(noted, first)
     }
 
-    /// Leaves out what isn't needed, once there is as much as the limit.
+    /// Leaves out what is done with or isn't needed, once there is as much as the limit. O(1) for each note on the average,
+    /// with a look-up or two where most aren't done with.
     pub(crate) fn tidy(&mut self, rows: &IndexMap<Key, History, RandomState>)
         ensures { AreNoted (keyed (λ h. h) rows.now) self.old → AreNoted (keyed (λ h. h) rows.now) self.new }
     {
         if self.noted.len() < self.limit {
             return;
         }
+        if self.done > self.noted.len() / 2 {
+            self.cut();
+            return;
+        }
         self.clean(rows);
     }
 
-    /// Leaves out what isn't needed. O(notes).
+    /// Cuts off the notes that are done with. O(notes), and no look-up.
+    fn cut(&mut self)
+        ensures { self.new ≡ self.old }
+    {
+        self.noted.drain(..self.done);
+        self.done = 0;
+    }
+
+    /// Leaves out what isn't needed. One look-up for each note.
     fn clean(&mut self, rows: &IndexMap<Key, History, RandomState>)
         ensures { AreNoted (keyed (λ h. h) rows.now) self.old → AreNoted (keyed (λ h. h) rows.now) self.new }
     {
