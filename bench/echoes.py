@@ -11,7 +11,6 @@ Last seen, 2026-11-25, four runs, all other work stopped, which differ by half: 
 0.5, 0.9, 1.1 and 2.8 of that where one sends, and 1.8, 2.1, 2.1 and 4.9 where all do: a name is looked up by a walk over the
 names. When every session was drained after each line it was 8 and 964 us.
 """
-import argparse
 import os
 import resource
 import subprocess
@@ -22,10 +21,7 @@ sys.dont_write_bytecode = True
 sys.path.insert(0, f"{ROOT}/bench")
 import figures
 
-PARSER = argparse.ArgumentParser(description=__doc__.split("\n", maxsplit=1)[0])
-PARSER.add_argument("program", metavar="PROGRAM", nargs="?", default=f"{ROOT}/crates/ovsdbd/out/ovsdbd")
-figures.word(PARSER)
-WORDS = PARSER.parse_args()
+WORDS = figures.words_of(__doc__)
 PROGRAM = WORDS.program
 SCHEMA = f"{ROOT}/crates/ovsdbd/data/net.json"
 ECHO = '{"method":"echo","params":["a"],"id":0}'

@@ -1,9 +1,11 @@
 """What a bench measured, kept as JSON for bench/plot: the figures of each server, with the machine, the versions and the command.
 
     figures.word(parser)                       adds --json FILE to the words of a bench
+    figures.words_of(__doc__)                  reads the words of a bench of one program
     figures.keep(words.json, "serve", results) writes the file, where one was named; results are {server: {what: figures}}
 """
 
+import argparse
 import datetime
 import json
 import os
@@ -18,6 +20,13 @@ SERVER = os.environ.get("OVSDB_SERVER") or shutil.which("ovsdb-server", path=os.
 
 def word(parser):
     parser.add_argument("--json", metavar="FILE", help="writes what was measured there, for bench/plot")
+
+
+def words_of(doc):
+    parser = argparse.ArgumentParser(description=doc.split("\n", maxsplit=1)[0])
+    parser.add_argument("program", metavar="PROGRAM", nargs="?", default=f"{ROOT}/crates/ovsdbd/out/ovsdbd")
+    word(parser)
+    return parser.parse_args()
 
 
 def said(*words):

@@ -14,7 +14,6 @@ Last seen, 2026-11-25, on 4 cores of a slow machine, all other work stopped:
   1,000       51,434        84,474        92,372          52,914          83,105        73,375
   10,000      107,112       65,677        53,820          47,175          125,194       144,443
 """
-import argparse
 import json
 import os
 import resource
@@ -27,10 +26,7 @@ sys.dont_write_bytecode = True
 sys.path.insert(0, f"{ROOT}/bench")
 import figures
 
-PARSER = argparse.ArgumentParser(description=__doc__.split("\n", maxsplit=1)[0])
-PARSER.add_argument("program", metavar="PROGRAM", nargs="?", default=f"{ROOT}/crates/ovsdbd/out/ovsdbd")
-figures.word(PARSER)
-WORDS = PARSER.parse_args()
+WORDS = figures.words_of(__doc__)
 PROGRAM = WORDS.program
 SCHEMA = {"name": "d", "version": "1.0.0", "tables": {
     "C": {"isRoot": True, "columns": {"n": {"type": "integer"}, "s": {"type": "string"}}},
