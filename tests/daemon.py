@@ -1,9 +1,11 @@
-"""A daemon, programs of Open vSwitch and a client, for tests that let them talk to each other. Each process is ended by its id.
+"""A daemon, ovsdb-server, other programs of Open vSwitch and a client, for tests and benches that let them talk to each other.
+Each process is ended by its id.
 
 OVSDB_CLIENT names ovsdb-client where it isn't in the path; the other programs and the schemas are looked for beside it too,
-so that unpacked packages do.
+so that unpacked packages do. OVSDB_SERVER and OVSDB_TOOL name those two programs.
 """
 
+import codecs
 import contextlib
 import json
 import os
@@ -11,17 +13,18 @@ import re
 import shutil
 import signal
 import socket
+import struct
 import subprocess
+import tempfile
 import threading
 import time
 
-ROOT = os.path.dirname(os.path.dirname(os.path.abspath(__file__)))
-PROGRAM = os.path.join(ROOT, "crates", "ovsdbd", "out", "ovsdbd")
-NET = os.path.join(ROOT, "crates", "ovsdbd", "data", "net.json")
+from places import NET, PROGRAM
+
 CLIENT = os.environ.get("OVSDB_CLIENT") or shutil.which("ovsdb-client") or "/usr/bin/ovsdb-client"
 USR = os.path.dirname(os.path.dirname(os.path.realpath(CLIENT)))
 PLACES = [os.path.join(USR, place) for place in ("bin", "sbin", os.path.join("lib", "openvswitch-switch"))]
-PATH = os.pathsep.join([*PLACES, os.environ.get("PATH", "")])
+PATH = os.pathsep.join([*PLACES, os.environ.get("PATH", ""), "/usr/sbin"])
 SHARE = os.path.join(USR, "share")
 PATIENCE = 20
 
@@ -33,6 +36,10 @@ class Wrong(Exception):
 def found(program):
     """Where a program is, or None."""
     return shutil.which(program, path=PATH)
+
+
+SERVER = os.environ.get("OVSDB_SERVER") or found("ovsdb-server")
+TOOL = os.environ.get("OVSDB_TOOL") or found("ovsdb-tool")
 
 
 def lacking(packages):
@@ -88,20 +95,11 @@ def bounded(process):
         timer.cancel()
 
 
-class Daemon:
-    """A daemon that runs, on a port of its own where none is named."""
+class Served:
+    """A process that serves on a port of the loopback, and is ended with what is done in it."""
 
-    def __init__(self, command=(PROGRAM,), schema=NET, port=0):
-        words = [*command, "serve", "--schema", schema, "--listen", f"127.0.0.1:{port}"]
-        self.process = subprocess.Popen(words, stdout=subprocess.PIPE, stderr=subprocess.PIPE, text=True)
-        with bounded(self.process):
-            self.line = self.process.stdout.readline().rstrip("\n")
-        address = re.fullmatch(r"listening 127\.0\.0\.1:(\d+)", self.line)
-        if not address:
-            self.process.kill()
-            raise Wrong(f"no address: {self.line!r} {self.process.communicate()[1]}")
-        self.port = int(address[1])
-        self.remote = f"tcp:127.0.0.1:{self.port}"
+    def __init__(self, process):
+        self.process, self.port = process, None
 
     def __enter__(self):
         return self
@@ -109,9 +107,69 @@ class Daemon:
     def __exit__(self, *_):
         self.end()
 
+    @property
+    def address(self):
+        return f"127.0.0.1:{self.port}"
+
+    @property
+    def remote(self):
+        return f"tcp:{self.address}"
+
+    def connect(self):
+        return Client(self.port)
+
     def end(self):
         self.process.terminate()
         self.process.communicate()
+
+
+class Daemon(Served):
+    """A daemon that runs, on a port of its own where none is named."""
+
+    name = "ovsdbd"
+
+    def __init__(self, command=(PROGRAM,), schema=NET, port=0, words=()):
+        words = [*command, "serve", "--schema", schema, "--listen", f"127.0.0.1:{port}", *words]
+        super().__init__(subprocess.Popen(words, stdout=subprocess.PIPE, stderr=subprocess.PIPE, text=True))
+        with bounded(self.process):
+            self.line = self.process.stdout.readline().rstrip("\n")
+        address = re.fullmatch(r"listening 127\.0\.0\.1:(\d+)", self.line)
+        if not address:
+            self.process.kill()
+            raise Wrong(f"no address: {self.line!r} {self.process.communicate()[1]}")
+        self.port = int(address[1])
+
+
+class OvsdbServer(Served):
+    """ovsdb-server over a new database of the schema, which goes with it."""
+
+    name = "ovsdb-server"
+
+    def __init__(self, schema=NET):
+        self.folder = tempfile.TemporaryDirectory()
+        database, log = (os.path.join(self.folder.name, name) for name in ("db", "log"))
+        made = subprocess.run([TOOL, "create", database, schema], capture_output=True, text=True, check=False)
+        if made.returncode:
+            self.folder.cleanup()
+            raise Wrong(made.stderr.strip())
+        words = [SERVER, "--remote=ptcp:0:127.0.0.1", "--no-chdir", f"--unixctl={self.folder.name}/ctl", f"--log-file={log}", "-vfile:info", "-vconsole:off", database]
+        super().__init__(subprocess.Popen(words, stdout=subprocess.DEVNULL, stderr=subprocess.DEVNULL))
+        try:
+            until(lambda: self.listens(log), "ovsdb-server listens")
+        except Wrong:
+            self.end()
+            raise
+
+    def listens(self, log):
+        if os.path.exists(log):
+            with open(log, errors="replace") as file:
+                port = re.search(r"listening on port (\d+)", file.read())
+            self.port = int(port[1]) if port else None
+        return self.port is not None
+
+    def end(self):
+        super().end()
+        self.folder.cleanup()
 
 
 class Client:
@@ -121,7 +179,10 @@ class Client:
         self.socket = socket.socket(socket.AF_UNIX if isinstance(place, str) else socket.AF_INET)
         self.socket.settimeout(PATIENCE)
         self.socket.connect(place if isinstance(place, str) else ("127.0.0.1", place))
-        self.text, self.numbers, self.notified = "", 0, []
+        if not isinstance(place, str):
+            self.socket.setsockopt(socket.IPPROTO_TCP, socket.TCP_NODELAY, 1)
+        self.bytes, self.text = codecs.getincrementaldecoder("utf-8")("surrogateescape"), ""
+        self.numbers, self.syncs, self.notified = 0, 0, []
 
     def __enter__(self):
         return self
@@ -129,29 +190,40 @@ class Client:
     def __exit__(self, *_):
         self.socket.close()
 
+    def send(self, data):
+        """Sends bytes as they are, and all else as JSON."""
+        self.socket.sendall(data if isinstance(data, bytes) else json.dumps(data).encode())
+
+    def request(self, method, params, number):
+        self.send({"method": method, "params": params, "id": number})
+
+    def more(self):
+        """Takes in what comes next, and says whether the stream goes on."""
+        got = self.socket.recv(65536)
+        self.text += self.bytes.decode(got)
+        return bool(got)
+
     def message(self):
         """The next message that is no echo request, which is answered."""
         while True:
             try:
                 came, place = json.JSONDecoder().raw_decode(self.text)
             except ValueError:
-                more = self.socket.recv(65536)
-                if not more:
-                    raise Wrong(f"the stream ended: {self.text!r}") from None
-                self.text += more.decode()
-                continue
+                try:
+                    if self.more():
+                        continue
+                except socket.timeout:
+                    raise Wrong(f"nothing more came: {self.text!r}") from None
+                raise Wrong(f"the stream ended: {self.text!r}") from None
             self.text = self.text[place:]
             if came.get("method") != "echo":
                 return came
             self.send({"id": came["id"], "error": None, "result": came["params"]})
 
-    def send(self, data):
-        self.socket.sendall(json.dumps(data).encode())
-
     def ask(self, method, *params):
         """The result of a request. Notifications that come before it are kept."""
         self.numbers += 1
-        self.send({"id": self.numbers, "method": method, "params": list(params)})
+        self.request(method, list(params), self.numbers)
         while True:
             came = self.message()
             if came.get("id") == self.numbers:
@@ -162,3 +234,34 @@ class Client:
 
     def notification(self):
         return self.notified.pop(0) if self.notified else self.message()
+
+    def sync(self):
+        """What was sent before has been taken in, and nothing but what was looked at came."""
+        self.syncs += 1
+        self.request("echo", [], f"sync {self.syncs}")
+        came = self.message()
+        if came != {"error": None, "id": f"sync {self.syncs}", "result": []}:
+            raise Wrong(f"it isn't expected: {json.dumps(came)}")
+
+    def at_end(self):
+        """Whether the server closes the connection, and sends nothing before."""
+        try:
+            while self.more():
+                pass
+        except ConnectionResetError:
+            pass
+        except socket.timeout:
+            return False
+        return not self.text
+
+    def end(self):
+        """Ends the stream, and waits until the server has ended the session."""
+        self.socket.shutdown(socket.SHUT_WR)
+        if not self.at_end():
+            raise Wrong(f"the end: {self.text!r}")
+        self.socket.close()
+
+    def reset(self):
+        """Ends the connection at once, as when the process of a client is killed."""
+        self.socket.setsockopt(socket.SOL_SOCKET, socket.SO_LINGER, struct.pack("ii", 1, 0))
+        self.socket.close()

@@ -15,16 +15,13 @@ than A, B and C or a fault of the schema are left out, and counted: nothing of t
 """
 
 import json
-import os
 import re
 import select
-import shutil
 import socket
-import subprocess
 import sys
-import tempfile
 import time
 
+from daemon import SERVER, TOOL, OvsdbServer, Wrong
 from transcripts import store
 
 QUIET = 0.02  # seconds without a byte after which the other server is taken to have said all
@@ -124,33 +121,17 @@ def ours(transcript):
 class Theirs:
     """ovsdb-server over a new database, with a connection for each session."""
 
-    def __init__(self, server, tool):
-        self.server, self.tool = server, tool
-
     def play(self, transcript):
-        with tempfile.TemporaryDirectory() as directory:
-            file = os.path.join(directory, "db")
-            made = subprocess.run([self.tool, "create", file, transcript.schema_path], capture_output=True, text=True)
-            if made.returncode:
-                return {"schema": [made.stderr.strip()]}
-            lines = [line[2:] for line in transcript.whole() if line.startswith("> ")]
-            return self.played(file, directory, lines)
-
-    def played(self, file, directory, lines):
-        with socket.socket() as free:
-            free.bind(("127.0.0.1", 0))
-            self.port = free.getsockname()[1]
-        words = [self.server, "--remote=ptcp:%d:127.0.0.1" % self.port, "--no-chdir", "--unixctl=" + directory + "/ctl", file]
-        with open(os.path.join(directory, "log"), "w") as log:
-            running = subprocess.Popen(words, stdout=log, stderr=log)
         try:
-            self.begin()
-            for line in lines:
-                self.put(line)
-            return self.end()
-        finally:
-            running.kill()
-            running.wait()
+            with OvsdbServer(transcript.schema_path) as server:
+                self.port = server.port
+                self.begin()
+                for line in transcript.whole():
+                    if line.startswith("> "):
+                        self.put(line[2:])
+                return self.end()
+        except Wrong as wrong:
+            return {"schema": [str(wrong)]}
 
     def begin(self):
         self.sockets, self.read, self.answers, self.identifiers = {}, {}, {}, Identifiers()
@@ -159,14 +140,8 @@ class Theirs:
         self.latest = 0
 
     def open(self, session):
-        for _ in range(500):
-            try:
-                self.sockets[session] = socket.create_connection(("127.0.0.1", self.port), timeout=10)
-                self.read[session] = ""
-                return
-            except ConnectionRefusedError:
-                time.sleep(0.01)
-        sys.exit("ovsdb-server doesn't listen on port %d" % self.port)
+        self.sockets[session] = socket.create_connection(("127.0.0.1", self.port), timeout=10)
+        self.read[session] = ""
 
     def put(self, line):
         word, _, rest = line.partition(" ")
@@ -271,24 +246,21 @@ def show(ours, theirs):
                 print("  %s ours   %s\n  %s theirs %s" % (session, a[:600], session, b[:600]))
 
 
-def programs():
-    """The other server and its tool, or None, which it says, where they aren't there."""
-    server = os.environ.get("OVSDB_SERVER") or shutil.which("ovsdb-server")
-    tool = os.environ.get("OVSDB_TOOL") or shutil.which("ovsdb-tool")
-    if server and tool:
-        return server, tool
+def is_there():
+    """Whether the other server and its tool are there. Where they aren't it says so."""
+    if SERVER and TOOL:
+        return True
     print("skipped: ovsdb-server isn't installed (Debian's package openvswitch-switch)")
-    return None
+    return False
 
 
 def main():
     sys.stdout.reconfigure(errors="backslashreplace")
     words = [word for word in sys.argv[1:] if word != "--all"]
-    there = programs()
-    if not there:
+    if not is_there():
         return
     counts = {"same": 0, "words": 0, "differs": 0}
-    theirs, found = Theirs(*there), store()
+    theirs, found = Theirs(), store()
     alike = [it for it in found if is_alike(it)]
     for transcript in alike:
         if words and words[0] not in transcript.title:

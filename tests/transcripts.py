@@ -18,7 +18,8 @@ import os
 import re
 import sys
 
-ROOT = os.path.dirname(os.path.dirname(os.path.abspath(__file__)))
+from places import ROOT
+
 STORE = os.path.join(ROOT, "transcripts")
 KEYS = ("title", "schema", "section", "served", "computed", "fault")
 NAMED_ALONE = ("unknown method", "unknown database", "unknown monitor", "canceled")

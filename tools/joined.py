@@ -4,8 +4,8 @@
 What a proof costs whatever the crate holds is so paid five times and not twenty-two (docs/PROVING.md). The texts are those
 of the crates but for paths, and each line keeps its number.
 
-Usage: tests/joined.py            makes that repository below ~/.cache, and prints its folder
-       tests/joined.py --check    says whether each library below the program is joined, in an order that serves
+Usage: tools/joined.py            makes that repository below ~/.cache, and prints its folder
+       tools/joined.py --check    says whether each library below the program is joined, in an order that serves
 """
 
 import os
@@ -13,7 +13,9 @@ import re
 import shutil
 import sys
 
-ROOT = os.path.dirname(os.path.dirname(os.path.realpath(__file__)))
+sys.path.insert(0, os.path.join(os.path.dirname(os.path.dirname(os.path.realpath(__file__))), "tests"))
+from places import GENERATED, ROOT, below, crates
+
 CRATES = os.path.join(ROOT, "crates")
 CACHE = os.environ.get("XDG_CACHE_HOME") or os.path.join(os.path.expanduser("~"), ".cache")
 FOLDER = os.path.join(CACHE, "ovsdbd", re.sub(r"\W+", "-", ROOT).strip("-"))  # rt ci wants no second crates.txt in a clone
@@ -26,33 +28,17 @@ JOINED = {  # lowest first; the program's has its name, and its root
     "ovsdbd": "odb_hub odb_script ovsdbd",
 }
 HOME = {crate: name for name, crates in JOINED.items() for crate in crates.split()}
-GENERATED = ("declared", "contracts")  # what the toolchain makes of code, below specs
-
-
-def uses():
-    """What each crate stands on, by its name, lowest first."""
-    with open(os.path.join(ROOT, "crates.txt")) as file:
-        return {name: below.split() for name, _, below in (line.partition(":") for line in file if not line.startswith("#"))}
-
-
-def needed():
-    """The program and the libraries below it, lowest first."""
-    below, found = uses(), {"ovsdbd"}
-    while not found >= {name for crate in found for name in below.get(crate, [])}:
-        found |= {name for crate in found for name in below.get(crate, [])}
-    return [crate for crate in below if crate in found]
-
 
 def faults():
     """What is wrong with JOINED, by crates.txt."""
-    below, order = uses(), list(JOINED)
-    for crate in needed():
+    uses, order = crates(), list(JOINED)
+    for crate in below("ovsdbd"):
         if crate not in HOME:
-            yield f"{crate} isn't joined: put it into JOINED of tests/joined.py"
+            yield f"{crate} isn't joined: put it into JOINED of tools/joined.py"
             continue
-        for name in below[crate]:
+        for name in uses[crate]:
             if name in HOME and order.index(HOME[name]) > order.index(HOME[crate]):
-                yield f"{HOME[crate]} stands before {HOME[name]}, which it uses, in JOINED of tests/joined.py"
+                yield f"{HOME[crate]} stands before {HOME[name]}, which it uses, in JOINED of tools/joined.py"
 
 
 def is_module(crate):
@@ -134,21 +120,21 @@ def put_logic(crate, folder, part):
 
 def put(name):
     """Makes one of the joined crates, and gives its line of crates.txt."""
-    crates, folder, below = JOINED[name].split(), os.path.join(FOLDER, "crates", name), uses()
+    own, folder, uses = JOINED[name].split(), os.path.join(FOLDER, "crates", name), crates()
     for part in ("src", "specs", "proofs"):
         shutil.rmtree(os.path.join(folder, part), ignore_errors=True)
-    modules = "".join(f"pub mod {crate};\n" for crate in crates if is_module(crate))
-    for crate in crates:
+    modules = "".join(f"pub mod {crate};\n" for crate in own if is_module(crate))
+    for crate in own:
         put_code(crate, folder, modules)
         put_logic(crate, folder, "specs")
         put_logic(crate, folder, "proofs")
-    if name not in crates:
+    if name not in own:
         write(f"#![tactic(auto)]\n\n{modules}", folder, "src", "lib.rt")
     for part in ("specs", "proofs"):
         lemmas = os.path.join(folder, part, "Lib.antt")
-        there = [crate for crate in crates if os.path.exists(os.path.join(folder, part, f"Of_{crate}.antt"))]
+        there = [crate for crate in own if os.path.exists(os.path.join(folder, part, f"Of_{crate}.antt"))]
         write("".join(f"pub mod Of_{crate}\n" for crate in there) + (read(lemmas) if os.path.exists(lemmas) else ""), lemmas)
-    stands_on = dict.fromkeys(HOME.get(it, it) for crate in crates for it in below[crate])
+    stands_on = dict.fromkeys(HOME.get(it, it) for crate in own for it in uses[crate])
     return f"{name}: {' '.join(it for it in stands_on if it != name)}\n"
 
 
@@ -175,7 +161,7 @@ def origin(name, text):
 def main(words):
     if words == ["--check"]:
         wrong = list(faults())
-        print("\n".join([*wrong, f"{len(needed()) - len(wrong)} passed, {len(wrong)} failed"]))
+        print("\n".join([*wrong, f"{len(below('ovsdbd')) - len(wrong)} passed, {len(wrong)} failed"]))
         sys.exit(bool(wrong))
     if words:
         sys.exit(__doc__)

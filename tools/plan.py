@@ -3,10 +3,10 @@
 
 The toolchain hands its idle processors out evenly among all that may begin, so that a crate on which all others wait is
 proved by one. Here each choice is the one that ends the whole soonest, by what the proofs took when they were last
-measured (`tests/costs`, in seconds of one processor). Edits fill what these leave free (tests/tries.py); where the
+measured (`tools/costs`, in seconds of one processor). Edits fill what these leave free (tools/tries.py); where the
 toolchain tries them in its own way, the check that they begin with, their seed, is chosen like a proof.
 
-Usage: tests/plan.py [--afresh] WORD..    what `rt` does with these words, without the sums over all crates below that it
+Usage: tools/plan.py [--afresh] WORD..    what `rt` does with these words, without the sums over all crates below that it
                                           makes again and again: seconds to minutes less at each call, in the upper crates
 
 With --afresh, which wants a word --jobs N, nothing that earlier checks kept is taken, and nothing is kept: from nothing the
@@ -62,7 +62,7 @@ def sum_once(crates):
 
 def measured():
     """The seconds that each crate's proof takes, by its name."""
-    with open(os.path.join(ROOT, "tests", "costs")) as file:
+    with open(os.path.join(ROOT, "tools", "costs")) as file:
         return {name: int(seconds) for name, seconds in (line.split() for line in file if not line.startswith("#"))}
 
 

@@ -3,7 +3,7 @@
 import os
 import re
 
-from transcripts import ROOT
+from places import ROOT
 
 DOCS = os.path.join(ROOT, "docs")
 PAGE = os.path.join(DOCS, "PROTOCOL.md")

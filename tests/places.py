@@ -1,0 +1,41 @@
+"""Where things stand: the repository, its crates, the program that is built of them, and a schema."""
+
+import os
+import subprocess
+import sys
+
+ROOT = os.path.dirname(os.path.dirname(os.path.realpath(__file__)))
+PROGRAM = os.path.join(ROOT, "crates", "ovsdbd", "out", "ovsdbd")
+NET = os.path.join(ROOT, "crates", "ovsdbd", "data", "net.json")
+GENERATED = ("declared", "contracts")  # what the toolchain makes of code, below a crate's specs
+
+
+def build():
+    """Proves and builds the program where that is due. Where it can't be, this ends with status 1."""
+    if subprocess.run([os.path.join(ROOT, "ovsdbd"), "--help"], stdout=subprocess.DEVNULL, check=False).returncode:
+        sys.exit(1)
+
+
+def kit():
+    """The toolchain's folder, in which its guide stands."""
+    ran = subprocess.run(["rt", "doc"], stdout=subprocess.PIPE, text=True, check=True)
+    return os.path.dirname(ran.stdout.strip())
+
+
+def crates():
+    """What each crate of crates.txt stands on, by its name, lowest first."""
+    with open(os.path.join(ROOT, "crates.txt"), encoding="utf-8") as file:
+        lines = [line.partition(":") for line in file if not line.startswith("#") and line.strip()]
+    return {name.strip(): below.split() for name, _, below in lines}
+
+
+def below(*names):
+    """These crates with all of the repository that they stand on, lowest first."""
+    uses, found = crates(), set()
+    left = list(names)
+    while left:
+        name = left.pop()
+        if name in uses and name not in found:
+            found.add(name)
+            left += uses[name]
+    return [name for name in uses if name in found]
