@@ -16,14 +16,13 @@ import resource
 import subprocess
 import sys
 
-ROOT = os.path.dirname(os.path.dirname(os.path.realpath(__file__)))
 sys.dont_write_bytecode = True
-sys.path.insert(0, f"{ROOT}/bench")
+sys.path.insert(0, os.path.dirname(os.path.realpath(__file__)))
 import figures
+from places import NET
 
 WORDS = figures.words_of(__doc__)
 PROGRAM = WORDS.program
-SCHEMA = f"{ROOT}/crates/ovsdbd/data/net.json"
 ECHO = '{"method":"echo","params":["a"],"id":0}'
 COUNT = 20_000
 
@@ -31,7 +30,7 @@ COUNT = 20_000
 def seconds(lines):
     """The processor's time of a run."""
     before = resource.getrusage(resource.RUSAGE_CHILDREN)
-    ran = subprocess.run([PROGRAM, "script", "--schema", SCHEMA], input="\n".join(lines) + "\n", capture_output=True, text=True)
+    ran = subprocess.run([PROGRAM, "script", "--schema", NET], input="\n".join(lines) + "\n", capture_output=True, text=True)
     after = resource.getrusage(resource.RUSAGE_CHILDREN)
     assert ran.returncode == 0, ran.stderr
     return after.ru_utime + after.ru_stime - before.ru_utime - before.ru_stime

@@ -10,12 +10,12 @@ import datetime
 import json
 import os
 import shlex
-import shutil
 import subprocess
 import sys
 
-ROOT = os.path.dirname(os.path.dirname(os.path.realpath(__file__)))
-SERVER = os.environ.get("OVSDB_SERVER") or shutil.which("ovsdb-server", path=os.environ["PATH"] + ":/usr/sbin")
+sys.path.insert(0, os.path.join(os.path.dirname(os.path.dirname(os.path.realpath(__file__))), "tests"))
+from daemon import SERVER
+from places import PROGRAM, ROOT
 
 
 def word(parser):
@@ -24,7 +24,7 @@ def word(parser):
 
 def words_of(doc):
     parser = argparse.ArgumentParser(description=doc.split("\n", maxsplit=1)[0])
-    parser.add_argument("program", metavar="PROGRAM", nargs="?", default=f"{ROOT}/crates/ovsdbd/out/ovsdbd")
+    parser.add_argument("program", metavar="PROGRAM", nargs="?", default=PROGRAM)
     word(parser)
     return parser.parse_args()
 

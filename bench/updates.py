@@ -21,9 +21,8 @@ import subprocess
 import sys
 import tempfile
 
-ROOT = os.path.dirname(os.path.dirname(os.path.realpath(__file__)))
 sys.dont_write_bytecode = True
-sys.path.insert(0, f"{ROOT}/bench")
+sys.path.insert(0, os.path.dirname(os.path.realpath(__file__)))
 import figures
 
 WORDS = figures.words_of(__doc__)

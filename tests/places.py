@@ -22,9 +22,9 @@ def kit():
     return os.path.dirname(ran.stdout.strip())
 
 
-def crates():
-    """What each crate of crates.txt stands on, by its name, lowest first."""
-    with open(os.path.join(ROOT, "crates.txt"), encoding="utf-8") as file:
+def crates(path=os.path.join(ROOT, "crates.txt")):
+    """What each crate stands on that crates.txt, or a file of its form, names: by its name, lowest first."""
+    with open(path, encoding="utf-8") as file:
         lines = [line.partition(":") for line in file if not line.startswith("#") and line.strip()]
     return {name.strip(): below.split() for name, _, below in lines}
 

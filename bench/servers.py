@@ -1,0 +1,169 @@
+"""The servers that benches measure, ours and ovsdb-server where that is installed, with clients that take as little time as
+Python lets them. A bench sets SCHEMA; both servers listen on the loopback over it.
+
+ovsdb-server is Debian's package openvswitch-switch; tests/daemon.py says how it is found. (It asks a client that says nothing
+for 5 seconds whether it is there, and leaves it after 10: no client here is needed for as long.)
+"""
+
+import json
+import multiprocessing
+import os
+import resource
+import shlex
+import sys
+import time
+
+import figures  # which finds tests/
+import daemon
+from daemon import SERVER, TOOL
+from places import PROGRAM
+
+SCHEMA = {"name": "bench", "version": "1.0.0", "tables": {"T": {"columns": {"k": {"type": "integer"}, "v": {"type": "integer"}}, "isRoot": True}}}
+WINDOW = 32
+
+
+def schema_in(folder):
+    path = os.path.join(folder, "schema.json")
+    with open(path, "w") as file:
+        json.dump(SCHEMA, file)
+    return path
+
+
+class Ours(daemon.Daemon):
+    def __init__(self, folder, command):
+        super().__init__(command, schema_in(folder))
+
+
+class Theirs(daemon.OvsdbServer):
+    def __init__(self, folder, _command):
+        super().__init__(schema_in(folder))
+
+
+def kinds():
+    """The servers that are there. Where ovsdb-server isn't, it says so."""
+    if SERVER and TOOL:
+        return [Ours, Theirs]
+    print("ovsdb-server isn't installed (Debian's package openvswitch-switch): nothing is beside ours")
+    return [Ours]
+
+
+def words(parser):
+    """Reads the words of a bench, with `--command COMMAND` and `--json FILE`; the command is given as its words. As many
+    connections may be open as the system lets a process have."""
+    parser.add_argument("--command", help="measures this command in the place of the built program")
+    figures.word(parser)
+    found = parser.parse_args()
+    found.command = shlex.split(found.command) if found.command else [PROGRAM]
+    hard = resource.getrlimit(resource.RLIMIT_NOFILE)[1]
+    resource.setrlimit(resource.RLIMIT_NOFILE, (hard, hard))
+    return found
+
+
+class Client(daemon.Client):
+    """A connection that counts replies, without reading what they say."""
+
+    def __init__(self, port):
+        super().__init__(port)
+        self.socket.settimeout(None)
+        self.deep = 0
+
+    def ended(self, data):
+        """How many messages end in this piece. What is measured has no brackets in its texts."""
+        count = 0
+        for byte in data:
+            if byte == 123:
+                self.deep += 1
+            elif byte == 125:
+                self.deep -= 1
+                count += self.deep == 0
+        return count
+
+    def ask(self, data):
+        """Sends a request, and waits for the end of the next message."""
+        self.send(data)
+        count = 0
+        while not count:
+            count += self.ended(self.socket.recv(65536))
+
+    def reply(self, data):
+        """The reply, where ovsdb-server may ask in between whether the client is there."""
+        self.send(data)
+        return self.message()
+
+
+def request(number, method, params):
+    return json.dumps({"id": number, "method": method, "params": params}).encode()
+
+
+def rows(port, count):
+    """Puts rows into the table, and returns their identifiers."""
+    client, found = Client(port), []
+    for start in range(0, count, 100):
+        inserts = [{"op": "insert", "table": "T", "row": {"k": k}} for k in range(start, min(count, start + 100))]
+        found += [one["uuid"][1] for one in client.reply(request(1, "transact", ["bench", *inserts]))["result"]]
+    return found
+
+
+def update(number, row):
+    return request(number, "transact", ["bench", {"op": "update", "table": "T", "where": [["_uuid", "==", ["uuid", row]]], "row": {"v": number}}])
+
+
+def load(port, row, count, ready, start):
+    """Updates a row so many times, 32 of them in flight."""
+    client = Client(port)
+    data = [update(number, row) for number in range(count)]
+    ready.release()
+    start.wait()
+    sent, got = WINDOW, 0
+    client.socket.sendall(b"".join(data[:WINDOW]))
+    while got < count:
+        more = client.ended(client.socket.recv(65536))
+        got += more
+        if sent < count and more:
+            client.socket.sendall(b"".join(data[sent : sent + more]))
+            sent += more
+
+
+def throughput(port, ids, clients, count):
+    ready, start = multiprocessing.Semaphore(0), multiprocessing.Event()
+    them = [multiprocessing.Process(target=load, args=(port, ids[n % len(ids)], count // clients, ready, start)) for n in range(clients)]
+    for one in them:
+        one.start()
+    for _ in them:
+        ready.acquire()
+    begun = time.time()
+    start.set()
+    for one in them:
+        one.join()
+    return clients * (count // clients) / (time.time() - begun)
+
+
+def latency(client, data):
+    times = []
+    for each in data:
+        begun = time.perf_counter()
+        client.ask(each)
+        times.append(time.perf_counter() - begun)
+    times.sort()
+    return 1e6 * times[len(times) // 2], 1e6 * times[len(times) * 99 // 100]
+
+
+def status(pid):
+    """Seconds of processor and bytes of resident memory."""
+    with open(f"/proc/{pid}/stat") as file:
+        parts = file.read().rsplit(")", 1)[1].split()
+    return (int(parts[11]) + int(parts[12])) / os.sysconf("SC_CLK_TCK"), int(parts[21]) * os.sysconf("SC_PAGE_SIZE")
+
+
+def idle(pid, seconds):
+    before = status(pid)[0]
+    time.sleep(seconds)
+    return 100 * (status(pid)[0] - before) / seconds
+
+
+class Found(dict):
+    """What was measured, which is said at once, as a run takes minutes."""
+
+    def __setitem__(self, name, figures):
+        super().__setitem__(name, figures)
+        print(f"{name}: {', '.join(f'{figure:.1f}' for figure in figures)}", file=sys.stderr, flush=True)
