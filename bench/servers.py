@@ -30,12 +30,12 @@ def schema_in(folder):
 
 
 class Ours(daemon.Daemon):
-    def __init__(self, folder, command):
-        super().__init__(command, schema_in(folder))
+    def __init__(self, folder, command, words=()):
+        super().__init__(command, schema_in(folder), words=words)
 
 
 class Theirs(daemon.OvsdbServer):
-    def __init__(self, folder, _command):
+    def __init__(self, folder, _command, words=()):
         super().__init__(schema_in(folder))
 
 

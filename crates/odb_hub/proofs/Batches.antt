@@ -1,5 +1,6 @@
 -- How a batch is taken, one submission after the other.
-use Rattle.std.proofs.Common.{◌≡◌, ℕ, List, [], ◌∷◌, ◌++◌, map, refl, sym, ap, ◌∙◌, subst}
+use Rattle.std.proofs.Common.{◌≡◌, ℕ, ◌+◌, List, [], ◌∷◌, ◌++◌, map, length, refl, sym, ap, ◌∙◌, subst, arith}
+use Rattle.std.proofs.lemmas.List.{length-append}
 use mathlib.Core.List.{reverse, reverse-append, map-append, append_assoc}
 use Rattle.odb_atoms.specs.Represented.Atom.{uuid_of}
 use Rattle.odb_wire.specs.Shown.{request_data}
@@ -28,6 +29,18 @@ took s now events xs ys x a b c so_far is takes rings =
     let e : Event = event_of s now x in
     let left : events_of s now xs ≡ e ∷ events_of s now ys = ap (events_of s now) is ∙ last_first s now ys x in
     (so_far.0 ++ e ∷ [], so_far.1 ∙ ap (λ l. so_far.0 ++ l) left ∙ sym (append_assoc so_far.0 (e ∷ []) (events_of s now ys)), one_more so_far.0 e a b c so_far.2 takes rings)
+
+-- so many of a batch were taken, and these are left
+abbrev pub IsTaken : ℕ → ℕ → List Submission → List Submission → Kept → Kept → ℕ → Type 0
+IsTaken s now batch left old new count = TakesUpTo (events_of s now batch) (events_of s now left) old new × (length batch ≡ length left + count)
+
+-- one more of a turn is taken
+pub took_turn : (s now : ℕ) (batch xs ys : List Submission) (x : Submission) (a b c : Kept) (count : ℕ)
+    → IsTaken s now batch xs a b count → xs ≡ ys ++ x ∷ [] → Takes (event_of s now x) b c [] → c.rings ≡ b.rings → IsTaken s now batch ys a c (count + 1)
+took_turn s now batch xs ys x a b c count so_far is takes rings =
+    let more : length xs ≡ length ys + 1 = ap length is ∙ length-append ys (x ∷ []) in
+    let before = so_far.1 in
+    (took s now (events_of s now batch) xs ys x a b c so_far.0 is takes rings, omega (arith, more, before))
 
 -- equal parts make equal events
 pub same_event : (s now : ℕ) (x y : Submission) → x.request ≡ y.request → x.fresh ≡ y.fresh → event_of s now x ≡ event_of s now y

@@ -1,9 +1,10 @@
 -- Messages that are put into rings one after another.
 use Rattle.std.proofs.Common.{◌≡◌, ℕ, ◌==◌, ◌≤◌, Bool, true, false, cond, not, length, List, [], ◌∷◌, ◌++◌, Option, Some, None, is_some, refl, sym, ap, subst, ◌∙◌, append-nil, append_assoc, arith, inl, inr, true≢false, suc}
-use Rattle.std.specs.Prelude.{option_to_list}
+use Rattle.std.specs.Prelude.{◌⊎◌, option_to_list}
 use borrow.Author.Tests.{eq-eqb}
 use Rattle.odb_atoms.specs.FinMap.{get}
-use Rattle.odb_hub.specs.Rings.{HandsOver, HasRoom, IsFlushed, IsFlushedAt, IsPut, IsPutAt, IsServed, Ring, Rings, Text, is_free, is_free_at, room_of, texts, texts_to}
+use Rattle.odb_hub.specs.Rings.{HandsOver, HasRoom, IsFlushed, IsFlushedAt, IsLookedAt, IsPut, IsUnsent, IsPutAt, IsServed, IsShort, PutsBy, Ring, Rings, StillHolds, Text, is_free, is_free_at, room_of, texts, texts_to}
+use Rattle.odb_hub.specs.Room.{IsLooked, has_room, size_of}
 
 -- nothing is put
 pub nothing_more : (o : Option Ring) → HandsOver o [] o
@@ -20,27 +21,99 @@ free_is r h = by r.held refl
 not_nil : (x : Text) (xs : List Text) → (x ∷ xs) ≡ [] → (A : Type 0) → A
 not_nil x xs e A = absurd (let f : suc (length xs) ≡ 0 = ap length e in omega (arith, f))
 
+-- ---- putting one
+
+-- it was sent, or it is held back
+pub put_cases : (text : Text) (a b : Ring) (p : IsPut text a b) → ((b.sent ≡ a.sent ++ text ∷ []) × (b.held ≡ None)) ⊎ ((b.sent ≡ a.sent) × (b.waiting ≡ p.0) × (b.held ≡ Some text))
+put_cases text a b p = by (has_room p.0 (size_of text)) p.2
+  where
+    by : (c : Bool) → PutsBy c text p.0 a b → ((b.sent ≡ a.sent ++ text ∷ []) × (b.held ≡ None)) ⊎ ((b.sent ≡ a.sent) × (b.waiting ≡ p.0) × (b.held ≡ Some text))
+    by true is = inl (ap (λ (r : Ring). r.sent) is, ap (λ (r : Ring). r.held) is)
+    by false is = inr (ap (λ (r : Ring). r.sent) is, ap (λ (r : Ring). r.waiting) is, ap (λ (r : Ring). r.held) is)
+
+pub put_name : (text : Text) (a b : Ring) → IsPut text a b → b.name ≡ a.name
+put_name text a b p = by (has_room p.0 (size_of text)) p.2
+  where
+    by : (c : Bool) → PutsBy c text p.0 a b → b.name ≡ a.name
+    by true is = ap (λ (r : Ring). r.name) is
+    by false is = ap (λ (r : Ring). r.name) is
+
+same_text : (x y : Text) → (let o : Option Text = Some x in o) ≡ Some y → x ≡ y
+same_text x y e = cc
+
+none_some : {A : Type 0} (o : Option Text) (x : Text) → o ≡ None → o ≡ Some x → A
+none_some o x none some = absurd (true≢false (ap is_some (sym some ∙ none)))
+
+-- where it is held back there is no room
+pub put_short : (text : Text) (a b : Ring) → IsPut text a b → IsShort b
+put_short text a b p = by (has_room p.0 (size_of text)) refl p.2
+  where
+    by : (c : Bool) → has_room p.0 (size_of text) ≡ c → PutsBy c text p.0 a b → IsShort b
+    by true room is t held = none_some b.held t (ap (λ (r : Ring). r.held) is) held
+    by false room is t held =
+        let same : text ≡ t = same_text text t (sym (ap (λ (r : Ring). r.held) is) ∙ held) in
+        ap (λ ws. has_room ws (size_of t)) (ap (λ (r : Ring). r.waiting) is) ∙ ap (λ x. has_room p.0 (size_of x)) (sym same) ∙ room
+
+pub looked_on : (xs ys zs : List ℕ) → IsLooked xs ys → IsLooked ys zs → IsLooked xs zs
+looked_on xs ys zs a b = (a.0 ++ b.0, a.1 ∙ ap (λ ws. a.0 ++ ws) b.1 ∙ sym (append_assoc a.0 b.0 zs))
+
+-- there was room for it
+pub sent_is_put : (text : Text) (old mid new : Ring) → old.held ≡ None → IsLookedAt old mid → has_room mid.waiting (size_of text) ≡ true
+    → new ≡ record { name = mid.name; sent = mid.sent ++ text ∷ []; waiting = mid.waiting ++ size_of text ∷ []; held = mid.held } → IsPut text old new
+sent_is_put text old mid new free looked room is =
+    let there : has_room looked.0 (size_of text) ≡ true = ap (λ (r : Ring). has_room r.waiting (size_of text)) (sym looked.2) ∙ room in
+    let new_is : new ≡ record { name = old.name; sent = old.sent ++ text ∷ []; waiting = looked.0 ++ size_of text ∷ []; held = None } =
+    is ∙ (λ i. record { name = (looked.2 i).name; sent = (looked.2 i).sent ++ text ∷ []; waiting = (looked.2 i).waiting ++ size_of text ∷ []; held = (looked.2 i).held })
+    ∙ (λ i. record { name = old.name; sent = old.sent ++ text ∷ []; waiting = looked.0 ++ size_of text ∷ []; held = free i }) in
+    (looked.0, looked.1, subst (λ b. PutsBy b text looked.0 old new) (sym there) new_is)
+
+-- there was none
+pub unsent_is_put : (text : Text) (old mid new : Ring) → IsUnsent text old mid → new ≡ record mid { held = Some text } → IsPut text old new
+unsent_is_put text old mid new unsent is =
+    let looked : IsLookedAt old mid = unsent.0 in
+    let none : has_room looked.0 (size_of text) ≡ false = ap (λ (r : Ring). has_room r.waiting (size_of text)) (sym looked.2) ∙ unsent.1 in
+    let new_is : new ≡ record { name = old.name; sent = old.sent; waiting = looked.0; held = Some text } =
+    is ∙ (λ i. record { name = (looked.2 i).name; sent = (looked.2 i).sent; waiting = (looked.2 i).waiting; held = Some text }) in
+    (looked.0, looked.1, subst (λ b. PutsBy b text looked.0 old new) (sym none) new_is)
+
+-- one that was not sent is tried again
+pub retried : (text : Text) (a b c : Ring) → b.name ≡ a.name → b.sent ≡ a.sent → IsLooked a.waiting b.waiting → IsPut text b c → IsPut text a c
+retried text a b c name sent looked p = (p.0, looked_on a.waiting b.waiting p.0 looked p.1, by (has_room p.0 (size_of text)) p.2)
+  where
+    by : (d : Bool) → PutsBy d text p.0 b c → PutsBy d text p.0 a c
+    by true is = is ∙ (λ i. record { name = name i; sent = sent i ++ text ∷ []; waiting = p.0 ++ size_of text ∷ []; held = None })
+    by false is = is ∙ (λ i. record { name = name i; sent = sent i; waiting = p.0; held = Some text })
+
+pub put_again : (text : Text) (a b c : Ring) → IsLookedAt a b → IsPut text b c → IsPut text a c
+put_again text a b c l p =
+    let looked : IsLooked a.waiting b.waiting = subst (λ ws. IsLooked a.waiting ws) (sym (ap (λ (r : Ring). r.waiting) l.2)) l.1 in
+    retried text a b c (ap (λ (r : Ring). r.name) l.2) (ap (λ (r : Ring). r.sent) l.2) looked p
+
 sent_on : (text : Text) (a b c : Ring) (ys : List Text) → a.held ≡ None → IsPut text a b
     → ((more : List Text) × (c.sent ≡ b.sent ++ more) × (more ++ option_to_list c.held ≡ option_to_list b.held ++ ys))
     → (more : List Text) × (c.sent ≡ a.sent ++ more) × (more ++ option_to_list c.held ≡ option_to_list a.held ++ text ∷ ys)
-sent_on text a b c ys free (inl is) m = (
-  text ∷ m.0,
-  m.1 ∙ ap (λ (r : Ring). r.sent ++ m.0) is ∙ append_assoc a.sent (text ∷ []) m.0,
-  ap (λ ts. text ∷ ts) (m.2 ∙ ap (λ (r : Ring). option_to_list r.held ++ ys) is) ∙ ap (λ (o : Option Text). option_to_list o ++ text ∷ ys) (sym free),
-)
-sent_on text a b c ys free (inr is) m = (
-  m.0,
-  m.1 ∙ ap (λ (r : Ring). r.sent ++ m.0) is,
-  m.2 ∙ ap (λ (r : Ring). option_to_list r.held ++ ys) is ∙ ap (λ (o : Option Text). option_to_list o ++ text ∷ ys) (sym free),
-)
-
-put_name : (text : Text) (a b : Ring) → IsPut text a b → b.name ≡ a.name
-put_name text a b (inl is) = ap (λ (r : Ring). r.name) is
-put_name text a b (inr is) = ap (λ (r : Ring). r.name) is
+sent_on text a b c ys free p m = by (put_cases text a b p)
+  where
+    by : ((b.sent ≡ a.sent ++ text ∷ []) × (b.held ≡ None)) ⊎ ((b.sent ≡ a.sent) × (b.waiting ≡ p.0) × (b.held ≡ Some text))
+        → (more : List Text) × (c.sent ≡ a.sent ++ more) × (more ++ option_to_list c.held ≡ option_to_list a.held ++ text ∷ ys)
+    by (inl is) = (
+      text ∷ m.0,
+      m.1 ∙ ap (λ ts. ts ++ m.0) is.0 ∙ append_assoc a.sent (text ∷ []) m.0,
+      ap (λ ts. text ∷ ts) (m.2 ∙ ap (λ (o : Option Text). option_to_list o ++ ys) is.1) ∙ ap (λ (o : Option Text). option_to_list o ++ text ∷ ys) (sym free),
+    )
+    by (inr is) = (
+      m.0,
+      m.1 ∙ ap (λ ts. ts ++ m.0) is.0,
+      m.2 ∙ ap (λ (o : Option Text). option_to_list o ++ ys) is.2 ∙ ap (λ (o : Option Text). option_to_list o ++ text ∷ ys) (sym free),
+    )
 
 flushed_name : (a b : Ring) → IsFlushed a b → b.name ≡ a.name
 flushed_name a b (inl is) = ap (λ (r : Ring). r.name) is
-flushed_name a b (inr is) = ap (λ (r : Ring). r.name) is
+flushed_name a b (inr p) = put_name p.0 a b p.2
+
+pub flushed_short : (a b : Ring) → IsShort a → IsFlushed a b → IsShort b
+flushed_short a b short (inl is) = subst IsShort (sym is) short
+flushed_short a b short (inr p) = put_short p.0 a b p.2
 
 -- what is put first, and then the rest
 pub put_first : (b : Bool) (text : Text) (ys : List Text) (o p q : Option Ring) → HasRoom o (cond b (text ∷ ys) ys) → IsPutAt b text o p → HandsOver p ys q → HandsOver o (cond b (text ∷ ys) ys) q
@@ -69,15 +142,34 @@ flushed_free a b (inl is) free = by b.held refl
     by : (o : Option Text) → b.held ≡ o → b.sent ≡ texts a
     by None e = sym (append-nil b.sent) ∙ ap (λ (x : Option Text). b.sent ++ option_to_list x) (sym e) ∙ ap texts is
     by (Some t) e = absurd (let f : false ≡ true = ap (λ (x : Option Text). not (is_some x)) (sym e) ∙ free in true≢false (sym f))
-flushed_free a b (inr is) free = ap (λ (r : Ring). r.sent) is
+flushed_free a b (inr p) free = by (put_cases p.0 a b p.2)
+  where
+    by : ((b.sent ≡ a.sent ++ p.0 ∷ []) × (b.held ≡ None)) ⊎ ((b.sent ≡ a.sent) × (b.waiting ≡ p.2.0) × (b.held ≡ Some p.0)) → b.sent ≡ texts a
+    by (inl is) = is.0 ∙ ap (λ (o : Option Text). a.sent ++ option_to_list o) (sym p.1)
+    by (inr is) = absurd (let f : false ≡ true = ap (λ (x : Option Text). not (is_some x)) (sym is.2) ∙ free in true≢false (sym f))
 
-pub flushed_holds : (a b : Ring) → IsFlushed a b → is_free b ≡ false → (is_some a.held ≡ true) × (b ≡ a)
-flushed_holds a b (inl is) holds = (ap (λ (r : Ring). is_some r.held) (sym is) ∙ by (is_some b.held) refl, is)
+pub flushed_holds : (a b : Ring) → IsFlushed a b → is_free b ≡ false → (is_some a.held ≡ true) × StillHolds a b
+flushed_holds a b (inl is) holds = (ap (λ (r : Ring). is_some r.held) (sym is) ∙ by (is_some b.held) refl, (ap (λ (r : Ring). r.name) is, ap (λ (r : Ring). r.sent) is, ap (λ (r : Ring). r.held) is))
   where
     by : (c : Bool) → is_some b.held ≡ c → c ≡ true
     by true e = refl
     by false e = absurd (true≢false (ap not (sym e) ∙ holds))
-flushed_holds a b (inr is) holds = absurd (true≢false (ap is_free (sym is) ∙ holds))
+flushed_holds a b (inr p) holds = by (put_cases p.0 a b p.2)
+  where
+    by : ((b.sent ≡ a.sent ++ p.0 ∷ []) × (b.held ≡ None)) ⊎ ((b.sent ≡ a.sent) × (b.waiting ≡ p.2.0) × (b.held ≡ Some p.0)) → (is_some a.held ≡ true) × StillHolds a b
+    by (inl is) = absurd (true≢false (ap (λ (x : Option Text). not (is_some x)) (sym is.1) ∙ holds))
+    by (inr is) = (ap is_some p.1, (put_name p.0 a b p.2, is.0, is.2 ∙ sym p.1))
+
+pub still_texts : (a b : Ring) → StillHolds a b → texts b ≡ texts a
+still_texts a b h = (λ i. h.1 i ++ option_to_list (h.2 i))
+
+pub flushed_texts : (a b : Ring) → IsFlushed a b → texts b ≡ texts a
+flushed_texts a b (inl e) = ap texts e
+flushed_texts a b (inr p) = by (put_cases p.0 a b p.2)
+  where
+    by : ((b.sent ≡ a.sent ++ p.0 ∷ []) × (b.held ≡ None)) ⊎ ((b.sent ≡ a.sent) × (b.waiting ≡ p.2.0) × (b.held ≡ Some p.0)) → texts b ≡ texts a
+    by (inl is) = (λ i. is.0 i ++ option_to_list (is.1 i)) ∙ append-nil (a.sent ++ p.0 ∷ []) ∙ ap (λ (o : Option Text). a.sent ++ option_to_list o) (sym p.1)
+    by (inr is) = (λ i. is.0 i ++ option_to_list ((is.2 ∙ sym p.1) i))
 
 held_none : (r : Ring) → is_free r ≡ true → r.held ≡ None
 held_none r free = by r.held refl
@@ -106,9 +198,9 @@ served listed outs (Some a) p q flushed is room over =
     by true true free same on =
         (on.0, on.1, on.2.0, on.2.1 ∙ ap (λ ts. ts ++ on.2.0) (flushed_free a flushed.0 flushed.2 free), on.2.2 ∙ ap (λ (x : Option Text). option_to_list x ++ outs) (held_none flushed.0 free), on.4 ∙ flushed_name a flushed.0 flushed.2)
     by false false holds same on =
-        let h : (is_some a.held ≡ true) × (flushed.0 ≡ a) = flushed_holds a flushed.0 flushed.2 holds in
+        let h : (is_some a.held ≡ true) × StillHolds a flushed.0 = flushed_holds a flushed.0 flushed.2 holds in
         let none : outs ≡ [] = nothing_in (Some flushed.0) outs (subst (λ (x : Option Ring). HasRoom x outs) flushed.1 room) holds in
-        (h.0, none, on.1 ∙ ap (λ (r : Ring). let x : Option Ring = Some r in x) (on.3 none ∙ h.1))
+        (h.0, none, flushed.0, on.1 ∙ ap (λ (r : Ring). let x : Option Ring = Some r in x) (on.3 none), h.1)
     by true false holds same on = absurd (true≢false same)
     by false true free same on = absurd (true≢false (sym same))
 
@@ -119,10 +211,16 @@ flushed_itself None = refl
 flushed_itself (Some a) = (a, refl, inl refl)
 
 flushed_again : (a b c : Ring) → IsFlushed a b → IsFlushed b c → IsFlushed a c
-flushed_again a b c (inl e) (inl f) = inl (f ∙ e)
-flushed_again a b c (inl e) (inr f) = inr (f ∙ ap (λ (r : Ring). let x : Ring = record { name = r.name; sent = texts r; held = None } in x) e)
-flushed_again a b c (inr e) (inl f) = inr (f ∙ e)
-flushed_again a b c (inr e) (inr f) = inr (f ∙ ap (λ (r : Ring). let x : Ring = record { name = r.name; sent = texts r; held = None } in x) e ∙ ap (λ ts. let x : Ring = record { name = a.name; sent = ts; held = None } in x) (append-nil (texts a)))
+flushed_again a b c (inl e) f = subst (λ (r : Ring). IsFlushed r c) e f
+flushed_again a b c (inr p) (inl f) = inr (p.0, p.1, subst (λ (r : Ring). IsPut p.0 a r) (sym f) p.2)
+flushed_again a b c (inr p) (inr q) = by (put_cases p.0 a b p.2)
+  where
+    by : ((b.sent ≡ a.sent ++ p.0 ∷ []) × (b.held ≡ None)) ⊎ ((b.sent ≡ a.sent) × (b.waiting ≡ p.2.0) × (b.held ≡ Some p.0)) → IsFlushed a c
+    by (inl is) = none_some b.held q.0 is.1 q.1
+    by (inr is) =
+        let same : q.0 ≡ p.0 = same_text q.0 p.0 (sym q.1 ∙ is.2) in
+        let looked : IsLooked a.waiting b.waiting = subst (λ ws. IsLooked a.waiting ws) (sym is.1) p.2.1 in
+        inr (p.0, p.1, retried p.0 a b c (put_name p.0 a b p.2) is.0 looked (subst (λ t. IsPut t b c) same q.2))
 
 pub flushed_twice : (o p q : Option Ring) → IsFlushedAt o p → IsFlushedAt p q → IsFlushedAt o q
 flushed_twice None p q e f = subst (λ (x : Option Ring). IsFlushedAt x q) e f

@@ -11,7 +11,7 @@ use Rattle.odb_atoms.specs.Uuid.{Uuid}
 use Rattle.odb_hub.specs.Kept.{AreOpen, AreTold, AreUnused, EndsWith, IsKept, counted, Kept, Takes, TakesRound, is_in, text_of}
 use Rattle.odb_hub.specs.Rings.{HandsOver, HasRoom, IsFlushed, IsFlushedAt, IsServed, Ring, Rings, Text, free_of, is_free_at, room_of, texts, texts_to}
 use Rattle.odb_hub.proofs.Free.{listed, rising}
-use Rattle.odb_hub.proofs.HandingOver.{served}
+use Rattle.odb_hub.proofs.HandingOver.{flushed_texts, served, still_texts}
 use Rattle.odb_hub.proofs.Stepping.{IsTold, history_begins, history_on, ends_nothing, open_closed, open_opened, open_round, open_submitted, open_ticked, ok_is, served_with, step_of, told_on}
 use Rattle.odb_hub.proofs.Takings.{most_given, texts_printed}
 use Rattle.odb_service.proofs.SessionMaps.{get-empty, get-insert, get-remove, same_key, same_map}
@@ -52,7 +52,7 @@ Grows outs (Some a) o = (b : Ring) × (o ≡ Some b) × (texts b ≡ texts a ++ 
 
 pub grown : (listed : Bool) (outs : List Text) (o p : Option Ring) → IsServed listed outs o p → Grows outs o p
 grown listed outs None p k = k.2
-grown false outs (Some a) p k = (a, k.2, sym (append-nil (texts a)) ∙ ap (λ ts. texts a ++ ts) (sym k.1))
+grown false outs (Some a) p k = (k.2, k.3, still_texts a k.2 k.4 ∙ sym (append-nil (texts a)) ∙ ap (λ ts. texts a ++ ts) (sym k.1))
 grown true outs (Some a) p k = (k.0, k.1, ap (λ ts. ts ++ option_to_list k.0.held) k.3 ∙ append_assoc (texts a) k.2 (option_to_list k.0.held) ∙ ap (λ ts. texts a ++ ts) k.4)
 
 -- ---- the same rings
@@ -199,29 +199,35 @@ taken_out m n x none = same_map _ _ (λ q. get-remove (insert m n x) n q ∙ ap 
     by q true e = sym (ap (get m) (same_key q n e) ∙ none)
     by q false e = refl
 
--- a flush alone
-pub flushed_kept : (k : Kept) (m : Rings) → IsKept k → ((s : ℕ) → IsFlushedAt (get k.rings s) (get m s)) → IsKept (record k { rings = m })
-flushed_kept k m kept flushed = ((kept.0.0, kept.0.1, told), λ s. same (get k.rings s) (get m s) (flushed s) ∙ kept.1 s)
+-- nothing is sent, and no event is taken
+pub grown_kept : (old new : Kept) → IsKept old → new.server ≡ old.server → new.base ≡ old.base → new.events ≡ old.events → ((s : ℕ) → Grows [] (get old.rings s) (get new.rings s)) → IsKept new
+grown_kept old new kept server base events grows =
+    let done : IsKept (record old { rings = new.rings }) = ((kept.0.0, kept.0.1, told), λ s. same (get old.rings s) (get new.rings s) (grows s) ∙ kept.1 s) in
+    subst IsKept (λ i. let k : Kept = record { server = sym server i; base = sym base i; events = sym events i; rings = new.rings } in k) done
   where
-    same : (o p : Option Ring) → IsFlushedAt o p → is_some p ≡ is_some o
+    same : (o p : Option Ring) → Grows [] o p → is_some p ≡ is_some o
     same None p e = ap is_some e
     same (Some a) p e = ap is_some e.1
 
     same_ring : (a b : Ring) → (let o : Option Ring = Some a in o) ≡ Some b → a ≡ b
     same_ring a b e = cc
 
-    texts_same : (a b : Ring) → IsFlushed a b → texts b ≡ texts a
-    texts_same a b (inl e) = ap texts e
-    texts_same a b (inr e) = ap texts e ∙ append-nil (texts a)
-
-    by : (s : ℕ) (r : Ring) (o p : Option Ring) → get k.rings s ≡ o → IsFlushedAt o p → p ≡ Some r → EndsWith (texts r) (map text_of (kept.0.0 s))
+    by : (s : ℕ) (r : Ring) (o p : Option Ring) → get old.rings s ≡ o → Grows [] o p → p ≡ Some r → EndsWith (texts r) (map text_of (kept.0.0 s))
     by s r None p at e there = absurd (true≢false (sym (sym (ap is_some e) ∙ ap is_some there)))
     by s r (Some a) p at e there =
-        let is : texts r ≡ texts a = ap texts (sym (same_ring e.0 r (sym e.1 ∙ there))) ∙ texts_same a e.0 e.2 in
+        let is : texts r ≡ texts a = ap texts (sym (same_ring e.0 r (sym e.1 ∙ there))) ∙ e.2 ∙ append-nil (texts a) in
         subst (λ ts. EndsWith ts (map text_of (kept.0.0 s))) (sym is) (kept.0.2 s a at)
 
-    told : AreTold m kept.0.0
-    told s r there = by s r (get k.rings s) (get m s) refl (flushed s) there
+    told : AreTold new.rings kept.0.0
+    told s r there = by s r (get old.rings s) (get new.rings s) refl (grows s) there
+
+-- a flush alone
+pub flushed_kept : (k : Kept) (m : Rings) → IsKept k → ((s : ℕ) → IsFlushedAt (get k.rings s) (get m s)) → IsKept (record k { rings = m })
+flushed_kept k m kept flushed = grown_kept k (record k { rings = m }) kept refl refl refl (λ s. grows (get k.rings s) (get m s) (flushed s))
+  where
+    grows : (o p : Option Ring) → IsFlushedAt o p → Grows [] o p
+    grows None p e = e
+    grows (Some a) p e = (e.0, e.1, flushed_texts a e.0 e.2 ∙ sym (append-nil (texts a)))
 
 -- ---- numbers
 

@@ -8,6 +8,7 @@ pub mod Keeping
 pub mod OwnRounds
 pub mod Putting
 pub mod RingsIn
+pub mod Rooms
 pub mod Stepping
 pub mod Takings
 pub mod Writing

@@ -8,9 +8,8 @@ use Rattle.odb_hub.specs.Kept.{IsKept, Kept, Takes}
 use Rattle.odb_hub.specs.Own.{FlushesOwn, GivesOwn, LeavesOthers, TakesIf, TakesOwnRound, TakesOwnRounds}
 use Rattle.odb_hub.specs.Rings.{HandsOver, HasRoom, IsFlushedAt, IsServed, Ring, Rings, Text, is_free_at, room_of, texts, texts_to}
 use Rattle.odb_hub.proofs.Counting.{same_count, same_events}
-use Rattle.odb_hub.proofs.HandingOver.{flushed_holds, flushed_itself, nothing_more, served}
-use Rattle.odb_hub.proofs.Keeping.{Grows, grown, most_texts, round_kept}
-use Rattle.odb_service.proofs.SessionMaps.{same_map}
+use Rattle.odb_hub.proofs.HandingOver.{flushed_itself, nothing_more, served}
+use Rattle.odb_hub.proofs.Keeping.{Grows, grown, grown_kept, most_texts, round_kept}
 use Rattle.odb_service.specs.Run.{Event, round}
 use Rattle.odb_service.specs.Server.{Server, serve}
 
@@ -59,24 +58,11 @@ own_round s old new mid outs flushed others free takes over = (
   λ t apart. hands_nothing (get mid t) (get new.rings t) (texts_to t outs) (none_for s t old.server new.server outs takes.0 apart) (over t) ∙ others t apart,
 )
 
-not_flushed : (o p : Option Ring) → IsFlushedAt o p → is_free_at p ≡ false → p ≡ o
-not_flushed None p e holds = e
-not_flushed (Some a) p e holds = e.1 ∙ ap (λ (r : Ring). let x : Option Ring = Some r in x) (flushed_holds a e.0 e.2 (ap is_free_at (sym e.1) ∙ holds)).1
-
-same_rings : (s : ℕ) (m k : Rings) → IsFlushedAt (get m s) (get k s) → Same s m k → is_free_at (get k s) ≡ false → k ≡ m
-same_rings s m k flushed others holds = same_map _ _ (λ t. by t (s == t) refl)
-  where
-    by : (t : ℕ) (b : Bool) → (s == t) ≡ b → get k t ≡ get m t
-    by t true e = subst (λ q. get k q ≡ get m q) (eqb-true s t e) (not_flushed (get m s) (get k s) flushed holds)
-    by t false e = others t e
-
 -- a message is held back still, or there is no ring
 pub own_waits : (s : ℕ) (old new : Kept) → FlushesOwn s old new → is_free_at (get new.rings s) ≡ false → TakesOwnRound s 0 old new
 own_waits s old new f holds =
-    let rings : new.rings ≡ old.rings = same_rings s old.rings new.rings f.3 f.4 holds in
-    let same : new ≡ old = λ i. record { server = f.0 i; base = f.1 i; events = f.2 i; rings = rings i } in
     let room : HasRoom (get new.rings s) [] = omega arith in
-    (false, [], (same, refl), refl, served false [] (get old.rings s) (get new.rings s) (get new.rings s) f.3 (sym holds) room (nothing_more (get new.rings s)), f.4)
+    (false, [], (f.0, f.1, f.2, refl), refl, served false [] (get old.rings s) (get new.rings s) (get new.rings s) f.3 (sym holds) room (nothing_more (get new.rings s)), f.4)
 
 -- ---- what is kept
 
@@ -86,7 +72,7 @@ stays (Some a) = (a, refl, sym (append-nil (texts a)))
 
 none_of : (listed : Bool) (s : ℕ) (old new : Kept) (outs : List (ℕ × Text)) → TakesIf listed (round (s ∷ [])) old new outs → (t : ℕ) → (s == t) ≡ false → texts_to t outs ≡ []
 none_of true s old new outs takes t apart = none_for s t old.server new.server outs takes.0 apart
-none_of false s old new outs same t apart = ap (texts_to t) same.1
+none_of false s old new outs same t apart = ap (texts_to t) same.3
 
 own_grows : (s : ℕ) (m k : Rings) (outs : List (ℕ × Text)) → ((t : ℕ) → (s == t) ≡ false → texts_to t outs ≡ []) → Grows (texts_to s outs) (get m s) (get k s) → Same s m k → (t : ℕ) → Grows (texts_to t outs) (get m t) (get k t)
 own_grows s m k outs none here others t = by (s == t) refl
@@ -101,7 +87,7 @@ own_grown s count old new o =
 
 own_taken : (listed : Bool) (s : ℕ) (old new : Kept) (outs : List (ℕ × Text)) → IsKept old → TakesIf listed (round (s ∷ [])) old new outs → ((t : ℕ) → Grows (texts_to t outs) (get old.rings t) (get new.rings t)) → IsKept new
 own_taken true s old new outs kept takes grows = round_kept old new kept (s ∷ []) outs takes grows
-own_taken false s old new outs kept same grows = subst IsKept (sym same.0) kept
+own_taken false s old new outs kept same grows = grown_kept old new kept same.0 same.1 same.2 (λ t. subst (λ os. Grows (texts_to t os) (get old.rings t) (get new.rings t)) same.3 (grows t))
 
 pub own_kept : (s count : ℕ) (old new : Kept) → IsKept old → TakesOwnRound s count old new → IsKept new
 own_kept s count old new kept o = own_taken o.0 s old new o.1 kept o.2 (own_grown s count old new o)
@@ -119,7 +105,7 @@ gives_all s old new counts rounds = (counts, new, rounds, flushed_nothing s new)
 
 one_counted : (listed : Bool) (s : ℕ) (old new : Kept) (outs : List (ℕ × Text)) (total settled : ℕ) → total ≡ settled + submits old.events → TakesIf listed (round (s ∷ [])) old new outs → total ≡ settled + submits new.events
 one_counted true s old new outs total settled count takes = same_count total settled old.events new.events (round (s ∷ [])) count takes.1 refl
-one_counted false s old new outs total settled count same = same_events old new total settled count (ap (λ (k : Kept). k.events) same.0)
+one_counted false s old new outs total settled count same = same_events old new total settled count same.2
 
 rounds_counted : (s : ℕ) (counts : List ℕ) (old new : Kept) (total settled : ℕ) → total ≡ settled + submits old.events → TakesOwnRounds s counts old new → total ≡ settled + submits new.events
 rounds_counted s [] old new total settled count same = same_events old new total settled count (ap (λ (k : Kept). k.events) same)

@@ -1,11 +1,13 @@
 -- Bytes that are written in parts, up to a fault.
-use Rattle.std.proofs.Common.{◌≡◌, ℕ, ◌-◌, List, [], ◌∷◌, ◌++◌, None, Some, refl, ap, subst, sym, ◌∙◌, append_assoc, append-nil, take, drop, length, arith, take_all, length-drop, take-append-drop, suc}
+use Rattle.std.proofs.Common.{◌≡◌, ℕ, ◌-◌, List, [], ◌∷◌, ◌++◌, codes, None, Some, refl, ap, subst, sym, ◌∙◌, append_assoc, append-nil, take, drop, length, arith, take_all, length-drop, take-append-drop, suc}
 use Rattle.std.specs.Prelude.{◌≢◌, OnErr, Result, Ok, Err}
 use Rattle.std.specs.List.{flat_map}
 use Rattle.std.specs.declared.option.Option.{Option}
 use Rattle.std.specs.Io.KnownBytes.{Appends, Keeps}
+use Rattle.json.specs.Print.{escape_byte}
 use Rattle.odb_sessions.specs.declared.out.Out.{Out}
 use Rattle.odb_sessions.specs.Represented.Out.{text_of_out}
+use Rattle.odb_hub.specs.Probe.{probe_text}
 use Rattle.odb_hub.specs.Represented.Mailbox.{IsCutIn, IsCutOff, IsWritten}
 
 abbrev Known : Type 0
@@ -81,3 +83,9 @@ cut_off before now after count a b c out so_far is cut = (
   cut.3,
   appends_more a b c (flat_map text_of_out so_far.0) cut.0 so_far.3 cut.4,
 )
+
+-- ---- the probe
+
+pub probe_bytes : codes "{\"id\":\"echo\",\"method\":\"echo\",\"params\":[]}" ≡ probe_text
+unfolding escape_byte
+probe_bytes = refl

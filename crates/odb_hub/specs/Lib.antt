@@ -3,5 +3,7 @@ pub mod Counted
 pub mod EventCode
 pub mod Kept
 pub mod Own
+pub mod Probe
 pub mod Represented
 pub mod Rings
+pub mod Room

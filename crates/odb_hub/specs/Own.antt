@@ -5,16 +5,16 @@ use Rattle.odb_service.specs.Run.{Event, round}
 use Rattle.odb_hub.specs.Kept.{Kept, Takes}
 use Rattle.odb_hub.specs.Rings.{IsFlushedAt, IsServed, Text, texts_to}
 
--- the event is taken; or it isn't, and nothing changes
+-- the event is taken; or it isn't, and nothing is sent
 abbrev pub TakesIf : Bool → Event → Kept → Kept → List (ℕ × Text) → Type 0
 TakesIf true e old new outs = Takes e old new outs
-TakesIf false e old new outs = (new ≡ old) × (outs ≡ [])
+TakesIf false e old new outs = (new.server ≡ old.server) × (new.base ≡ old.base) × (new.events ≡ old.events) × (outs ≡ [])
 
 -- the rings of other sessions stay
 abbrev pub LeavesOthers : ℕ → Kept → Kept → Type 0
 LeavesOthers s old new = (t : ℕ) → (s == t) ≡ false → get new.rings t ≡ get old.rings t
 
--- a round that lists this session alone, and what it makes of its ring; or nothing, where it has no ring or a message is held back still
+-- a round that lists this session alone, and what it makes of its ring; or no event, where it has no ring or a message is held back still
 abbrev pub TakesOwnRound : ℕ → ℕ → Kept → Kept → Type 0
 TakesOwnRound s count old new =
     (listed : Bool) × (outs : List (ℕ × Text)) × TakesIf listed (round (s ∷ [])) old new outs × (count ≡ length outs)

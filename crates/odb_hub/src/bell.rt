@@ -5,7 +5,8 @@ use std::sync::atomic::{AtomicU64, Ordering};
 use std::thread::Parker;
 
 /// What the threads of one session share: the thread that writes sleeps until there is something to write, the
-/// one that reads sleeps where its request met `Busy`. No contract speaks of it: whether a thread wakes is tested.
+/// one that reads sleeps where its request met `Busy` or a message is held back. No contract speaks of it: whether a
+/// thread wakes is tested.
 #[derive(Drop)]
 pub struct Bell {
     writer: Parker,
@@ -13,6 +14,7 @@ pub struct Bell {
     ended: AtomicU64,
     failed: AtomicU64,
     holds: AtomicU64,
+    asks: AtomicU64,
 }
 
 impl Bell {
@@ -24,6 +26,7 @@ impl Bell {
             ended: AtomicU64::new(0),
             failed: AtomicU64::new(0),
             holds: AtomicU64::new(0),
+            asks: AtomicU64::new(0),
         }
     }
 
@@ -55,14 +58,32 @@ impl Bell {
         self.failed.load(Ordering::SeqCst) != 0
     }
 
-    /// A message is held back, since the ring is full.
+    /// A message is held back, since the ring has no room for it.
     pub fn hold(&self) {
         self.holds.store(1, Ordering::SeqCst);
     }
 
-    /// Whether a message was held back since the last call.
-    pub fn held(&self) -> bool {
-        self.holds.swap(0, Ordering::SeqCst) != 0
+    /// Nothing is held back.
+    pub fn let_go(&self) {
+        if self.is_held_back() {
+            self.holds.store(0, Ordering::SeqCst);
+        }
+    }
+
+    /// Whether a message is held back.
+    pub fn is_held_back(&self) -> bool {
+        self.holds.load(Ordering::SeqCst) != 0
+    }
+
+    /// The peer said nothing for a while: the thread that writes asks it whether it is there.
+    pub fn ask(&self) {
+        self.asks.store(1, Ordering::SeqCst);
+        self.writer.unpark();
+    }
+
+    /// Whether the peer is to be asked, since the last call.
+    pub fn is_to_ask(&self) -> bool {
+        self.asks.swap(0, Ordering::SeqCst) != 0
     }
 
     /// Sleeps until there may be something to write, or the session ends.

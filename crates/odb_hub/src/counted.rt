@@ -1,6 +1,7 @@
 //! What the lock guards, and the ledger of what its seats were answered.
 ghost use Rattle.std.specs.Prelude.{◌≡◌, ◌+◌, ◌-◌, ◌⊎◌, ℕ, [], length, true, false, IfErr, IfOk, OnErr, OnOk};
 ghost use Rattle.odb_core.specs.declared.refused.Refused.TheVariants as refused;
+ghost use Rattle.odb_hub.specs.Batch as batch;
 ghost use Rattle.odb_service.specs.Run.{closed, opened, ticked};
 
 use crate::mailbox::Mailbox;
@@ -12,6 +13,16 @@ use std::alloc::{AllocError, Global};
 use std::marker::Model;
 use std::snapshot::Snapshot;
 use std::sync::ledger::{Blank, Book, Ledger, Share};
+use std::time::Clock;
+
+/// What came of a turn of a batch.
+#[derive(Drop)]
+pub struct BatchOutcome {
+    /// Whether a session may be owed something, where nothing was refused; else why the turn stopped.
+    pub owes: Result<bool, Refused>,
+    /// Whether a transaction waits that is due sooner than any was before.
+    pub due_sooner: bool,
+}
 
 /// A hub's state, and the ledger of its seats. What is always so (`IsCounted`): the submits in the journal, with those
 /// settled away, are as many as all seats together were answered, also those that parted. The ledger takes no memory.
@@ -43,13 +54,13 @@ impl<L: Ledger> Counted<L> {
     ghost use Rattle.odb_service.specs.Server.{serve};
     ghost use Rattle.odb_core.specs.Deadlines.{earliest};
     ghost use Rattle.odb_core.specs.Represented.Reason.{IsReason};
-    ghost use Rattle.odb_hub.specs.Batch.{Submits};
+    ghost use Rattle.odb_hub.specs.Batch.{IsSome, IsTurn, Submits, is_sooner};
     ghost use Rattle.odb_hub.specs.Counted.{Closes, IsCounted, SameCount, submits};
     ghost use Rattle.odb_hub.specs.Kept.{IsKept, IsQuiet, Takes, TakesRound, counted};
     ghost use Rattle.odb_hub.specs.Own.{GivesOwn};
     ghost use Rattle.odb_hub.specs.Represented.Mailbox.{name_of, taken};
     ghost use Rattle.odb_hub.specs.Represented.Submission.{events_of};
-    ghost use Rattle.odb_hub.specs.Rings.{fresh_ring, IsFlushedAt};
+    ghost use Rattle.odb_hub.specs.Rings.{AreShort, fresh_ring, IsFlushedAt};
 
     /// A hub's state over a core without sessions, of which so many seats may be given at once.
     pub fn new(alloc: Global, core: Core, blank: Blank, seats: u64) -> Counted<L>
@@ -72,6 +83,7 @@ impl<L: Ledger> Counted<L> {
     pub fn since_base(&self) -> u64
         ensures count { result ≡ counted self.now.kept.events }
         ensures kept { IsKept self.now.kept }
+        ensures short { AreShort self.now.kept.rings }
         ensures counted { IsCounted self.now }
     {
         self.state.since_base()
@@ -104,30 +116,38 @@ impl<L: Ledger> Counted<L> {
         ))
     }
 
-    /// Submits what stands in the batch as [`HubState::submit_all`] does, and then gives the session what it is owed
+    /// Submits a turn of the batch as [`HubState::submit_turn`] does, and then gives the session what it is owed
     /// ([`HubState::rounds_for`]); where memory is refused for that, it is owed it still. It returns whether a session may
-    /// be owed something then. The seat is answered each submission that was taken.
-    pub fn submit_all(
+    /// be owed something then, and whether a transaction is due sooner than any was. The seat is answered each submission
+    /// that was taken.
+    pub fn submit_turn<R: Clock>(
         &mut self,
+        rt: &R,
         seat: &mut Seat<L>,
         batch: &mut Vec<Submission>,
         now: u64,
-    ) -> Result<bool, Refused>
-        ensures submits { Submits result seat.old.session (events_of seat.old.session now batch.old.items) (events_of seat.old.session now batch.new.items) self.old.kept self.new.kept }
-        ensures all { OnOk result (batch.new.items ≡ []) }
-        ensures quiet { IfOk result (λ owes. owes ≡ false → IsQuiet self.new.kept.server) }
+    ) -> BatchOutcome
+        ensures submits { Submits result.owes seat.old.session (events_of seat.old.session now batch.old.items) (events_of seat.old.session now batch.new.items) self.old.kept self.new.kept }
+        ensures most { IsTurn (length batch.old.items) (length batch.new.items) }
+        ensures some { OnOk result.owes (IsSome (length batch.old.items) (length batch.new.items)) }
+        ensures quiet { IfOk result.owes (λ owes. owes ≡ false → IsQuiet self.new.kept.server) }
+        ensures sooner { result.due_sooner ≡ is_sooner (earliest self.new.kept.server.world.waiting) (earliest self.old.kept.server.world.waiting) }
         ensures seat { seat.new ≡ record { session = seat.old.session; answered = seat.old.answered + (length batch.old.items - length batch.new.items) } }
         ensures answered { self.new.answered ≡ self.old.answered + (length batch.old.items - length batch.new.items) }
         ensures settled { self.new.settled ≡ self.old.settled }
     {
+        let due = self.state.next_deadline();
         let before = batch.len();
-        let submitted = self.state.submit_all(seat.session, batch, now);
+        let submitted = self.state.submit_turn(rt, seat.session, batch, now);
         let answered = before.saturating_sub(batch.len());
         self.book.add(&mut seat.share, answered as u64);
         drop(self.state.rounds_for(seat.session));
-        match submitted {
-            Ok(()) => Ok(self.state.owes()),
-            Err(why) => Err(why),
+        BatchOutcome {
+            owes: match submitted {
+                Ok(()) => Ok(self.state.owes()),
+                Err(why) => Err(why),
+            },
+            due_sooner: is_sooner(self.state.next_deadline(), due),
         }
     }
 
@@ -216,5 +236,16 @@ impl<L: Ledger> Counted<L> {
             Err(Refused::Gone) => true,
             Err(_) => false,
         }
+    }
+}
+
+/// Says whether a moment comes before another, of which each may be never.
+fn is_sooner(moment: Option<u64>, other: Option<u64>) -> bool
+    ensures { result ≡ batch.is_sooner moment other }
+{
+    match (moment, other) {
+        (Some(moment), Some(other)) => moment < other,
+        (Some(_), None) => true,
+        (None, _) => false,
     }
 }

@@ -14,11 +14,13 @@ mod rings;
 mod seat;
 mod state;
 mod submission;
+mod turn;
+mod waiting;
 
 pub use bell::Bell;
-pub use counted::Counted;
-pub use hub::{BatchOutcome, Hub, Round};
-pub use mailbox::{Mailbox, write_outs};
+pub use counted::{BatchOutcome, Counted};
+pub use hub::{Hub, Round};
+pub use mailbox::{Mailbox, write_outs, write_probe};
 pub use seat::Seat;
 pub use state::HubState;
 pub use submission::Submission;

@@ -2,6 +2,7 @@
 ghost use Rattle.std.specs.Prelude.{◌≡◌, [], ◌∷◌, ◌++◌, IfSome, IfNone, IfOk, OnErr, OnOk};
 ghost use Rattle.std.specs.Io.KnownBytes.{Appends};
 ghost use Rattle.odb_sessions.specs.Represented.Out.{text_of_out};
+ghost use Rattle.odb_hub.specs.Probe.{probe_text};
 ghost use Rattle.odb_hub.specs.Represented.Mailbox.{taken, name_of, body_of, IsCutIn, IsCutOff, IsWritten};
 
 use crate::bell::Bell;
@@ -33,6 +34,9 @@ impl Mailbox {
     }
 }
 
+/// The request by which a peer is asked whether it is there (RFC 7047, 4.1.11).
+const PROBE: &[u8] = b"{\"id\":\"echo\",\"method\":\"echo\",\"params\":[]}";
+
 /// How many messages `write_outs` writes at most.
 const MOST: usize = 64;
 
@@ -51,6 +55,14 @@ pub fn write_outs<W: Write>(mailbox: &mut Mailbox, writer: &mut W) -> io::Result
         write_out(&out, writer)?;
     }
     Ok(MOST)
+}
+
+/// Writes the request by which a peer is asked whether it is there. [P 15.2]
+pub fn write_probe<W: Write>(writer: &mut W) -> io::Result<()>
+    ensures ok { OnOk result (Appends (W.contents writer.old) (W.contents writer.new) probe_text) }
+    ensures err { OnErr result (IsCutIn probe_text (W.contents writer.old) (W.contents writer.new)) }
+{
+    write_whole(PROBE, writer)
 }
 
 fn write_out<W: Write>(out: &Out, writer: &mut W) -> io::Result<()>

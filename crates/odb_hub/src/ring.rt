@@ -1,28 +1,29 @@
 //! The ring of a session.
-ghost use Rattle.std.specs.Prelude.{◌≡◌, [], ◌++◌, ◌∷◌, Some, None, IfOk, is_some, option_to_list};
+ghost use Rattle.std.specs.Prelude.{◌≡◌, [], ◌++◌, ◌∷◌, Some, None, IfErr, IfOk, OnErr, OnOk, is_some, option_to_list};
 ghost use Rattle.rtrb.specs.Ring.{IsPair};
+ghost use Rattle.odb_sessions.specs.Represented.Out.{text_of_out};
+ghost use Rattle.odb_hub.specs.Room as room;
 
 use crate::bell::Bell;
 use crate::mailbox::Mailbox;
+use crate::waiting::{ROOM, Waiting};
 use odb_core::Out;
-use rtrb::{Producer, PushError, RingBuffer};
+use rtrb::{Producer, RingBuffer};
 use std::alloc::{AllocError, Global};
 use std::marker::Model;
 use std::sync::Arc;
 
-/// How many messages a ring has room for.
-const ROOM: usize = 64;
-
-/// The messages of a session that were sent into its ring, and the one that is held back where the ring was full.
+/// The messages of a session that were sent into its ring, and the one that is held back where the ring had no room.
 pub(crate) struct Ring {
     producer: Producer<Out>,
+    waiting: Waiting,
     held: Option<Out>,
     bell: Arc<Bell>,
 }
 
 impl Model for Ring {
-    ghost use Rattle.std.specs.Prelude.{map, option_map};
-    ghost use Rattle.rtrb.specs.Ring.{sent};
+    ghost use Rattle.std.specs.Prelude.{◌≤◌, ◌+◌, length, map, option_map};
+    ghost use Rattle.rtrb.specs.Ring.{known_free, sent};
     ghost use Rattle.odb_sessions.specs.Represented.Out.{text_of_out};
     ghost use Rattle.odb_hub.specs.Represented.Ends.{producer_name};
     ghost use Rattle.odb_hub.specs.Rings as model;
@@ -31,13 +32,15 @@ impl Model for Ring {
 
     ghost coded = { model.ring_code };
 
-    ghost view = { λ r. record { name = producer_name r.producer; sent = map text_of_out (sent r.producer); held = option_map text_of_out r.held } };
+    ghost view = { λ r. record { name = producer_name r.producer; sent = map text_of_out (sent r.producer); waiting = r.waiting; held = option_map text_of_out r.held } };
+
+    ghost invariant = { λ r. 64 ≤ length r.waiting + known_free r.producer };
 }
 
 impl Ring {
-    ghost use Rattle.odb_sessions.specs.Represented.Out.{text_of_out};
     ghost use Rattle.odb_hub.specs.Represented.Mailbox.{name_of, taken};
-    ghost use Rattle.odb_hub.specs.Rings.{IsFlushed, IsPut, fresh_ring};
+    ghost use Rattle.odb_hub.specs.Rings.{IsFlushed, IsLookedAt, IsPut, IsUnsent, fresh_ring};
+    ghost use Rattle.odb_hub.specs.Room.{has_room};
 
     /// A ring that nothing was sent into, the mailbox where it comes out, and the bell that both ring.
     pub(crate) fn new(alloc: Global) -> Result<(Ring, Mailbox, Arc<Bell>), AllocError>
@@ -50,6 +53,7 @@ impl Ring {
         let readers = Arc::try_clone(&bell)?;
         let ring = Ring {
             producer,
+            waiting: Waiting::new(alloc)?,
             held: None,
             bell,
         };
@@ -77,14 +81,14 @@ impl Ring {
         self.put(out);
     }
 
-    /// Sends a message, or holds it back where the ring is full.
+    /// Sends a message, or holds it back where the ring has no room.
     pub(crate) fn put(&mut self, out: Out)
         requires { self.old.held ≡ None }
         ensures { IsPut (text_of_out out) self.old self.new }
     {
-        match self.producer.push(out) {
-            Ok(()) => {}
-            Err(PushError::Full(out)) => self.put_again(out),
+        match self.send(out) {
+            Ok(()) => self.bell.let_go(),
+            Err(out) => self.put_again(out),
         }
         self.bell.ring();
     }
@@ -95,11 +99,61 @@ impl Ring {
         ensures { IsPut (text_of_out out) self.old self.new }
     {
         self.bell.hold();
-        match self.producer.push(out) {
-            Ok(()) => {}
-            Err(PushError::Full(out)) => self.held = Some(out),
+        match self.send(out) {
+            Ok(()) => self.bell.let_go(),
+            Err(out) => self.held = Some(out),
         }
     }
+
+    /// Sends a message, if the ring has room for it; else it comes back.
+    fn send(&mut self, out: Out) -> Result<(), Out>
+        requires { self.old.held ≡ None }
+        ensures ok { OnOk result (IsPut (text_of_out out) self.old self.new) }
+        ensures err { OnErr result (IsUnsent (text_of_out out) self.old self.new) }
+        ensures back { IfErr result (λ back. back ≡ out) }
+    {
+        let size = size_of(&out);
+        if !self.makes_room(size) {
+            return Err(out);
+        }
+        self.producer.push_reserved(out);
+        self.waiting.push(size);
+        Ok(())
+    }
+
+    /// Whether there is room for a message of so many bytes; where there isn't as far as is known, it learns what was taken out.
+    fn makes_room(&mut self, size: usize) -> bool
+        ensures looked { IsLookedAt self.old self.new }
+        ensures room { result ≡ has_room self.new.waiting size }
+    {
+        if self.waiting.has_room(size) {
+            return true;
+        }
+        self.look();
+        self.waiting.has_room(size)
+    }
+
+    /// Learns what was taken out of the ring.
+    fn look(&mut self)
+        ensures { IsLookedAt self.old self.new }
+    {
+        let free = self.producer.slots();
+        self.waiting.cut(ROOM.saturating_sub(free));
+    }
+}
+
+/// How many bytes the text of a message has.
+fn size_of(out: &Out) -> usize
+    ensures { result ≡ room.size_of (text_of_out out.now) }
+{
+    let body = match &out.body {
+        Some(body) => body.len(),
+        None => 0,
+    };
+    out.before
+        .len()
+        .saturating_add(body)
+        .saturating_add(out.after.len())
 }
 
 // Written, and not derived, so that each end of a scope is one call to prove.
@@ -107,6 +161,7 @@ impl Drop for Ring {
     fn drop(self) {
         let Ring {
             producer: _,
+            waiting: _,
             held: _,
             bell: _,
         } = self;

@@ -23,6 +23,7 @@ pub(crate) struct Rings {
 
 impl Model for Rings {
     ghost use Rattle.odb_hub.specs.Rings as model;
+    ghost use Rattle.odb_hub.specs.Rings.{AreShort};
     ghost use Rattle.odb_hub.specs.Represented.Rings.{rings_in};
 
     ghost Value = { model.Rings };
@@ -30,12 +31,14 @@ impl Model for Rings {
     ghost coded = { model.rings_code };
 
     ghost view = { λ r. rings_in r.rings };
+
+    ghost invariant = { λ r. AreShort (rings_in r.rings) };
 }
 
 impl Rings {
     ghost use Rattle.odb_atoms.specs.FinMap.{empty, get, insert, remove};
     ghost use Rattle.odb_hub.specs.Represented.Mailbox.{name_of, taken};
-    ghost use Rattle.odb_hub.specs.Rings.{HandsOver, IsFlushedAt, HasRoom, IsPutAt, fresh_ring, free_of, is_free_at, texts_to};
+    ghost use Rattle.odb_hub.specs.Rings.{AreShort, HandsOver, IsFlushedAt, HasRoom, IsPutAt, fresh_ring, free_of, is_free_at, texts_to};
 
     /// No session has a ring.
     pub(crate) fn new(alloc: Global) -> Rings
@@ -46,6 +49,13 @@ impl Rings {
             rings: BTreeMap::new(alloc),
             holding: Vec::new(alloc),
         }
+    }
+
+    /// States that each ring which holds a message back has no room for it. O(1).
+    pub(crate) fn short(&self)
+        ensures { AreShort self.now }
+    {
+        let _opened = &self.rings;
     }
 
     /// A ring for a session, and the mailbox where it comes out. O(log n).
@@ -155,7 +165,7 @@ impl Rings {
     }
 
     /// Whether the session has a ring, and nothing is held back for it. O(log n).
-    fn is_free(&self, session: SessionId) -> bool
+    pub(crate) fn is_free(&self, session: SessionId) -> bool
         ensures { result ≡ is_free_at (get self.now session) }
     {
         match self.rings.get(&session) {

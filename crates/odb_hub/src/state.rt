@@ -11,11 +11,16 @@ use crate::journal::{Happened, Journal};
 use crate::mailbox::Mailbox;
 use crate::rings::Rings;
 use crate::submission::Submission;
+use crate::turn::Turn;
 use odb_core::{Core, Refused, SessionId};
 use std::alloc::{AllocError, Global};
 use std::marker::Model;
 use std::snapshot::Snapshot;
 use std::sync::Arc;
+use std::time::Clock;
+
+/// How many submissions one turn takes at most.
+const MOST: usize = 64;
 
 /// A server, the events that it took since a base state, and the rings of its sessions. Each call is one event of the
 /// service machine: where it succeeds the journal grows by that event, and where it is refused nothing changes. What
@@ -50,12 +55,12 @@ impl HubState {
     ghost use Rattle.odb_service.specs.Server.{serve};
     ghost use Rattle.odb_core.specs.Deadlines.{earliest};
     ghost use Rattle.odb_core.specs.Represented.Reason.{IsReason};
-    ghost use Rattle.odb_hub.specs.Batch.{RefusesFirst, TakesUpTo};
+    ghost use Rattle.odb_hub.specs.Batch.{IsSome, IsTurn, RefusesFirst, TakesUpTo};
     ghost use Rattle.odb_hub.specs.Kept.{IsKept, IsQuiet, Takes, TakesRound, counted};
     ghost use Rattle.odb_hub.specs.Own.{FlushesOwn, GivesOwn, TakesOwnRound};
     ghost use Rattle.odb_hub.specs.Represented.Submission.{events_of};
     ghost use Rattle.odb_hub.specs.Represented.Mailbox.{name_of, taken};
-    ghost use Rattle.odb_hub.specs.Rings.{fresh_ring, IsFlushedAt};
+    ghost use Rattle.odb_hub.specs.Rings.{AreShort, fresh_ring, IsFlushedAt};
 
     /// A core without sessions, with the state that it is in for base, and no event.
     pub fn new(alloc: Global, core: Core) -> HubState
@@ -75,7 +80,9 @@ impl HubState {
     pub fn since_base(&self) -> u64
         ensures count { result ≡ counted self.now.events }
         ensures kept { IsKept self.now }
+        ensures short { AreShort self.now.rings }
     {
+        self.rings.short();
         self.since_base
     }
 
@@ -136,22 +143,32 @@ impl HubState {
         }
     }
 
-    /// Submits what stands in the batch, from its last to its first, each as `submit` does. At a refusal it stops: those
-    /// before it were taken, and what was refused is the last of the batch again. It costs what the submits cost.
-    pub fn submit_all(
+    /// Submits a turn of the batch, from its last to its first, each as `submit` does: at most 64, and none after the first
+    /// once 200 microseconds are over. At a refusal it stops: those before it were taken, and what was refused is the last
+    /// of the batch again. It costs what the submits cost.
+    pub fn submit_turn<R: Clock>(
         &mut self,
+        rt: &R,
         session: SessionId,
         batch: &mut Vec<Submission>,
         now: u64,
     ) -> Result<(), Refused>
         ensures taken { TakesUpTo (events_of session now batch.old.items) (events_of session now batch.new.items) self.old self.new }
-        ensures all { OnOk result (batch.new.items ≡ []) }
+        ensures most { IsTurn (length batch.old.items) (length batch.new.items) }
+        ensures some { OnOk result (IsSome (length batch.old.items) (length batch.new.items)) }
         ensures why { IfErr result (λ why. RefusesFirst why (events_of session now batch.new.items) self.new.server) }
     {
-        while let Some(submission) = batch.pop() {
+        let turn = Turn::begin(rt);
+        for taken in 0..MOST {
+            let Some(submission) = batch.pop() else {
+                return Ok(());
+            };
             if let Err((submission, why)) = self.submit(session, submission, now) {
                 batch.push_reserved(submission);
                 return Err(why);
+            }
+            if batch.is_empty() || turn.is_over(rt) {
+                return Ok(());
             }
         }
         Ok(())
@@ -231,7 +248,7 @@ impl HubState {
         ensures { GivesOwn session self.old self.new }
     {
         for _ in 0..u64::MAX {
-            if !self.core.owed().contains(&session) {
+            if self.rests(session) {
                 return Ok(());
             }
             let given = self.round_for(session)?;
@@ -240,6 +257,11 @@ impl HubState {
             }
         }
         Ok(())
+    }
+
+    /// Whether nothing is owed to the session, and nothing is held back for it.
+    fn rests(&self, session: SessionId) -> bool {
+        !self.core.owed().contains(&session) && self.rings.is_free(session)
     }
 
     /// As [`Core::next_deadline`].

@@ -35,7 +35,7 @@ struct Counts {
 }
 
 /// How many echoes the hub takes before it is Busy, of so many at most.
-fn taken<L: Ledger, R: Wait>(
+fn taken<L: Ledger, R: Wait + Clock>(
     rt: &R,
     alloc: Global,
     hub: &Hub<L>,
@@ -45,7 +45,7 @@ fn taken<L: Ledger, R: Wait>(
     for count in 0..most {
         let mut batch = Vec::new(alloc);
         batch.push(request(alloc, ECHO)?)?;
-        match hub.submit_all(rt, seat, &mut batch, 0).owes {
+        match hub.submit_turn(rt, seat, &mut batch, 0).owes {
             Ok(_) => {}
             Err(Refused::Busy) => return Ok(count),
             Err(_) => return Err(AllocError),
@@ -92,7 +92,7 @@ fn part<L: Ledger, R: Wait>(rt: &R, hub: &Hub<L>, seat: Seat<L>) {
 }
 
 /// The replies that a session of its own is given to an echo.
-fn beside<L: Ledger, R: Wait>(rt: &R, alloc: Global, hub: &Hub<L>) -> Result<usize, AllocError> {
+fn beside<L: Ledger, R: Wait + Clock>(rt: &R, alloc: Global, hub: &Hub<L>) -> Result<usize, AllocError> {
     let Ok((mut seat, mut mailbox)) = hub.open(rt) else {
         return Err(AllocError);
     };

@@ -1,5 +1,6 @@
 //! What all threads of the daemon share. [P 15.2]
 
+use crate::crew::Crew;
 use crate::pace::Pace;
 use odb_core::{Core, SessionId};
 use odb_hub::Hub;
@@ -15,11 +16,30 @@ const SETTLES: u64 = 65_536;
 /// For how many milliseconds the pump rests after a round for which memory was refused.
 const REFUSED: u64 = 3;
 
-/// The server, the clock, and what the pump sleeps by.
+/// A core for the schema, with empty tables, and the moment from which moments are counted.
+#[derive(Drop)]
+pub(crate) struct Begun {
+    pub(crate) alloc: Global,
+    pub(crate) core: Core,
+    pub(crate) start: Instant,
+}
+
+/// How long the daemon bears a peer; none: for ever.
+#[derive(Clone, Copy)]
+pub(crate) struct Patience {
+    /// For how long a peer may say nothing before it is asked whether it is there, and then before it counts as gone.
+    pub(crate) probe: Option<Duration>,
+    /// For how long a peer may take nothing before it counts as gone.
+    pub(crate) stall: Option<Duration>,
+}
+
+/// The server, the clock, the threads of connections, and what the pump sleeps by.
 pub(crate) struct Daemon<L: Ledger> {
     pub(crate) alloc: Global,
     pub(crate) hub: Hub<L>,
     pub(crate) pace: Pace,
+    pub(crate) crew: Crew,
+    pub(crate) patience: Patience,
     start: Instant,
     ended: AtomicU64,
 }
@@ -29,21 +49,18 @@ impl<L: Ledger> Daemon<L> {
     ghost use Rattle.odb_atoms.specs.FinMap.{empty};
 
     /// A daemon over a core without sessions.
-    pub(crate) fn new(
-        alloc: Global,
-        core: Core,
-        start: Instant,
-        blank: Blank,
-        seats: u64,
-    ) -> Daemon<L>
-        requires core { (core.world.sessions ≡ empty) × (core.opened ≡ 0) }
+    pub(crate) fn new(begun: Begun, blank: Blank, seats: u64, patience: Patience) -> Daemon<L>
+        requires core { (begun.core.world.sessions ≡ empty) × (begun.core.opened ≡ 0) }
         requires ledger { (blank.name ≡ L.name) × (blank.parts ≡ L.parts) }
         requires parts { blank.parts ≡ seats + 1 }
     {
+        let Begun { alloc, core, start } = begun;
         Daemon {
             alloc,
             hub: Hub::new(alloc, core, blank, seats),
             pace: Pace::new(),
+            crew: Crew::new(alloc),
+            patience,
             start,
             ended: AtomicU64::new(0),
         }
@@ -63,11 +80,14 @@ impl<L: Ledger> Daemon<L> {
         self.pace.wake();
     }
 
-    /// Gives a session what it is owed, as its ring has room again. Where memory is refused the pump does it.
-    pub(crate) fn refill<R: Wait>(&self, rt: &R, session: SessionId) {
-        if self.hub.rounds_for(rt, session).is_err() {
+    /// Gives a session what it is owed, as its ring has room again. False says that memory was refused, and that the pump
+    /// does it.
+    pub(crate) fn refill<R: Wait>(&self, rt: &R, session: SessionId) -> bool {
+        let given = self.hub.rounds_for(rt, session).is_ok();
+        if !given {
             self.pace.tell();
         }
+        given
     }
 
     /// Gives each session its next message where the pump sleeps and that is brief, so that a single update doesn't wait
@@ -123,6 +143,8 @@ impl<L: Ledger> Drop for Daemon<L> {
             alloc: _,
             hub: _,
             pace: _,
+            crew: _,
+            patience: _,
             start: _,
             ended: _,
         } = self;

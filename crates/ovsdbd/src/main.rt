@@ -8,11 +8,15 @@
 #![tactic(auto)]
 
 mod connection;
+mod crew;
 mod daemon;
 mod pace;
+mod pair;
+mod piece;
 mod serve;
 
-use crate::serve::{begin, serve_all};
+use crate::daemon::Patience;
+use crate::serve::{Terms, begin, serve_all};
 use clap::builder::ValueParser;
 use clap::{Arg, ArgAction, ArgMatches, Command, Error};
 use odb_schema::{Schema, SchemaFault};
@@ -26,7 +30,7 @@ use std::random::RandomSource;
 use std::rt::Files;
 use std::sync::Wait;
 use std::thread::Threads;
-use std::time::Clock;
+use std::time::{Clock, Duration};
 use std::{env, fs};
 use thiserror::Error as ErrorText;
 
@@ -88,6 +92,9 @@ fn script_file<'a>(matches: &ArgMatches<'a>) -> &'a str {
 
 /// Where the daemon listens if nothing else is asked for (RFC 7047, 6).
 const ADDRESS: &str = "127.0.0.1:6640";
+
+/// How many milliseconds a client may be waited for at most: a day.
+const LONGEST: u64 = 86_400_000;
 
 /// What the help ends with: an example, exit statuses, and the numbers of schema faults. [P 1.4, 15.1, 15.2]
 const AFTER_HELP: &str = "Example:
@@ -157,7 +164,9 @@ fn serve_command<'a>(alloc: Global) -> Result<Command<'a>, Error> {
         .after_help(AFTER_SERVE_HELP)
         .arg(schema_word(alloc))?
         .arg(listen_word(alloc))?
-        .arg(sessions_word(alloc))?;
+        .arg(sessions_word(alloc))?
+        .arg(probe_word(alloc))?
+        .arg(stall_word(alloc))?;
     Ok(serve)
 }
 
@@ -177,6 +186,28 @@ fn sessions_word<'a>(alloc: Global) -> Arg<'a> {
         .value_name("N")
         .help("How many connections to serve before it ends")
         .value_parser(ValueParser::Unsigned(1, u64::MAX))
+        .action(ArgAction::Set)
+}
+
+fn probe_word<'a>(alloc: Global) -> Arg<'a> {
+    Arg::new(alloc, "probe")
+        .long("probe")
+        .value_name("MS")
+        .help(
+            "After so many milliseconds without a byte a client is asked whether it is there, and after as many again it is cut off; never if absent or 0",
+        )
+        .value_parser(ValueParser::Unsigned(0, LONGEST))
+        .action(ArgAction::Set)
+}
+
+fn stall_word<'a>(alloc: Global) -> Arg<'a> {
+    Arg::new(alloc, "stall")
+        .long("stall")
+        .value_name("MS")
+        .help(
+            "A client that takes nothing for so many milliseconds is cut off; never if absent or 0",
+        )
+        .value_parser(ValueParser::Unsigned(0, LONGEST))
         .action(ArgAction::Set)
 }
 
@@ -221,11 +252,30 @@ fn listen<
     let local = listener.local_addr().map_err(|_| Failure::NotListening)?;
     println!(rt; "listening {local}").map_err(|_| Failure::Run(RunFault::Write))?;
     let hashing = RandomState::new(rt).map_err(|_| Failure::Run(RunFault::Memory))?;
-    let sessions: Option<u64> = words.get_one("sessions");
     match begin(rt, alloc, schema, hashing) {
-        Ok(begun) => serve_all(rt, begun, &listener, sessions).map_err(Failure::Run),
+        Ok(begun) => serve_all(rt, begun, &listener, terms(words)).map_err(Failure::Run),
         Err(fault) => Err(Failure::Run(fault)),
     }
+}
+
+/// Whom the daemon is to serve.
+fn terms(words: &ArgMatches<'_>) -> Terms {
+    Terms {
+        sessions: words.get_one("sessions"),
+        patience: Patience {
+            probe: milliseconds(words, "probe"),
+            stall: milliseconds(words, "stall"),
+        },
+    }
+}
+
+/// So many milliseconds; none where the word is absent or 0.
+fn milliseconds(words: &ArgMatches<'_>, name: &str) -> Option<Duration> {
+    let count: u64 = words.get_one(name)?;
+    if count == 0 {
+        return None;
+    }
+    Some(Duration::from_millis(count))
 }
 
 /// The schema in a file.

@@ -3,8 +3,8 @@
 ghost use Rattle.std.specs.Prelude.{◌≡◌, IfOk};
 ghost use Rattle.odb_atoms.specs.FinMap.{empty};
 
-use crate::connection::{STACK, serve_connection};
-use crate::daemon::Daemon;
+use crate::connection::{STACK, serve_connections};
+use crate::daemon::{Begun, Daemon, Patience};
 use odb_core::Core;
 use odb_schema::Schema;
 use odb_script::RunFault;
@@ -25,12 +25,12 @@ const SEATS: u64 = 4_096;
 /// For how many milliseconds the daemon waits after a connection couldn't be accepted, as where no file descriptor is left.
 const PAUSE: u64 = 100;
 
-/// A core for the schema, with empty tables, and the moment from which moments are counted.
-#[derive(Drop)]
-pub(crate) struct Begun {
-    alloc: Global,
-    core: Core,
-    start: Instant,
+/// Whom the daemon serves.
+#[derive(Clone, Copy)]
+pub(crate) struct Terms {
+    /// How many connections it serves before it ends; none: it goes on.
+    pub(crate) sessions: Option<u64>,
+    pub(crate) patience: Patience,
 }
 
 /// A core for the schema, with empty tables. Moments are counted from now.
@@ -51,16 +51,16 @@ pub(crate) fn begin<R: Clock>(
     Ok(Begun { alloc, core, start })
 }
 
-/// Serves all that connect. With `sessions` it accepts so many connections and returns when they have ended.
+/// Serves all that connect. With `terms.sessions` it accepts so many connections and returns when they have ended.
 pub(crate) fn serve_all<R: Threads + Wait + Clock + RandomSource + Sync>(
     rt: &R,
     begun: Begun,
     listener: &TcpListener,
-    sessions: Option<u64>,
+    terms: Terms,
 ) -> Result<(), RunFault>
     requires { (begun.core.world.sessions ≡ empty) × (begun.core.opened ≡ 0) }
 {
-    serve_under::<Brand, R>(rt, begun, Blank::new(SEATS + 1), listener, sessions)
+    serve_under::<Brand, R>(rt, begun, Blank::new(SEATS + 1), listener, terms)
 }
 
 /// Serves all that connect, under the ledger that the blank names.
@@ -69,15 +69,14 @@ fn serve_under<L: Ledger + Send + Sync, R: Threads + Wait + Clock + RandomSource
     begun: Begun,
     blank: Blank,
     listener: &TcpListener,
-    sessions: Option<u64>,
+    terms: Terms,
 ) -> Result<(), RunFault>
     requires core { (begun.core.world.sessions ≡ empty) × (begun.core.opened ≡ 0) }
     requires ledger { (blank.name ≡ L.name) × (blank.parts ≡ L.parts) }
     requires parts { blank.parts ≡ 4097 }
 {
-    let Begun { alloc, core, start } = begun;
-    let daemon: Daemon<L> = Daemon::new(alloc, core, start, blank, SEATS);
-    serve_with(rt, &daemon, listener, sessions)
+    let daemon: Daemon<L> = Daemon::new(begun, blank, SEATS, terms.patience);
+    serve_with(rt, &daemon, listener, terms.sessions)
 }
 
 /// Serves all that connect, while the pump runs.
@@ -94,21 +93,22 @@ fn serve_with<L: Ledger + Send + Sync, R: Threads + Wait + Clock + RandomSource 
         if pump.is_err() {
             return Err(RunFault::Memory);
         }
-        serve_connections(rt, daemon, listener, sessions);
+        accept_and_wait(rt, daemon, listener, sessions);
         daemon.end();
         Ok(())
     })
 }
 
 /// Accepts connections, and returns when all that were accepted have ended.
-fn serve_connections<L: Ledger + Send + Sync, R: Threads + Wait + Clock + RandomSource + Sync>(
+fn accept_and_wait<L: Ledger + Send + Sync, R: Threads + Wait + Clock + RandomSource + Sync>(
     rt: &R,
     daemon: &Daemon<L>,
     listener: &TcpListener,
     sessions: Option<u64>,
 ) {
     thread::scope(thread::scope_env(), rt, |scope| {
-        accept_all(rt, scope, daemon, listener, sessions)
+        accept_all(rt, scope, daemon, listener, sessions);
+        daemon.crew.close(rt);
     });
 }
 
@@ -137,16 +137,19 @@ fn accept_all<'s, E, L: Ledger + Send + Sync, R: Threads + Wait + Clock + Random
     }
 }
 
-/// Starts the thread of a connection, which is closed where there is none to be had.
+/// Gives the connection to threads that have none, or starts two; it is closed where there are none to be had.
 fn start_connection<
     's,
     E,
     L: Ledger + Send + Sync,
     R: Threads + Wait + Clock + RandomSource + Sync,
 >(rt: &'s R, scope: &'s Scope<'s, E>, daemon: &'s Daemon<L>, stream: TcpStream) {
+    let Err(stream) = daemon.crew.give(rt, stream) else {
+        return;
+    };
     drop(
         Builder::new()
             .stack_size(STACK)
-            .spawn_scoped(scope, move || serve_connection(rt, daemon, stream)),
+            .spawn_scoped(scope, move || serve_connections(rt, daemon, stream)),
     );
 }

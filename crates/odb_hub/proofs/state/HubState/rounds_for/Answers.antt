@@ -11,8 +11,8 @@ loop-preserved c =
     let own : TakesOwnRound c.args.session c.in_ok-given.given c.loop.self c.round_for.new.self = search rules in
     (c.in_ok-given.given ∷ c.loop.invariant.0, (c.loop.self, c.loop.invariant.1, own))
 
-pub returns-then-not-contains : goal.returns-then-not-contains
-returns-then-not-contains c = gives_all c.args.session c.args.self.now c.loop.self c.loop.invariant.0 c.loop.invariant.1
+pub returns-then-rests : goal.returns-then-rests
+returns-then-rests c = gives_all c.args.session c.args.self.now c.loop.self c.loop.invariant.0 c.loop.invariant.1
 
 pub returns-in_err-given : goal.returns-in_err-given
 returns-in_err-given c =

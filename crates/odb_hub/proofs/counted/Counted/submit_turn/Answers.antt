@@ -8,8 +8,8 @@ use Rattle.odb_hub.specs.Represented.Submission.{events_of}
 use Rattle.odb_hub.specs.declared.submission.Submission.{Submission}
 use Rattle.odb_hub.proofs.Counting.{batch_counted}
 use Rattle.odb_hub.proofs.OwnRounds.{own_counted}
-use Rattle.odb_hub.proofs.counted.Counted.submit_all.Goals.{in-Ok, in-Err}
-use Rattle.odb_hub.proofs.counted.Counted.submit_all.Goals as goal
+use Rattle.odb_hub.proofs.counted.Counted.submit_turn.Goals.{in-Ok, in-Err}
+use Rattle.odb_hub.proofs.counted.Counted.submit_turn.Goals as goal
 
 abbrev Submitted : Result Bool Refused → ℕ → ℕ → List Submission → List Submission → Kept → Kept → Type 0
 Submitted r s now xs ys old new = Submits r s (events_of s now xs) (events_of s now ys) old new
@@ -18,10 +18,10 @@ pub invariant_of-self : goal.invariant_of-self
 invariant_of-self g c =
     let i = c.self.inside in
     let xs = c.args.batch.now.items in
-    let ys = c.submit_all-submitted.new.batch.items in
-    let mid = c.submit_all-submitted.new.self in
+    let ys = c.submit_turn-submitted.new.batch.items in
+    let mid = c.submit_turn-submitted.new.self in
     let total = c.add.new.self.total in
-    let grown : submits mid.events ≡ submits i.state.events + (length xs - length ys) = batch_counted c.seat.inside.session c.args.now xs ys i.state mid c.submit_all-submitted.ensures.taken in
+    let grown : submits mid.events ≡ submits i.state.events + (length xs - length ys) = batch_counted c.seat.inside.session c.args.now xs ys i.state mid c.submit_turn-submitted.ensures.taken in
     let answered : total ≡ i.book.total + (length xs - length ys) = search rules in
     let before = c.self.invariant.0 in
     let counts : total ≡ i.settled.value.total + submits mid.events = omega (arith, grown, answered, before) in
@@ -31,8 +31,8 @@ pub returns-clause-submits : goal.returns-clause-submits
 returns-clause-submits g c =
     let s : ℕ = c.seat.inside.session in
     let xs = c.args.batch.now.items in
-    let ys = c.submit_all-submitted.new.batch.items in
-    let mid : Kept = c.submit_all-submitted.new.self in
+    let ys = c.submit_turn-submitted.new.batch.items in
+    let mid : Kept = c.submit_turn-submitted.new.self in
     let new : Kept = c.rounds_for.new.self in
     let same_seat : s ≡ c.args.seat.now.session = ap (λ (x : Seat). x.session) c.seat.view_is in
     let same_kept : c.self.inside.state ≡ c.args.self.now.kept = ap (λ (x : Counted). x.kept) c.self.view_is in
@@ -40,9 +40,9 @@ returns-clause-submits g c =
       | in-Ok w ↦ rw (w.result-is) (
           let r : Result Bool Refused = Ok w.owes.result in
           subst (λ q. Submitted r q c.args.now xs ys c.args.self.now.kept new) same_seat
-          (subst (λ (k : Kept). Submitted r s c.args.now xs ys k new) same_kept (mid, c.submit_all-submitted.ensures.taken, tt, c.rounds_for.ensures)))
+          (subst (λ (k : Kept). Submitted r s c.args.now xs ys k new) same_kept (mid, c.submit_turn-submitted.ensures.taken, tt, c.rounds_for.ensures)))
       | in-Err w ↦ rw (w.result-is) (
           let r : Result Bool Refused = Err w.in-Err.why in
           subst (λ q. Submitted r q c.args.now xs ys c.args.self.now.kept new) same_seat
-          (subst (λ (k : Kept). Submitted r s c.args.now xs ys k new) same_kept (mid, c.submit_all-submitted.ensures.taken, search rules, c.rounds_for.ensures)))
+          (subst (λ (k : Kept). Submitted r s c.args.now xs ys k new) same_kept (mid, c.submit_turn-submitted.ensures.taken, search rules, c.rounds_for.ensures)))
     ]
