@@ -24,7 +24,7 @@ JOINED = {  # lowest first; the program's has its name, and its root
     "values": "odb_atoms odb_schema odb_cond odb_mutate odb_json",
     "calls": "odb_wire odb_locks odb_request odb_rpc",
     "transactions": "odb_tables odb_ops odb_integrity odb_commit",
-    "server": "odb_chain odb_monitor odb_service odb_queue odb_sessions odb_core",
+    "server": "odb_chain odb_monitor odb_interest odb_service odb_queue odb_sessions odb_core",
     "ovsdbd": "odb_hub odb_script ovsdbd",
 }
 HOME = {crate: name for name, crates in JOINED.items() for crate in crates.split()}

@@ -50,8 +50,8 @@ impl Asked {
         &self.filter
     }
 
-    /// Tells whether it is this filter of this table: the same members in the same order.
-    pub(crate) fn is(&self, table: TableId, filter: &Filter) -> bool
+    /// Tells whether it is this filter of this table: the same members in the same order. O(members).
+    pub fn is(&self, table: TableId, filter: &Filter) -> bool
         ensures { Decides result (self.now ≡ (table, filter.now)) }
     {
         self.table == table && self.filter.same(filter)

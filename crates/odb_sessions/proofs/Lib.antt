@@ -11,6 +11,7 @@ mod Counted
 pub mod Crossing
 mod Endings
 mod Firsts
+mod Interests
 mod Leading
 mod Loops
 mod Moved
@@ -19,7 +20,7 @@ mod NamedReplays
 mod Newest
 mod Numbers
 mod OtherFilters
-pub mod OwedSessions
+mod OwedSessions
 mod Pendings
 mod Places
 mod PlannedTexts
@@ -34,13 +35,13 @@ mod Room
 pub mod Rounds
 mod SameUpdates
 mod Seen
-pub mod StillQuiet
+mod StillQuiet
 mod Stops
 mod Sums
 mod TakenFilters
 mod Theirs
 mod Ties
-mod Unconcerned
+mod Untouched
 mod Updates
 mod Used
 mod Watches

@@ -4,7 +4,6 @@ pub mod Book
 pub mod Carried
 pub mod Committed
 pub mod Composed
-pub mod Concerned
 pub mod Foreseen
 pub mod Held
 pub mod Jobs

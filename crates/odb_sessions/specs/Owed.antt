@@ -1,12 +1,15 @@
--- Which sessions may be owed something. [P 10.1, 10.3]
-use Rattle.std.specs.Prelude.{◌≡◌, ℕ, Bool, false, List}
+-- Which sessions may be owed something, and what the others ask of tables. [P 10.1, 10.3]
+use Rattle.std.specs.Prelude.{◌≡◌, ℕ, Bool, false, ◌==◌, List, [], map, flat_map, Option, Some, None}
 use Rattle.std.specs.List.{list_any}
 use Rattle.std.specs.BTreeSet.{BTreeSet, contains}
 use Rattle.std.specs.Ordering.{eq_by_cmp, nat_cmp}
+use Rattle.odb_atoms.specs.FinMap.{get}
 use Rattle.odb_chain.specs.Chains.{Chains}
-use Rattle.odb_service.specs.Session.{Item}
+use Rattle.odb_interest.specs.Keys.{Asked, Interests, asked_at}
+use Rattle.odb_request.specs.Request.{Request}
+use Rattle.odb_service.specs.Session.{Item, Session}
 use Rattle.odb_sessions.specs.Book.{Book}
-use Rattle.odb_sessions.specs.Held.{Sessions, all_seen}
+use Rattle.odb_sessions.specs.Held.{Held, Sessions, Watched, all_seen}
 use Rattle.odb_sessions.specs.Quiet.{IsQuietAt}
 use Rattle.odb_sessions.specs.Tied.{IsTied}
 
@@ -14,18 +17,56 @@ use Rattle.odb_sessions.specs.Tied.{IsTied}
 abbrev pub AreOwed : BTreeSet ℕ → Book → Type 0
 AreOwed owed b = (s : ℕ) → contains nat_cmp owed s ≡ false → IsQuietAt b s
 
--- whether something is posted to a session
-abbrev pub is_posted_to : ℕ → List (ℕ × Item) → Bool
-is_posted_to s ps = list_any (λ p. eq_by_cmp nat_cmp s p.0) ps
+-- whether the session is one of these
+abbrev pub is_among : ℕ → List ℕ → Bool
+is_among s ss = list_any (λ t. eq_by_cmp nat_cmp s t) ss
 
--- of those who aren't in the new set nobody was in the old one, and to nobody something is posted
-abbrev pub AreNoted : BTreeSet ℕ → BTreeSet ℕ → List (ℕ × Item) → Type 0
-AreNoted old new ps = (s : ℕ) → contains nat_cmp new s ≡ false → (contains nat_cmp old s ≡ false) × (is_posted_to s ps ≡ false)
+-- the sessions to which something is posted
+abbrev pub addressed : List (ℕ × Item) → List ℕ
+addressed ps = map (λ p. p.0) ps
+
+-- of those who aren't in the new set nobody was in the old one, and nobody is one of these
+abbrev pub AreNoted : BTreeSet ℕ → BTreeSet ℕ → List ℕ → Type 0
+AreNoted old new ss = (s : ℕ) → contains nat_cmp new s ≡ false → (contains nat_cmp old s ≡ false) × (is_among s ss ≡ false)
 
 -- what the machine sees of the chains and of what is kept of the sessions
 abbrev pub book_seen : Chains → Sessions → Book
 book_seen k m = record { db = k.db; sessions = all_seen m }
 
--- the marks are tied to the chains, and every session that isn't in the set is owed nothing
-abbrev pub HangTogether : Chains → Sessions → BTreeSet ℕ → Type 0
-HangTogether k m owed = IsTied k m × AreOwed owed (book_seen k m)
+-- ---- what sessions ask
+
+-- of each of these requests the table, and the filter
+abbrev pub interest_in : List Request → List Asked
+interest_in qs = map (λ q. (q.place, q.filter)) qs
+
+-- those of its monitors
+abbrev pub interest_of : Session → List Asked
+interest_of x = flat_map (λ m. interest_in m.watch.requests) x.monitors
+
+-- none where the session isn't open
+abbrev pub interest_if : Option Session → List Asked
+interest_if None = []
+interest_if (Some x) = interest_of x
+
+-- of each table of a monitor that is kept the filter that is asked
+abbrev pub filter_asked : Watched → Asked
+filter_asked w = (w.request.place, w.request.filter)
+
+abbrev pub filters_asked : Held → List Asked
+filters_asked h = map filter_asked h.tables
+
+-- of each other session the index says what it did
+abbrev pub KeepsOthers : Interests → Interests → ℕ → Type 0
+KeepsOthers old new session = (s : ℕ) → (session == s) ≡ false → asked_at new s ≡ asked_at old s
+
+-- the session is owed nothing, and the index says of it just what its monitors ask
+abbrev pub IsAtRest : Interests → Book → ℕ → Type 0
+IsAtRest i b s = IsQuietAt b s × (asked_at i s ≡ interest_if (get b.sessions s))
+
+-- so it is with every session that isn't in the set
+abbrev pub AreAtRest : BTreeSet ℕ → Interests → Book → Type 0
+AreAtRest owed i b = (s : ℕ) → contains nat_cmp owed s ≡ false → IsAtRest i b s
+
+-- the marks are tied to the chains, and every session that isn't in the set is at rest
+abbrev pub HangTogether : Chains → Sessions → BTreeSet ℕ → Interests → Type 0
+HangTogether k m owed i = IsTied k m × AreAtRest owed i (book_seen k m)

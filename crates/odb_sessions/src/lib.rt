@@ -17,6 +17,7 @@ mod filters;
 mod foreseen;
 mod granted;
 mod id;
+mod interest;
 mod item;
 mod job;
 mod jobs;

@@ -1,13 +1,10 @@
 //! The open sessions by their numbers.
-ghost use Rattle.std.specs.Prelude.{◌≡◌, ℕ, true, false, map, is_some, option_and_then, option_map, Some, IfErr, IfOk, OnErr, OnOk};
-ghost use Rattle.std.specs.BTreeSet.{contains};
+ghost use Rattle.std.specs.Prelude.{◌≡◌, true, map, is_some, option_and_then, option_map, Some, IfErr, IfOk, OnErr, OnOk};
 ghost use Rattle.std.specs.Option.{option_copied};
-ghost use Rattle.std.specs.Ordering.{nat_cmp};
 ghost use Rattle.odb_atoms.specs.FinMap as finite;
 ghost use Rattle.odb_queue.specs.Represented.Item.{item_of};
 ghost use Rattle.odb_queue.specs.Represented.Post.{post_of};
 ghost use Rattle.odb_sessions.specs.Carried.{IsCarriedOut, IsReady, last_finished};
-ghost use Rattle.odb_sessions.specs.Concerned.{are_concerned};
 ghost use Rattle.odb_sessions.specs.Held.{Kept, marks_of, seen};
 ghost use Rattle.odb_sessions.specs.Posts.{all_kept_posted, at_number, kept_unposted, newest_at, with_item, with_items, without_newest};
 ghost use Rattle.odb_sessions.specs.Represented.Queued.{queued_of};
@@ -17,9 +14,8 @@ use crate::past::Past;
 use crate::session::Session;
 use odb_locks::SessionId;
 use odb_queue::{Finished, Post};
-use odb_tables::ChangeSet;
 use std::alloc::{AllocError, AllocFailed, Global};
-use std::collections::{BTreeMap, BTreeSet};
+use std::collections::BTreeMap;
 use std::marker::Model;
 
 /// The open sessions by their numbers.
@@ -200,23 +196,6 @@ impl Numbered {
             return None;
         };
         of.carry_out(items, monitors, past)
-    }
-
-    /// Adds to the set the sessions of which a monitor asks for a table that the change has rows of. Where memory
-    /// is refused some are added.
-    pub(crate) fn add_concerned(
-        &self,
-        owed: &mut BTreeSet<SessionId>,
-        change: &ChangeSet,
-    ) -> Result<(), AllocError>
-        ensures kept { (s : ℕ) → contains nat_cmp owed.old s ≡ true → contains nat_cmp owed.new s ≡ true }
-        ensures concerned { OnOk result ((s : ℕ) (x : Kept) → finite.get self.now s ≡ Some x → contains nat_cmp owed.new s ≡ false
-            → are_concerned change.now x.monitors ≡ false) }
-    {
-        for (number, session) in self.sessions.iter() {
-            session.add_if_concerned(*number, owed, change)?;
-        }
-        Ok(())
     }
 
     /// Equal sessions.

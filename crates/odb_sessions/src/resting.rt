@@ -1,25 +1,19 @@
-//! Sessions to which nothing is owed, and those that a change of the database may concern. [P 10.1]
-ghost use Rattle.std.specs.Prelude.{◌≡◌, ℕ, true, false, nat_lt, flat_map, OnOk};
-ghost use Rattle.std.specs.BTreeSet.{contains};
+//! Sessions that rest: nothing is owed to them, and the index of interest has what they ask. [P 10.1]
+ghost use Rattle.std.specs.Prelude.{◌≡◌, true, flat_map};
 ghost use Rattle.std.specs.Bool.{OnTrue};
-ghost use Rattle.std.specs.List.{All, list_any};
-ghost use Rattle.std.specs.Ordering.{nat_cmp};
-ghost use Rattle.odb_atoms.specs.FinMap.{len};
+ghost use Rattle.std.specs.List.{All};
 ghost use Rattle.odb_sessions.specs.Composed.{AreNow};
-ghost use Rattle.odb_sessions.specs.Concerned.{are_concerned, is_concerned};
 ghost use Rattle.odb_sessions.specs.Held.{marks_in, marks_of, seen};
 ghost use Rattle.odb_sessions.specs.Quiet.{IsQuiet, IsQuietAt};
 ghost use Rattle.odb_sessions.specs.Tied.{AreLive};
 
-use crate::monitor::{Monitor, Watching};
+use crate::interest::cover;
+use crate::monitor::Monitor;
 use crate::planning::are_now;
 use crate::session::Session;
 use crate::sessions::Sessions;
 use odb_chain::Chains;
 use odb_locks::SessionId;
-use odb_tables::{ChangeSet, TableChange};
-use std::alloc::AllocError;
-use std::collections::BTreeSet;
 
 impl Sessions {
     /// Whether nothing is queued for a session, and the client of each of its monitors was told of its tables as
@@ -35,11 +29,18 @@ impl Sessions {
         of.rests(self.past.chains())
     }
 
-    /// Forgets that a session may be owed something, where it rests.
+    /// Forgets that a session may be owed something, where it rests, and there is memory for what it asks in the
+    /// index. What `interest::cover` costs.
     pub(crate) fn forget_if_resting(&mut self, session: SessionId)
         ensures { self.new ≡ self.old }
     {
+        if !self.owed.contains(&session) {
+            return;
+        }
         if !self.rests(session) {
+            return;
+        }
+        if cover(&mut self.interest, session, self.sessions.get(session)).is_err() {
             return;
         }
         self.owed.remove(&session);
@@ -58,23 +59,6 @@ impl Session {
         }
         are_told(self.monitors.as_slice(), chains)
     }
-
-    /// Adds the session's number to the set if a monitor asks for a table that the change has rows of.
-    pub(crate) fn add_if_concerned(
-        &self,
-        number: SessionId,
-        owed: &mut BTreeSet<SessionId>,
-        change: &ChangeSet,
-    ) -> Result<(), AllocError>
-        ensures kept { (s : ℕ) → contains nat_cmp owed.old s ≡ true → contains nat_cmp owed.new s ≡ true }
-        ensures added { OnOk result (contains nat_cmp owed.new number ≡ false → are_concerned change.now self.now.monitors ≡ false) }
-    {
-        if !are_concerned(self.monitors.as_slice(), change) {
-            return Ok(());
-        }
-        owed.insert(number)?;
-        Ok(())
-    }
 }
 
 /// Whether the clients of these monitors were told of their tables as they are now. `false` says nothing.
@@ -90,13 +74,6 @@ fn are_told(monitors: &[Monitor], chains: &Chains) -> bool
     true
 }
 
-/// Whether one of these monitors asks for a table that the change has rows of.
-fn are_concerned(monitors: &[Monitor], change: &ChangeSet) -> bool
-    ensures { result ≡ are_concerned change.now monitors.now }
-{
-    monitors.iter().any(|monitor| monitor.is_concerned(change))
-}
-
 impl Monitor {
     /// Whether its client was told of its tables as they are now, under what is asked. `false` says nothing.
     fn is_told(&self, chains: &Chains) -> bool
@@ -105,30 +82,4 @@ impl Monitor {
     {
         are_now(self.tables.as_slice(), chains)
     }
-
-    /// Whether it asks for a table that the change has rows of.
-    fn is_concerned(&self, change: &ChangeSet) -> bool
-        ensures { result ≡ list_any (is_concerned change.now) self.now.tables }
-    {
-        self.tables.iter().any(|table| table.is_concerned(change))
-    }
-}
-
-impl Watching {
-    /// Whether it is of a table that the change has rows of.
-    fn is_concerned(&self, change: &ChangeSet) -> bool
-        ensures { result ≡ is_concerned change.now self.now }
-    {
-        match change.tables().get(self.request.table().place()) {
-            Some(table) => has_rows(table),
-            None => true,
-        }
-    }
-}
-
-/// Whether a row of the table changes. O(1).
-fn has_rows(change: &TableChange) -> bool
-    ensures { result ≡ nat_lt 0 (len change.now) }
-{
-    !change.rows().is_empty()
 }

@@ -17,7 +17,7 @@ ghost use Rattle.odb_sessions.specs.Book.{book_of, fresh_session};
 ghost use Rattle.odb_sessions.specs.Carried.{last_finished, used_by};
 ghost use Rattle.odb_sessions.specs.Committed.{ended_with, posted_with};
 ghost use Rattle.odb_sessions.specs.Named.{named};
-ghost use Rattle.odb_sessions.specs.Owed.{AreNoted, AreOwed};
+ghost use Rattle.odb_sessions.specs.Owed.{AreNoted, AreOwed, addressed};
 ghost use Rattle.odb_sessions.specs.Posts.{all_posted, at_number, posted, unposted};
 ghost use Rattle.odb_sessions.specs.Started.{AreApart, AreOfTables, started};
 ghost use Rattle.odb_sessions.specs.Stopped.{changed_in, stopped_in};
@@ -37,6 +37,7 @@ use crate::numbered::Numbered;
 use crate::past::Past;
 use crate::session::Session;
 use crate::starting::Starting;
+use odb_interest::Interest;
 use odb_locks::SessionId;
 use odb_queue::{Finished, Post};
 use odb_rpc::Printable;
@@ -47,13 +48,15 @@ use std::collections::BTreeSet;
 use std::hash::RandomState;
 use std::marker::Model;
 
-/// The database, the open sessions with what is kept of the past for these, and which of them may be owed
-/// something. Contracts see the database and the machine's sessions (`specs/Book.antt`).
+/// The database, the open sessions with what is kept of the past for these, which of them may be owed
+/// something, and what the others ask of tables. Contracts see the database and the machine's sessions
+/// (`specs/Book.antt`).
 pub struct Sessions {
     pub(crate) alloc: Global,
     pub(crate) past: Past,
     pub(crate) sessions: Numbered,
     pub(crate) owed: BTreeSet<SessionId>,
+    pub(crate) interest: Interest,
 }
 
 impl Model for Sessions {
@@ -67,7 +70,7 @@ impl Model for Sessions {
 
     ghost view = { λ s. book_seen s.past s.sessions };
 
-    ghost invariant = { λ s. HangTogether s.past s.sessions s.owed };
+    ghost invariant = { λ s. HangTogether s.past s.sessions s.owed s.interest };
 }
 
 impl Sessions {
@@ -80,6 +83,7 @@ impl Sessions {
             past: Past::new(alloc, db, hashing)?,
             sessions: Numbered::new(alloc),
             owed: BTreeSet::new(alloc),
+            interest: Interest::new(alloc),
         })
     }
 
@@ -217,8 +221,8 @@ impl Sessions {
 
     /// Makes a change of the database, posts the reply of the transaction that made it, after a sync for each of
     /// its session's monitors as asked, if that session is open, and then these posts; or does nothing, where memory
-    /// is refused. What `asked` costs, O(log n) for each post, for n sessions what finding those that the change
-    /// concerns costs, O(n + tables of their monitors), and what `odb_chain::Chains::absorb` does.
+    /// is refused. What `asked` costs, O(log n) for each post, for n sessions, and what `odb_chain::Chains::absorb`
+    /// and `odb_interest::Interest::touched` do: sessions that the change doesn't concern cost nothing.
     pub fn commit(
         &mut self,
         session: SessionId,
@@ -315,17 +319,20 @@ impl Sessions {
         ensures ok { OnOk result (self.new ≡ record (self.old) { db = all_changed_by self.old.db change }) }
         ensures err { OnErr result (self.new ≡ self.old) }
     {
-        self.sessions.add_concerned(&mut self.owed, &change)?;
+        let touched = self.interest.touched(&change)?;
+        note_each(&mut self.owed, touched.as_slice())?;
         self.past.absorb(change)?;
         Ok(())
     }
 
     /// Ends a session, if it is open: its queue and its monitors go, and what was kept for them alone. O(log n)
-    /// for n sessions, and what `odb_chain::Chains::release` costs for each table of a monitor.
+    /// for n sessions, and for each table of a monitor what `odb_chain::Chains::release` costs, and
+    /// `odb_interest::Interest::forget`.
     pub fn close(&mut self, session: SessionId)
         ensures { self.new ≡ record (self.old) { sessions = finite.remove self.old.sessions session } }
     {
         self.owed.remove(&session);
+        self.interest.forget(session);
         let Some(closed) = self.sessions.remove(session) else {
             return;
         };
@@ -350,18 +357,20 @@ impl Sessions {
             .carry_out(session, items, monitors, &mut self.past)
     }
 
-    /// An equal book. O(rows), O(old rows) and O(bytes queued).
+    /// An equal book. O(rows), O(old rows), O(bytes queued), and what `odb_interest::Interest::try_copy` costs.
     pub fn try_copy(&self) -> Result<Sessions, AllocError>
         ensures { IfOk result (λ copy. copy ≡ self.now) }
     {
         let past = self.past.try_copy()?;
         let sessions = self.sessions.try_copy()?;
         let owed = self.owed.clone()?;
+        let interest = self.interest.try_copy()?;
         Ok(Sessions {
             alloc: self.alloc,
             past,
             sessions,
             owed,
+            interest,
         })
     }
 }
@@ -369,10 +378,21 @@ impl Sessions {
 /// Notes the sessions of these posts. Where memory is refused some of them are noted.
 fn note_all(owed: &mut BTreeSet<SessionId>, posts: &[Post]) -> Result<(), AllocError>
     ensures kept { AreNoted owed.old owed.new [] }
-    ensures noted { OnOk result (AreNoted owed.old owed.new (map post_of posts.now)) }
+    ensures noted { OnOk result (AreNoted owed.old owed.new (addressed (map post_of posts.now))) }
 {
     for post in posts {
         owed.insert(post.session)?;
+    }
+    Ok(())
+}
+
+/// Notes these sessions. Where memory is refused some of them are noted.
+fn note_each(owed: &mut BTreeSet<SessionId>, sessions: &[SessionId]) -> Result<(), AllocError>
+    ensures kept { AreNoted owed.old owed.new [] }
+    ensures noted { OnOk result (AreNoted owed.old owed.new sessions.now) }
+{
+    for session in sessions {
+        owed.insert(*session)?;
     }
     Ok(())
 }
@@ -385,6 +405,7 @@ impl Drop for Sessions {
             past: _,
             sessions: _,
             owed: _,
+            interest: _,
         } = self;
     }
 }

@@ -9,7 +9,7 @@ use Rattle.odb_sessions.specs.Owed.{book_seen}
 use Rattle.odb_sessions.specs.Posts.{at_number}
 use Rattle.odb_sessions.specs.Taken.{UsesUp}
 use Rattle.odb_sessions.proofs.Carried.{ready_at}
-use Rattle.odb_sessions.proofs.OwedSessions.{together, used_owed}
+use Rattle.odb_sessions.proofs.OwedSessions.{together, used_rest}
 use Rattle.odb_sessions.proofs.Rounds.{no_schema}
 use Rattle.odb_sessions.proofs.CarriedOut.{seen_after, text_seen, tied_after}
 use Rattle.odb_sessions.proofs.sessions.Sessions.carry_out.Goals as goal
@@ -24,10 +24,10 @@ invariant_of-self c =
     let s = c.args.session in
     let f : Session → Session = used_by (served_by no_schema) b.db c.args.items c.args.monitors in
     let uses : UsesUp b s c.args.items c.args.monitors = subst (λ (d : Book). UsesUp d s c.args.items c.args.monitors) (sym c.self.view_is) c.requires in
-    together c.carry_out.new.past c.carry_out.new.self old.owed (record b { sessions = at_number f b.sessions s })
+    together c.carry_out.new.past c.carry_out.new.self old.owed old.interest (record b { sessions = at_number f b.sessions s })
     (tied_after old.past c.carry_out.new.past old.sessions c.carry_out.new.self s c.args.items c.args.monitors c.carry_out.ensures.carried c.self.invariant.0)
     (seen_after old.past c.carry_out.new.past old.sessions c.carry_out.new.self s c.args.items c.args.monitors c.carry_out.ensures.carried no_schema)
-    (used_owed old.owed b s f (λ x there quiet. uses no_schema x there ∙ ap (λ (t : Option Out × Session). t.1) (quiet.1 no_schema)) c.self.invariant.1)
+    (used_rest old.owed old.interest b s f (λ x there quiet. uses no_schema x there ∙ ap (λ (t : Option Out × Session). t.1) (quiet.1 no_schema)) c.self.invariant.1)
 
 pub returns-clause-book : goal.returns-clause-book
 returns-clause-book c = λ s.

@@ -6,7 +6,7 @@ use Rattle.std.specs.BTreeSet.{Updates}
 use Rattle.std.specs.Ordering.{nat_cmp}
 use Rattle.odb_sessions.specs.Owed.{book_seen}
 use Rattle.odb_sessions.specs.Tied.{IsTied}
-use Rattle.odb_sessions.proofs.OwedSessions.{closed_owed, together}
+use Rattle.odb_sessions.proofs.OwedSessions.{closed_rest, together}
 use Rattle.odb_sessions.proofs.Ties.{has_all, seen-remove, tied_closed, tied_shut}
 use Rattle.odb_sessions.proofs.sessions.Sessions.close.Goals as goal
 
@@ -23,10 +23,10 @@ invariant_of-self-2 c =
     let s = c.args.session in
     let b : Book = book_seen c.self.inside.past m in
     let out : Updates nat_cmp c.self.inside.owed c.remove.new.self s false = search rules in
-    together c.release.new.past c.remove-2.new.self c.remove.new.self (record b { sessions = finite.remove b.sessions s })
+    together c.release.new.past c.remove-2.new.self c.remove.new.self c.forget.new.self (record b { sessions = finite.remove b.sessions s })
     (subst (IsTied c.release.new.past) (sym c.remove-2.ensures.sessions) (tied_closed c.self.inside.past c.release.new.past m s c.in-Some.closed c.self.invariant.0 there c.release.ensures))
     (λ i. let x : Book = record { db = c.release.ensures.0 i; sessions = (ap all_seen c.remove-2.ensures.sessions ∙ seen-remove m s) i } in x)
-    (closed_owed c.self.inside.owed c.remove.new.self b s c.self.invariant.1 out)
+    (closed_rest c.self.inside.owed c.remove.new.self c.self.inside.interest c.forget.new.self b s c.self.invariant.1 out c.forget.ensures)
 
 pub returns : goal.returns
 returns c =
@@ -42,10 +42,10 @@ invariant_of-self c =
     let k = c.self.inside.past in
     let b : Book = book_seen k m in
     let out : Updates nat_cmp c.self.inside.owed c.remove.new.self s false = search rules in
-    together k c.remove-2.new.self c.remove.new.self (record b { sessions = finite.remove b.sessions s })
+    together k c.remove-2.new.self c.remove.new.self c.forget.new.self (record b { sessions = finite.remove b.sessions s })
     (subst (IsTied k) (sym c.remove-2.ensures.sessions) (tied_shut k m s c.self.invariant.0 shut))
     (λ i. let x : Book = record { db = k.db; sessions = (ap all_seen c.remove-2.ensures.sessions ∙ seen-remove m s) i } in x)
-    (closed_owed c.self.inside.owed c.remove.new.self b s c.self.invariant.1 out)
+    (closed_rest c.self.inside.owed c.remove.new.self c.self.inside.interest c.forget.new.self b s c.self.invariant.1 out c.forget.ensures)
 
 pub returns-in_default : goal.returns-in_default
 returns-in_default c =

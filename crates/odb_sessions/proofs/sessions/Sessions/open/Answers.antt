@@ -6,7 +6,7 @@ use Rattle.odb_sessions.specs.Book.{Book, fresh_session}
 use Rattle.odb_sessions.specs.Held.{Sessions, all_seen, nothing_kept}
 use Rattle.odb_sessions.specs.Owed.{HangTogether, book_seen}
 use Rattle.odb_sessions.specs.Tied.{IsTied}
-use Rattle.odb_sessions.proofs.OwedSessions.{opened_owed, together}
+use Rattle.odb_sessions.proofs.OwedSessions.{opened_rest, together}
 use Rattle.odb_sessions.proofs.Ties.{either, none_kept, seen-insert, tied_opened}
 use Rattle.odb_sessions.proofs.sessions.Sessions.open.Goals as goal
 
@@ -17,13 +17,14 @@ invariant_of-self c =
     let s = c.args.session in
     let shut : finite.get (all_seen m) s ≡ None = ap (λ (b : Book). finite.get b.sessions s) c.self.view_is ∙ c.requires in
     let o = c.self.inside.owed in
+    let i = c.self.inside.interest in
     either c.insert.result c.insert.ensures.ok c.insert.ensures.err
     (λ is.
     let made = is ∙ ap (finite.insert m s) c.new.ensures in
-    together k c.insert.new.self o (record (book_seen k m) { sessions = finite.insert (all_seen m) s fresh_session }) (subst (IsTied k) (sym made) (tied_opened k m s c.self.invariant.0 (none_kept m s shut)))
-    (λ i. let x : Book = record { db = k.db; sessions = (ap all_seen made ∙ seen-insert m s nothing_kept) i } in x)
-    (opened_owed o (book_seen k m) s c.self.invariant.1))
-    (λ is. subst (λ (n : Sessions). HangTogether k n o) (sym is) c.self.invariant)
+    together k c.insert.new.self o i (record (book_seen k m) { sessions = finite.insert (all_seen m) s fresh_session }) (subst (IsTied k) (sym made) (tied_opened k m s c.self.invariant.0 (none_kept m s shut)))
+    (λ j. let x : Book = record { db = k.db; sessions = (ap all_seen made ∙ seen-insert m s nothing_kept) j } in x)
+    (opened_rest o i (book_seen k m) s shut c.self.invariant.1))
+    (λ is. subst (λ (n : Sessions). HangTogether k n o i) (sym is) c.self.invariant)
 
 pub returns-clause-ok : goal.returns-clause-ok
 returns-clause-ok c =

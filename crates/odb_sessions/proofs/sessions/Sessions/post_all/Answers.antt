@@ -5,16 +5,16 @@ use Rattle.odb_sessions.specs.Book.{Book}
 use Rattle.odb_sessions.specs.Held.{Sessions, all_seen}
 use Rattle.odb_sessions.specs.Posts.{all_posted}
 use Rattle.odb_queue.specs.declared.post.Post.{Post}
-use Rattle.odb_sessions.specs.Owed.{AreNoted, HangTogether, book_seen}
+use Rattle.odb_sessions.specs.Owed.{AreNoted, HangTogether, addressed, book_seen}
 use Rattle.odb_sessions.specs.Tied.{IsTied}
-use Rattle.odb_sessions.proofs.OwedSessions.{noted_owed, still_noted, together}
+use Rattle.odb_sessions.proofs.OwedSessions.{noted_rest, still_rest, together}
 use Rattle.odb_sessions.proofs.Seen.{either_posted, posts_seen, posts_tied, unposts_seen}
 use Rattle.odb_sessions.proofs.sessions.Sessions.post_all.Goals as goal
 
 pub invariant_of-self : goal.invariant_of-self
 invariant_of-self c =
     let old = c.self.inside in
-    (c.self.invariant.0, still_noted old.owed c.note_all.new.owed (book_seen old.past old.sessions) [] c.self.invariant.1 c.note_all.ensures.kept)
+    (c.self.invariant.0, still_rest old.owed c.note_all.new.owed old.interest (book_seen old.past old.sessions) [] c.self.invariant.1 c.note_all.ensures.kept)
 
 pub invariant_of-self-2 : goal.invariant_of-self-2
 invariant_of-self-2 c =
@@ -25,13 +25,13 @@ invariant_of-self-2 c =
     let o = c.note_all.new.owed in
     let ps = map post_of c.args.posts.items in
     let same : c.as_slice.result.now ≡ c.args.posts.items = search rules in
-    let noted : AreNoted old.owed o ps = subst (λ (xs : List Post). AreNoted old.owed o (map post_of xs)) same c.in_ok-note_all.ensures.noted in
-    either_posted c.post_all.result (HangTogether k c.post_all.new.self o)
+    let noted : AreNoted old.owed o (addressed ps) = subst (λ (xs : List Post). AreNoted old.owed o (addressed (map post_of xs))) same c.in_ok-note_all.ensures.noted in
+    either_posted c.post_all.result (HangTogether k c.post_all.new.self o old.interest)
     (c.post_all.ensures.ok) (c.post_all.ensures.err)
-    (λ p is. together k c.post_all.new.self o (record b { sessions = all_posted b.sessions ps }) (subst (IsTied k) (sym is) (posts_tied k m ps c.self.invariant.0))
+    (λ p is. together k c.post_all.new.self o old.interest (record b { sessions = all_posted b.sessions ps }) (subst (IsTied k) (sym is) (posts_tied k m ps c.self.invariant.0))
     (λ i. let x : Book = record { db = k.db; sessions = (ap all_seen is ∙ posts_seen m ps) i } in x)
-    (noted_owed old.owed o b ps c.self.invariant.1 noted))
-    (λ is. subst (λ (n : Sessions). HangTogether k n o) (sym is) (c.self.invariant.0, still_noted old.owed o b ps c.self.invariant.1 noted))
+    (noted_rest old.owed o old.interest b ps c.self.invariant.1 noted))
+    (λ is. subst (λ (n : Sessions). HangTogether k n o old.interest) (sym is) (c.self.invariant.0, still_rest old.owed o old.interest b (addressed ps) c.self.invariant.1 noted))
 
 pub returns-clause-ok : goal.returns-clause-ok
 returns-clause-ok c =

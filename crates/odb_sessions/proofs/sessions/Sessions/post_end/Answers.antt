@@ -13,7 +13,7 @@ use Rattle.std.specs.Ordering.{nat_cmp}
 use Rattle.odb_service.specs.Session.{Session}
 use Rattle.odb_sessions.specs.Owed.{HangTogether, book_seen}
 use Rattle.odb_sessions.specs.Tied.{IsTied}
-use Rattle.odb_sessions.proofs.OwedSessions.{grown_owed, posted_owed, together}
+use Rattle.odb_sessions.proofs.OwedSessions.{grown_rest, posted_rest, together}
 use Rattle.odb_sessions.proofs.Rounds.{no_schema}
 use Rattle.odb_sessions.proofs.Endings.{ending_seen, ending_tied}
 use Rattle.odb_sessions.proofs.Posts.{at_shut}
@@ -43,12 +43,12 @@ invariant_of-self-2 c =
     let qs : List Queued = map queued_of c.in_ok-items.items.items in
     let grown : Updates nat_cmp old.owed o s true = search rules in
     let f : Session → Session = ended_in no_schema (item_of c.args.reply) in
-    either_posted c.post_each.result (HangTogether k c.post_each.new.self o)
+    either_posted c.post_each.result (HangTogether k c.post_each.new.self o old.interest)
     (c.post_each.ensures.ok) (c.post_each.ensures.err)
-    (λ p is. together k c.post_each.new.self o (record b { sessions = at_number f b.sessions s }) (subst (IsTied k) (sym is) (ending_tied arc_value (item_of c.args.reply) k m s qs c.in_ok-ids.ids.items c.in_ok-items.ensures c.self.invariant.0))
+    (λ p is. together k c.post_each.new.self o old.interest (record b { sessions = at_number f b.sessions s }) (subst (IsTied k) (sym is) (ending_tied arc_value (item_of c.args.reply) k m s qs c.in_ok-ids.ids.items c.in_ok-items.ensures c.self.invariant.0))
     (λ i. let d : Book = record { db = k.db; sessions = (ap all_seen is ∙ ending_seen arc_value (item_of c.args.reply) no_schema m s x qs c.in_ok-ids.ids.items there c.in_ok-items.ensures c.in_ok-ids.ensures) i } in d)
-    (posted_owed old.owed o b s f c.self.invariant.1 grown))
-    (λ is. subst (λ (n : Sessions). HangTogether k n o) (sym is) (c.self.invariant.0, grown_owed old.owed o b s c.self.invariant.1 grown))
+    (posted_rest old.owed o old.interest b s f c.self.invariant.1 grown))
+    (λ is. subst (λ (n : Sessions). HangTogether k n o old.interest) (sym is) (c.self.invariant.0, grown_rest old.owed o old.interest b s c.self.invariant.1 grown))
 
 pub returns-clause-ok : goal.returns-clause-ok
 returns-clause-ok c =

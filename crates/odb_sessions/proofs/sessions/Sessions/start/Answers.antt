@@ -12,7 +12,7 @@ use Rattle.std.specs.Ordering.{nat_cmp}
 use Rattle.odb_service.specs.Session.{Session}
 use Rattle.odb_sessions.specs.Owed.{book_seen}
 use Rattle.odb_sessions.specs.Tied.{Frees, IsTied}
-use Rattle.odb_sessions.proofs.OwedSessions.{grown_owed, posted_owed, together}
+use Rattle.odb_sessions.proofs.OwedSessions.{grown_rest, posted_rest, together}
 use Rattle.odb_sessions.specs.declared.item.Item.{Item}
 use Rattle.odb_sessions.proofs.Books.{nothing_is, there_is}
 use Rattle.odb_sessions.proofs.Moved.{given_back, tied_handed}
@@ -41,10 +41,10 @@ invariant_of-self-in-Ok c =
     let o = c.insert.new.self in
     let grown : Updates nat_cmp c.self.inside.owed o s true = search rules in
     let f : Session → Session = push (started c.args.starting ∷ []) in
-    together new c.hand.new.self o (record b { sessions = at_number f b.sessions s })
+    together new c.hand.new.self o c.self.inside.interest (record b { sessions = at_number f b.sessions s })
     (subst (IsTied new) (sym c.in-Ok.ensures.ok) (tied_handed c.self.inside.past new m s q c.self.invariant.0 found.0 found.1 c.in_ok-start.ensures.ok))
     (λ i. let x : Book = record { db = c.in_ok-start.ensures.ok.0 i; sessions = (ap all_seen c.in-Ok.ensures.ok ∙ handed_seen m q s ∙ ap (λ j. at_number (push (j ∷ [])) (all_seen m) s) c.in_ok-start.ensures.item) i } in x)
-    (posted_owed c.self.inside.owed o b s f c.self.invariant.1 grown)
+    (posted_rest c.self.inside.owed o c.self.inside.interest b s f c.self.invariant.1 grown)
 
 pub invariant_of-self-in-Err : goal.invariant_of-self-in-Err
 invariant_of-self-in-Err c =
@@ -57,10 +57,10 @@ invariant_of-self-in-Err c =
     let b : Book = book_seen k m in
     let grown : Updates nat_cmp c.self.inside.owed o c.args.session true = search rules in
     let same : new.db ≡ k.db = frees.0 ∙ c.in_ok-start.ensures.ok.0 in
-    together new c.hand.new.self o b
+    together new c.hand.new.self o c.self.inside.interest b
     (subst (IsTied new) (sym c.in-Err.ensures.err) (given_back k made new m (marks_in c.in_ok-start.start.monitor) c.self.invariant.0 c.in_ok-start.ensures.ok frees))
     (λ i. let x : Book = record { db = same i; sessions = all_seen (c.in-Err.ensures.err i) } in x)
-    (grown_owed c.self.inside.owed o b c.args.session c.self.invariant.1 grown)
+    (grown_rest c.self.inside.owed o c.self.inside.interest b c.args.session c.self.invariant.1 grown)
 
 pub returns-in-Ok-clause-ok : goal.returns-in-Ok-clause-ok
 returns-in-Ok-clause-ok c =

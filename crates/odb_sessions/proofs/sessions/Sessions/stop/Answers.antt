@@ -1,4 +1,4 @@
-use Rattle.std.proofs.Common.{rules, ◌≡◌, true, List, map, subst, sym, ap, ◌∙◌}
+use Rattle.std.proofs.Common.{rules, true, List, map, subst, sym, ap, ◌∙◌}
 use Rattle.std.specs.BTreeSet.{Updates}
 use Rattle.std.specs.Ordering.{nat_cmp}
 use Rattle.odb_rpc.specs.Represented.Printable.{printable_data}
@@ -11,7 +11,7 @@ use Rattle.odb_sessions.specs.Represented.Queued.{queued_of}
 use Rattle.odb_sessions.specs.Stopped.{stopped_in}
 use Rattle.odb_sessions.specs.Owed.{HangTogether, book_seen}
 use Rattle.odb_sessions.specs.Tied.{IsTied}
-use Rattle.odb_sessions.proofs.OwedSessions.{grown_owed, posted_owed, together}
+use Rattle.odb_sessions.proofs.OwedSessions.{grown_rest, posted_rest, together}
 use Rattle.odb_sessions.proofs.Stops.{two_seen, two_tied}
 use Rattle.odb_sessions.proofs.sessions.Sessions.stop.Goals as goal
 
@@ -19,8 +19,8 @@ pub invariant_of-self-in_err-post_each : goal.invariant_of-self-in_err-post_each
 invariant_of-self-in_err-post_each c =
     let old = c.self.inside in
     let grown : Updates nat_cmp old.owed c.insert.new.self c.args.session true = search rules in
-    subst (λ (n : Sessions). HangTogether old.past n c.insert.new.self) (sym c.in_err-post_each.ensures.err)
-    (c.self.invariant.0, grown_owed old.owed c.insert.new.self (book_seen old.past old.sessions) c.args.session c.self.invariant.1 grown)
+    subst (λ (n : Sessions). HangTogether old.past n c.insert.new.self old.interest) (sym c.in_err-post_each.ensures.err)
+    (c.self.invariant.0, grown_rest old.owed c.insert.new.self old.interest (book_seen old.past old.sessions) c.args.session c.self.invariant.1 grown)
 
 pub invariant_of-self-2 : goal.invariant_of-self-2
 invariant_of-self-2 c =
@@ -30,10 +30,10 @@ invariant_of-self-2 c =
     let qs : List Queued = map queued_of c.in_ok-items.items.items in
     let grown : Updates nat_cmp old.owed c.insert.new.self s true = search rules in
     let f : Session → Session = stopped_in (request_data c.args.request.now) (printable_data c.args.id) in
-    together old.past c.post_each.new.self c.insert.new.self (record b { sessions = at_number f b.sessions s })
+    together old.past c.post_each.new.self c.insert.new.self old.interest (record b { sessions = at_number f b.sessions s })
     (subst (IsTied old.past) (sym c.in_ok-post_each.ensures.ok) (two_tied (sync (printable_data c.args.id)) (stopped (request_data c.args.request.now) (printable_data c.args.id)) qs c.in_ok-items.ensures old.past old.sessions s c.self.invariant.0))
     (λ i. let d : Book = record { db = b.db; sessions = (ap all_seen c.in_ok-post_each.ensures.ok ∙ two_seen (sync (printable_data c.args.id)) (stopped (request_data c.args.request.now) (printable_data c.args.id)) qs c.in_ok-items.ensures old.sessions s) i } in d)
-    (posted_owed old.owed c.insert.new.self b s f c.self.invariant.1 grown)
+    (posted_rest old.owed c.insert.new.self old.interest b s f c.self.invariant.1 grown)
 
 pub returns-clause-ok : goal.returns-clause-ok
 returns-clause-ok c =

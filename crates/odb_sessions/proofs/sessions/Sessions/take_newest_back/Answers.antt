@@ -5,7 +5,7 @@ use Rattle.odb_sessions.specs.Posts.{newest_at}
 use Rattle.odb_sessions.specs.Represented.Queued.{queued_of}
 use Rattle.odb_sessions.specs.Owed.{HangTogether, book_seen}
 use Rattle.odb_sessions.specs.Tied.{IsTied}
-use Rattle.odb_sessions.proofs.OwedSessions.{together, unposted_owed}
+use Rattle.odb_sessions.proofs.OwedSessions.{together, unposted_rest}
 use Rattle.odb_sessions.proofs.Books.{back_one}
 use Rattle.odb_sessions.proofs.Moved.{has_newest, none_taken_back, tied_taken_back}
 use Rattle.odb_sessions.proofs.Seen.{taken_back_seen}
@@ -25,10 +25,10 @@ invariant_of-self-2 c =
     let newest : newest_at m c.args.session ≡ Some q = search rules in
     let s = c.args.session in
     let b : Book = book_seen c.self.inside.past m in
-    together c.release.new.past c.take_newest.new.self c.self.inside.owed (back_one s b)
+    together c.release.new.past c.take_newest.new.self c.self.inside.owed c.self.inside.interest (back_one s b)
     (subst (IsTied c.release.new.past) (sym c.take_newest.ensures.sessions) (tied_taken_back c.self.inside.past c.release.new.past m s q c.self.invariant.0 newest c.release.ensures))
     (λ i. let x : Book = record { db = c.release.ensures.0 i; sessions = (ap all_seen c.take_newest.ensures.sessions ∙ taken_back_seen m s) i } in x)
-    (unposted_owed c.self.inside.owed b (s ∷ []) c.self.invariant.1)
+    (unposted_rest c.self.inside.owed c.self.inside.interest b (s ∷ []) c.self.invariant.1)
 
 pub returns : goal.returns
 returns c =
@@ -40,7 +40,7 @@ pub invariant_of-self : goal.invariant_of-self
 invariant_of-self c =
     let m : Sessions = c.self.inside.sessions in
     let none : newest_at m c.args.session ≡ None = search rules in
-    subst (λ (n : Sessions). HangTogether c.self.inside.past n c.self.inside.owed) (sym (c.take_newest.ensures.sessions ∙ none_taken_back m c.args.session none)) c.self.invariant
+    subst (λ (n : Sessions). HangTogether c.self.inside.past n c.self.inside.owed c.self.inside.interest) (sym (c.take_newest.ensures.sessions ∙ none_taken_back m c.args.session none)) c.self.invariant
 
 pub returns-in_default : goal.returns-in_default
 returns-in_default c =

@@ -3,17 +3,20 @@ use Rattle.odb_chain.specs.Chains.{Chains}
 use Rattle.odb_sessions.specs.Book.{Book}
 use Rattle.odb_sessions.specs.Held.{Sessions, all_seen}
 use Rattle.std.specs.List.{AllZip}
+use Rattle.odb_interest.specs.Represented.Lists.{IsSame}
 use Rattle.odb_sessions.specs.Owed.{HangTogether, book_seen}
-use Rattle.odb_sessions.proofs.OwedSessions.{copied_owed}
+use Rattle.odb_sessions.proofs.OwedSessions.{copied_rest}
 use Rattle.odb_sessions.proofs.sessions.Sessions.try_copy.Goals as goal
 
 pub invariant_of-result : goal.invariant_of-result
 invariant_of-result c =
     let old = c.self.inside in
     let o = c.in_ok-owed.owed in
+    let i = c.in_ok-interest.interest in
+    let said : IsSame old.interest i = search rules in
     let same : AllZip (λ k l. l ≡ k) old.owed.keys o.keys = search rules in
-    subst (λ (k : Chains). HangTogether k c.in_ok-sessions.sessions o) (sym c.in_ok-past.ensures)
-    (subst (λ (m : Sessions). HangTogether old.past m o) (sym c.in_ok-sessions.ensures) (c.self.invariant.0, copied_owed old.owed o (book_seen old.past old.sessions) same c.self.invariant.1))
+    subst (λ (k : Chains). HangTogether k c.in_ok-sessions.sessions o i) (sym c.in_ok-past.ensures)
+    (subst (λ (m : Sessions). HangTogether old.past m o i) (sym c.in_ok-sessions.ensures) (c.self.invariant.0, copied_rest old.owed o old.interest i (book_seen old.past old.sessions) same said c.self.invariant.1))
 
 pub returns : goal.returns
 returns c = (λ i. let b : Book = record { db = (c.in_ok-past.ensures i).db; sessions = all_seen (c.in_ok-sessions.ensures i) } in b) ∙ c.self.view_is

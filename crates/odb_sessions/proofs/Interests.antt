@@ -1,0 +1,36 @@
+-- What the index of interest says of a session, along the filters that are added for it.
+use Rattle.std.proofs.Common.{◌≡◌, ℕ, cond, List, [], ◌∷◌, ◌++◌, append_assoc, map, Option, None, refl, sym, ap, ◌∙◌}
+use Rattle.std.specs.Prelude.{flat_map, option_map}
+use borrow.Author.Tests.{eq-eqb}
+use Rattle.odb_interest.specs.Keys.{Asked, Interests, asked_at}
+use Rattle.odb_interest.specs.Represented.Lists.{Asks}
+use Rattle.odb_sessions.specs.Held.{Held, Kept, Watched, monitor_of, seen}
+use Rattle.odb_sessions.specs.Owed.{KeepsOthers, filter_asked, filters_asked, interest_if, interest_in, interest_of}
+
+-- what is said of a session leaves the others
+pub asks_others : (old new : Interests) (s : ℕ) (fs : List Asked) → Asks old new s fs → KeepsOthers old new s
+asks_others old new s fs asks q e = asks q ∙ ap (λ b. cond b fs (asked_at old q)) e
+
+-- of the session itself it is said
+pub asks_it : (old new : Interests) (s : ℕ) (fs : List Asked) → Asks old new s fs → asked_at new s ≡ fs
+asks_it old new s fs asks = asks s ∙ ap (λ b. cond b fs (asked_at old s)) (eq-eqb s s refl)
+
+-- more is said after what was said
+pub asked_more : (first old new : Interests) (s : ℕ) (fs gs : List Asked) → asked_at old s ≡ asked_at first s ++ fs → Asks old new s (asked_at old s ++ gs) → asked_at new s ≡ asked_at first s ++ (fs ++ gs)
+asked_more first old new s fs gs so_far asks = asks_it old new s (asked_at old s ++ gs) asks ∙ ap (λ xs. xs ++ gs) so_far ∙ append_assoc (asked_at first s) fs gs
+
+-- what is kept asks what the machine sees of it
+
+kept_tables : (ws : List Watched) → map filter_asked ws ≡ interest_in (map (λ (w : Watched). w.request) ws)
+kept_tables [] = refl
+kept_tables (w ∷ ws) = ap (λ fs. filter_asked w ∷ fs) (kept_tables ws)
+
+kept_monitors : (xs : List Held) → flat_map filters_asked xs ≡ flat_map (λ m. interest_in m.watch.requests) (map monitor_of xs)
+kept_monitors [] = refl
+kept_monitors (x ∷ xs) = λ i. kept_tables x.tables i ++ kept_monitors xs i
+
+pub kept_asks : (x : Kept) → flat_map filters_asked x.monitors ≡ interest_of (seen x)
+kept_asks x = kept_monitors x.monitors
+
+pub nothing_asked : (o : Option Kept) → o ≡ None → [] ≡ interest_if (option_map seen o)
+nothing_asked o is = ap (λ p. interest_if (option_map seen p)) (sym is)

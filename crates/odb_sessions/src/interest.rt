@@ -1,0 +1,106 @@
+//! What sessions ask of tables, in the index of interest. [P 9.1, 10.1]
+ghost use Rattle.std.specs.Prelude.{◌≡◌, ◌++◌, flat_map, map, option_map, IfSome, OnOk};
+ghost use Rattle.std.specs.Bool.{OnTrue};
+ghost use Rattle.std.specs.Option.{option_copied};
+ghost use Rattle.odb_interest.specs.Keys.{asked_at};
+ghost use Rattle.odb_sessions.specs.Held.{seen};
+ghost use Rattle.odb_sessions.specs.Owed.{KeepsOthers, filter_asked, filters_asked, interest_if};
+
+use crate::monitor::{Monitor, Watching};
+use crate::session::Session;
+use odb_interest::{Asked, Interest};
+use odb_locks::SessionId;
+use std::alloc::AllocError;
+
+/// Makes the index say of a session just what its monitors ask, and nothing where it isn't open. Where memory is
+/// refused it may say less. O(members of the filters), and what `odb_interest::Interest::add` and `forget` cost for
+/// each filter, where it said something else.
+pub(crate) fn cover(
+    interest: &mut Interest,
+    session: SessionId,
+    of: Option<&Session>,
+) -> Result<(), AllocError>
+    ensures others { KeepsOthers interest.old interest.new session }
+    ensures ok { OnOk result (asked_at interest.new session ≡ interest_if (option_map seen (option_copied of.entry))) }
+{
+    let Some(of) = of else {
+        interest.forget(session);
+        return Ok(());
+    };
+    let monitors = of.monitors.as_slice();
+    if are_asked(interest.asked(session), monitors) {
+        return Ok(());
+    }
+    interest.forget(session);
+    add_monitors(interest, session, monitors)
+}
+
+/// Adds what these monitors ask to what a session asks. Where memory is refused, some of it.
+fn add_monitors(
+    interest: &mut Interest,
+    session: SessionId,
+    monitors: &[Monitor],
+) -> Result<(), AllocError>
+    ensures others { KeepsOthers interest.old interest.new session }
+    ensures ok { OnOk result (asked_at interest.new session ≡ asked_at interest.old session ++ flat_map filters_asked monitors.now) }
+{
+    for monitor in monitors {
+        add_tables(interest, session, monitor.tables.as_slice())?;
+    }
+    Ok(())
+}
+
+/// Adds what is asked of these tables to what a session asks. Where memory is refused, some of it.
+fn add_tables(
+    interest: &mut Interest,
+    session: SessionId,
+    tables: &[Watching],
+) -> Result<(), AllocError>
+    ensures others { KeepsOthers interest.old interest.new session }
+    ensures ok { OnOk result (asked_at interest.new session ≡ asked_at interest.old session ++ map filter_asked tables.now) }
+{
+    for table in tables {
+        interest.add(session, table.request.table(), table.request.filter())?;
+    }
+    Ok(())
+}
+
+/// Tells whether the filters are just what these monitors ask, in their order.
+fn are_asked(filters: &[Asked], monitors: &[Monitor]) -> bool
+    ensures { OnTrue result (filters.now ≡ flat_map filters_asked monitors.now) }
+{
+    let mut left = filters;
+    for monitor in monitors {
+        let Some(rest) = after(left, monitor.tables.as_slice()) else {
+            return false;
+        };
+        left = rest;
+    }
+    left.is_empty()
+}
+
+/// Returns those of the filters that come after what is asked of these tables, if they begin with it.
+fn after<'a>(filters: &'a [Asked], tables: &[Watching]) -> Option<&'a [Asked]>
+    ensures { IfSome result (λ left. filters.now ≡ map filter_asked tables.now ++ left.now) }
+{
+    let mut left = filters;
+    for table in tables {
+        let [first, rest @ ..] = left else {
+            return None;
+        };
+        if !table.is_asked(first) {
+            return None;
+        }
+        left = rest;
+    }
+    Some(left)
+}
+
+impl Watching {
+    /// Tells whether this is what is asked of its table.
+    fn is_asked(&self, asked: &Asked) -> bool
+        ensures { OnTrue result (asked.now ≡ filter_asked self.now) }
+    {
+        asked.is(self.request.table(), self.request.filter())
+    }
+}
