@@ -29,6 +29,7 @@ use Rattle.odb_sessions.specs.contracts.numbered.Numbered as Numbered
 use Rattle.odb_sessions.specs.contracts.origin.Origin as Origin
 use Rattle.odb_sessions.specs.contracts.past.Past as Past
 use Rattle.odb_sessions.specs.contracts.queue.Queue as Queue
+use Rattle.odb_sessions.specs.contracts.refreshing.Refreshing as Refreshing
 use Rattle.odb_sessions.specs.contracts.session.Session as Session
 use Rattle.odb_sessions.specs.contracts.sessions.Sessions as Sessions
 
@@ -71,6 +72,9 @@ Watching-send = watching.the_send
 Past-send : IsSend (Past.the_field).row
 Past-send = past.the_send
 
+Refreshing-send : IsSend (Refreshing.the_field).row
+Refreshing-send = search (sendable, heap.crosses) depth 20
+
 Monitor-send : IsSend (Monitor.the_field).row
 Monitor-send = search (Id-send, Id-sync, Watching-send, sendable, heap.crosses) depth 20
 
@@ -99,4 +103,4 @@ Numbered-send : IsSend (Numbered.the_field).row
 Numbered-send = search (Session-send, sendable, heap.crosses, maps.crosses) depth 20
 
 pub Sessions-send : IsSend (Sessions.the_field).row
-Sessions-send = search (Past-send, Numbered-send, Interest-send, sendable, heap.crosses, maps.crosses) depth 20
+Sessions-send = search (Past-send, Numbered-send, Interest-send, Refreshing-send, sendable, heap.crosses, maps.crosses) depth 20

@@ -28,6 +28,7 @@ pub mod Plans
 mod Posts
 mod Quiet
 mod QuietSessions
+mod Refreshed
 mod Releases
 mod Replays
 mod Rests

@@ -144,6 +144,10 @@ none_kept m s e = by (finite.get m s) refl (sym (get-seen m s) ∙ e)
 pub tied_opened : (k : Chains) (m : Sessions) (s : ℕ) → IsTied k m → finite.get m s ≡ None → IsTied k (finite.insert m s nothing_kept)
 tied_opened k m s h shut = tied_put k m s nothing_kept h (λ t p. sym (ap (slot (weight t p)) shut)) tt
 
+pub on_err : {A E : Type 0} (r : Result A E) (Q : Type 0) → Q → OnErr r Q
+on_err (Ok x) Q q = tt
+on_err (Err e) Q q = q
+
 pub either : {A E P Q G : Type 0} (r : Result A E) → OnOk r P → OnErr r Q → (P → G) → (Q → G) → G
 either (Ok a) p q f g = f p
 either (Err e) p q f g = g q

@@ -1,6 +1,7 @@
 -- A change that touches nothing of what a session's monitors ask leaves it owed nothing.
 use Rattle.std.proofs.Common.{◌≡◌, ℕ, zero, suc, ◌==◌, arith, Bool, true, false, ◌||◌, List, [], ◌∷◌, length, Option, Some, None, refl, sym, ap, ◌∙◌, true≢false}
 use Rattle.std.specs.Prelude.{flat_map, slice_get, unwrap_or}
+use Rattle.std.specs.BTreeSet.{BTreeSet}
 use Rattle.std.specs.List.{list_any}
 use Rattle.std.specs.Ordering.{eq_by_cmp, nat_cmp}
 use Rattle.std.proofs.lemmas.List.Folds.{list_any-append}
@@ -8,6 +9,7 @@ use Rattle.odb_atoms.specs.FinMap as finite
 use Rattle.odb_atoms.specs.Uuid.{uuid_cmp}
 use Rattle.odb_atoms.proofs.Atoms.{uuid_cmp_total, uuid_cmp-IsAntisymmetric}
 use Rattle.odb_atoms.proofs.FinMaps.{get-combine, get-empty, same_map}
+use Rattle.odb_chain.specs.Chains.{Chains, absorbed}
 use Rattle.odb_interest.specs.Keys.{Asked, Interests, asked_at, change_at, is_hit, is_touched}
 use Rattle.odb_interest.specs.Unhit as table
 use Rattle.odb_interest.proofs.Unselected.{unhit_stays}
@@ -21,8 +23,10 @@ use Rattle.odb_tables.specs.Change.{Changes, after, all_changed_by, before, chan
 use Rattle.odb_tables.specs.Database.{Db, table_at}
 use Rattle.odb_tables.specs.Installing.{IsChangeOf}
 use Rattle.odb_sessions.specs.Book.{Book}
-use Rattle.odb_sessions.specs.Owed.{IsAtRest, interest_if, interest_in, interest_of, is_among}
+use Rattle.odb_sessions.specs.Held.{Sessions}
+use Rattle.odb_sessions.specs.Owed.{AreAtRest, AreNoted, IsAtRest, book_seen, interest_if, interest_in, interest_of, is_among}
 use Rattle.odb_sessions.specs.Quiet.{IsQuiet}
+use Rattle.odb_sessions.proofs.OwedSessions.{changed_rest}
 
 -- ---- what the change is at one table
 
@@ -117,10 +121,17 @@ not_among q (s ∷ ss) e =
 abbrev pub AreTouched : List Changes → Interests → List ℕ → Type 0
 AreTouched cs i ss = (s : ℕ) → list_any (λ t. t == s) ss ≡ is_touched cs (asked_at i s)
 
-pub untouched_rest : (i : Interests) (b : Book) (cs : List Changes) (ss : List ℕ) → IsChangeOf b.db cs → AreTouched cs i ss → (s : ℕ) → is_among s ss ≡ false → IsAtRest i b s → IsAtRest i (record b { db = all_changed_by b.db cs }) s
+untouched_rest : (i : Interests) (b : Book) (cs : List Changes) (ss : List ℕ) → IsChangeOf b.db cs → AreTouched cs i ss → (s : ℕ) → is_among s ss ≡ false → IsAtRest i b s → IsAtRest i (record b { db = all_changed_by b.db cs }) s
 untouched_rest i b cs ss is touched s out rest = (
   λ x there.
       let miss : is_touched cs (interest_of x) ≡ false = ap (is_touched cs) (sym (rest.1 ∙ ap interest_if there)) ∙ sym (touched s) ∙ not_among s ss out in
       still_quiet b.db cs is x miss (rest.0 x there),
   rest.1,
 )
+
+pub touched_rest : (o o' : BTreeSet ℕ) (i : Interests) (b : Book) (cs : List Changes) (ss : List ℕ) → AreAtRest o i b → AreNoted o o' ss → IsChangeOf b.db cs → AreTouched cs i ss → AreAtRest o' i (record b { db = all_changed_by b.db cs })
+touched_rest o o' i b cs ss before noted is touched = changed_rest o o' i b (record b { db = all_changed_by b.db cs }) ss before noted (untouched_rest i b cs ss is touched)
+
+-- the book after the change, where it was the same before it
+pub book_after : (k new before : Chains) (m n : Sessions) (cs : List Changes) → new ≡ absorbed cs before → book_seen before n ≡ book_seen k m → book_seen new n ≡ (let b : Book = record (book_seen k m) { db = all_changed_by k.db cs } in b)
+book_after k new before m n cs done same = (λ j. book_seen (done j) n) ∙ ap (λ (x : Book). let y : Book = record x { db = all_changed_by x.db cs } in y) same

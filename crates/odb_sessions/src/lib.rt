@@ -32,6 +32,7 @@ mod past;
 mod planning;
 mod queue;
 mod ready;
+mod refreshing;
 mod resting;
 mod round;
 mod session;

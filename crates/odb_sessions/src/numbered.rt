@@ -1,5 +1,5 @@
 //! The open sessions by their numbers.
-ghost use Rattle.std.specs.Prelude.{◌≡◌, true, map, is_some, option_and_then, option_map, Some, IfErr, IfOk, OnErr, OnOk};
+ghost use Rattle.std.specs.Prelude.{◌≡◌, ◌≤◌, true, map, is_some, option_and_then, option_map, Some, IfErr, IfOk, IfSome, OnErr, OnOk};
 ghost use Rattle.std.specs.Option.{option_copied};
 ghost use Rattle.odb_atoms.specs.FinMap as finite;
 ghost use Rattle.odb_queue.specs.Represented.Item.{item_of};
@@ -82,6 +82,22 @@ impl Numbered {
         ensures { result ≡ is_some (finite.get self.now number) }
     {
         self.get(number).is_some()
+    }
+
+    /// How many monitors a session has; none where it isn't open.
+    pub(crate) fn monitors(&self, number: SessionId) -> usize {
+        match self.get(number) {
+            Some(session) => session.monitors.len(),
+            None => 0,
+        }
+    }
+
+    /// The first open session from this number on, and how many monitors it has. O(log n).
+    pub(crate) fn first_from(&self, number: SessionId) -> Option<(SessionId, usize)>
+        ensures { IfSome result (λ found. number ≤ found.0) }
+    {
+        let (found, session) = self.sessions.range(number..).next()?;
+        Some((*found, session.monitors.len()))
     }
 
     /// Posts each item to its session, and returns the sessions for which one was queued.

@@ -35,6 +35,7 @@ use crate::item::Item;
 use crate::named::{Named, first_of};
 use crate::numbered::Numbered;
 use crate::past::Past;
+use crate::refreshing::{Refreshing, refresh_each};
 use crate::session::Session;
 use crate::starting::Starting;
 use odb_interest::Interest;
@@ -57,6 +58,7 @@ pub struct Sessions {
     pub(crate) sessions: Numbered,
     pub(crate) owed: BTreeSet<SessionId>,
     pub(crate) interest: Interest,
+    pub(crate) refreshing: Refreshing,
 }
 
 impl Model for Sessions {
@@ -84,6 +86,7 @@ impl Sessions {
             sessions: Numbered::new(alloc),
             owed: BTreeSet::new(alloc),
             interest: Interest::new(alloc),
+            refreshing: Refreshing::new(),
         })
     }
 
@@ -313,15 +316,21 @@ impl Sessions {
     }
 
     /// Makes the whole change of the database, or none; what clients have stays. Where memory is refused
-    /// nothing changed; so it does after 2^64 - 1 changes of one table.
+    /// nothing changed; so it does after 2^64 - 1 changes of one table. Marks of sessions to which nothing was owed
+    /// move to now: those of the sessions that the change concerns before it, so that what they will be owed is this
+    /// change alone, and those of a few others after it.
     fn install(&mut self, change: ChangeSet) -> Result<(), AllocError>
         requires { IsChangeOf self.old.db change }
         ensures ok { OnOk result (self.new ≡ record (self.old) { db = all_changed_by self.old.db change }) }
         ensures err { OnErr result (self.new ≡ self.old) }
     {
         let touched = self.interest.touched(&change)?;
-        note_each(&mut self.owed, touched.as_slice())?;
+        let concerned = touched.as_slice();
+        refresh_each(&mut self.sessions, &mut self.past, &self.owed, concerned);
+        note_each(&mut self.owed, concerned)?;
         self.past.absorb(change)?;
+        self.refreshing
+            .go_on(&mut self.sessions, &mut self.past, &self.owed);
         Ok(())
     }
 
@@ -371,6 +380,7 @@ impl Sessions {
             sessions,
             owed,
             interest,
+            refreshing: self.refreshing,
         })
     }
 }
@@ -406,6 +416,7 @@ impl Drop for Sessions {
             sessions: _,
             owed: _,
             interest: _,
+            refreshing: _,
         } = self;
     }
 }

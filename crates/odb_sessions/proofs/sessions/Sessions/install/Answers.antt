@@ -1,45 +1,87 @@
 use Rattle.std.proofs.Common.{rules, ◌≡◌, [], subst, sym, ap, ◌∙◌}
-use Rattle.odb_chain.specs.Chains.{Chains}
+use Rattle.odb_chain.specs.Chains.{Chains, absorbed}
 use Rattle.odb_tables.specs.Change.{all_changed_by}
 use Rattle.odb_tables.specs.Installing.{IsChangeOf}
 use Rattle.odb_sessions.specs.Book.{Book}
 use Rattle.odb_sessions.specs.Held.{Sessions, all_seen}
-use Rattle.odb_sessions.specs.Owed.{AreAtRest, AreNoted, HangTogether, book_seen}
-use Rattle.odb_sessions.proofs.OwedSessions.{changed_rest, still_rest}
-use Rattle.odb_sessions.proofs.Ties.{either, tied_absorbed}
-use Rattle.odb_sessions.proofs.Untouched.{AreTouched, untouched_rest}
+use Rattle.odb_sessions.specs.Owed.{AreAtRest, AreNoted, AreOwed, book_seen}
+use Rattle.odb_sessions.specs.Tied.{IsTied}
+use Rattle.odb_sessions.proofs.OwedSessions.{rest_owed, still_rest}
+use Rattle.odb_sessions.proofs.Ties.{on_err, tied_absorbed}
+use Rattle.odb_sessions.proofs.Untouched.{AreTouched, book_after, touched_rest}
 use Rattle.odb_sessions.proofs.sessions.Sessions.install.Goals as goal
+
+pub refresh_each-requires-clause-tied : goal.refresh_each-requires-clause-tied
+refresh_each-requires-clause-tied c = c.self.invariant.0
+
+pub refresh_each-requires-clause-owed : goal.refresh_each-requires-clause-owed
+refresh_each-requires-clause-owed c =
+    let old = c.self.inside in
+    rest_owed old.owed old.interest (book_seen old.past old.sessions) c.self.invariant.1
 
 pub invariant_of-self : goal.invariant_of-self
 invariant_of-self c =
     let old = c.self.inside in
-    (c.self.invariant.0, still_rest old.owed c.note_each.new.owed old.interest (book_seen old.past old.sessions) [] c.self.invariant.1 c.note_each.ensures.kept)
+    let o = c.note_each.new.owed in
+    (c.refresh_each.ensures.tied, subst (AreAtRest o old.interest) (sym c.refresh_each.ensures.seen) (still_rest old.owed o old.interest (book_seen old.past old.sessions) [] c.self.invariant.1 c.note_each.ensures.kept))
 
 pub absorb-requires : goal.absorb-requires
-absorb-requires c = subst (λ (b : Book). IsChangeOf b.db c.args.change) (sym c.self.view_is) c.requires
+absorb-requires c = subst (λ (b : Book). IsChangeOf b.db c.args.change) (sym (c.refresh_each.ensures.seen ∙ c.self.view_is)) c.requires
+
+pub invariant_of-self-in_err-absorb : goal.invariant_of-self-in_err-absorb
+invariant_of-self-in_err-absorb c =
+    let old = c.self.inside in
+    let m : Sessions = c.refresh_each.new.sessions in
+    let o = c.note_each.new.owed in
+    let i = old.interest in
+    let rest = still_rest old.owed o i (book_seen old.past old.sessions) [] c.self.invariant.1 c.note_each.ensures.kept in (
+      subst (λ (x : Chains). IsTied x m) (sym c.in_err-absorb.ensures.err) c.refresh_each.ensures.tied,
+      subst (λ (x : Chains). AreAtRest o i (book_seen x m)) (sym c.in_err-absorb.ensures.err) (subst (AreAtRest o i) (sym c.refresh_each.ensures.seen) rest),
+    )
+
+pub go_on-requires-clause-tied : goal.go_on-requires-clause-tied
+go_on-requires-clause-tied c = tied_absorbed c.refresh_each.new.past c.absorb.new.self c.args.change c.refresh_each.new.sessions c.refresh_each.ensures.tied c.in_ok-absorb.ensures.ok c.absorb.ensures.now
+
+pub go_on-requires-clause-owed : goal.go_on-requires-clause-owed
+go_on-requires-clause-owed c =
+    let old = c.self.inside in
+    let m : Sessions = c.refresh_each.new.sessions in
+    let o = c.note_each.new.owed in
+    let i = old.interest in
+    let b : Book = book_seen old.past old.sessions in
+    let all : c.as_slice-concerned.result.now ≡ c.in_ok-touched.touched.items = search rules in
+    let noted : AreNoted old.owed o c.in_ok-touched.touched.items = subst (AreNoted old.owed o) all c.in_ok-note_each.ensures.noted in
+    let named : AreTouched c.args.change i c.in_ok-touched.touched.items = search rules in
+    let is : IsChangeOf b.db c.args.change = subst (λ (x : Book). IsChangeOf x.db c.args.change) (sym c.self.view_is) c.requires in
+    let after = book_after old.past c.absorb.new.self c.refresh_each.new.past old.sessions m c.args.change c.in_ok-absorb.ensures.ok c.refresh_each.ensures.seen in
+    rest_owed o i (book_seen c.absorb.new.self m) (subst (AreAtRest o i) (sym after) (touched_rest old.owed o i b c.args.change c.in_ok-touched.touched.items c.self.invariant.1 noted is named))
 
 pub invariant_of-self-2 : goal.invariant_of-self-2
 invariant_of-self-2 c =
     let old = c.self.inside in
-    let k : Chains = old.past in
-    let m : Sessions = old.sessions in
+    let m : Sessions = c.refresh_each.new.sessions in
     let o = c.note_each.new.owed in
     let i = old.interest in
-    let cs = c.args.change in
-    let b : Book = book_seen k m in
-    let d : Book = record b { db = all_changed_by b.db cs } in
-    let ss = c.in_ok-touched.touched.items in
-    let all : c.as_slice.result.now ≡ ss = search rules in
-    let noted : AreNoted old.owed o ss = subst (AreNoted old.owed o) all c.in_ok-note_each.ensures.noted in
-    let named : AreTouched cs i ss = search rules in
-    let is : IsChangeOf b.db cs = subst (λ (x : Book). IsChangeOf x.db cs) (sym c.self.view_is) c.requires in
-    either c.absorb.result c.absorb.ensures.ok c.absorb.ensures.err
-    (λ done. (
-      tied_absorbed k c.absorb.new.self cs m c.self.invariant.0 done c.absorb.ensures.now,
-      subst (λ (x : Chains). AreAtRest o i (book_seen x m)) (sym done)
-          (changed_rest old.owed o i b d ss c.self.invariant.1 noted (untouched_rest i b cs ss is named)),
-    ))
-    (λ same. subst (λ (x : Chains). HangTogether x m o i) (sym same) (c.self.invariant.0, still_rest old.owed o i b ss c.self.invariant.1 noted))
+    let b : Book = book_seen old.past old.sessions in
+    let all : c.as_slice-concerned.result.now ≡ c.in_ok-touched.touched.items = search rules in
+    let noted : AreNoted old.owed o c.in_ok-touched.touched.items = subst (AreNoted old.owed o) all c.in_ok-note_each.ensures.noted in
+    let named : AreTouched c.args.change i c.in_ok-touched.touched.items = search rules in
+    let is : IsChangeOf b.db c.args.change = subst (λ (x : Book). IsChangeOf x.db c.args.change) (sym c.self.view_is) c.requires in
+    let after = book_after old.past c.absorb.new.self c.refresh_each.new.past old.sessions m c.args.change c.in_ok-absorb.ensures.ok c.refresh_each.ensures.seen in (
+      c.go_on.ensures.tied,
+      subst (AreAtRest o i) (sym (c.go_on.ensures.seen ∙ after)) (touched_rest old.owed o i b c.args.change c.in_ok-touched.touched.items c.self.invariant.1 noted is named),
+    )
+
+pub returns-in_err-note_each-clause-err : goal.returns-in_err-note_each-clause-err
+returns-in_err-note_each-clause-err c = on_err c.from_residual-in_err-note_each.result _ (c.refresh_each.ensures.seen ∙ c.self.view_is)
+
+pub returns-in_err-absorb-clause-err : goal.returns-in_err-absorb-clause-err
+returns-in_err-absorb-clause-err c =
+    on_err c.from_residual-in_err-absorb.result _
+    ((λ j. book_seen (c.in_err-absorb.ensures.err j) c.refresh_each.new.sessions) ∙ c.refresh_each.ensures.seen ∙ c.self.view_is)
 
 pub returns-clause-ok : goal.returns-clause-ok
-returns-clause-ok c = (λ i. let x : Book = record { db = (c.in_ok-absorb.ensures.ok i).db; sessions = all_seen c.self.inside.sessions } in x) ∙ ap (λ (x : Book). let y : Book = record x { db = all_changed_by x.db c.args.change } in y) c.self.view_is
+returns-clause-ok c =
+    let old = c.self.inside in
+    let after = book_after old.past c.absorb.new.self c.refresh_each.new.past old.sessions c.refresh_each.new.sessions c.args.change c.in_ok-absorb.ensures.ok c.refresh_each.ensures.seen in
+    c.go_on.ensures.seen ∙ after ∙ ap (λ (x : Book). let y : Book = record x { db = all_changed_by x.db c.args.change } in y) c.self.view_is
