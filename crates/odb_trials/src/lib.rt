@@ -2,7 +2,11 @@
 #![tactic(auto)]
 
 #[cfg(test)]
+mod calls;
+#[cfg(test)]
 mod mailboxes;
+#[cfg(test)]
+mod refusals;
 #[cfg(test)]
 mod requests;
 #[cfg(test)]
@@ -11,3 +15,5 @@ mod sharing;
 mod sizes;
 #[cfg(test)]
 mod streams;
+#[cfg(test)]
+mod writers;

@@ -1,9 +1,9 @@
-//! A session whose messages nobody takes: how many submits its seat is answered, what its ring gives then, and what it
-//! still gives once the session has ended.
-ghost use Rattle.std.specs.Prelude.{◌≡◌, ◌+◌};
+//! A session whose messages nobody takes: how many submits its seat is answered, what its ring gives then, what it still gives
+//! once the session has ended, and what another session is sent meanwhile.
+ghost use Rattle.std.specs.Prelude.{◌≡◌};
 ghost use Rattle.odb_atoms.specs.FinMap.{empty};
 
-use crate::requests::{core, request};
+use crate::requests::{core, note, request};
 use odb_core::{Core, Out, Refused};
 use odb_hub::{Hub, Mailbox, Seat};
 use std::alloc::{AllocError, Global};
@@ -14,59 +14,95 @@ use std::sync::ledger::{Blank, Ledger};
 use std::test::Fail;
 use std::time::Clock;
 
-const ECHO: &[u8] = b"{\"id\":1,\"method\":\"echo\",\"params\":[]}";
-
-const REPLY: &[u8] = b"{\"error\":null,\"id\":1,\"result\":[]}";
-
 /// More than any count here comes to.
 const MOST: usize = 1_000;
+
+/// What another session asks.
+const OTHER: [&str; 4] = [
+    r#"{"method":"lock","params":["L"],"id":1}"#,
+    r#"{"method":"monitor","params":["net",null,{"T":{"columns":["k"]}}],"id":2}"#,
+    r#"{"method":"transact","params":["net",{"op":"insert","table":"T","row":{"k":1}}],"id":3}"#,
+    r#"{"method":"echo","params":["}"],"id":4}"#,
+];
 
 /// What was counted.
 #[derive(Clone, Copy, Debug, PartialEq, Eq)]
 struct Counts {
     /// The echoes that were taken before one met Busy.
     taken: usize,
-    /// The replies in the ring then.
+    /// How many of the replies to these the ring gave then, in order from the first.
     given: usize,
-    /// The replies to another session's echo.
-    other: usize,
-    /// The replies in the ring when the session had ended.
+    /// How many it gave, in order from the next, when the session had ended.
     left: usize,
 }
 
-/// How many echoes the hub takes before it is Busy, of so many at most.
+/// What was counted of a session, and what another was sent.
+#[derive(Drop)]
+struct Found {
+    counts: Counts,
+    other: Vec<u8>,
+}
+
+/// Submits a request of this text. It returns whether it was taken, or met Busy.
+pub(crate) fn submit<L: Ledger, R: Wait + Clock>(
+    rt: &R,
+    alloc: Global,
+    hub: &Hub<L>,
+    seat: &mut Seat<L>,
+    text: &[u8],
+) -> Result<bool, AllocError> {
+    let mut batch = Vec::new(alloc);
+    batch.push(request(alloc, text)?)?;
+    match hub.submit_turn(rt, seat, &mut batch, 0).owes {
+        Ok(_) => Ok(true),
+        Err(Refused::Busy) => Ok(false),
+        Err(_) => Err(AllocError),
+    }
+}
+
+/// How many echoes the hub takes before it is Busy. Their ids are 1, 2, 3 and so on.
 fn taken<L: Ledger, R: Wait + Clock>(
     rt: &R,
     alloc: Global,
     hub: &Hub<L>,
     seat: &mut Seat<L>,
-    most: usize,
 ) -> Result<usize, AllocError> {
-    for count in 0..most {
-        let mut batch = Vec::new(alloc);
-        batch.push(request(alloc, ECHO)?)?;
-        match hub.submit_turn(rt, seat, &mut batch, 0).owes {
-            Ok(_) => {}
-            Err(Refused::Busy) => return Ok(count),
-            Err(_) => return Err(AllocError),
-        }
-    }
-    Ok(most)
-}
-
-/// How many replies to echoes the mailbox gives before it gives nothing, or something else.
-fn replies(mailbox: &mut Mailbox) -> usize {
     for count in 0..MOST {
-        match mailbox.next() {
-            Some(out) if is_reply(&out) => {}
-            _ => return count,
+        let id = count + 1;
+        let echo = format!(in alloc; r#"{{"id":{id},"method":"echo","params":[]}}"#)?;
+        if !submit(rt, alloc, hub, seat, echo.as_bytes())? {
+            return Ok(count);
         }
     }
-    MOST
+    Ok(MOST)
 }
 
-fn is_reply(out: &Out) -> bool {
-    out.before.as_slice() == REPLY && out.body.is_none() && out.after.is_empty()
+/// How many replies the mailbox gives, to echoes of these ids in order, before it gives nothing, or something else.
+fn replies(alloc: Global, mailbox: &mut Mailbox, first: usize) -> Result<usize, AllocError> {
+    for count in 0..MOST {
+        let id = first.saturating_add(count);
+        let reply = format!(in alloc; r#"{{"error":null,"id":{id},"result":[]}}"#)?;
+        match mailbox.next() {
+            Some(out) if is_whole(&out, reply.as_bytes()) => {}
+            _ => return Ok(count),
+        }
+    }
+    Ok(MOST)
+}
+
+fn is_whole(out: &Out, text: &[u8]) -> bool {
+    out.before.as_slice() == text && out.body.is_none() && out.after.is_empty()
+}
+
+/// Writes down what the mailbox gives.
+fn take(mailbox: &mut Mailbox, text: &mut Vec<u8>) -> Result<(), AllocError> {
+    for _ in 0..MOST {
+        match mailbox.next() {
+            Some(out) => note(text, &out)?,
+            None => break,
+        }
+    }
+    Ok(())
 }
 
 /// Rounds until one gives nothing.
@@ -80,7 +116,7 @@ fn run_rounds<L: Ledger, R: Wait + Clock>(rt: &R, hub: &Hub<L>) -> Result<(), Al
 }
 
 /// The session ends. Where memory is refused it is tried again.
-fn part<L: Ledger, R: Wait>(rt: &R, hub: &Hub<L>, seat: Seat<L>) {
+pub(crate) fn part<L: Ledger, R: Wait>(rt: &R, hub: &Hub<L>, seat: Seat<L>) {
     let mut seat = seat;
     for _ in rt.forever() {
         match hub.part(rt, seat) {
@@ -91,75 +127,140 @@ fn part<L: Ledger, R: Wait>(rt: &R, hub: &Hub<L>, seat: Seat<L>) {
     unreachable!()
 }
 
-/// The replies that a session of its own is given to an echo.
-fn beside<L: Ledger, R: Wait + Clock>(rt: &R, alloc: Global, hub: &Hub<L>) -> Result<usize, AllocError> {
-    let Ok((mut seat, mut mailbox)) = hub.open(rt) else {
-        return Err(AllocError);
-    };
-    let taken = taken(rt, alloc, hub, &mut seat, 1);
-    let given = replies(&mut mailbox);
-    part(rt, hub, seat);
-    taken?;
-    Ok(given)
-}
-
-/// What is counted of a session that takes nothing until it is Busy.
-fn count_all<L: Ledger, R: Wait + Clock>(
+/// What another session is sent.
+fn other<L: Ledger, R: Wait + Clock>(
     rt: &R,
     alloc: Global,
     hub: &Hub<L>,
-) -> Result<Counts, AllocError> {
+) -> Result<Vec<u8>, AllocError> {
     let Ok((mut seat, mut mailbox)) = hub.open(rt) else {
         return Err(AllocError);
     };
-    let taken = taken(rt, alloc, hub, &mut seat, MOST);
-    let other = beside(rt, alloc, hub);
-    let given = replies(&mut mailbox);
+    let sent = ask_all(rt, alloc, hub, &mut seat);
+    part(rt, hub, seat);
+    sent?;
+    let mut text = Vec::new(alloc);
+    take(&mut mailbox, &mut text)?;
+    Ok(text)
+}
+
+fn ask_all<L: Ledger, R: Wait + Clock>(
+    rt: &R,
+    alloc: Global,
+    hub: &Hub<L>,
+    seat: &mut Seat<L>,
+) -> Result<(), AllocError> {
+    for text in OTHER {
+        if !submit(rt, alloc, hub, seat, text.as_bytes())? {
+            return Err(AllocError);
+        }
+        run_rounds(rt, hub)?;
+    }
+    Ok(())
+}
+
+/// What is counted of a session that takes nothing until it is Busy, and then, where it is asked, what its ring has.
+fn find<L: Ledger, R: Wait + Clock>(
+    rt: &R,
+    alloc: Global,
+    hub: &Hub<L>,
+    is_asked: bool,
+) -> Result<Found, AllocError> {
+    let Ok((mut seat, mut mailbox)) = hub.open(rt) else {
+        return Err(AllocError);
+    };
+    let taken = taken(rt, alloc, hub, &mut seat);
+    let other = other(rt, alloc, hub);
+    let given = if is_asked {
+        replies(alloc, &mut mailbox, 1)
+    } else {
+        Ok(0)
+    };
     let rounds = run_rounds(rt, hub);
     part(rt, hub, seat);
-    let left = replies(&mut mailbox);
     rounds?;
-    Ok(Counts {
-        taken: taken?,
-        given,
+    let given = given?;
+    let left = replies(alloc, &mut mailbox, given.saturating_add(1))?;
+    Ok(Found {
+        counts: Counts {
+            taken: taken?,
+            given,
+            left,
+        },
         other: other?,
-        left,
     })
 }
 
-/// The counts, and how many events two new journals ended with at once after that, and one after another session came
+/// What is found, and how many events two new journals ended with at once after that, and one after another session came
 /// and went.
 fn trial<L: Ledger, R: Wait + Clock>(
     rt: &R,
     alloc: Global,
     core: Core,
     blank: Blank,
-) -> Result<(Counts, [u64; 3]), AllocError>
+    is_asked: bool,
+) -> Result<(Found, [u64; 3]), AllocError>
     requires core { (core.world.sessions ≡ empty) × (core.opened ≡ 0) }
     requires ledger { (blank.name ≡ L.name) × (blank.parts ≡ L.parts) }
     requires parts { blank.parts ≡ 3 }
 {
     let hub: Hub<L> = Hub::new(alloc, core, blank, 2);
-    let found = count_all(rt, alloc, &hub)?;
+    let found = find(rt, alloc, &hub, is_asked)?;
     let first = hub.settle(rt);
     let second = hub.settle(rt);
-    beside(rt, alloc, &hub)?;
+    come_and_go(rt, alloc, &hub)?;
     Ok((found, [first, second, hub.settle(rt)]))
+}
+
+/// A session opens, asks for an echo, and ends.
+fn come_and_go<L: Ledger, R: Wait + Clock>(
+    rt: &R,
+    alloc: Global,
+    hub: &Hub<L>,
+) -> Result<(), AllocError> {
+    let Ok((mut seat, mailbox)) = hub.open(rt) else {
+        return Err(AllocError);
+    };
+    let taken = submit(rt, alloc, hub, &mut seat, OTHER[3].as_bytes());
+    part(rt, hub, seat);
+    drop(mailbox);
+    taken?;
+    Ok(())
+}
+
+/// What another session is sent that is alone.
+fn alone<L: Ledger, R: Wait + Clock>(
+    rt: &R,
+    alloc: Global,
+    core: Core,
+    blank: Blank,
+) -> Result<Vec<u8>, AllocError>
+    requires core { (core.world.sessions ≡ empty) × (core.opened ≡ 0) }
+    requires ledger { (blank.name ≡ L.name) × (blank.parts ≡ L.parts) }
+    requires parts { blank.parts ≡ 3 }
+{
+    let hub: Hub<L> = Hub::new(alloc, core, blank, 2);
+    other(rt, alloc, &hub)
 }
 
 #[test]
 fn a_mailbox_that_nobody_empties(rt: HostRuntime) -> Result<(), Fail> {
-    let core = core(rt.alloc(), RandomState::new(&rt)?)?;
-    let (found, events) = trial::<Brand, _>(&rt, rt.alloc(), core, Blank::new(3))?;
-    let wanted = Counts {
-        taken: 321,
-        given: 64,
-        other: 1,
-        left: 64,
-    };
-    assert_eq!(rt; found, wanted);
-    assert!(rt; events[0] > 0);
-    assert_eq!(rt; events[1], 0);
-    assert_eq!(rt; events[2], 4);
+    let hashing = RandomState::new(&rt)?;
+    let alone = alone::<Brand, _>(&rt, rt.alloc(), core(rt.alloc(), hashing)?, Blank::new(3))?;
+    assert!(rt; !alone.is_empty());
+    for is_asked in [false, true] {
+        let core = core(rt.alloc(), hashing)?;
+        let (found, events) = trial::<Brand, _>(&rt, rt.alloc(), core, Blank::new(3), is_asked)?;
+        let wanted = Counts {
+            taken: 321,
+            given: if is_asked { 64 } else { 0 },
+            left: 64,
+        };
+        assert_eq!(rt; found.counts, wanted);
+        assert!(rt; found.other == alone);
+        assert!(rt; events[0] > 0);
+        assert_eq!(rt; events[1], 0);
+        assert_eq!(rt; events[2], 4);
+    }
     Ok(())
 }

@@ -1,8 +1,8 @@
-//! Cores and requests for trials.
+//! Cores, requests and messages for trials.
 ghost use Rattle.std.specs.Prelude.{◌≡◌, IfOk};
 ghost use Rattle.odb_atoms.specs.FinMap.{empty};
 
-use odb_core::Core;
+use odb_core::{Core, Out};
 use odb_hub::Submission;
 use odb_schema::Schema;
 use odb_wire::{Framer, Message, Request};
@@ -11,7 +11,7 @@ use std::hash::RandomState;
 use uuid::Uuid;
 
 /// A schema with one table of one column.
-const NET: &[u8] =
+pub(crate) const NET: &[u8] =
     b"{\"name\":\"net\",\"version\":\"1.0.0\",\"tables\":{\"T\":{\"isRoot\":true,\"columns\":{\"k\":{\"type\":\"integer\"}}}}}";
 
 /// A core without sessions.
@@ -46,4 +46,13 @@ fn submission(alloc: Global, request: Request) -> Result<Submission, AllocError>
         fresh.push(Uuid::nil())?;
     }
     Ok(Submission::new(request, fresh))
+}
+
+/// Writes a message down, after those before it.
+pub(crate) fn note(text: &mut Vec<u8>, out: &Out) -> Result<(), AllocError> {
+    text.extend_from_slice(out.before.as_slice())?;
+    if let Some(body) = &out.body {
+        text.extend_from_slice(body.as_slice())?;
+    }
+    text.extend_from_slice(out.after.as_slice())
 }

@@ -1,6 +1,7 @@
-//! Readers that give a byte a call and fail in mid-stream, and writers that take a byte a call, fail, take none, or fail
-//! to flush.
+//! Readers that give a byte a call and fail at each of their calls in turn, and writers that take a byte a call and, at each
+//! place in turn, fail, take none, or fail to flush.
 
+use crate::requests::NET;
 use odb_schema::Schema;
 use odb_script::{RunFault, Watched, run_script};
 use std::alloc::{AllocError, Global};
@@ -8,12 +9,14 @@ use std::hash::RandomState;
 use std::io::{BufReader, Error, ErrorKind, Read, Write};
 use std::test::Fail;
 
-const NET: &[u8] = b"{\"name\":\"net\",\"version\":\"1.0.0\",\"tables\":{}}";
-
-/// Two lines, each of which prints 8 bytes.
-const INPUT: &[u8] = b"!close A\n!close B\n";
-
-const OUTPUT: &[u8] = b"A !gone\nB !gone\n";
+/// Lines that print nothing, one message and several, bodies among them.
+const INPUT: &str = r#"!open A
+A {"method":"monitor_cond","params":["net","m",{"T":{}}],"id":1}
+A {"method":"transact","params":["net",{"op":"insert","table":"T","row":{"k":1}}],"id":2}
+A {"method":"echo","params":["}"],"id":3}{"method":"lock","params":["L"],"id":4}
+!close B
+!close A
+"#;
 
 /// Gives a byte a call, and fails at a call.
 #[derive(Drop)]
@@ -42,18 +45,28 @@ impl<'a> Read for Reader<'a> {
 
 /// What was written, and how often it was flushed.
 #[derive(Drop)]
-struct Taken {
-    text: Vec<u8>,
+pub(crate) struct Taken {
+    pub(crate) text: Vec<u8>,
     flushes: usize,
+}
+
+impl Taken {
+    /// Nothing was written yet.
+    pub(crate) fn new(alloc: Global) -> Taken {
+        Taken {
+            text: Vec::new(alloc),
+            flushes: 0,
+        }
+    }
 }
 
 /// Takes a byte a call. It fails, or takes none, once it has so many, and it fails at a flush.
 #[derive(Drop)]
-struct Writer<'a> {
-    taken: &'a mut Taken,
-    most: usize,
-    fails: bool,
-    failing: usize,
+pub(crate) struct Writer<'a> {
+    pub(crate) taken: &'a mut Taken,
+    pub(crate) most: usize,
+    pub(crate) fails: bool,
+    pub(crate) failing: usize,
 }
 
 impl<'a> Write for Writer<'a> {
@@ -77,41 +90,60 @@ impl<'a> Write for Writer<'a> {
     }
 }
 
-/// What the two streams fail at, where 0 is never, and what comes of it.
+/// What the two streams fail at: a call of the reader, a number of bytes, a flush. 0 calls is never.
 #[derive(Clone, Copy)]
-struct Trial {
+struct Limits {
     read: usize,
     most: usize,
     fails: bool,
     flush: usize,
-    end: Option<RunFault>,
+}
+
+const WELL: Limits = Limits {
+    read: 0,
+    most: usize::MAX,
+    fails: true,
+    flush: 0,
+};
+
+/// How a run has to end: its fault, how many bytes were written, and how often they were flushed.
+#[derive(Clone, Copy)]
+struct End {
+    fault: Option<RunFault>,
     bytes: usize,
     flushes: usize,
 }
 
-/// How a run of the two lines ended, and what was taken.
+/// What the whole input prints, and how much of it after each line.
+#[derive(Drop)]
+struct Whole {
+    alloc: Global,
+    hashing: RandomState,
+    text: Vec<u8>,
+    ends: Vec<usize>,
+}
+
+/// How a run ended, and what was taken.
 fn run(
     alloc: Global,
     hashing: RandomState,
-    trial: Trial,
+    input: &[u8],
+    limits: Limits,
 ) -> Result<(Result<(), RunFault>, Taken), AllocError> {
-    let mut taken = Taken {
-        text: Vec::new(alloc),
-        flushes: 0,
-    };
+    let mut taken = Taken::new(alloc);
     let reader = Watched::new(Reader {
-        text: INPUT,
+        text: input,
         calls: 0,
-        failing: trial.read,
+        failing: limits.read,
     });
     let Ok(mut reader) = BufReader::new(alloc, reader) else {
         return Err(AllocError);
     };
     let mut writer = Watched::new(Writer {
         taken: &mut taken,
-        most: trial.most,
-        fails: trial.fails,
-        failing: trial.flush,
+        most: limits.most,
+        fails: limits.fails,
+        failing: limits.flush,
     });
     let ended = match Schema::read(alloc, NET) {
         Ok(schema) => run_script(alloc, schema, hashing, &mut reader, &mut writer),
@@ -121,87 +153,107 @@ fn run(
     Ok((ended, taken))
 }
 
-/// Whether a run ends as it has to, with so many bytes written and so many flushes.
-fn goes(alloc: Global, hashing: RandomState, trial: Trial) -> Result<bool, AllocError> {
-    let (ended, taken) = run(alloc, hashing, trial)?;
-    Ok(
-        ended.err() == trial.end
-            && OUTPUT.get(..trial.bytes) == Some(taken.text.as_slice())
-            && taken.flushes == trial.flushes,
-    )
-}
-
-/// Through streams that move a byte a call, each line's print is flushed before the next is read.
-const WELL: Trial = Trial {
-    read: 0,
-    most: 16,
-    fails: true,
-    flush: 0,
-    end: None,
-    bytes: 16,
-    flushes: 2,
-};
-
-/// The call of the reader fails: what the lines before it print was written and flushed, and no other line is
-/// carried out.
-fn reads(read: usize, bytes: usize, flushes: usize) -> Trial {
-    Trial {
-        read,
-        end: Some(RunFault::Read),
-        bytes,
-        flushes,
-        ..WELL
+impl Whole {
+    /// Runs each beginning of the input that ends with a line, through streams that don't fail.
+    fn new(alloc: Global, hashing: RandomState) -> Result<Whole, AllocError> {
+        let mut ends = Vec::new(alloc);
+        let mut text = Vec::new(alloc);
+        for (place, byte) in INPUT.as_bytes().iter().enumerate() {
+            if *byte == b'\n' {
+                let (_, taken) = run(alloc, hashing, &INPUT.as_bytes()[..=place], WELL)?;
+                ends.push(taken.text.len())?;
+                text = taken.text;
+            }
+        }
+        Ok(Whole {
+            alloc,
+            hashing,
+            text,
+            ends,
+        })
     }
-}
 
-/// The writer takes so many bytes: just those were written, also where it takes no more without an error.
-fn writes(most: usize, fails: bool, flushes: usize) -> Trial {
-    Trial {
-        most,
-        fails,
-        end: Some(RunFault::Write),
-        bytes: most,
-        flushes,
-        ..WELL
+    /// Whether the whole input's run ends so, where the streams fail so.
+    fn goes(&self, limits: Limits, end: End) -> Result<bool, AllocError> {
+        let (ended, taken) = run(self.alloc, self.hashing, INPUT.as_bytes(), limits)?;
+        Ok(
+            ended.err() == end.fault
+                && self.text.get(..end.bytes) == Some(taken.text.as_slice())
+                && taken.flushes == end.flushes,
+        )
     }
-}
 
-/// The flush fails: the run ends at its line.
-fn flushes(flush: usize, bytes: usize) -> Trial {
-    Trial {
-        flush,
-        end: Some(RunFault::Write),
-        bytes,
-        flushes: flush,
-        ..WELL
+    /// How much so many lines print.
+    fn printed_by(&self, lines: usize) -> usize {
+        match lines.checked_sub(1) {
+            Some(place) => self.ends.get(place).copied().unwrap_or(0),
+            None => 0,
+        }
+    }
+
+    /// Where the call of the reader fails: what the lines before it print was written and flushed, and no other line is
+    /// carried out.
+    fn read_goes(&self, call: usize) -> Result<bool, AllocError> {
+        let before = INPUT.as_bytes().iter().take(call.saturating_sub(1));
+        let lines = before.filter(|byte| **byte == b'\n').count();
+        let limits = Limits { read: call, ..WELL };
+        let end = End {
+            fault: Some(RunFault::Read),
+            bytes: self.printed_by(lines),
+            flushes: lines,
+        };
+        self.goes(limits, end)
+    }
+
+    /// Where the writer takes so many bytes: just those were written, also where it takes no more without an error.
+    fn write_goes(&self, most: usize, fails: bool) -> Result<bool, AllocError> {
+        let limits = Limits {
+            most,
+            fails,
+            ..WELL
+        };
+        let end = End {
+            fault: Some(RunFault::Write),
+            bytes: most,
+            flushes: self.ends.iter().filter(|end| **end <= most).count(),
+        };
+        self.goes(limits, end)
+    }
+
+    /// Where the flush fails: the run ends at its line.
+    fn flush_goes(&self, flush: usize) -> Result<bool, AllocError> {
+        let limits = Limits { flush, ..WELL };
+        let end = End {
+            fault: Some(RunFault::Write),
+            bytes: self.printed_by(flush),
+            flushes: flush,
+        };
+        self.goes(limits, end)
     }
 }
 
 #[test]
 fn streams_that_are_short_or_fail(rt: HostRuntime) -> Result<(), Fail> {
-    let trials: [Trial; 16] = [
-        WELL,
-        reads(1, 0, 0),
-        reads(9, 0, 0),
-        reads(10, 8, 1),
-        reads(12, 8, 1),
-        reads(19, 16, 2),
-        writes(0, true, 0),
-        writes(0, false, 0),
-        writes(1, true, 0),
-        writes(7, false, 0),
-        writes(8, true, 1),
-        writes(8, false, 1),
-        writes(9, false, 1),
-        writes(15, true, 1),
-        flushes(1, 8),
-        flushes(2, 16),
-    ];
-    for (place, trial) in trials.iter().enumerate() {
+    let whole = Whole::new(rt.alloc(), RandomState::new(&rt)?)?;
+    let lines = whole.ends.len();
+    assert_eq!(rt; lines, 6);
+    let well = End {
+        fault: None,
+        bytes: whole.text.len(),
+        flushes: lines,
+    };
+    assert!(rt; whole.goes(WELL, well)?);
+    for call in 1..=INPUT.len() + 1 {
+        assert!(rt; whole.read_goes(call)?, "read {call}");
+    }
+    for most in 0..whole.text.len() {
         assert!(rt;
-            goes(rt.alloc(), RandomState::new(&rt)?, *trial)?,
-            "{place}"
+            whole.write_goes(most, true)? && whole.write_goes(most, false)?,
+            "byte {most}"
         );
+    }
+    for flush in 1..=lines {
+        assert!(rt; whole.flush_goes(flush)?, "flush {flush}");
     }
     Ok(())
 }

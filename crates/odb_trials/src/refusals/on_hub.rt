@@ -1,0 +1,223 @@
+//! Scripts that are played to a hub. What a session is sent while it is held isn't taken out of its mailbox.
+ghost use Rattle.std.specs.Prelude.{◌≡◌};
+ghost use Rattle.odb_atoms.specs.FinMap.{empty};
+
+use crate::refusals::made::submission;
+use crate::refusals::scripts::MOMENT;
+use crate::refusals::sent::Sent;
+use crate::requests::note;
+use odb_core::{Core, Refused};
+use odb_hub::{Hub, Mailbox, Seat};
+use std::alloc::{AllocError, Global};
+use std::sync::Wait;
+use std::sync::ledger::{Blank, Ledger};
+use std::time::Clock;
+
+/// More rounds, and more messages, than any script has.
+const MOST: usize = 1_000;
+
+/// The ends of a session: where its requests go in, and where its messages come out.
+struct Ends<L: Ledger> {
+    seat: Seat<L>,
+    mailbox: Mailbox,
+}
+
+/// Two sessions that play a script.
+struct Players<L: Ledger> {
+    first: Ends<L>,
+    second: Ends<L>,
+    inserts: usize,
+    /// Whether the first session is held.
+    is_held: bool,
+    sent: Sent,
+}
+
+impl<L: Ledger> Players<L> {
+    /// Writes down what the mailboxes give, and returns how many messages that were.
+    fn take(&mut self) -> Result<usize, AllocError> {
+        let first = if self.is_held {
+            0
+        } else {
+            take(&mut self.first.mailbox, &mut self.sent.first)?
+        };
+        let second = take(&mut self.second.mailbox, &mut self.sent.second)?;
+        Ok(first.saturating_add(second))
+    }
+}
+
+/// A hub to which scripts are played. A call for which memory is refused is made once more.
+#[derive(Drop)]
+struct Stage<'a, L: Ledger, R> {
+    rt: &'a R,
+    alloc: Global,
+    hub: &'a Hub<L>,
+}
+
+impl<'a, L: Ledger, R: Wait + Clock> Stage<'a, L, R> {
+    fn play(&self, script: &[&str]) -> Result<Sent, AllocError> {
+        let sent = Sent::new(self.alloc)?;
+        let first = self.open()?;
+        let second = match self.open() {
+            Ok(second) => second,
+            Err(refused) => {
+                let Ends { seat, mailbox: _ } = first;
+                self.part(seat);
+                return Err(refused);
+            }
+        };
+        let mut players = Players {
+            first,
+            second,
+            inserts: 0,
+            is_held: false,
+            sent,
+        };
+        let played = self.lines(&mut players, script);
+        let sent = self.close(players);
+        played?;
+        sent
+    }
+
+    fn open(&self) -> Result<Ends<L>, AllocError> {
+        let opened = match self.hub.open(self.rt) {
+            Ok(opened) => Ok(opened),
+            Err(_) => self.hub.open(self.rt),
+        };
+        match opened {
+            Ok((seat, mailbox)) => Ok(Ends { seat, mailbox }),
+            Err(_) => Err(AllocError),
+        }
+    }
+
+    fn lines(&self, players: &mut Players<L>, script: &[&str]) -> Result<(), AllocError> {
+        for line in script {
+            self.line(players, line.as_bytes())?;
+        }
+        Ok(())
+    }
+
+    fn line(&self, players: &mut Players<L>, line: &[u8]) -> Result<(), AllocError> {
+        let inserts = players.inserts;
+        let made = match line {
+            [b'A', b' ', text @ ..] => self.submit(&mut players.first.seat, text, inserts)?,
+            [b'B', b' ', text @ ..] => self.submit(&mut players.second.seat, text, inserts)?,
+            [b'!', b't', b'i', ..] => self.tick()?,
+            [b'!', word, ..] => {
+                players.is_held = *word == b'h';
+                0
+            }
+            _ => return Err(AllocError),
+        };
+        players.inserts = inserts.saturating_add(made);
+        self.give(players)
+    }
+
+    /// Submits a request, which is still in the batch where memory is refused, and returns how many inserts it has.
+    fn submit(&self, seat: &mut Seat<L>, text: &[u8], inserts: usize) -> Result<usize, AllocError> {
+        let mut batch = Vec::new(self.alloc);
+        if batch.reserve(1).is_err() {
+            batch.reserve(1)?;
+        }
+        let submission = submission(self.alloc, text, inserts)?;
+        let made = submission.fresh.len();
+        batch.push(submission)?;
+        for _ in 0..2 {
+            match self.hub.submit_turn(self.rt, seat, &mut batch, 0).owes {
+                Ok(_) => return Ok(made),
+                Err(Refused::Memory) => {}
+                Err(_) => return Err(AllocError),
+            }
+        }
+        Err(AllocError)
+    }
+
+    fn tick(&self) -> Result<usize, AllocError> {
+        if self.hub.tick(self.rt, MOMENT).is_err() {
+            self.hub.tick(self.rt, MOMENT)?;
+        }
+        Ok(0)
+    }
+
+    /// Takes out and rounds, until there is nothing to be taken and a round gives nothing.
+    fn give(&self, players: &mut Players<L>) -> Result<(), AllocError> {
+        for _ in 0..MOST {
+            let taken = players.take()?;
+            let round = match self.hub.round(self.rt) {
+                Ok(round) => round,
+                Err(_) => self.hub.round(self.rt)?,
+            };
+            if taken == 0 && round.given == 0 {
+                return Ok(());
+            }
+        }
+        Err(AllocError)
+    }
+
+    /// The first ends, and then the second, with what it was given when the first ended.
+    fn close(&self, players: Players<L>) -> Result<Sent, AllocError> {
+        let Players {
+            first,
+            second,
+            inserts: _,
+            is_held: _,
+            sent,
+        } = players;
+        let Ends { seat, mailbox: _ } = first;
+        self.part(seat);
+        let given = match self.hub.round(self.rt) {
+            Ok(_) => Ok(()),
+            Err(_) => self.hub.round(self.rt).map(|_| ()),
+        };
+        let Ends { seat, mailbox } = second;
+        self.part(seat);
+        given?;
+        let mut sent = sent;
+        let mut mailbox = mailbox;
+        take(&mut mailbox, &mut sent.second)?;
+        Ok(sent)
+    }
+
+    /// Ends a session, with the seat that came back where memory is refused.
+    fn part(&self, seat: Seat<L>) {
+        let mut seat = seat;
+        for _ in self.rt.forever() {
+            match self.hub.part(self.rt, seat) {
+                Ok(()) => return,
+                Err(back) => seat = back,
+            }
+        }
+        unreachable!()
+    }
+}
+
+/// Writes down what a mailbox gives, and returns how many messages that were.
+fn take(mailbox: &mut Mailbox, text: &mut Vec<u8>) -> Result<usize, AllocError> {
+    for count in 0..MOST {
+        match mailbox.next() {
+            Some(out) => note(text, &out)?,
+            None => return Ok(count),
+        }
+    }
+    Err(AllocError)
+}
+
+/// What is sent for a script.
+pub(crate) fn play_to_hub<L: Ledger, R: Wait + Clock>(
+    rt: &R,
+    alloc: Global,
+    core: Core,
+    blank: Blank,
+    script: &[&str],
+) -> Result<Sent, AllocError>
+    requires core { (core.world.sessions ≡ empty) × (core.opened ≡ 0) }
+    requires ledger { (blank.name ≡ L.name) × (blank.parts ≡ L.parts) }
+    requires parts { blank.parts ≡ 3 }
+{
+    let hub: Hub<L> = Hub::new(alloc, core, blank, 2);
+    let stage = Stage {
+        rt,
+        alloc,
+        hub: &hub,
+    };
+    stage.play(script)
+}
