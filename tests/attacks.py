@@ -63,7 +63,7 @@ class Witnesses:
     def __init__(self, port):
         self.port, self.steps = port, 0
         self.busy, self.follower = Peer(port), Peer(port)
-        if self.follower.ask("monitor", "hst", "m", {"Witnesses": {"columns": ["n"]}}) != {}:
+        if self.busy.ask("echo") != [] or self.follower.ask("monitor", "hst", "m", {"Witnesses": {"columns": ["n"]}}) != {}:
             raise Wrong("rows that nobody inserted")
 
     def step(self):
