@@ -4,6 +4,8 @@
 #[cfg(test)]
 mod calls;
 #[cfg(test)]
+mod interest;
+#[cfg(test)]
 mod mailboxes;
 #[cfg(test)]
 mod refusals;

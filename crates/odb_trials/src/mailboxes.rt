@@ -3,7 +3,7 @@
 ghost use Rattle.std.specs.Prelude.{◌≡◌};
 ghost use Rattle.odb_atoms.specs.FinMap.{empty};
 
-use crate::requests::{core, note, request};
+use crate::requests::{NET, core, note, request};
 use odb_core::{Core, Out, Refused};
 use odb_hub::{Hub, Mailbox, Seat};
 use std::alloc::{AllocError, Global};
@@ -246,10 +246,15 @@ fn alone<L: Ledger, R: Wait + Clock>(
 #[test]
 fn a_mailbox_that_nobody_empties(rt: HostRuntime) -> Result<(), Fail> {
     let hashing = RandomState::new(&rt)?;
-    let alone = alone::<Brand, _>(&rt, rt.alloc(), core(rt.alloc(), hashing)?, Blank::new(3))?;
+    let alone = alone::<Brand, _>(
+        &rt,
+        rt.alloc(),
+        core(rt.alloc(), hashing, NET)?,
+        Blank::new(3),
+    )?;
     assert!(rt; !alone.is_empty());
     for is_asked in [false, true] {
-        let core = core(rt.alloc(), hashing)?;
+        let core = core(rt.alloc(), hashing, NET)?;
         let (found, events) = trial::<Brand, _>(&rt, rt.alloc(), core, Blank::new(3), is_asked)?;
         let wanted = Counts {
             taken: 321,

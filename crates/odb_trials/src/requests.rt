@@ -14,11 +14,11 @@ use uuid::Uuid;
 pub(crate) const NET: &[u8] =
     b"{\"name\":\"net\",\"version\":\"1.0.0\",\"tables\":{\"T\":{\"isRoot\":true,\"columns\":{\"k\":{\"type\":\"integer\"}}}}}";
 
-/// A core without sessions.
-pub(crate) fn core(alloc: Global, hashing: RandomState) -> Result<Core, AllocError>
+/// A core of the schema, without sessions.
+pub(crate) fn core(alloc: Global, hashing: RandomState, schema: &[u8]) -> Result<Core, AllocError>
     ensures { IfOk result (λ core. (core.world.sessions ≡ empty) × (core.opened ≡ 0)) }
 {
-    let Ok(schema) = Schema::read(alloc, NET) else {
+    let Ok(schema) = Schema::read(alloc, schema) else {
         return Err(AllocError);
     };
     match Core::new(alloc, schema, hashing) {

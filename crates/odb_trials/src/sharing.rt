@@ -1,6 +1,6 @@
 //! Clients that subscribe alike are sent one text, which is stored once.
 
-use crate::requests::{core, request};
+use crate::requests::{NET, core, request};
 use odb_core::{Core, Out, SessionId};
 use odb_hub::Submission;
 use std::alloc::{AllocError, Global};
@@ -65,7 +65,7 @@ fn is_shared_by(out: &Out, messages: usize) -> bool {
 
 /// How many clients are sent the text of one update that all of them share.
 fn trial(alloc: Global, hashing: RandomState) -> Result<usize, AllocError> {
-    let mut core = core(alloc, hashing)?;
+    let mut core = core(alloc, hashing, NET)?;
     let sessions = subscribers(alloc, &mut core)?;
     submitter(alloc, &mut core, INSERT)?;
     let outs = core.round(&sessions)?;

@@ -3,7 +3,7 @@ ghost use Rattle.std.specs.Prelude.{◌≡◌};
 ghost use Rattle.odb_atoms.specs.FinMap.{empty};
 
 use crate::mailboxes::{part, submit};
-use crate::requests::{core, note};
+use crate::requests::{NET, core, note};
 use crate::streams::{Taken, Writer};
 use odb_core::Core;
 use odb_hub::{Hub, Mailbox, Seat, write_outs};
@@ -161,7 +161,7 @@ fn trial<L: Ledger, R: Wait + Clock>(
 
 #[test]
 fn writers_that_are_short_or_fail(rt: HostRuntime) -> Result<(), Fail> {
-    let core = core(rt.alloc(), RandomState::new(&rt)?)?;
+    let core = core(rt.alloc(), RandomState::new(&rt)?, NET)?;
     let found = trial::<Brand, _>(&rt, rt.alloc(), core, Blank::new(3))?;
     assert_eq!(rt; found, None);
     Ok(())
