@@ -1,11 +1,14 @@
 -- What the index of interest says of a session, along the filters that are added for it.
-use Rattle.std.proofs.Common.{◌≡◌, ℕ, cond, List, [], ◌∷◌, ◌++◌, append_assoc, map, Option, None, refl, sym, ap, ◌∙◌}
+use Rattle.std.proofs.Common.{◌≡◌, ℕ, ◌==◌, Bool, true, false, cond, List, [], ◌∷◌, ◌++◌, append_assoc, map, Option, None, refl, sym, ap, ◌∙◌}
+use Rattle.std.specs.BTreeSet.{BTreeSet, contains}
+use Rattle.std.specs.Ordering.{nat_cmp}
 use Rattle.std.specs.Prelude.{flat_map, option_map}
-use borrow.Author.Tests.{eq-eqb}
+use borrow.Author.Tests.{eq-eqb, eqb-true}
+use mathlib.Core.Bool.{true≢false}
 use Rattle.odb_interest.specs.Keys.{Asked, Interests, asked_at}
 use Rattle.odb_interest.specs.Represented.Lists.{Asks}
 use Rattle.odb_sessions.specs.Held.{Held, Kept, Watched, monitor_of, seen}
-use Rattle.odb_sessions.specs.Owed.{KeepsOthers, filter_asked, filters_asked, interest_if, interest_in, interest_of}
+use Rattle.odb_sessions.specs.Owed.{KeepsOthers, KeepsResting, filter_asked, filters_asked, interest_if, interest_in, interest_of}
 
 -- what is said of a session leaves the others
 pub asks_others : (old new : Interests) (s : ℕ) (fs : List Asked) → Asks old new s fs → KeepsOthers old new s
@@ -34,3 +37,11 @@ kept_asks x = kept_monitors x.monitors
 
 pub nothing_asked : (o : Option Kept) → o ≡ None → [] ≡ interest_if (option_map seen o)
 nothing_asked o is = ap (λ p. interest_if (option_map seen p)) (sym is)
+
+-- one that is in the set is forgotten: who isn't in it is another one
+pub forgotten_in : (o : BTreeSet ℕ) (old new : Interests) (s : ℕ) → contains nat_cmp o s ≡ true → Asks old new s [] → KeepsResting o old new
+forgotten_in o old new s inside asks q out = by (s == q) refl
+  where
+    by : (b : Bool) → (s == q) ≡ b → asked_at new q ≡ asked_at old q
+    by true is = absurd (true≢false (sym inside ∙ ap (contains nat_cmp o) (eqb-true s q is) ∙ out))
+    by false is = asks_others old new s [] asks q is

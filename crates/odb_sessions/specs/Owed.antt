@@ -59,6 +59,10 @@ filters_asked h = map filter_asked h.tables
 abbrev pub KeepsOthers : Interests → Interests → ℕ → Type 0
 KeepsOthers old new session = (s : ℕ) → (session == s) ≡ false → asked_at new s ≡ asked_at old s
 
+-- of each session that isn't in the set the index says what it did
+abbrev pub KeepsResting : BTreeSet ℕ → Interests → Interests → Type 0
+KeepsResting owed old new = (s : ℕ) → contains nat_cmp owed s ≡ false → asked_at new s ≡ asked_at old s
+
 -- the session is owed nothing, and the index says of it just what its monitors ask
 abbrev pub IsAtRest : Interests → Book → ℕ → Type 0
 IsAtRest i b s = IsQuietAt b s × (asked_at i s ≡ interest_if (get b.sessions s))

@@ -4,13 +4,14 @@ ghost use Rattle.std.specs.Bool.{OnTrue};
 ghost use Rattle.std.specs.Option.{option_copied};
 ghost use Rattle.odb_interest.specs.Keys.{asked_at};
 ghost use Rattle.odb_sessions.specs.Held.{seen};
-ghost use Rattle.odb_sessions.specs.Owed.{KeepsOthers, filter_asked, filters_asked, interest_if};
+ghost use Rattle.odb_sessions.specs.Owed.{KeepsOthers, KeepsResting, filter_asked, filters_asked, interest_if};
 
 use crate::monitor::{Monitor, Watching};
 use crate::session::Session;
 use odb_interest::{Asked, Interest};
 use odb_locks::SessionId;
 use std::alloc::AllocError;
+use std::collections::BTreeSet;
 
 /// Makes the index say of a session just what its monitors ask, and nothing where it isn't open. Where memory is
 /// refused it may say less. O(members of the filters), and what `odb_interest::Interest::add` and `forget` cost for
@@ -33,6 +34,26 @@ pub(crate) fn cover(
     }
     interest.forget(session);
     add_monitors(interest, session, monitors)
+}
+
+/// Makes the index say nothing of those of these sessions that may be owed something, so that it doesn't name them at
+/// each change until they rest. O(log n) for each, and what `odb_interest::Interest::forget` costs.
+pub(crate) fn forget_owed(interest: &mut Interest, owed: &BTreeSet<SessionId>, listed: &[SessionId])
+    ensures { KeepsResting owed.now interest.old interest.new }
+{
+    for session in listed {
+        forget_if_owed(interest, owed, *session);
+    }
+}
+
+/// Makes the index say nothing of a session that may be owed something.
+fn forget_if_owed(interest: &mut Interest, owed: &BTreeSet<SessionId>, session: SessionId)
+    ensures { KeepsResting owed.now interest.old interest.new }
+{
+    if !owed.contains(&session) {
+        return;
+    }
+    interest.forget(session);
 }
 
 /// Adds what these monitors ask to what a session asks. Where memory is refused, some of it.

@@ -31,6 +31,7 @@ use crate::asked::{ending, has};
 use crate::changing::Changing;
 use crate::ending::stopping;
 use crate::id::Id;
+use crate::interest::forget_owed;
 use crate::item::Item;
 use crate::named::{Named, first_of};
 use crate::numbered::Numbered;
@@ -326,6 +327,7 @@ impl Sessions {
     {
         let touched = self.interest.touched(&change)?;
         let concerned = touched.as_slice();
+        forget_owed(&mut self.interest, &self.owed, concerned);
         refresh_each(&mut self.sessions, &mut self.past, &self.owed, concerned);
         note_each(&mut self.owed, concerned)?;
         self.past.absorb(change)?;

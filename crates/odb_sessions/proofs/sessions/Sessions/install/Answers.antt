@@ -1,12 +1,12 @@
 use Rattle.std.proofs.Common.{rules, ◌≡◌, [], subst, sym, ap, ◌∙◌}
-use Rattle.odb_chain.specs.Chains.{Chains, absorbed}
+use Rattle.odb_chain.specs.Chains.{Chains}
 use Rattle.odb_tables.specs.Change.{all_changed_by}
 use Rattle.odb_tables.specs.Installing.{IsChangeOf}
 use Rattle.odb_sessions.specs.Book.{Book}
-use Rattle.odb_sessions.specs.Held.{Sessions, all_seen}
-use Rattle.odb_sessions.specs.Owed.{AreAtRest, AreNoted, AreOwed, book_seen}
+use Rattle.odb_sessions.specs.Held.{Sessions}
+use Rattle.odb_sessions.specs.Owed.{AreAtRest, AreNoted, book_seen}
 use Rattle.odb_sessions.specs.Tied.{IsTied}
-use Rattle.odb_sessions.proofs.OwedSessions.{rest_owed, still_rest}
+use Rattle.odb_sessions.proofs.OwedSessions.{rest_owed, said_rest, still_rest}
 use Rattle.odb_sessions.proofs.Ties.{on_err, tied_absorbed}
 use Rattle.odb_sessions.proofs.Untouched.{AreTouched, book_after, touched_rest}
 use Rattle.odb_sessions.proofs.sessions.Sessions.install.Goals as goal
@@ -23,7 +23,11 @@ pub invariant_of-self : goal.invariant_of-self
 invariant_of-self c =
     let old = c.self.inside in
     let o = c.note_each.new.owed in
-    (c.refresh_each.ensures.tied, subst (AreAtRest o old.interest) (sym c.refresh_each.ensures.seen) (still_rest old.owed o old.interest (book_seen old.past old.sessions) [] c.self.invariant.1 c.note_each.ensures.kept))
+    let i = old.interest in
+    let j = c.forget_owed.new.interest in
+    let b : Book = book_seen old.past old.sessions in
+    let kept : AreNoted old.owed o [] = c.note_each.ensures.kept in
+    (c.refresh_each.ensures.tied, subst (AreAtRest o j) (sym c.refresh_each.ensures.seen) (said_rest o i j b (still_rest old.owed o i b [] c.self.invariant.1 kept) (λ q out. c.forget_owed.ensures q (kept q out).0)))
 
 pub absorb-requires : goal.absorb-requires
 absorb-requires c = subst (λ (b : Book). IsChangeOf b.db c.args.change) (sym (c.refresh_each.ensures.seen ∙ c.self.view_is)) c.requires
@@ -34,9 +38,12 @@ invariant_of-self-in_err-absorb c =
     let m : Sessions = c.refresh_each.new.sessions in
     let o = c.note_each.new.owed in
     let i = old.interest in
-    let rest = still_rest old.owed o i (book_seen old.past old.sessions) [] c.self.invariant.1 c.note_each.ensures.kept in (
+    let j = c.forget_owed.new.interest in
+    let b : Book = book_seen old.past old.sessions in
+    let kept : AreNoted old.owed o [] = c.note_each.ensures.kept in
+    let rest : AreAtRest o j b = said_rest o i j b (still_rest old.owed o i b [] c.self.invariant.1 kept) (λ q out. c.forget_owed.ensures q (kept q out).0) in (
       subst (λ (x : Chains). IsTied x m) (sym c.in_err-absorb.ensures.err) c.refresh_each.ensures.tied,
-      subst (λ (x : Chains). AreAtRest o i (book_seen x m)) (sym c.in_err-absorb.ensures.err) (subst (AreAtRest o i) (sym c.refresh_each.ensures.seen) rest),
+      subst (λ (x : Chains). AreAtRest o j (book_seen x m)) (sym c.in_err-absorb.ensures.err) (subst (AreAtRest o j) (sym c.refresh_each.ensures.seen) rest),
     )
 
 pub go_on-requires-clause-tied : goal.go_on-requires-clause-tied
@@ -62,6 +69,7 @@ invariant_of-self-2 c =
     let m : Sessions = c.refresh_each.new.sessions in
     let o = c.note_each.new.owed in
     let i = old.interest in
+    let j = c.forget_owed.new.interest in
     let b : Book = book_seen old.past old.sessions in
     let all : c.as_slice-concerned.result.now ≡ c.in_ok-touched.touched.items = search rules in
     let noted : AreNoted old.owed o c.in_ok-touched.touched.items = subst (AreNoted old.owed o) all c.in_ok-note_each.ensures.noted in
@@ -69,7 +77,9 @@ invariant_of-self-2 c =
     let is : IsChangeOf b.db c.args.change = subst (λ (x : Book). IsChangeOf x.db c.args.change) (sym c.self.view_is) c.requires in
     let after = book_after old.past c.absorb.new.self c.refresh_each.new.past old.sessions m c.args.change c.in_ok-absorb.ensures.ok c.refresh_each.ensures.seen in (
       c.go_on.ensures.tied,
-      subst (AreAtRest o i) (sym (c.go_on.ensures.seen ∙ after)) (touched_rest old.owed o i b c.args.change c.in_ok-touched.touched.items c.self.invariant.1 noted is named),
+      subst (AreAtRest o j) (sym (c.go_on.ensures.seen ∙ after))
+          (said_rest o i j (record b { db = all_changed_by b.db c.args.change }) (touched_rest old.owed o i b c.args.change c.in_ok-touched.touched.items c.self.invariant.1 noted is named)
+          (λ q out. c.forget_owed.ensures q (noted q out).0)),
     )
 
 pub returns-in_err-note_each-clause-err : goal.returns-in_err-note_each-clause-err
