@@ -404,3 +404,12 @@ module _ (p : ℕ) (t : Table) (rows : Rows) where
       by : (q : Uuid) (b : Bool) → list_any (same q) us ≡ b → option_and_then (sides q) (cond b (Some tt) None) ≡ sides q tt
       by q true is = refl
       by q false is = sym (not_reached q (covers q is))
+
+-- notes from a later place on
+from_earlier : (p q : ℕ) (ns : List Noted) → p ≤ q → AllFrom q ns → AllFrom p ns
+from_earlier p q [] le h = tt
+from_earlier p q (n ∷ ns) le h = let from : q ≤ n.0 = h.0 in (omega (arith, le, from), from_earlier p q ns le h.1)
+
+-- the first of notes in order isn't before the place
+pub first_from : (p : ℕ) (n : Noted) (ns : List Noted) → p ≤ n.0 → AreInOrder (n ∷ ns) → AllFrom p (n ∷ ns)
+first_from p n ns le h = (le, from_earlier p n.0 ns le h.0)

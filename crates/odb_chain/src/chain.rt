@@ -39,7 +39,7 @@ impl Model for Chain {
       version = c.version;
       live = c.live.items;
       fresh = c.fresh;
-      rows = c.kept;
+      rows = c.kept.rows;
       room = nat_lt (vec_len c.live) (vec_capacity c.live);
     } };
 

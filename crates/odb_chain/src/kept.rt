@@ -7,7 +7,7 @@ ghost use Rattle.odb_atoms.specs.FinMap as finite;
 ghost use Rattle.odb_atoms.specs.Uuid as model_uuid;
 ghost use Rattle.odb_atoms.specs.Uuid.{uuid_cmp};
 ghost use Rattle.odb_chain.specs.Kept.{at_place, content_at, is_reached};
-ghost use Rattle.odb_chain.specs.Represented.Log.{is_noted};
+ghost use Rattle.odb_chain.specs.Represented.Log.{AllFrom, is_noted};
 ghost use Rattle.odb_chain.specs.Represented.Places.{AsBefore, StaysOrGoes};
 ghost use Rattle.odb_tables.specs.Change.{change};
 ghost use Rattle.odb_tables.specs.Represented.Keyed.{keyed};
@@ -34,16 +34,16 @@ pub(crate) struct Kept {
 }
 
 impl Model for Kept {
-    ghost use Rattle.odb_chain.specs.Kept as model;
-    ghost use Rattle.odb_chain.specs.Represented.Codes.{rows_code};
+    ghost use Rattle.odb_chain.specs.Represented.Codes.{kept_code};
+    ghost use Rattle.odb_chain.specs.Represented.Log as model;
     ghost use Rattle.odb_chain.specs.Represented.Log.{AreNoted};
     ghost use Rattle.odb_tables.specs.Represented.Keyed.{keyed};
 
-    ghost Value = { model.Rows };
+    ghost Value = { model.Kept };
 
-    ghost coded = { rows_code };
+    ghost coded = { kept_code };
 
-    ghost view = { λ k. keyed (λ h. h) k.rows };
+    ghost view = { λ k. record { rows = keyed (λ h. h) k.rows; notes = k.log } };
 
     ghost invariant = { λ k. AreNoted (keyed (λ h. h) k.rows) k.log };
 }
@@ -51,7 +51,7 @@ impl Model for Kept {
 impl Kept {
     /// Nothing is kept.
     pub(crate) fn new(alloc: Global, hashing: RandomState) -> Kept
-        ensures { result ≡ finite.empty }
+        ensures { result.rows ≡ finite.empty }
     {
         Kept {
             alloc,
@@ -69,9 +69,9 @@ impl Kept {
         key: Key,
         table: &Table,
     ) -> Result<(), AllocError>
-        ensures ok { OnOk result (is_reached newest (finite.get self.new key) ≡ true) }
-        ensures rows { (u : model_uuid.Uuid) → AsBefore newest live.now (finite.get table.now u) (finite.get self.old u) (finite.get self.new u) }
-        ensures reached { (u : model_uuid.Uuid) → is_reached newest (finite.get self.old u) ≡ true → is_reached newest (finite.get self.new u) ≡ true }
+        ensures ok { OnOk result (is_reached newest (finite.get self.new.rows key) ≡ true) }
+        ensures rows { (u : model_uuid.Uuid) → AsBefore newest live.now (finite.get table.now u) (finite.get self.old.rows u) (finite.get self.new.rows u) }
+        ensures reached { (u : model_uuid.Uuid) → is_reached newest (finite.get self.old.rows u) ≡ true → is_reached newest (finite.get self.new.rows u) ≡ true }
     {
         self.log.tidy(&self.rows);
         let Some(history) = self.rows.get_mut(&key) else {
@@ -110,8 +110,8 @@ impl Kept {
         table: &Table,
         change: &TableChange,
     ) -> Result<(), AllocError>
-        ensures ok { OnOk result ((u : model_uuid.Uuid) → is_some (finite.get change.now u) ≡ true → is_reached newest (finite.get self.new u) ≡ true) }
-        ensures rows { (u : model_uuid.Uuid) → AsBefore newest live.now (finite.get table.now u) (finite.get self.old u) (finite.get self.new u) }
+        ensures ok { OnOk result ((u : model_uuid.Uuid) → is_some (finite.get change.now u) ≡ true → is_reached newest (finite.get self.new.rows u) ≡ true) }
+        ensures rows { (u : model_uuid.Uuid) → AsBefore newest live.now (finite.get table.now u) (finite.get self.old.rows u) (finite.get self.new.rows u) }
     {
         for row in change.rows() {
             self.record(newest, live, Key::of(row.uuid()), table)?;
@@ -122,7 +122,7 @@ impl Kept {
     /// What leads from the table at the place to the table now. O(k log k) for the k rows that changed since,
     /// each as often as it was kept since.
     pub(crate) fn since(&self, table: &Table, place: u64) -> Result<TableChange, AllocError>
-        ensures { IfOk result (λ made. made ≡ change (content_at place table.now self.now) table.now) }
+        ensures { IfOk result (λ made. made ≡ change (content_at place table.now self.now.rows) table.now) }
     {
         let keys = self.log.since(self.alloc, place)?;
         self.changes(table, place, &keys)
@@ -135,8 +135,8 @@ impl Kept {
         place: u64,
         keys: &BTreeSet<Key>,
     ) -> Result<TableChange, AllocError>
-        requires { (u : model_uuid.Uuid) → contains uuid_cmp keys.now u ≡ false → is_reached place (finite.get self.now u) ≡ false }
-        ensures { IfOk result (λ made. made ≡ change (content_at place table.now self.now) table.now) }
+        requires { (u : model_uuid.Uuid) → contains uuid_cmp keys.now u ≡ false → is_reached place (finite.get self.now.rows u) ≡ false }
+        ensures { IfOk result (λ made. made ≡ change (content_at place table.now self.now.rows) table.now) }
     {
         let mut rows = Vec::with_capacity(self.alloc, keys.len())?;
         for key in keys.iter() {
@@ -153,7 +153,7 @@ impl Kept {
         table: &Table,
         place: u64,
     ) -> Result<(), AllocError>
-        ensures { OnOk result (rows.new.items ≡ rows.old.items ++ option_to_list (change_at key (at_place place (finite.get table.now key) (finite.get self.now key)) (finite.get table.now key))) }
+        ensures { OnOk result (rows.new.items ≡ rows.old.items ++ option_to_list (change_at key (at_place place (finite.get table.now key) (finite.get self.now.rows key)) (finite.get table.now key))) }
     {
         let now = table.share(key);
         let change = RowChange::between(key, self.row_at(key, place, now), now)?;
@@ -162,7 +162,7 @@ impl Kept {
 
     /// What the row was at the place, where it is this now.
     fn row_at<'a>(&'a self, key: Key, place: u64, now: Option<&'a Arc<Row>>) -> Option<&'a Arc<Row>>
-        ensures { row_of (option_copied result) ≡ at_place place (row_of (option_copied now.entry)) (finite.get self.now key) }
+        ensures { row_of (option_copied result) ≡ at_place place (row_of (option_copied now.entry)) (finite.get self.now.rows key) }
     {
         match self.rows.get(&key) {
             Some(history) => history.row_at(place, now),
@@ -170,10 +170,11 @@ impl Kept {
         }
     }
 
-    /// Leaves out rows that didn't change since the place: those that are noted before it alone. O(1) for each note, on the
-    /// average over its life.
+    /// Leaves out rows that didn't change since the place: those that are noted before it alone, and no note of these is
+    /// left. O(1) for each note, on the average over its life.
     pub(crate) fn forget_before(&mut self, place: u64)
-        ensures { (u : model_uuid.Uuid) → StaysOrGoes place (finite.get self.old u) (finite.get self.new u) }
+        ensures rows { (u : model_uuid.Uuid) → StaysOrGoes place (finite.get self.old.rows u) (finite.get self.new.rows u) }
+        ensures notes { AllFrom place self.new.notes }
     {
         while let Some(key) = self.log.next_before(place) {
             forget(&mut self.rows, key, place);
@@ -182,7 +183,7 @@ impl Kept {
 
     /// Leaves out all rows.
     pub(crate) fn clear(&mut self)
-        ensures { self.new ≡ finite.empty }
+        ensures { self.new.rows ≡ finite.empty }
     {
         self.rows.clear();
         self.log.clear();

@@ -3,7 +3,7 @@ ghost use Rattle.std.specs.Prelude.{◌≡◌, ◌≤◌, ℕ, true, [], ◌∷�
 ghost use Rattle.std.specs.BTreeSet.{contains};
 ghost use Rattle.odb_atoms.specs.Uuid as model_uuid;
 ghost use Rattle.odb_atoms.specs.Uuid.{uuid_cmp};
-ghost use Rattle.odb_chain.specs.Represented.Log.{AreNoted, is_named, is_needed, is_noted};
+ghost use Rattle.odb_chain.specs.Represented.Log.{AllFrom, AreNoted, is_named, is_needed, is_noted};
 ghost use Rattle.odb_tables.specs.Represented.Keyed.{keyed};
 
 use crate::history::{History, twice};
@@ -142,10 +142,12 @@ impl Log {
         self.limit = twice(self.noted.len());
     }
 
-    /// Takes the first note, if its place is before this one, and returns its row. O(1).
+    /// Takes the first note, if its place is before this one, and returns its row; `None` where no note comes before it.
+    /// O(1).
     pub(crate) fn next_before(&mut self, place: u64) -> Option<Key>
         ensures some { IfSome result (λ key. (p : ℕ) × (nat_lt p place ≡ true) × (self.old ≡ (p, key) ∷ self.new)) }
         ensures none { IfNone result (self.new ≡ self.old) }
+        ensures from { IfNone result (AllFrom place self.new) }
     {
         if self.done >= self.noted.len() {
             return None;

@@ -8,6 +8,7 @@ use Rattle.odb_tables.specs.Database.{Db, Table, db_code, table_code}
 use Rattle.odb_chain.specs.Chains.{Chains, Live, Mark, Standing}
 use Rattle.odb_chain.specs.Kept.{History, Rows}
 use Rattle.odb_chain.specs.Represented.Chain.{Chain}
+use Rattle.odb_chain.specs.Represented.Log.{Kept, Noted}
 
 abbrev pub old_code : Coded (ℕ × Option Row)
 old_code = coded× coded_ℕ (coded_option row_code)
@@ -23,6 +24,9 @@ place_code = coded× coded_ℕ coded_ℕ
 
 abbrev pub noted_code : Coded (ℕ × Uuid)
 noted_code = coded× coded_ℕ uuid_code
+
+abbrev pub kept_code : Coded Kept
+kept_code = code_by (Rows × List Noted) (coded× rows_code (coded_list noted_code)) (λ k. (k.rows, k.notes)) (λ p. record { rows = p.0; notes = p.1 }) (λ _. refl)
 
 abbrev pub chain_code : Coded Chain
 chain_code =

@@ -48,6 +48,11 @@ is_latest p (Some h) = not (passes p h)
 abbrev pub is_needed : Rows → Noted → Bool
 is_needed rows n = is_latest n.0 (map.get rows n.1)
 
+-- what is kept of a table: the old rows, and the notes of them
+pub record Kept : Type 0 where
+  pub rows : Rows
+  pub notes : List Noted
+
 -- each old row is noted
 abbrev pub AreNoted : Rows → List Noted → Type 0
 AreNoted rows ns = (p : ℕ) (u : Uuid) → has_label p (map.get rows u) ≡ true → is_noted p u ns ≡ true

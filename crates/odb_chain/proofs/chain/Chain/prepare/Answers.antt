@@ -34,7 +34,7 @@ returns-clause-ok c =
     on_ok_weaker c.record_all.result
     (λ reached. (
       λ some. subst (λ (y : Chain). (is_roomy y.fresh y.room ≡ true) × (y.version < 2 ^ 64 - 1)) (sym c.self.view_is) roomy,
-      λ p there u some. reached_at n p c.record_all.new.self u (newest p (ap (λ (y : Chain). is_place p (places y)) (sym c.self.view_is) ∙ there)).0 (reached u some),
+      λ p there u some. reached_at n p c.record_all.new.self.rows u (newest p (ap (λ (y : Chain). is_place p (places y)) (sym c.self.view_is) ∙ there)).0 (reached u some),
     )) c.record_all.ensures.ok
 
 pub returns-clause-stands : goal.returns-clause-stands
@@ -43,11 +43,11 @@ returns-clause-stands c =
     let x : Chain = c.make_room.new.self in
     let t : Table = c.args.table.now in
     let n = c.in-Some.newest in
-    let new : Rows = c.record_all.new.self in
+    let new : Rows = c.record_all.new.self.rows in
     let version : x.version ≡ old.version = c.make_room.ensures.version in
     let live : x.live ≡ old.live = c.make_room.ensures.live in
     let fresh : x.fresh ≡ old.fresh = c.make_room.ensures.fresh in
-    let rows : c.self.inside.kept ≡ old.rows = ap (λ (y : Chain). y.rows) c.self.view_is ∙ c.make_room.ensures.rows in
+    let rows : c.self.inside.kept.rows ≡ old.rows = ap (λ (y : Chain). y.rows) c.self.view_is ∙ c.make_room.ensures.rows in
     let same_live : c.of-places.result ≡ x.live = c.of-places.ensures ∙ c.as_slice.ensures.value ∙ ap (λ (y : Chain). y.live) c.self.view_is in
     let newest : (p : ℕ) → is_place p (places x) ≡ true → (nat_le p n ≡ true) × (is_kept n x.live p ≡ true) = c.in-Some.ensures.some in
     let past : nat_le n x.version ≡ true = c.in-Some.ensures.past in (
@@ -57,9 +57,9 @@ returns-clause-stands c =
       λ p there.
           let at_x : is_place p (places x) ≡ true = (λ i. is_place p (live i ++ here (version i) (fresh i))) ∙ there in
           let kept : is_kept n c.of-places.result p ≡ true = ap (λ ls. is_kept n ls p) same_live ∙ (newest p at_x).1 in
-          same_content p t t new c.self.inside.kept (λ u. (c.record_all.ensures.rows u).0 p kept) ∙ ap (content_at p t) rows,
+          same_content p t t new c.self.inside.kept.rows (λ u. (c.record_all.ensures.rows u).0 p kept) ∙ ap (content_at p t) rows,
       λ h u.
-          let before : IsPast c.self.inside.version (finite.get t u) (finite.get c.self.inside.kept u) =
+          let before : IsPast c.self.inside.version (finite.get t u) (finite.get c.self.inside.kept.rows u) =
           subst (λ (r : Rows). IsPast c.self.inside.version (finite.get t u) (finite.get r u)) (sym rows) (subst (λ v. IsPast v (finite.get t u) (finite.get old.rows u)) (sym (ap (λ (y : Chain). y.version) c.self.view_is ∙ version)) (h u)) in
           (c.record_all.ensures.rows u).1 c.self.inside.version (ap (λ (y : Chain). nat_le n y.version) c.self.view_is ∙ past) before,
     )
@@ -78,7 +78,7 @@ returns-clause-labels c = λ q u e.
     let old : Chain = c.args.self.now in
     let x : Chain = c.make_room.new.self in
     let n = c.in-Some.newest in
-    let rows : c.self.inside.kept ≡ old.rows = ap (λ (y : Chain). y.rows) c.self.view_is ∙ c.make_room.ensures.rows in
+    let rows : c.self.inside.kept.rows ≡ old.rows = ap (λ (y : Chain). y.rows) c.self.view_is ∙ c.make_room.ensures.rows in
     let at_x : is_place n (places x) ≡ true = c.in-Some.ensures.place in
     let there : is_place n (places old) ≡ true = (λ i. is_place n (sym c.make_room.ensures.live i ++ here (sym c.make_room.ensures.version i) (sym c.make_room.ensures.fresh i))) ∙ at_x in
     label_of q n (has_label q (finite.get old.rows u)) (places old) there (ap (λ (r : Rows). has_label q (finite.get r u) || nat_eq q n) (sym rows) ∙ (c.record_all.ensures.rows u).2 q e)

@@ -16,7 +16,7 @@ pub loop-key-preserved : goal.loop-key-preserved
 loop-key-preserved c =
     let t : Table = c.args.table.now in
     let p = c.args.place in
-    let m : Rows = c.args.self.now in
+    let m : Rows = c.args.self.now.rows in
     let u = c.in-Some.key.now in
     let grown : c.add_change.new.rows.items ≡ c.loop-key.rows.items ++ option_to_list (change_at u (at_place p (finite.get t u) (finite.get m u)) (finite.get t u)) = search rules in
     grown ∙ ap (λ xs. xs ++ option_to_list (change_at u (at_place p (finite.get t u) (finite.get m u)) (finite.get t u))) c.loop-key.invariant
@@ -27,7 +27,7 @@ pub new-requires : goal.new-requires
 new-requires c =
     let t : Table = c.args.table.now in
     let p = c.args.place in
-    let m : Rows = c.args.self.now in
+    let m : Rows = c.args.self.now.rows in
     let us : List Uuid = c.args.keys.now.keys in
     let all : map (λ k. k.now) c.loop-key.yielded ≡ us = search (rules, iter_end) in
     let items : c.loop-key.rows.items ≡ changes_of (sides p t m) (map (named p t m) us) = c.loop-key.invariant ∙ ap (changes_of (sides p t m)) (listed_map p t m c.loop-key.yielded ∙ ap (map (named p t m)) all) in
@@ -37,7 +37,7 @@ pub returns : goal.returns
 returns c =
     let t : Table = c.args.table.now in
     let p = c.args.place in
-    let m : Rows = c.args.self.now in
+    let m : Rows = c.args.self.now.rows in
     let us : List Uuid = c.args.keys.now.keys in
     let all : map (λ k. k.now) c.loop-key.yielded ≡ us = search (rules, iter_end) in
     let items : c.loop-key.rows.items ≡ changes_of (sides p t m) (map (named p t m) us) = c.loop-key.invariant ∙ ap (changes_of (sides p t m)) (listed_map p t m c.loop-key.yielded ∙ ap (map (named p t m)) all) in

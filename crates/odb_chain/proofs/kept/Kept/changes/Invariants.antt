@@ -4,4 +4,4 @@ use Rattle.odb_chain.proofs.Since.{changes_of}
 use Rattle.odb_chain.proofs.kept.Kept.changes.Given as goal
 
 abbrev pub invariant-loop-key : goal.invariant-loop-key
-invariant-loop-key l = l.rows.items ≡ changes_of (sides l.place l.table l.self) (map (λ k. named l.place l.table l.self k.now) l.yielded)
+invariant-loop-key l = l.rows.items ≡ changes_of (sides l.place l.table l.self.rows) (map (λ k. named l.place l.table l.self.rows k.now) l.yielded)

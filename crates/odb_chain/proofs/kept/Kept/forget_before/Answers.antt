@@ -17,6 +17,6 @@ loop-key-preserved c =
     let new : Rows = keyed same c.forget.new.rows in
     let first : (q : ℕ) × (nat_lt q p ≡ true) × (c.loop-key.self-inside.log ≡ (q, c.in-Some.key) ∷ c.next_before.new.self) = search rules in
     record {
-      rows = λ u. goes_further p (finite.get c.args.self.now u) (finite.get rows u) (finite.get new u) (c.loop-key.invariant.rows u) (c.forget.ensures.rows u);
+      rows = λ u. goes_further p (finite.get c.args.self.now.rows u) (finite.get rows u) (finite.get new u) (c.loop-key.invariant.rows u) (c.forget.ensures.rows u);
       noted = popped_noted rows new first.0 p c.in-Some.key c.next_before.new.self first.1 (subst (AreNoted rows) first.2 c.loop-key.invariant.noted) c.forget.ensures.row c.forget.ensures.rows;
     }

@@ -9,7 +9,7 @@ use Rattle.odb_chain.proofs.kept.Kept.forget_before.Given as goal
 
 abbrev pub invariant-loop-key : goal.invariant-loop-key
 invariant-loop-key l = record {
-  rows : (u : Uuid) → StaysOrGoes l.place (finite.get l.fn.self u) (finite.get (keyed (λ (h : History). h) l.self-inside.rows) u);
+  rows : (u : Uuid) → StaysOrGoes l.place (finite.get l.fn.self.rows u) (finite.get (keyed (λ (h : History). h) l.self-inside.rows) u);
   noted : AreNoted (keyed (λ (h : History). h) l.self-inside.rows) l.self-inside.log;
 }
 

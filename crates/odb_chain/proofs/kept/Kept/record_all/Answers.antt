@@ -14,7 +14,7 @@ use Rattle.odb_chain.proofs.kept.Kept.record_all.Goals as goal
 pub returns-in_err-record-clause-rows : goal.returns-in_err-record-clause-rows
 returns-in_err-record-clause-rows c = λ u.
     let t : Table = c.args.table.now in
-    goes_on c.args.newest c.args.live.now (finite.get t u) (finite.get c.args.self.now u) (finite.get c.loop-row.self u) (finite.get c.record.new.self u) (c.loop-row.invariant.rows u) (c.record.ensures.rows u)
+    goes_on c.args.newest c.args.live.now (finite.get t u) (finite.get c.args.self.now.rows u) (finite.get c.loop-row.self.rows u) (finite.get c.record.new.self.rows u) (c.loop-row.invariant.rows u) (c.record.ensures.rows u)
 
 pub loop-row-preserved : goal.loop-row-preserved
 loop-row-preserved c =
@@ -23,14 +23,14 @@ loop-row-preserved c =
     let es : List Entry = c.rows-row-items.result.now in
     let i = c.loop-row.row-index in
     let e : Entry = c.row-item.result in
-    let old : Rows = c.loop-row.self in
-    let new : Rows = c.record.new.self in
+    let old : Rows = c.loop-row.self.rows in
+    let new : Rows = c.record.new.self.rows in
     let low : i < length es = search rules in
     let at : e ≡ get_or es i e = search rules in
     let key : c.of.result ≡ e.0 = search rules in
     let here : is_reached n (finite.get new c.of.result) ≡ true = search rules in
     record {
-      rows = λ u. goes_on n c.args.live.now (finite.get t u) (finite.get c.args.self.now u) (finite.get old u) (finite.get new u) (c.loop-row.invariant.rows u) (c.record.ensures.rows u);
+      rows = λ u. goes_on n c.args.live.now (finite.get t u) (finite.get c.args.self.now.rows u) (finite.get old u) (finite.get new u) (c.loop-row.invariant.rows u) (c.record.ensures.rows u);
       reached = λ u before. one_reached n old new e.0 (λ q. list_any (eq_by_cmp uuid_cmp q) (keys_of (take i es))) c.loop-row.invariant.reached (subst (λ k. is_reached n (finite.get new k) ≡ true) key here) c.record.ensures.reached u (sym (any_more es u i e low at) ∙ before);
     }
 

@@ -10,6 +10,6 @@ use Rattle.odb_chain.proofs.kept.Kept.record_all.Given as goal
 
 abbrev pub invariant-loop-row : goal.invariant-loop-row
 invariant-loop-row l = record {
-  rows : (u : Uuid) → AsBefore l.newest l.live (finite.get l.table u) (finite.get l.initial.self u) (finite.get l.self u);
-  reached : (u : Uuid) → list_any (eq_by_cmp uuid_cmp u) (keys_of (take l.row-index l.row-items)) ≡ true → is_reached l.newest (finite.get l.self u) ≡ true;
+  rows : (u : Uuid) → AsBefore l.newest l.live (finite.get l.table u) (finite.get l.initial.self.rows u) (finite.get l.self.rows u);
+  reached : (u : Uuid) → list_any (eq_by_cmp uuid_cmp u) (keys_of (take l.row-index l.row-items)) ≡ true → is_reached l.newest (finite.get l.self.rows u) ≡ true;
 }
