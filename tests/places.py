@@ -1,6 +1,7 @@
 """Where things stand: the repository, its crates, the program that is built of them, and a schema."""
 
 import os
+import shutil
 import subprocess
 import sys
 
@@ -39,3 +40,17 @@ def below(*names):
             found.add(name)
             left += uses[name]
     return [name for name in uses if name in found]
+
+
+def copy_crates(folder, names):
+    """Makes a repository of these crates alone, as they stand but for their wrong edits and what was made of them."""
+    for name in names:
+        crate = os.path.join(ROOT, "crates", name)
+        left_out = lambda at, _, crate=crate: {"out", "must-fail"} if at == crate else set()
+        shutil.copytree(crate, os.path.join(folder, "crates", name), ignore=left_out)
+    with open(os.path.join(ROOT, "crates.txt"), encoding="utf-8") as file:
+        lines = [line for line in file if line.partition(":")[0].strip() in names]
+    with open(os.path.join(folder, "crates.txt"), "w", encoding="utf-8") as file:
+        file.writelines(lines)
+    shutil.copy(os.path.join(ROOT, "HANDLES"), folder)
+    os.mkdir(os.path.join(folder, ".git"))  # by which the toolchain knows the top of a repository

@@ -5,7 +5,7 @@ usage: tests/refused.py
 
 Each file of tests/refused is a module of which one line is wrong, and names in a comment the error that it has to get. Its twin is
 the same module without that line, in which there has to be none. The front end alone looks at them, over the libraries that
-`tools/libraries`, or the gate, left in crates/*/out: nothing is proved. It ends with the first of its passes that finds errors, so
+`rt all check`, or the gate, left in crates/*/out: nothing is proved. It ends with the first of its passes that finds errors, so
 what was refused is taken out and the rest is looked at again. The last line is 'N passed, M failed', and the status is 1 where one
 failed.
 """
