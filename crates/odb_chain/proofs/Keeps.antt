@@ -1,9 +1,9 @@
 -- What is kept of a row says the same as before: that is so of itself, and goes on.
-use Rattle.std.proofs.Common.{◌≡◌, ℕ, ◌+◌, ◌<◌, Bool, true, false, cond, ◌||◌, List, [], ◌∷◌, ◌++◌, get_or, length, take, Option, Some, None, is_some, option_map, Result, Ok, Err, is_err, OnErr, OnOk, refl, sym, ap, subst, ◌∙◌, true≢false}
+use Rattle.std.proofs.Common.{◌≡◌, ℕ, ◌+◌, ◌<◌, Bool, true, false, cond, ◌||◌, List, [], ◌∷◌, ◌++◌, get_or, length, map, take, Option, Some, None, is_some, option_map, Result, Ok, Err, is_err, OnErr, OnOk, refl, sym, ap, subst, ◌∙◌, true≢false}
 use mathlib.Core.Logic.{inl, inr}
 use Rattle.std.proofs.lemmas.List.{map-append, take_more}
 use Rattle.std.specs.FinMap.Entries.{is_some-find}
-use Rattle.std.specs.List.{list_any}
+use Rattle.std.specs.List.{IsDistinct, list_any}
 use Rattle.std.specs.Map.{keys_of}
 use Rattle.indexmap.specs.IndexMap.{IndexMap, get_by}
 use Rattle.std.specs.Ordering.{eq_by_cmp}
@@ -14,8 +14,8 @@ use Rattle.odb_atoms.proofs.Atoms.{uuid_cmp_total, uuid_cmp-IsAntisymmetric}
 use Rattle.odb_atoms.proofs.FinMaps.{get-insert, same_key, same_map}
 use Rattle.odb_tables.specs.Database.{Table}
 use Rattle.odb_tables.specs.Represented.Key.{keys_equivalent}
-use Rattle.odb_tables.specs.Represented.Keyed.{keyed}
-use Rattle.odb_tables.proofs.KeyedMaps.{get-from_entries, get-keyed}
+use Rattle.odb_tables.specs.Represented.Keyed.{keyed, shown}
+use Rattle.odb_tables.proofs.KeyedMaps.{get-from_entries, get-keyed, keys-shown}
 use Rattle.odb_chain.proofs.Histories.{label_pushed, or_left, or_right}
 use Rattle.odb_chain.specs.Represented.Places.{has_label}
 use Rattle.std.proofs.Common.{nat_eq}
@@ -172,3 +172,6 @@ given_ok (Err f) e p = absurd (true≢false e)
 pub on_any_err : {A E P : Type 0} (r : Result A E) → P → OnErr r P
 on_any_err (Ok a) p = tt
 on_any_err (Err f) p = p
+
+pub distinct-kept : (es : List (Uuid × History)) → IsDistinct (eq_by_cmp uuid_cmp) (keys_of es) → IsDistinct (eq_by_cmp uuid_cmp) (keys_of (map (shown (λ h. h)) es))
+distinct-kept es h = subst (IsDistinct (eq_by_cmp uuid_cmp)) (keys-shown (λ h. h) es) h

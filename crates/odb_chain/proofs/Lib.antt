@@ -8,7 +8,6 @@ mod Lasts
 mod Noted
 mod Numbers
 mod Places
-mod Since
 mod Shown
 pub mod Undoing
 mod Views

@@ -24,7 +24,7 @@ use Rattle.odb_chain.specs.Represented.Log.{AllFrom, AllUpTo, AreInOrder, AreNot
 use Rattle.odb_chain.specs.Represented.Places.{StaysOrGoes, has_label, is_label}
 use Rattle.odb_chain.proofs.Contents.{get-content}
 use Rattle.odb_chain.proofs.Histories.{beyond, or_left, or_right}
-use Rattle.odb_chain.proofs.Since.{Sides, changes_of, find-changes, unchanged}
+use Rattle.odb_tables.proofs.Leading.{Sides, changes_of, find-changes, unchanged}
 
 -- ---- notes in order
 

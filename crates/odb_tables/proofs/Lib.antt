@@ -9,6 +9,7 @@ mod Installs
 mod Keepings
 pub mod KeyedMaps
 mod Keys
+pub mod Leading
 mod Overlays
 mod PairSets
 mod Steps

@@ -3,7 +3,7 @@ use Rattle.std.proofs.lemmas.Bool.Decides.{nat_tests}
 use Rattle.odb_atoms.specs.FinMap as finite
 use Rattle.odb_tables.specs.Change.{Changes}
 use Rattle.odb_tables.proofs.KeyedMaps.{len-from_entries}
-use Rattle.odb_chain.proofs.Since.{Entry}
+use Rattle.odb_tables.proofs.Leading.{Entry}
 use Rattle.odb_chain.proofs.chains.is_moved.Goals as goal
 
 pub returns : goal.returns

@@ -16,7 +16,7 @@ use Rattle.std.proofs.lemmas.List.{nil_from_length}
 use Rattle.std.proofs.lemmas.Result.{on_ok_weaker}
 use Rattle.odb_atoms.specs.Uuid.{uuid_cmp}
 use Rattle.odb_chain.proofs.Contents.{nothing_named, reached_at, same_content}
-use Rattle.odb_chain.proofs.Since.{Entry}
+use Rattle.odb_tables.proofs.Leading.{Entry}
 
 pub returns-then-is_empty-clause-ok : goal.returns-then-is_empty-clause-ok
 returns-then-is_empty-clause-ok c =

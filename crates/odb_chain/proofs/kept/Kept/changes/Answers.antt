@@ -9,7 +9,7 @@ use Rattle.odb_tables.specs.Represented.RowChange.{change_at}
 use Rattle.odb_tables.specs.Represented.TableChange.{AreDistinct}
 use Rattle.odb_chain.specs.Kept.{Rows, at_place}
 use Rattle.odb_chain.proofs.Noted.{distinct_named, listed_map, named, since_listed, sides}
-use Rattle.odb_chain.proofs.Since.{changes-more, changes_of, distinct-changes}
+use Rattle.odb_tables.proofs.Leading.{changes-more, changes_of, distinct-changes}
 use Rattle.odb_chain.proofs.kept.Kept.changes.Goals as goal
 
 pub loop-key-preserved : goal.loop-key-preserved

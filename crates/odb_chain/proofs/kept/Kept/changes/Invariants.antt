@@ -1,6 +1,6 @@
 use Rattle.std.proofs.Common.{◌≡◌, map}
 use Rattle.odb_chain.proofs.Noted.{named, sides}
-use Rattle.odb_chain.proofs.Since.{changes_of}
+use Rattle.odb_tables.proofs.Leading.{changes_of}
 use Rattle.odb_chain.proofs.kept.Kept.changes.Given as goal
 
 abbrev pub invariant-loop-key : goal.invariant-loop-key

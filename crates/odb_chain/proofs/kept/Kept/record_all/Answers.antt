@@ -8,7 +8,7 @@ use Rattle.std.specs.Ordering.{eq_by_cmp}
 use Rattle.odb_tables.specs.Database.{Table}
 use Rattle.odb_chain.specs.Kept.{Rows, is_reached}
 use Rattle.odb_chain.proofs.Keeps.{any_more, any_of, goes_on, one_reached}
-use Rattle.odb_chain.proofs.Since.{Entry}
+use Rattle.odb_tables.proofs.Leading.{Entry}
 use Rattle.odb_chain.proofs.kept.Kept.record_all.Goals as goal
 
 pub returns-in_err-record-clause-rows : goal.returns-in_err-record-clause-rows

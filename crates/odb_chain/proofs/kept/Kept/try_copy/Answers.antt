@@ -5,7 +5,7 @@ use Rattle.odb_tables.specs.Represented.Keyed.{keyed, shown}
 use Rattle.odb_tables.proofs.KeyedMaps.{filled, filled-is}
 use Rattle.odb_chain.specs.Kept.{History, Rows}
 use Rattle.odb_chain.specs.Represented.Log.{AreNoted, Kept, Noted}
-use Rattle.odb_chain.proofs.Since.{distinct-kept}
+use Rattle.odb_chain.proofs.Keeps.{distinct-kept}
 use Rattle.odb_chain.proofs.kept.Kept.try_copy.Goals as goal
 
 pub returns : goal.returns

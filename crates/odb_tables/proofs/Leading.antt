@@ -1,5 +1,5 @@
--- The change of a table since a place, from what its rows were.
-use Rattle.std.proofs.Common.{◌≡◌, Bool, true, false, cond, List, [], ◌∷◌, ◌++◌, map, option_to_list, Option, Some, None, option_map, option_and_then, refl, sym, ap, subst, ◌∙◌, filter_map, ◌&&◌}
+-- The changes that entries by identifiers come to, one for each that g finds changed.
+use Rattle.std.proofs.Common.{◌≡◌, Bool, true, false, cond, List, [], ◌∷◌, ◌++◌, option_to_list, Option, Some, None, option_map, option_and_then, refl, sym, ap, ◌∙◌, filter_map, ◌&&◌}
 use Rattle.std.specs.Cmp.{unsigned_Decides}
 use Rattle.std.specs.List.{AllByRecursion, IsDistinct, cons_option}
 use Rattle.std.specs.FinMap.Entries.{find}
@@ -12,10 +12,8 @@ use Rattle.odb_atoms.proofs.Atoms.{uuid_cmp-IsAntisymmetric}
 use Rattle.odb_atoms.proofs.Equal.{same_values-itself}
 use Rattle.odb_atoms.proofs.FinMaps.{same_key}
 use Rattle.odb_tables.specs.Change.{changed_row}
-use Rattle.odb_tables.specs.Represented.Keyed.{shown}
 use Rattle.odb_tables.specs.Represented.TableChange.{AreDistinct}
-use Rattle.odb_tables.proofs.KeyedMaps.{keys-shown, none_behind}
-use Rattle.odb_chain.specs.Kept.{History}
+use Rattle.odb_tables.proofs.KeyedMaps.{none_behind}
 
 abbrev pub Sides : Type 0
 Sides = Option Row × Option Row
@@ -87,6 +85,3 @@ module _ {X : Type 0} (g : Uuid → X → Option Sides) where
       by : (c : Option Sides) (cs : List Entry) → AreDistinct cs → AllByRecursion (λ y. eq_by_cmp uuid_cmp e.0 y ≡ false) (keys_of cs) → AreDistinct (cons_option (option_map (λ d. let x : Entry = (e.0, d) in x) c) cs)
       by None cs r a = r
       by (Some d) cs r a = IsDistinct-cons (eq_by_cmp uuid_cmp) e.0 (keys_of cs) a r
-
-pub distinct-kept : (es : List (Uuid × History)) → IsDistinct (eq_by_cmp uuid_cmp) (keys_of es) → IsDistinct (eq_by_cmp uuid_cmp) (keys_of (map (shown (λ h. h)) es))
-distinct-kept es h = subst (IsDistinct (eq_by_cmp uuid_cmp)) (keys-shown (λ h. h) es) h
