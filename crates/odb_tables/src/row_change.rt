@@ -113,6 +113,14 @@ impl RowChange {
         self.old.is_none() && self.new.is_some()
     }
 
+    /// The row before the change, if there was one, to be shared: its clone is the same row, and costs a
+    /// count. It stays as it is when the table changes. O(1).
+    pub fn share_old(&self) -> Option<&Arc<Row>>
+        ensures { row_of (option_copied result) ≡ self.now.1.0 }
+    {
+        self.old.as_ref()
+    }
+
     /// The row after the change once more, if there is one.
     pub(crate) fn share_new(&self) -> Result<Option<Arc<Row>>, AllocError>
         ensures { IfOk result (λ shared. row_of shared ≡ self.now.1.1) }
