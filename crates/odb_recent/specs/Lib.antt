@@ -1,0 +1,4 @@
+pub mod Undo
+pub mod Recent
+pub mod Kept
+pub mod Represented
