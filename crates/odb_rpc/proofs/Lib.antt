@@ -1,6 +1,8 @@
 pub mod Answered
 pub mod Asked
+mod Examples
 pub mod LeftOut
 pub mod Objects
 pub mod Requests
+mod Resuming
 pub mod Texts

@@ -1,3 +1,4 @@
 pub mod Message
 pub mod Represented
 pub mod Served
+pub mod Since

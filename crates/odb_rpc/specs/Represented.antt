@@ -4,3 +4,4 @@ pub mod Monitor
 pub mod Printable
 pub mod Shared
 pub mod Texts
+pub mod Since

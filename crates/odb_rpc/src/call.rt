@@ -12,6 +12,8 @@ ghost use Rattle.odb_rpc.specs.Served.{served};
 ghost use Rattle.odb_rpc.specs.Represented.Call.{call_view, called, name_of, number_of};
 ghost use Rattle.odb_rpc.specs.Represented.Call.{of_name, outcome, unless};
 ghost use Rattle.odb_rpc.specs.Represented.Printable.{printable_data};
+ghost use Rattle.odb_rpc.specs.Represented.Since.{since_unless};
+ghost use Rattle.odb_rpc.specs.Since.{Since, since_in};
 
 use crate::error::Failure;
 use crate::monitor::{MonitorCall, read_monitor, read_monitor_cancel, read_monitor_change};
@@ -311,8 +313,9 @@ fn id_in(name: &Value) -> Result<&str, CallFault>
 
 /// Whether the database is that of this name.
 pub(crate) fn check_database(name: &Value, database: &str) -> Result<(), CallFault>
-    ensures { (id : Data) → (c : message.Call)
+    ensures call { (id : Data) → (c : message.Call)
         → unless id c result ≡ of_db database.now id (view name.now) c }
+    ensures since { (s : Since) → since_unless s result ≡ since_in database.now (view name.now) s }
 {
     match name.as_str() {
         None => Err(CallFault::Syntax),

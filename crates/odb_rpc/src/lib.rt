@@ -9,6 +9,7 @@ mod error;
 mod monitor;
 mod printable;
 mod shared;
+mod since;
 mod text;
 
 pub use call::{Call, CallFault, has_reply, operations, reply_id};

@@ -112,7 +112,7 @@ pub(crate) fn read_monitor_cancel<'a>(params: &'a [Value]) -> Result<Call<'a>, C
 }
 
 #[tactic(auto, using(crate::proofs::Objects::object_by))]
-fn is_object(value: &Value) -> bool
+pub(crate) fn is_object(value: &Value) -> bool
     ensures { result ≡ is_object (view value.now) }
 {
     value.as_object().is_some()

@@ -2,6 +2,8 @@
 ghost use Rattle.std.specs.Prelude.{◌≡◌, ◌++◌, ◌∷◌, [], List, IfOk, codes};
 ghost use Rattle.serde_json.specs.Data.{Data, string};
 ghost use Rattle.serde_json.specs.Written.{compact_text};
+ghost use Rattle.odb_atoms.specs.Represented.Atom.{uuid_of};
+ghost use Rattle.odb_atoms.specs.Uuid.{uuid_text};
 ghost use Rattle.odb_schema.specs.Json.{array_of};
 ghost use Rattle.odb_rpc.specs.Message.{failure, failure_data, notification, one, reply};
 ghost use Rattle.odb_rpc.specs.Represented.Failure.{failure_of};
@@ -12,6 +14,7 @@ use crate::error::Failure;
 use crate::printable::Printable;
 use json::Writer;
 use std::alloc::{AllocError, Global};
+use uuid::Uuid;
 
 /// The reply of a success (RFC 7047, section 4): `{"error":null,"id":ID,"result":RESULT}`. O(n) for
 /// a text of n bytes.
@@ -116,6 +119,17 @@ fn named_error(alloc: Global, name: &str) -> Result<Vec<u8>, AllocError>
     text = with_string(text, name)?;
     text.push(b'}')?;
     Ok(text)
+}
+
+/// Adds the text of an identifier, with its digits in lower case (RFC 7047, section 5.1, `<uuid>`).
+pub(crate) fn with_identifier(text: Vec<u8>, identifier: Uuid) -> Result<Vec<u8>, AllocError>
+    ensures { IfOk result (λ longer. longer.items ≡ text.items ++ compact_text (string (uuid_text (uuid_of identifier)))) }
+{
+    let mut buffer = [0; 36];
+    // By its number, since that is what contracts say of an identifier.
+    let by_number = Uuid::from_u128(identifier.as_u128());
+    let content = by_number.hyphenated().encode_lower(&mut buffer);
+    with_string(text, content)
 }
 
 #[tactic(auto, using(crate::proofs::Texts::one_printed))]
