@@ -26,3 +26,7 @@ shown_of j = shown j.first (requests_of j) (delta (map (λ p. p.told) j.parts) (
 -- what is sent: nothing where nothing of the difference is left, but that a first reply always is
 abbrev pub updates_of : Job → Option Data
 updates_of j = if j.first || not (is_none (shown_of j)) then Some (table_updates j.notation j.first (shapes (requests_of j)) (shown_of j)) else None
+
+-- what is sent as a reply that is due, whatever is left of the difference
+abbrev pub reply_of : Job → Data
+reply_of j = table_updates j.notation j.first (shapes (requests_of j)) (shown_of j)

@@ -1,9 +1,10 @@
 //! What is owed to the client of a monitor, composed (RFC 7047, sections 4.1.5 and 4.1.6;
 //! ovsdb-server(7), 4.1.12 to 4.1.14). [P 9.3]
-ghost use Rattle.std.specs.Prelude.{◌≡◌, ◌++◌, IfOk, OnOk, flat_map, is_some, not, option_map};
+ghost use Rattle.std.specs.Prelude.{◌≡◌, ◌++◌, ◌∷◌, [], IfOk, OnOk, flat_map, is_some, not, option_map};
 ghost use Rattle.std.specs.List.{list_any};
+ghost use Rattle.json.specs.Token.{begin_object, end_object};
 ghost use Rattle.serde_json.specs.Written.{compact_text};
-ghost use Rattle.odb_monitor.specs.Job.{updates_of};
+ghost use Rattle.odb_monitor.specs.Job.{reply_of, updates_of};
 ghost use Rattle.odb_monitor.specs.Represented.Part.{is_silent, part_tokens};
 ghost use Rattle.odb_request.specs.Represented.Kind.{notation_of};
 
@@ -92,6 +93,23 @@ fn put_parts(
     Ok(shown)
 }
 
+/// Prints the object of the parts, and says whether a row of some part is shown.
+fn put_object(
+    alloc: Global,
+    kind: Kind,
+    first: bool,
+    parts: &[Part<'_>],
+    out: &mut Printer,
+) -> Result<bool, AllocError>
+    ensures tokens { OnOk result (out.new ≡ out.old ++ (begin_object ∷ (flat_map (part_tokens (notation_of kind) first) parts.now ++ end_object ∷ []))) }
+    ensures shown { IfOk result (λ shown. shown ≡ list_any (λ p. not (is_silent first p)) parts.now) }
+{
+    out.begin_object()?;
+    let shown = put_parts(alloc, kind, first, parts, out)?;
+    out.end_object()?;
+    Ok(shown)
+}
+
 /// What is sent of the job, as compact JSON text (RFC 8259): the table updates (RFC 7047, section
 /// 4.1.6) of `monitor`, or those of `monitor_cond` (ovsdb-server(7), 4.1.14), without the kinds of
 /// change that are switched off; `None` where nothing of them is left, but that a first reply is
@@ -103,12 +121,20 @@ pub fn compose(alloc: Global, job: &Job<'_>) -> Result<Option<Vec<u8>>, AllocErr
     ensures { IfOk result (λ text. option_map (λ t. t.items) text ≡ option_map compact_text (updates_of job.now)) }
 {
     let mut out = Printer::new(alloc);
-    out.begin_object()?;
-    let shown = put_parts(alloc, job.kind, job.first, &job.parts, &mut out)?;
-    out.end_object()?;
+    let shown = put_object(alloc, job.kind, job.first, &job.parts, &mut out)?;
     let is_sent = job.first || shown;
     if !is_sent {
         return Ok(None);
     }
     Ok(Some(out.finish()))
+}
+
+/// Makes what is sent of a job whose reply is due whatever is left of it: the text that `compose` has, and `{}` where that
+/// has none. It costs as much.
+pub(crate) fn compose_reply(alloc: Global, job: &Job<'_>) -> Result<Vec<u8>, AllocError>
+    ensures { IfOk result (λ text. text.items ≡ compact_text (reply_of job.now)) }
+{
+    let mut out = Printer::new(alloc);
+    let _shown = put_object(alloc, job.kind, job.first, &job.parts, &mut out)?;
+    Ok(out.finish())
 }
