@@ -9,7 +9,7 @@ use Rattle.odb_service.specs.Server.{Server, served_by}
 use Rattle.odb_service.specs.Service.{Service}
 use Rattle.odb_service.specs.Run.{take_each, take_of}
 use Rattle.odb_service.specs.Session.{Session, take}
-use Rattle.odb_service.specs.World.{World, close}
+use Rattle.odb_service.specs.World.{World, close, revision_of}
 use Rattle.odb_core.specs.Represented.Core.{AreUnused, IsValid, empty_world}
 use Rattle.odb_service.proofs.WhoIsOpen as open_ones
 use Rattle.odb_service.proofs.SessionMaps.{get-insert, same_key}
@@ -21,9 +21,9 @@ new_sound s = (empty_sound s, λ h. refl, unused_in_none)
 -- a taking leaves who is open
 takes_one : (h : Service) (s q : ℕ) (w : World) (o : Option Session) → get w.sessions s ≡ o → is_some (get (take_of h s o w).0.sessions q) ≡ is_some (get w.sessions q)
 takes_one h s q w None e = refl
-takes_one h s q w (Some x) e = ap is_some (get-insert w.sessions s (take h w.db x).1 q) ∙ here (eq_by_cmp nat_cmp q s) refl
+takes_one h s q w (Some x) e = ap is_some (get-insert w.sessions s (take h (revision_of w) x).1 q) ∙ here (eq_by_cmp nat_cmp q s) refl
   where
-    here : (b : Bool) → eq_by_cmp nat_cmp q s ≡ b → is_some (cond b (Some (take h w.db x).1) (get w.sessions q)) ≡ is_some (get w.sessions q)
+    here : (b : Bool) → eq_by_cmp nat_cmp q s ≡ b → is_some (cond b (Some (take h (revision_of w) x).1) (get w.sessions q)) ≡ is_some (get w.sessions q)
     here true is = ap is_some (sym (ap (get w.sessions) (same_key q s is) ∙ e))
     here false is = refl
 

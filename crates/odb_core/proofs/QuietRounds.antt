@@ -9,7 +9,7 @@ use Rattle.odb_service.specs.Run.{Refusal, Sent, once, round, sent, take_each, t
 use Rattle.odb_service.specs.Server.{Server, printed, serve, served_by}
 use Rattle.odb_service.specs.Service.{Service}
 use Rattle.odb_service.specs.Session.{Out, Session, take}
-use Rattle.odb_service.specs.World.{World}
+use Rattle.odb_service.specs.World.{World, revision_of}
 use Rattle.odb_service.proofs.SessionMaps.{get-insert, same_key}
 use Rattle.odb_core.specs.Represented.Core.{IsQuietBut}
 use Rattle.odb_sessions.specs.Book.{Sessions}
@@ -60,9 +60,9 @@ once-filter p (s ∷ ss) = by (p s) refl (once-filter p ss)
 
 -- a taking of an open session that isn't among them gives nothing and changes nothing
 abbrev AreQuiet : (ℕ → Bool) → Service → World → Type 0
-AreQuiet p h w = (q : ℕ) (x : Session) → p q ≡ false → get w.sessions q ≡ Some x → take h w.db x ≡ (None, x)
+AreQuiet p h w = (q : ℕ) (x : Session) → p q ≡ false → get w.sessions q ≡ Some x → take h (revision_of w) x ≡ (None, x)
 
-nothing_taken : (h : Service) (w : World) (s : ℕ) (o : Option Session) → get w.sessions s ≡ o → ((x : Session) → o ≡ Some x → take h w.db x ≡ (None, x)) → take_of h s o w ≡ (w, [])
+nothing_taken : (h : Service) (w : World) (s : ℕ) (o : Option Session) → get w.sessions s ≡ o → ((x : Session) → o ≡ Some x → take h (revision_of w) x ≡ (None, x)) → take_of h s o w ≡ (w, [])
 nothing_taken h w s None there quiet = refl
 nothing_taken h w s (Some x) there quiet =
     ap (λ (t : Option Out × Session). let r : World × List Sent = (record w { sessions = insert w.sessions s t.1 }, sent s t.0) in r) (quiet x refl)
@@ -71,7 +71,7 @@ nothing_taken h w s (Some x) there quiet =
 still_quiet : (p : ℕ → Bool) (h : Service) (w : World) (s : ℕ) → p s ≡ true → (o : Option Session) → AreQuiet p h w → AreQuiet p h (take_of h s o w).0
 still_quiet p h w s is_in None quiet = quiet
 still_quiet p h w s is_in (Some y) quiet = λ q x out there.
-    quiet q x out (sym (get-insert w.sessions s (take h w.db y).1 q ∙ ap (λ c. cond c (Some (take h w.db y).1) (get w.sessions q)) (apart q out (eq_by_cmp nat_cmp q s) refl)) ∙ there)
+    quiet q x out (sym (get-insert w.sessions s (take h (revision_of w) y).1 q ∙ ap (λ c. cond c (Some (take h (revision_of w) y).1) (get w.sessions q)) (apart q out (eq_by_cmp nat_cmp q s) refl)) ∙ there)
   where
     apart : (q : ℕ) → p q ≡ false → (b : Bool) → eq_by_cmp nat_cmp q s ≡ b → b ≡ false
     apart q out true tie = absurd (true≢false (sym is_in ∙ ap p (sym (same_key q s tie)) ∙ out))

@@ -17,7 +17,7 @@ use Rattle.odb_service.specs.Run.{Event, Refusal, State, beginning, busy, closed
 use Rattle.odb_service.specs.Service.{Service, ended, service, waiting}
 use Rattle.odb_rpc.specs.Message.{call_of, reply}
 use Rattle.odb_service.specs.Session.{Answers, Item, Monitor, Out, Session, Watch, asked, drained, no_request, owed, renamed, say, shift, stopped, sync, to, told_of}
-use Rattle.odb_service.specs.World.{owed_replies, untried}
+use Rattle.odb_service.specs.World.{owed_replies, revision_of, untried}
 use Rattle.odb_monitor.specs.View.{View, delta, is_none, query, shown}
 use Rattle.odb_request.specs.Request.{Request}
 use Rattle.odb_schema.specs.SchemaText.{schema_of_text}
@@ -50,10 +50,10 @@ module _ (h : Service) where
 
   -- at a session of a state
   abbrev brought : State → ℕ → Session → Bool
-  brought st s x = elim (client h (st.given s ++ owed h st.world.db x)) [ None ↦ false | Some ps ↦ list_all (λ p. is_now st.world.db p.requests p.view) ps ]
+  brought st s x = elim (client h (st.given s ++ owed h (revision_of st.world) x)) [ None ↦ false | Some ps ↦ list_all (λ p. is_now st.world.db p.requests p.view) ps ]
 
   abbrev known : State → ℕ → Session → Bool
-  known st s x = elim (client h (st.given s ++ owed h st.world.db x)) [ None ↦ false | Some ps ↦ pointwise (λ p k. bytes_eq (h.printed p.id) (h.printed k.id)) ps (asked h x) ]
+  known st s x = elim (client h (st.given s ++ owed h (revision_of st.world) x)) [ None ↦ false | Some ps ↦ pointwise (λ p k. bytes_eq (h.printed p.id) (h.printed k.id)) ps (asked h x) ]
 
   abbrev minimal : State → ℕ → Session → Bool
   minimal st s x = is_some (client h (st.given s))
@@ -97,27 +97,27 @@ module _ (h : Service) where
   changed_from st s a (o ∷ b) = changed_at st s a o && changed_from st s (a ++ o ∷ []) b
 
   abbrev changed : State → ℕ → Session → Bool
-  changed st s x = changed_from st s [] (owed h st.world.db x)
+  changed st s x = changed_from st s [] (owed h (revision_of st.world) x)
 
   abbrev dropped_from : State → ℕ → List Out → List Out → Bool
   dropped_from st s a [] = true
   dropped_from st s a (o ∷ b) = dropped_at st s a o && dropped_from st s (a ++ o ∷ []) b
 
   abbrev dropped : State → ℕ → Session → Bool
-  dropped st s x = dropped_from st s [] (owed h st.world.db x)
+  dropped st s x = dropped_from st s [] (owed h (revision_of st.world) x)
 
   abbrev dries_in : ℕ → State → ℕ → Session → Bool
   dries_in n st s x = elim (run h (replicate n (turn s)) st) [
-    | Ok now ↦ same_outs (now.given s) (st.given s ++ owed h st.world.db x) && (now.world.commits == st.world.commits)
+    | Ok now ↦ same_outs (now.given s) (st.given s ++ owed h (revision_of st.world) x) && (now.world.commits == st.world.commits)
     | Err e ↦ false
   ]
 
   -- in as many turns as there are messages, and in one more
   abbrev dries : State → ℕ → Session → Bool
-  dries st s x = dries_in (length (owed h st.world.db x)) st s x && dries_in (length (owed h st.world.db x) + 1) st s x
+  dries st s x = dries_in (length (owed h (revision_of st.world) x)) st s x && dries_in (length (owed h (revision_of st.world) x) + 1) st s x
 
   abbrev one_turn : State → ℕ → Session → Bool
-  one_turn st s x = elim (next h (turn s) st) [ Ok now ↦ same_outs (now.given s) (st.given s ++ option_to_list (session.take h st.world.db x).0) | Err e ↦ false ]
+  one_turn st s x = elim (next h (turn s) st) [ Ok now ↦ same_outs (now.given s) (st.given s ++ option_to_list (session.take h (revision_of st.world) x).0) | Err e ↦ false ]
 
   -- 0 and 1 are listed twice, and 7 isn't open
   abbrev many_turns : State → ℕ → Session → Bool
@@ -129,8 +129,8 @@ module _ (h : Service) where
   abbrev answered : State → ℕ → Session → Bool
   answered st s x =
       list_all (λ d. let is : Data → Bool = λ c. bytes_eq (h.printed c) (h.printed d) in
-      count_by is (st.requests s) == count_by (answers_one h is) (st.given s ++ owed h st.world.db x) + count_by (λ p. (p.session == s) && is p.request) st.world.waiting) (st.requests s)
-      && (length (st.requests s) == count_by (answers_one h (λ d. true)) (st.given s ++ owed h st.world.db x) + count_by (λ p. p.session == s) st.world.waiting)
+      count_by is (st.requests s) == count_by (answers_one h is) (st.given s ++ owed h (revision_of st.world) x) + count_by (λ p. (p.session == s) && is p.request) st.world.waiting) (st.requests s)
+      && (length (st.requests s) == count_by (answers_one h (λ d. true)) (st.given s ++ owed h (revision_of st.world) x) + count_by (λ p. p.session == s) st.world.waiting)
 
   abbrev counted : State → ℕ → Session → Bool
   counted st s x = (length (st.requests s) == count_by (answers_one h (λ d. true)) (st.given s) + owed_replies h s x st.world) && nat_le (owed_replies h s x st.world) 256
@@ -159,7 +159,7 @@ module _ (h : Service) where
   has_turn s (closed t) = false
 
   abbrev is_changing : State → ℕ → Session → Picture → Bool
-  is_changing st s x p = elim (owed h st.world.db x) [ [] ↦ false | o ∷ os ↦ by o o.answers ]
+  is_changing st s x p = elim (owed h (revision_of st.world) x) [ [] ↦ false | o ∷ os ↦ by o o.answers ]
     where
       of : Out → Wish → Bool
       of o (adds n i d) = false
@@ -208,7 +208,7 @@ module _ (h : Service) where
   told_before st (round ss) now = true
   told_before st (submitted s d fresh t) now = elim st.world.waiting [
     | p ∷ ps ↦ true
-    | [] ↦ (if now.world.commits == st.world.commits then true else elim (get now.world.sessions s) [ None ↦ true | Some y ↦ last_answers d (owed h now.world.db y) ])
+    | [] ↦ (if now.world.commits == st.world.commits then true else elim (get now.world.sessions s) [ None ↦ true | Some y ↦ last_answers d (owed h (revision_of now.world) y) ])
   ]
 
   -- ---- right after a request
@@ -232,7 +232,7 @@ module _ (h : Service) where
       (are_notices b && (answers_one h (λ c. bytes_eq (h.printed c) (h.printed d)) o && (not (is_granted o.message) || is_whole_by st s a o (wish_of d)))) || replied_from d st s (a ++ o ∷ []) b
 
   abbrev replied : Data → State → ℕ → Session → Bool
-  replied d st s x = replied_from d st s [] (owed h st.world.db x)
+  replied d st s x = replied_from d st s [] (owed h (revision_of st.world) x)
 
   abbrev replied_at_once : State → Event → State → Bool
   replied_at_once st (opened s) now = true
@@ -250,7 +250,7 @@ module _ (h : Service) where
   abbrev keeps_order : State → Event → State → ℕ → Session → Bool
   keeps_order st e now s x = elim (get st.world.sessions s) [
     | None ↦ true
-    | Some y ↦ opens e s || goes_before (answered_in (st.given s ++ owed h st.world.db y)) (answered_in (now.given s ++ owed h now.world.db x))
+    | Some y ↦ opens e s || goes_before (answered_in (st.given s ++ owed h (revision_of st.world) y)) (answered_in (now.given s ++ owed h (revision_of now.world) x))
   ]
 
   abbrev sessions_stay : State → Event → State → ℕ → Bool
@@ -727,7 +727,7 @@ pub view_that_stays : of_session (λ h st x. comes_to h st x x) run_off ≡ Some
 unfolding shows
 view_that_stays = refl
 
-pub modify_that_is_on_is_sent : of_session (λ h st x. said_before h st 0 x && owes_cut h st x (owed h st.world.db x)) run_modified ≡ Some true
+pub modify_that_is_on_is_sent : of_session (λ h st x. said_before h st 0 x && owes_cut h st x (owed h (revision_of st.world) x)) run_modified ≡ Some true
 unfolding shows
 modify_that_is_on_is_sent = refl
 

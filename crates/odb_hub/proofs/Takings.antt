@@ -9,7 +9,7 @@ use Rattle.odb_service.specs.Run.{Sent, once, sent, sent_to, take_each, take_of}
 use Rattle.odb_service.specs.Server.{printed}
 use Rattle.odb_service.specs.Service.{Service}
 use Rattle.odb_service.specs.Session.{Out, Session, take}
-use Rattle.odb_service.specs.World.{World}
+use Rattle.odb_service.specs.World.{World, revision_of}
 
 pub sent_to-append : (t : ℕ) (xs ys : List Sent) → sent_to t (xs ++ ys) ≡ sent_to t xs ++ sent_to t ys
 sent_to-append t [] ys = refl
@@ -78,7 +78,7 @@ not_in_once t (s ∷ ss) e =
 module _ (h : Service) where
   of_one : (t s : ℕ) (o : Option Session) (w : World) → length (sent_to t (take_of h s o w).1) ≤ cond (s == t) 1 0
   of_one t s None w = omega arith
-  of_one t s (Some x) w = by (take h w.db x).0
+  of_one t s (Some x) w = by (take h (revision_of w) x).0
     where
       by : (o : Option Out) → length (sent_to t (sent s o)) ≤ cond (s == t) 1 0
       by None = omega arith

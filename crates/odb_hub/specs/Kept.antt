@@ -7,7 +7,7 @@ use Rattle.odb_service.specs.History.{IsHistory}
 use Rattle.odb_service.specs.Run.{Event, round}
 use Rattle.odb_service.specs.Server.{Server, serve, served_by, server_code}
 use Rattle.odb_service.specs.Session.{Out, Session, take}
-use Rattle.odb_service.specs.World.{World}
+use Rattle.odb_service.specs.World.{World, revision_of}
 use Rattle.odb_service.specs.WorldCode.{world_code}
 use Rattle.odb_hub.specs.EventCode.{events_code}
 use Rattle.odb_hub.specs.Rings.{IsServed, Ring, Rings, Text, rings_code, texts, texts_to}
@@ -48,7 +48,7 @@ IsKept k = ((given : ℕ → List Out) × IsHistory (served_by k.server.schema) 
 
 -- a taking of an open session gives nothing and changes nothing
 abbrev pub IsQuiet : Server → Type 0
-IsQuiet s = (q : ℕ) (x : Session) → get s.world.sessions q ≡ Some x → take (served_by s.schema) s.world.db x ≡ (None, x)
+IsQuiet s = (q : ℕ) (x : Session) → get s.world.sessions q ≡ Some x → take (served_by s.schema) (revision_of s.world) x ≡ (None, x)
 
 -- no session has a ring under a number that is still to be given
 abbrev pub AreUnused : Rings → ℕ → Type 0

@@ -16,7 +16,7 @@ use Rattle.odb_law.specs.Law.{IsAnsweredOnce, IsCounted, answers_one}
 use Rattle.odb_service.specs.Run.{Event, Sent, State, after, beginning, closed, max_owed, once, opened, round, submitted, take_each, take_of, ticked}
 use Rattle.odb_service.specs.Service.{Service}
 use Rattle.odb_service.specs.Session.{Answers, Session, label, no_request, owed, take, to, is_answer}
-use Rattle.odb_service.specs.World.{World, at_moment, close, handle, owed_replies, tick}
+use Rattle.odb_service.specs.World.{World, at_moment, close, handle, owed_replies, revision_of, tick}
 use Rattle.odb_monitor.proofs.Views.{some_is}
 use Rattle.odb_rpc.specs.Message.{Call, call_of, has_reply}
 use Rattle.odb_service.proofs.Each.{Each}
@@ -36,9 +36,9 @@ module _ (h : Service) where
   pub answered_once : HoldsAlways h (IsAnsweredOnce h)
   answered_once st r s x found is =
       let a : count is (st.requests s) ≡ count (answers_one h is) (st.given s) + (queued h is x.queue + count_waiting h is s st.world.waiting) = reached_balanced h is st r s x found in
-      let b : count (answers_one h is) (st.given s ++ owed h st.world.db x) ≡ count (answers_one h is) (st.given s) + count (answers_one h is) (owed h st.world.db x) = count-append (answers_one h is) (st.given s) (owed h st.world.db x) in
-      let c : count (answers_one h is) (owed h st.world.db x) ≡ queued h is x.queue = owed_label h is st.world.db x.queue x.monitors in
-      let d : count (answers_one h is) (st.given s ++ owed h st.world.db x) ≡ count_by (answers_one h is) (st.given s ++ owed h st.world.db x) = count-is (answers_one h is) (st.given s ++ owed h st.world.db x) in
+      let b : count (answers_one h is) (st.given s ++ owed h (revision_of st.world) x) ≡ count (answers_one h is) (st.given s) + count (answers_one h is) (owed h (revision_of st.world) x) = count-append (answers_one h is) (st.given s) (owed h (revision_of st.world) x) in
+      let c : count (answers_one h is) (owed h (revision_of st.world) x) ≡ queued h is x.queue = owed_label h is (revision_of st.world) x.queue x.monitors in
+      let d : count (answers_one h is) (st.given s ++ owed h (revision_of st.world) x) ≡ count_by (answers_one h is) (st.given s ++ owed h (revision_of st.world) x) = count-is (answers_one h is) (st.given s ++ owed h (revision_of st.world) x) in
       let e : count_waiting h is s st.world.waiting ≡ count_by (λ p. (p.session == s) && is p.request) st.world.waiting = count-is (λ p. (p.session == s) && is p.request) st.world.waiting in
       let f : count is (st.requests s) ≡ count_by is (st.requests s) = count-is is (st.requests s) in
       omega (arith, a, b, c, d, e, f)
@@ -90,15 +90,15 @@ module _ (h : Service) where
   take_of_bounded : (t : ℕ) (o : Option Session) (w : World) → get w.sessions t ≡ o → AreBounded w → AreBounded (take_of h t o w).0
   take_of_bounded t None w e k = k
   take_of_bounded t (Some x) w e k = λ s y found.
-      elim (eq_by_cmp nat_cmp s t) as (λ b. eq_by_cmp nat_cmp s t ≡ b → cond b (Some (take h w.db x).1) (get w.sessions s) ≡ Some y → queued h any y.queue + count_waiting h any s w.waiting ≤ max_owed) [
+      elim (eq_by_cmp nat_cmp s t) as (λ b. eq_by_cmp nat_cmp s t ≡ b → cond b (Some (take h (revision_of w) x).1) (get w.sessions s) ≡ Some y → queued h any y.queue + count_waiting h any s w.waiting ≤ max_owed) [
         | true ↦ λ tie is. subst (λ (u : ℕ). queued h any y.queue + count_waiting h any u w.waiting ≤ max_owed) (sym (same_key s t tie))
-            (subst (λ (z : Session). queued h any z.queue + count_waiting h any t w.waiting ≤ max_owed) (some_is (take h w.db x).1 y is) here)
+            (subst (λ (z : Session). queued h any z.queue + count_waiting h any t w.waiting ≤ max_owed) (some_is (take h (revision_of w) x).1 y is) here)
         | false ↦ λ _ is. k s y is
-      ] refl (sym (get-insert w.sessions t (take h w.db x).1 s) ∙ found)
+      ] refl (sym (get-insert w.sessions t (take h (revision_of w) x).1 s) ∙ found)
     where
-      here : queued h any (take h w.db x).1.queue + count_waiting h any t w.waiting ≤ max_owed
+      here : queued h any (take h (revision_of w) x).1.queue + count_waiting h any t w.waiting ≤ max_owed
       here =
-          let a : outs h any (option_to_list (take h w.db x).0) + queued h any (take h w.db x).1.queue ≡ queued h any x.queue = from_label h any w.db x.queue x.monitors in
+          let a : outs h any (option_to_list (take h (revision_of w) x).0) + queued h any (take h (revision_of w) x).1.queue ≡ queued h any x.queue = from_label h any (revision_of w) x.queue x.monitors in
           let b : queued h any x.queue + count_waiting h any t w.waiting ≤ max_owed = k t x e in
           omega (arith, a, b)
 

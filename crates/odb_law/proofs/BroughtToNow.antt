@@ -14,8 +14,8 @@ use Rattle.odb_law.proofs.WorldInvariant.{Holds, StandsAfter}
 use Rattle.odb_law.specs.Client.{Picture, adds, changes, client, client_step, drops, is_reply_to, on_granted, refiltered, wish_of}
 use Rattle.odb_law.specs.Headline.{HoldsAlways, IsChangedWhole, IsDroppedWhole, IsNow, ReadsNamed, WasLast, is_granted, pictured}
 use Rattle.odb_service.specs.Service.{Service}
-use Rattle.odb_service.specs.Session.{Answers, Item, Monitor, Out, Session, at_first, brought, first_out, gives, granted as granted_to, has_id, leaves, no_request, owed, owed_from, refilter, renamed, say, shift, start, stopped, sync, to, update_to}
-use Rattle.odb_service.specs.World.{watched}
+use Rattle.odb_service.specs.Session.{Answers, Item, Monitor, Out, Revision, Session, at_first, brought, first_out, gives, granted as granted_to, has_id, leaves, no_request, owed, owed_from, refilter, renamed, say, shift, start, stopped, sync, to, update_to}
+use Rattle.odb_service.specs.World.{revision_of, watched}
 use Rattle.odb_monitor.proofs.Views.{some_is}
 use Rattle.odb_monitor.specs.Names.{AreDistinct}
 use Rattle.odb_monitor.specs.View.{is_none, query}
@@ -90,31 +90,31 @@ module _ (h : Service) where
   refiltered_none old new (Err e) = refl
 
   -- with the queue empty, nothing is an answer
-  rest_unlabelled : (db : Db) (ms : List Monitor) (a : List Out) (o : Out) (b : List Out) (d : Data) → filter_map (λ m. update_to h db m.watch.requests m) ms ≡ a ++ o ∷ b → o.answers ≡ to d → ⊥
-  rest_unlabelled db [] a o b d e label = no_empty a o b e
-  rest_unlabelled db (m ∷ ms) a o b d e label =
-      by (first_or_rest (update_to h db m.watch.requests m) (filter_map (λ m. update_to h db m.watch.requests m) ms) a o b (sym (cons-list (update_to h db m.watch.requests m) (filter_map (λ m. update_to h db m.watch.requests m) ms)) ∙ e))
-      (λ c is. rest_unlabelled db ms c o b d is label)
+  rest_unlabelled : (revision : Revision) (ms : List Monitor) (a : List Out) (o : Out) (b : List Out) (d : Data) → filter_map (λ m. update_to h revision m.watch.requests m) ms ≡ a ++ o ∷ b → o.answers ≡ to d → ⊥
+  rest_unlabelled revision [] a o b d e label = no_empty a o b e
+  rest_unlabelled revision (m ∷ ms) a o b d e label =
+      by (first_or_rest (update_to h revision m.watch.requests m) (filter_map (λ m. update_to h revision m.watch.requests m) ms) a o b (sym (cons-list (update_to h revision m.watch.requests m) (filter_map (λ m. update_to h revision m.watch.requests m) ms)) ∙ e))
+      (λ c is. rest_unlabelled revision ms c o b d is label)
     where
-      update : (c : Bool) → cond c None (Some (message_of h db m.watch.requests m)) ≡ Some o → ⊥
+      update : (c : Bool) → cond c None (Some (message_of h revision.db m.watch.requests m)) ≡ Some o → ⊥
       update true f = absurd (true≢false (sym (ap is_some f)))
-      update false f = unlabelled d (ap (λ (x : Out). x.answers) (some_is (message_of h db m.watch.requests m) o f) ∙ label)
+      update false f = unlabelled d (ap (λ (x : Out). x.answers) (some_is (message_of h revision.db m.watch.requests m) o f) ∙ label)
 
-      by : ((update_to h db m.watch.requests m ≡ Some o) × (a ≡ [])) ⊎ InRest (update_to h db m.watch.requests m) (filter_map (λ m. update_to h db m.watch.requests m) ms) a o b
-          → ((c : List Out) → filter_map (λ m. update_to h db m.watch.requests m) ms ≡ c ++ o ∷ b → ⊥) → ⊥
-      by (inl f) later = update (is_none (change_to h db m.watch.requests m)) f.0
+      by : ((update_to h revision m.watch.requests m ≡ Some o) × (a ≡ [])) ⊎ InRest (update_to h revision m.watch.requests m) (filter_map (λ m. update_to h revision m.watch.requests m) ms) a o b
+          → ((c : List Out) → filter_map (λ m. update_to h revision m.watch.requests m) ms ≡ c ++ o ∷ b → ⊥) → ⊥
+      by (inl f) later = update (is_none (change_to h revision.db m.watch.requests m)) f.0
       by (inr r) later = later r.0 r.2
 
-  found_unlabelled : (db : Db) (q : Monitor → List Request) (j : Data) (ms : List Monitor) (o : Out) (d : Data) → option_and_then (λ m. update_to h db (q m) m) (find (has_id h j) ms) ≡ Some o → o.answers ≡ to d → ⊥
-  found_unlabelled db q j ms o d e label = by (find (has_id h j) ms) e
+  found_unlabelled : (revision : Revision) (q : Monitor → List Request) (j : Data) (ms : List Monitor) (o : Out) (d : Data) → option_and_then (λ m. update_to h revision (q m) m) (find (has_id h j) ms) ≡ Some o → o.answers ≡ to d → ⊥
+  found_unlabelled revision q j ms o d e label = by (find (has_id h j) ms) e
     where
-      update : (m : Monitor) (c : Bool) → cond c None (Some (message_of h db (q m) m)) ≡ Some o → ⊥
+      update : (m : Monitor) (c : Bool) → cond c None (Some (message_of h revision.db (q m) m)) ≡ Some o → ⊥
       update m true f = absurd (true≢false (sym (ap is_some f)))
-      update m false f = unlabelled d (ap (λ (x : Out). x.answers) (some_is (message_of h db (q m) m) o f) ∙ label)
+      update m false f = unlabelled d (ap (λ (x : Out). x.answers) (some_is (message_of h revision.db (q m) m) o f) ∙ label)
 
-      by : (m : Option Monitor) → option_and_then (λ m. update_to h db (q m) m) m ≡ Some o → ⊥
+      by : (m : Option Monitor) → option_and_then (λ m. update_to h revision (q m) m) m ≡ Some o → ⊥
       by None f = absurd (true≢false (sym (ap is_some f)))
-      by (Some m) f = update m (is_none (change_to h db (q m) m)) f
+      by (Some m) f = update m (is_none (change_to h revision.db (q m) m)) f
 
   -- ---- the monitor of a reply that takes effect
 
@@ -193,14 +193,14 @@ module _ (h : Service) where
 
   -- ---- the item that a message answers with
 
-  record Located (db : Db) (X : Data → Type 0) (os a : List Out) (o : Out) : Type 0 where
+  record Located (revision : Revision) (X : Data → Type 0) (os a : List Out) (o : Out) : Type 0 where
     item : Item
     behind : List Item
     monitors : List Monitor
     well : IsWell h (record { queue = item ∷ behind; monitors = monitors })
     heard : client h (os ++ a) ≡ Some (map seen monitors)
-    gave : gives h db item monitors ≡ Some o
-    ready : ReadyFor db (λ i. (a ≡ []) × X i) item monitors
+    gave : gives h revision item monitors ≡ Some o
+    ready : ReadyFor revision.db (λ i. (a ≡ []) × X i) item monitors
 
   ready_here : (db : Db) (X : Data → Type 0) (a : List Out) (i : Item) (ms : List Monitor) → a ≡ [] → ReadyFor db X i ms → ReadyFor db (λ i. (a ≡ []) × X i) i ms
   ready_here db X a (say l m) ms e r = tt
@@ -222,15 +222,15 @@ module _ (h : Service) where
   ready_later db X a c (stopped d i) ms (inl s) = inl s
   ready_later db X a c (stopped d i) ms (inr x) = absurd x.1
 
-  located : (db : Db) (X : Data → Type 0) (q : List Item) (ms : List Monitor) (os a : List Out) (o : Out) (b : List Out) (d : Data) → IsWell h (record { queue = q; monitors = ms }) → client h os ≡ Some (map seen ms) → Ready db X q ms
-      → owed_from h db q ms ≡ a ++ o ∷ b → o.answers ≡ to d → Located db X os a o
-  located db X [] ms os a o b d k c ready e label = absurd (rest_unlabelled db ms a o b d e label)
-  located db X (p ∷ q) ms os a o b d k c ready e label =
-      by (first_or_rest (gives h db p ms) (owed_from h db q (leaves h db p ms)) a o b e)
-      (λ r. located db Never q (leaves h db p ms) (os ++ option_to_list (gives h db p ms)) r.0 o b d (next_well h db p q ms k) (client_item h db p ms os k.items.0 k.distinct.1 k.kept c) (next_ready db p q ms k.order (next_well h db p q ms k)) r.2 label)
+  located : (revision : Revision) (X : Data → Type 0) (q : List Item) (ms : List Monitor) (os a : List Out) (o : Out) (b : List Out) (d : Data) → IsWell h (record { queue = q; monitors = ms }) → client h os ≡ Some (map seen ms) → Ready revision.db X q ms
+      → owed_from h revision q ms ≡ a ++ o ∷ b → o.answers ≡ to d → Located revision X os a o
+  located revision X [] ms os a o b d k c ready e label = absurd (rest_unlabelled revision ms a o b d e label)
+  located revision X (p ∷ q) ms os a o b d k c ready e label =
+      by (first_or_rest (gives h revision p ms) (owed_from h revision q (leaves h revision.db p ms)) a o b e)
+      (λ r. located revision Never q (leaves h revision.db p ms) (os ++ option_to_list (gives h revision p ms)) r.0 o b d (next_well h revision.db p q ms k) (client_item h revision p ms os k.items.0 k.distinct.1 k.kept c) (next_ready revision.db p q ms k.order (next_well h revision.db p q ms k)) r.2 label)
     where
-      by : ((gives h db p ms ≡ Some o) × (a ≡ [])) ⊎ InRest (gives h db p ms) (owed_from h db q (leaves h db p ms)) a o b
-          → ((r : InRest (gives h db p ms) (owed_from h db q (leaves h db p ms)) a o b) → Located db Never (os ++ option_to_list (gives h db p ms)) r.0 o) → Located db X os a o
+      by : ((gives h revision p ms ≡ Some o) × (a ≡ [])) ⊎ InRest (gives h revision p ms) (owed_from h revision q (leaves h revision.db p ms)) a o b
+          → ((r : InRest (gives h revision p ms) (owed_from h revision q (leaves h revision.db p ms)) a o b) → Located revision Never (os ++ option_to_list (gives h revision p ms)) r.0 o) → Located revision X os a o
       by (inl f) later = record {
         item = p;
         behind = q;
@@ -238,18 +238,18 @@ module _ (h : Service) where
         well = k;
         heard = ap (λ a. client h (os ++ a)) f.1 ∙ ap (client h) (append-nil os) ∙ c;
         gave = f.0;
-        ready = ready_here db X a p ms f.1 ready;
+        ready = ready_here revision.db X a p ms f.1 ready;
       }
       by (inr r) later =
-          let l : Located db Never (os ++ option_to_list (gives h db p ms)) r.0 o = later r in
+          let l : Located revision Never (os ++ option_to_list (gives h revision p ms)) r.0 o = later r in
           record {
             item = l.item;
             behind = l.behind;
             monitors = l.monitors;
             well = l.well;
-            heard = ap (client h) (ap (λ t. os ++ t) r.1 ∙ sym (append_assoc os (option_to_list (gives h db p ms)) r.0)) ∙ l.heard;
+            heard = ap (client h) (ap (λ t. os ++ t) r.1 ∙ sym (append_assoc os (option_to_list (gives h revision p ms)) r.0)) ∙ l.heard;
             gave = l.gave;
-            ready = ready_later db X a r.0 l.item l.monitors l.ready;
+            ready = ready_later revision.db X a r.0 l.item l.monitors l.ready;
           }
 
   -- at the head of the queue
@@ -262,8 +262,8 @@ module _ (h : Service) where
   first_ready db (renamed d old new fs ∷ q) ms os s = inr s
   first_ready db (stopped d i ∷ q) ms os s = inr s
 
-  at_session : (db : Db) (x : Session) (os a : List Out) (o : Out) (b : List Out) (d : Data) → Holds h x os → owed h db x ≡ a ++ o ∷ b → o.answers ≡ to d → Located db (λ i. WasLast h i os) os a o
-  at_session db x os a o b d k e label = located db (λ i. WasLast h i os) x.queue x.monitors os a o b d k.0 k.1 (first_ready db x.queue x.monitors os k.2) e label
+  at_session : (revision : Revision) (x : Session) (os a : List Out) (o : Out) (b : List Out) (d : Data) → Holds h x os → owed h revision x ≡ a ++ o ∷ b → o.answers ≡ to d → Located revision (λ i. WasLast h i os) os a o
+  at_session revision x os a o b d k e label = located revision (λ i. WasLast h i os) x.queue x.monitors os a o b d k.0 k.1 (first_ready revision.db x.queue x.monitors os k.2) e label
 
   labelled : (u o : Out) (r d : Data) → u.answers ≡ to r → Some u ≡ Some o → o.answers ≡ to d → r ≡ d
   labelled u o r d own e label = same_request r d (sym own ∙ ap (λ (x : Out). x.answers) (some_is u o e) ∙ label)
@@ -279,65 +279,65 @@ module _ (h : Service) where
       let f : (m : Monitor) × (find (has_id h i) ms ≡ Some m) = found_watched i ms there in
       (seen f.0, pictured_seen h i os ms f.0 c f.1, inr y)
 
-  pub item_dropped : (db : Db) (Y : Data → Type 0) (p : Item) (q : List Item) (ms : List Monitor) (os : List Out) (o : Out) (d i : Data) → IsWell h (record { queue = p ∷ q; monitors = ms }) → client h os ≡ Some (map seen ms) → ReadyFor db Y p ms
-      → gives h db p ms ≡ Some o → o.answers ≡ to d → is_granted o.message ≡ true → wish_of d ≡ drops i → Dropped db Y os i
-  item_dropped db Y (say l m) q ms os o d i k c ready e label granted is =
+  pub item_dropped : (revision : Revision) (Y : Data → Type 0) (p : Item) (q : List Item) (ms : List Monitor) (os : List Out) (o : Out) (d i : Data) → IsWell h (record { queue = p ∷ q; monitors = ms }) → client h os ≡ Some (map seen ms) → ReadyFor revision.db Y p ms
+      → gives h revision p ms ≡ Some o → o.answers ≡ to d → is_granted o.message ≡ true → wish_of d ≡ drops i → Dropped revision.db Y os i
+  item_dropped revision Y (say l m) q ms os o d i k c ready e label granted is =
       let x : (let u : Out = record { answers = l; message = m } in u) ≡ o = some_is _ o e in
       absurd (said l m d k.items.0.0 (ap (λ (u : Out). u.answers) x ∙ label) (ap (λ (u : Out). is_granted u.message) x ∙ granted) (ap (λ w. on_granted h w (at_key (codes "result") m) []) is))
-  item_dropped db Y (start r w) q ms os o d i k c ready e label granted is =
-      absurd (add_drop w.notation w.id k.items.0.2.0 i (sym k.items.0.2.1 ∙ ap wish_of (labelled (first_out h db r w) o r d refl e label) ∙ is))
-  item_dropped db Y (sync j) q ms os o d i k c ready e label granted is = absurd (found_unlabelled db (λ m. m.watch.requests) j ms o d e label)
-  item_dropped db Y (shift j fs) q ms os o d i k c ready e label granted is = absurd (found_unlabelled db (λ m. refilter fs m.watch.requests) j ms o d e label)
-  item_dropped db Y (renamed r old new fs) q ms os o d i k c ready e label granted is =
+  item_dropped revision Y (start r w) q ms os o d i k c ready e label granted is =
+      absurd (add_drop w.notation w.id k.items.0.2.0 i (sym k.items.0.2.1 ∙ ap wish_of (labelled (first_out h revision r w) o r d refl e label) ∙ is))
+  item_dropped revision Y (sync j) q ms os o d i k c ready e label granted is = absurd (found_unlabelled revision (λ m. m.watch.requests) j ms o d e label)
+  item_dropped revision Y (shift j fs) q ms os o d i k c ready e label granted is = absurd (found_unlabelled revision (λ m. refilter fs m.watch.requests) j ms o d e label)
+  item_dropped revision Y (renamed r old new fs) q ms os o d i k c ready e label granted is =
       absurd (change_drop old new k.items.0.1.0 i (sym k.items.0.1.1 ∙ ap wish_of (labelled (granted_to h r) o r d refl e label) ∙ is))
-  item_dropped db Y (stopped r j) q ms os o d i k c ready e label granted is =
-      subst (Dropped db Y os) (same_drop j i (sym k.items.0.1 ∙ ap wish_of (labelled (granted_to h r) o r d refl e label) ∙ is)) (stop_dropped db Y os j ms c k.distinct.1 ready)
+  item_dropped revision Y (stopped r j) q ms os o d i k c ready e label granted is =
+      subst (Dropped revision.db Y os) (same_drop j i (sym k.items.0.1 ∙ ap wish_of (labelled (granted_to h r) o r d refl e label) ∙ is)) (stop_dropped revision.db Y os j ms c k.distinct.1 ready)
 
   pub dropped_whole : ReadsNamed h → HoldsAlways h (IsDroppedWhole h)
   dropped_whole named st r s x found a o b d i e label granted is =
-      let l : Located st.world.db (λ j. WasLast h j (st.given s)) (st.given s) a o = at_session st.world.db x (st.given s) a o b d ((reached_good h named st r).0 s x found) e label in
-      item_dropped st.world.db (λ j. (a ≡ []) × WasLast h j (st.given s)) l.item l.behind l.monitors (st.given s ++ a) o d i l.well l.heard l.ready l.gave label granted is
+      let l : Located (revision_of st.world) (λ j. WasLast h j (st.given s)) (st.given s) a o = at_session (revision_of st.world) x (st.given s) a o b d ((reached_good h named st r).0 s x found) e label in
+      item_dropped (revision_of st.world) (λ j. (a ≡ []) × WasLast h j (st.given s)) l.item l.behind l.monitors (st.given s ++ a) o d i l.well l.heard l.ready l.gave label granted is
 
   -- ---- a change of filters
 
   abbrev pub Changed : Db → (Data → Type 0) → List Out → Data → Data → Type 0
   Changed db Y os old new = (p : Picture) × (pictured h new os ≡ Some p) × (IsNow h db p.requests p.view ⊎ Y old)
 
-  new_changed : (db : Db) (Y : Data → Type 0) (os : List Out) (r old new : Data) (fs : List (List ℕ × Filter)) (q : List Item) (ms : List Monitor) → IsWell h (record { queue = renamed r old new fs ∷ q; monitors = ms }) → client h os ≡ Some (map seen ms)
-      → Sure db (refilter fs) old ms ⊎ Y old → Changed db Y (os ++ granted_to h r ∷ []) old new
-  new_changed db Y os r old new fs q ms k c ready =
-      let later : client h (os ++ granted_to h r ∷ []) ≡ Some (map seen (leaves h db (renamed r old new fs) ms)) = client_item h db (renamed r old new fs) ms os k.items.0 k.distinct.1 k.kept c in
-      let distinct : AreDistinct (texts h (map (λ m. m.watch) (leaves h db (renamed r old new fs) ms))) = subst (λ ks. AreDistinct (texts h ks)) (sym (leaves-asks h db (renamed r old new fs) ms)) (stay_now h q _ k.distinct.2) in
+  new_changed : (revision : Revision) (Y : Data → Type 0) (os : List Out) (r old new : Data) (fs : List (List ℕ × Filter)) (q : List Item) (ms : List Monitor) → IsWell h (record { queue = renamed r old new fs ∷ q; monitors = ms }) → client h os ≡ Some (map seen ms)
+      → Sure revision.db (refilter fs) old ms ⊎ Y old → Changed revision.db Y (os ++ granted_to h r ∷ []) old new
+  new_changed revision Y os r old new fs q ms k c ready =
+      let later : client h (os ++ granted_to h r ∷ []) ≡ Some (map seen (leaves h revision.db (renamed r old new fs) ms)) = client_item h revision (renamed r old new fs) ms os k.items.0 k.distinct.1 k.kept c in
+      let distinct : AreDistinct (texts h (map (λ m. m.watch) (leaves h revision.db (renamed r old new fs) ms))) = subst (λ ks. AreDistinct (texts h ks)) (sym (leaves-asks h revision.db (renamed r old new fs) ms)) (stay_now h q _ k.distinct.2) in
       by later distinct ready
     where
-      at : (m : Monitor) → find (has_id h old) ms ≡ Some m → client h (os ++ granted_to h r ∷ []) ≡ Some (map seen (leaves h db (renamed r old new fs) ms)) → AreDistinct (texts h (map (λ m. m.watch) (leaves h db (renamed r old new fs) ms)))
+      at : (m : Monitor) → find (has_id h old) ms ≡ Some m → client h (os ++ granted_to h r ∷ []) ≡ Some (map seen (leaves h revision.db (renamed r old new fs) ms)) → AreDistinct (texts h (map (λ m. m.watch) (leaves h revision.db (renamed r old new fs) ms)))
           → pictured h new (os ++ granted_to h r ∷ []) ≡ Some (seen (with_new h new fs m))
-      at m found later distinct = pictured_seen h new (os ++ granted_to h r ∷ []) (leaves h db (renamed r old new fs) ms) (with_new h new fs m) later (new_found h old new fs ms m found distinct)
+      at m found later distinct = pictured_seen h new (os ++ granted_to h r ∷ []) (leaves h revision.db (renamed r old new fs) ms) (with_new h new fs m) later (new_found h old new fs ms m found distinct)
 
-      by : client h (os ++ granted_to h r ∷ []) ≡ Some (map seen (leaves h db (renamed r old new fs) ms)) → AreDistinct (texts h (map (λ m. m.watch) (leaves h db (renamed r old new fs) ms)))
-          → Sure db (refilter fs) old ms ⊎ Y old → Changed db Y (os ++ granted_to h r ∷ []) old new
-      by later distinct (inl s) = (seen (with_new h new fs s.0), at s.0 s.1 later distinct, inl (is_now h db (refilter fs s.0.watch.requests) (with_new h new fs s.0) s.2))
+      by : client h (os ++ granted_to h r ∷ []) ≡ Some (map seen (leaves h revision.db (renamed r old new fs) ms)) → AreDistinct (texts h (map (λ m. m.watch) (leaves h revision.db (renamed r old new fs) ms)))
+          → Sure revision.db (refilter fs) old ms ⊎ Y old → Changed revision.db Y (os ++ granted_to h r ∷ []) old new
+      by later distinct (inl s) = (seen (with_new h new fs s.0), at s.0 s.1 later distinct, inl (is_now h revision.db (refilter fs s.0.watch.requests) (with_new h new fs s.0) s.2))
       by later distinct (inr y) =
           let f : (m : Monitor) × (find (has_id h old) ms ≡ Some m) = found_watched old ms k.distinct.1 in
           (seen (with_new h new fs f.0), at f.0 f.1 later distinct, inr y)
 
-  pub item_changed : (db : Db) (Y : Data → Type 0) (p : Item) (q : List Item) (ms : List Monitor) (os : List Out) (o : Out) (d old new filters : Data) → IsWell h (record { queue = p ∷ q; monitors = ms }) → client h os ≡ Some (map seen ms) → ReadyFor db Y p ms
-      → gives h db p ms ≡ Some o → o.answers ≡ to d → is_granted o.message ≡ true → wish_of d ≡ changes old new filters → Changed db Y (os ++ o ∷ []) old new
-  item_changed db Y (say l m) q ms os o d old new filters k c ready e label granted is =
+  pub item_changed : (revision : Revision) (Y : Data → Type 0) (p : Item) (q : List Item) (ms : List Monitor) (os : List Out) (o : Out) (d old new filters : Data) → IsWell h (record { queue = p ∷ q; monitors = ms }) → client h os ≡ Some (map seen ms) → ReadyFor revision.db Y p ms
+      → gives h revision p ms ≡ Some o → o.answers ≡ to d → is_granted o.message ≡ true → wish_of d ≡ changes old new filters → Changed revision.db Y (os ++ o ∷ []) old new
+  item_changed revision Y (say l m) q ms os o d old new filters k c ready e label granted is =
       let x : (let u : Out = record { answers = l; message = m } in u) ≡ o = some_is _ o e in
       absurd (said l m d k.items.0.0 (ap (λ (u : Out). u.answers) x ∙ label) (ap (λ (u : Out). is_granted u.message) x ∙ granted) (ap (λ w. on_granted h w (at_key (codes "result") m) []) is ∙ refiltered_none old new (h.read_filters filters)))
-  item_changed db Y (start r w) q ms os o d old new filters k c ready e label granted is =
-      absurd (add_change w.notation w.id k.items.0.2.0 old new filters (sym k.items.0.2.1 ∙ ap wish_of (labelled (first_out h db r w) o r d refl e label) ∙ is))
-  item_changed db Y (sync j) q ms os o d old new filters k c ready e label granted is = absurd (found_unlabelled db (λ m. m.watch.requests) j ms o d e label)
-  item_changed db Y (shift j fs) q ms os o d old new filters k c ready e label granted is = absurd (found_unlabelled db (λ m. refilter fs m.watch.requests) j ms o d e label)
-  item_changed db Y (stopped r j) q ms os o d old new filters k c ready e label granted is =
+  item_changed revision Y (start r w) q ms os o d old new filters k c ready e label granted is =
+      absurd (add_change w.notation w.id k.items.0.2.0 old new filters (sym k.items.0.2.1 ∙ ap wish_of (labelled (first_out h revision r w) o r d refl e label) ∙ is))
+  item_changed revision Y (sync j) q ms os o d old new filters k c ready e label granted is = absurd (found_unlabelled revision (λ m. m.watch.requests) j ms o d e label)
+  item_changed revision Y (shift j fs) q ms os o d old new filters k c ready e label granted is = absurd (found_unlabelled revision (λ m. refilter fs m.watch.requests) j ms o d e label)
+  item_changed revision Y (stopped r j) q ms os o d old new filters k c ready e label granted is =
       absurd (drop_change j old new filters (sym k.items.0.1 ∙ ap wish_of (labelled (granted_to h r) o r d refl e label) ∙ is))
-  item_changed db Y (renamed r i j fs) q ms os o d old new filters k c ready e label granted is =
+  item_changed revision Y (renamed r i j fs) q ms os o d old new filters k c ready e label granted is =
       let same : (i ≡ old) × (j ≡ new) = same_change i j k.items.0.1.0 old new filters (sym k.items.0.1.1 ∙ ap wish_of (labelled (granted_to h r) o r d refl e label) ∙ is) in
-      subst (λ u. Changed db Y (os ++ u ∷ []) old new) (some_is (granted_to h r) o e)
-      (subst (λ v. Changed db Y (os ++ granted_to h r ∷ []) old v) same.1 (subst (λ v. Changed db Y (os ++ granted_to h r ∷ []) v j) same.0 (new_changed db Y os r i j fs q ms k c ready)))
+      subst (λ u. Changed revision.db Y (os ++ u ∷ []) old new) (some_is (granted_to h r) o e)
+      (subst (λ v. Changed revision.db Y (os ++ granted_to h r ∷ []) old v) same.1 (subst (λ v. Changed revision.db Y (os ++ granted_to h r ∷ []) v j) same.0 (new_changed revision Y os r i j fs q ms k c ready)))
 
   pub changed_whole : ReadsNamed h → HoldsAlways h (IsChangedWhole h)
   changed_whole named st r s x found a o b d old new filters e label granted is =
-      let l : Located st.world.db (λ j. WasLast h j (st.given s)) (st.given s) a o = at_session st.world.db x (st.given s) a o b d ((reached_good h named st r).0 s x found) e label in
-      item_changed st.world.db (λ j. (a ≡ []) × WasLast h j (st.given s)) l.item l.behind l.monitors (st.given s ++ a) o d old new filters l.well l.heard l.ready l.gave label granted is
+      let l : Located (revision_of st.world) (λ j. WasLast h j (st.given s)) (st.given s) a o = at_session (revision_of st.world) x (st.given s) a o b d ((reached_good h named st r).0 s x found) e label in
+      item_changed (revision_of st.world) (λ j. (a ≡ []) × WasLast h j (st.given s)) l.item l.behind l.monitors (st.given s ++ a) o d old new filters l.well l.heard l.ready l.gave label granted is

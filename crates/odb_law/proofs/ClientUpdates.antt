@@ -9,7 +9,7 @@ use Rattle.odb_law.proofs.Calls.{reply_heard}
 use Rattle.odb_law.proofs.SessionInvariant.{IsKept, IsSound, picture, seen, with_view}
 use Rattle.odb_law.specs.Client.{Picture, added, can_follow, client_step, follow, followed, is_id_of, is_of_notation, on_granted, try_first}
 use Rattle.odb_service.specs.Service.{Service}
-use Rattle.odb_service.specs.Session.{Monitor, Watch, begun, brought, first_out, method_of, no_request, shapes, start}
+use Rattle.odb_service.specs.Session.{Monitor, Revision, Watch, begun, brought, first_out, method_of, no_request, shapes, start}
 use Rattle.odb_wire.specs.Message.{id_of}
 use Rattle.odb_monitor.proofs.Lists.{IsAsLong}
 use Rattle.odb_monitor.proofs.Maps.{get-empty, get-map_entries, same_map}
@@ -141,20 +141,20 @@ module _ (h : Service) where
 
   -- ---- a first reply
 
-  pub first_heard : (db : Db) (d : Data) (k : Watch) → IsSound h (start d k) → (ps : List Picture) → client_step h ps (first_out h db d k) ≡ Some (ps ++ seen (begun h db k) ∷ [])
-  first_heard db d k s ps =
-      let r : Data = table_updates k.notation true (shapes k.requests) (shown true k.requests (delta (nothing k.requests) (query db k.requests))) in
+  pub first_heard : (revision : Revision) (d : Data) (k : Watch) → IsSound h (start d k) → (ps : List Picture) → client_step h ps (first_out h revision d k) ≡ Some (ps ++ seen (begun h revision.db k) ∷ [])
+  first_heard revision d k s ps =
+      let r : Data = table_updates k.notation true (shapes k.requests) (shown true k.requests (delta (nothing k.requests) (query revision.db k.requests))) in
       reply_heard h d null (id_of d) r ps (sym s.1)
       ∙ ap (λ w. on_granted h w r ps) s.2.1
       ∙ ap (λ x. added h k.notation k.id x r ps) s.2.2
       ∙ ap (option_map (λ v. ps ++ with_view k v ∷ [])) (by (can_follow k.requests) refl)
     where
       by : (b : Bool) → can_follow k.requests ≡ b
-          → (if b then option_map Some (fold k.notation true (shapes k.requests) (nothing k.requests) (table_updates k.notation true (shapes k.requests) (shown true k.requests (delta (nothing k.requests) (query db k.requests))))) else Some None)
-          ≡ Some (if b then Some (query db k.requests) else None)
+          → (if b then option_map Some (fold k.notation true (shapes k.requests) (nothing k.requests) (table_updates k.notation true (shapes k.requests) (shown true k.requests (delta (nothing k.requests) (query revision.db k.requests))))) else Some None)
+          ≡ Some (if b then Some (query revision.db k.requests) else None)
       by true w =
-          ap (λ D. option_map Some (fold k.notation true (shapes k.requests) (nothing k.requests) (table_updates k.notation true (shapes k.requests) D))) (shown-whole true k.requests (nothing k.requests) (query db k.requests) (nothing_fits (λ q. q.shape) k.requests) (query_fits db k.requests) w)
-          ∙ ap (option_map Some) (fold-first k.notation (shapes k.requests) s.0 (nothing k.requests) (query db k.requests) (nothing_fits (λ q. q.shape) k.requests) (query_fits db k.requests) (nothing_begins k.requests))
+          ap (λ D. option_map Some (fold k.notation true (shapes k.requests) (nothing k.requests) (table_updates k.notation true (shapes k.requests) D))) (shown-whole true k.requests (nothing k.requests) (query revision.db k.requests) (nothing_fits (λ q. q.shape) k.requests) (query_fits revision.db k.requests) w)
+          ∙ ap (option_map Some) (fold-first k.notation (shapes k.requests) s.0 (nothing k.requests) (query revision.db k.requests) (nothing_fits (λ q. q.shape) k.requests) (query_fits revision.db k.requests) (nothing_begins k.requests))
       by false w = refl
 
   -- ---- an update among a client's pictures

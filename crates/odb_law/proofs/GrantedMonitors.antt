@@ -15,9 +15,9 @@ use Rattle.odb_law.proofs.TakingPictures.{rest_watch}
 use Rattle.odb_law.specs.Law.{IsGranted, asked_by, asked_then}
 use Rattle.odb_service.specs.Run.{Event, Sent, State, after, closed, once, opened, opens, round, submitted, take_each, take_of, ticked}
 use Rattle.odb_service.specs.Service.{Outcome, Service, ended, waiting}
-use Rattle.odb_service.specs.Session.{Item, Monitor, Out, Session, Watch, asked, asked_after, asks, at_first, changed, drop_first, gives, leaves, no_request, no_result, renamed, same_id, say, shift, start, stop_at, stopped, sync, take, take_from, to, told}
+use Rattle.odb_service.specs.Session.{Item, Monitor, Out, Revision, Session, Watch, asked, asked_after, asks, at_first, changed, drop_first, gives, leaves, no_request, no_result, renamed, same_id, say, shift, start, stop_at, stopped, sync, take, take_from, to, told}
 use Rattle.odb_wire.specs.Message.{id_of}
-use Rattle.odb_service.specs.World.{Waiting, World, answer, are_monitored, asked_of, at_moment, attempt, cancel_one, change_of, close, end_transaction, fail, handle, is_conditional, is_due, is_of, locked, notice_of, on_cancel_monitor, on_lock, on_monitor, on_outcome, post, post_notices, post_to, push, retry, retry_all, run_transaction, shift_with, split_first, start_with, succeed, tick, try_due, try_one, untried, watched, with_waiting}
+use Rattle.odb_service.specs.World.{Waiting, World, answer, are_monitored, asked_of, at_moment, attempt, cancel_one, change_of, close, end_transaction, fail, handle, is_conditional, is_due, is_of, locked, notice_of, on_cancel_monitor, on_lock, on_monitor, on_outcome, post, post_notices, post_to, push, retry, retry_all, revision_of, run_transaction, shift_with, split_first, start_with, succeed, tick, try_due, try_one, untried, watched, with_waiting}
 use Rattle.odb_locks.specs.Locks.{Answered, Notice, drop_session, lock, steal, unlock}
 use Rattle.odb_monitor.proofs.Views.{some_is}
 use Rattle.odb_request.specs.Request.{Notation, Request}
@@ -327,19 +327,19 @@ module _ (h : Service) where
     stop_asked None x rest ks e f = f
     stop_asked (Some o) x rest ks e f = e
 
-    from_asked : (db : Db) (q : List Item) (ms : List Monitor) → asked h (take_from h db q ms).1 ≡ asked_after h q (map (λ m. m.watch) ms)
-    from_asked db [] ms = rest_watch h db ms
-    from_asked db (i ∷ is) ms =
-        stop_asked (gives h db i ms) (record { queue = is; monitors = leaves h db i ms }) (take_from h db is (leaves h db i ms)) (asked_after h is (asks h i (map (λ m. m.watch) ms)))
-        (ap (asked_after h is) (leaves-asks h db i ms)) (from_asked db is (leaves h db i ms) ∙ ap (asked_after h is) (leaves-asks h db i ms))
+    from_asked : (revision : Revision) (q : List Item) (ms : List Monitor) → asked h (take_from h revision q ms).1 ≡ asked_after h q (map (λ m. m.watch) ms)
+    from_asked revision [] ms = rest_watch h revision ms
+    from_asked revision (i ∷ is) ms =
+        stop_asked (gives h revision i ms) (record { queue = is; monitors = leaves h revision.db i ms }) (take_from h revision is (leaves h revision.db i ms)) (asked_after h is (asks h i (map (λ m. m.watch) ms)))
+        (ap (asked_after h is) (leaves-asks h revision.db i ms)) (from_asked revision is (leaves h revision.db i ms) ∙ ap (asked_after h is) (leaves-asks h revision.db i ms))
 
     takes_one : (t : ℕ) (o : Option Session) (w : World) → get w.sessions t ≡ o → Same w (take_of h t o w).0
     takes_one t None w e s y found = (y, found, refl)
     takes_one t (Some x) w e s y found =
-        elim (eq_by_cmp nat_cmp s t) as (λ b. eq_by_cmp nat_cmp s t ≡ b → cond b (Some (take h w.db x).1) (get w.sessions s) ≡ Some y → (z : Session) × (get w.sessions s ≡ Some z) × (asked h y ≡ asked h z)) [
-          | true ↦ λ tie f. (x, ap (get w.sessions) (same_key s t tie) ∙ e, ap (asked h) (sym (some_is (take h w.db x).1 y f)) ∙ from_asked w.db x.queue x.monitors)
+        elim (eq_by_cmp nat_cmp s t) as (λ b. eq_by_cmp nat_cmp s t ≡ b → cond b (Some (take h (revision_of w) x).1) (get w.sessions s) ≡ Some y → (z : Session) × (get w.sessions s ≡ Some z) × (asked h y ≡ asked h z)) [
+          | true ↦ λ tie f. (x, ap (get w.sessions) (same_key s t tie) ∙ e, ap (asked h) (sym (some_is (take h (revision_of w) x).1 y f)) ∙ from_asked (revision_of w) x.queue x.monitors)
           | false ↦ λ _ f. (y, f, refl)
-        ] refl (sym (get-insert w.sessions t (take h w.db x).1 s) ∙ found)
+        ] refl (sym (get-insert w.sessions t (take h (revision_of w) x).1 s) ∙ found)
 
     takes_each : (ss : List ℕ) (w : World) → Same w (take_each h ss w).0
     takes_each [] w = stays w

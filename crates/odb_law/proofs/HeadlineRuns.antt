@@ -16,8 +16,8 @@ use Rattle.odb_law.specs.Headline.{AllNow, AllSent, HoldsAlways, IsBroughtToNow,
 use Rattle.odb_service.specs.Run.{Event, Sent, State, after, beginning, closed, given_after, once, opened, round, sent, sent_to, submitted, take_each, take_of, ticked}
 use Rattle.odb_wire.specs.Message.{is_request}
 use Rattle.odb_service.specs.Service.{Service}
-use Rattle.odb_service.specs.Session.{Item, Monitor, Out, Session, Watch, asked_after, brought, leaves, owed, rested, take}
-use Rattle.odb_service.specs.World.{World, at_moment, close, handle, tick}
+use Rattle.odb_service.specs.Session.{Item, Monitor, Out, Revision, Session, Watch, asked_after, brought, leaves, owed, rested, take}
+use Rattle.odb_service.specs.World.{World, at_moment, close, handle, revision_of, tick}
 use Rattle.odb_monitor.proofs.Views.{some_is}
 use Rattle.odb_monitor.specs.View.{query}
 use Rattle.odb_request.specs.Request.{Request}
@@ -63,12 +63,12 @@ module _ (h : Service) where
   client_from-one ps None = refl
   client_from-one ps (Some o) = same_option (client_step h ps o)
 
-  taken : (db : Db) (x : Session) (os : List Out) → Holds h x os → Holds h (take h db x).1 (os ++ option_to_list (take h db x).0)
-  taken db x os k = (
-    from_well h db x.queue x.monitors k.0,
-    client_from-append h os (option_to_list (take h db x).0) [] ∙ ap (option_and_then (λ qs. client_from h qs (option_to_list (take h db x).0))) k.1
-        ∙ client_from-one (map seen x.monitors) (take h db x).0 ∙ from_heard h db x.queue x.monitors k.0,
-    stands_after h os (take h db x).0 (take h db x).1.queue (from_tells h db x.queue x.monitors k.0.order),
+  taken : (revision : Revision) (x : Session) (os : List Out) → Holds h x os → Holds h (take h revision x).1 (os ++ option_to_list (take h revision x).0)
+  taken revision x os k = (
+    from_well h revision x.queue x.monitors k.0,
+    client_from-append h os (option_to_list (take h revision x).0) [] ∙ ap (option_and_then (λ qs. client_from h qs (option_to_list (take h revision x).0))) k.1
+        ∙ client_from-one (map seen x.monitors) (take h revision x).0 ∙ from_heard h revision x.queue x.monitors k.0,
+    stands_after h os (take h revision x).0 (take h revision x).1.queue (from_tells h revision x.queue x.monitors k.0.order),
   )
 
   silent : (ss : FinMap nat_cmp Session) (f : ℕ → List Out) → AreHeld h ss f → AreHeld h ss (λ t. f t ++ [])
@@ -78,12 +78,12 @@ module _ (h : Service) where
   take_of_held s None w e f k = (silent w.sessions f k.0, k.1)
   take_of_held s (Some x) w e f k = (
     λ t y found.
-        elim (eq_by_cmp nat_cmp t s) as (λ b. eq_by_cmp nat_cmp t s ≡ b → cond b (Some (take h w.db x).1) (get w.sessions t) ≡ Some y → Holds h y (f t ++ sent_to t (sent s (take h w.db x).0))) [
-          | true ↦ λ tie is. subst (λ (u : ℕ). Holds h y (f u ++ sent_to u (sent s (take h w.db x).0))) (sym (same_key t s tie))
-              (subst (λ (v : Session). Holds h v (f s ++ sent_to s (sent s (take h w.db x).0))) (some_is (take h w.db x).1 y is)
-              (subst (λ os. Holds h (take h w.db x).1 (f s ++ os)) (sym (sent_to_itself s (take h w.db x).0)) (taken w.db x (f s) (k.0 s x e))))
-          | false ↦ λ apart is. subst (λ os. Holds h y (f t ++ os)) (sym (sent_to_other t s (take h w.db x).0 apart)) (subst (Holds h y) (sym (append-nil (f t))) (k.0 t y is))
-        ] refl (sym (get-insert w.sessions s (take h w.db x).1 t) ∙ found),
+        elim (eq_by_cmp nat_cmp t s) as (λ b. eq_by_cmp nat_cmp t s ≡ b → cond b (Some (take h (revision_of w) x).1) (get w.sessions t) ≡ Some y → Holds h y (f t ++ sent_to t (sent s (take h (revision_of w) x).0))) [
+          | true ↦ λ tie is. subst (λ (u : ℕ). Holds h y (f u ++ sent_to u (sent s (take h (revision_of w) x).0))) (sym (same_key t s tie))
+              (subst (λ (v : Session). Holds h v (f s ++ sent_to s (sent s (take h (revision_of w) x).0))) (some_is (take h (revision_of w) x).1 y is)
+              (subst (λ os. Holds h (take h (revision_of w) x).1 (f s ++ os)) (sym (sent_to_itself s (take h (revision_of w) x).0)) (taken (revision_of w) x (f s) (k.0 s x e))))
+          | false ↦ λ apart is. subst (λ os. Holds h y (f t ++ os)) (sym (sent_to_other t s (take h (revision_of w) x).0 apart)) (subst (Holds h y) (sym (append-nil (f t))) (k.0 t y is))
+        ] refl (sym (get-insert w.sessions s (take h (revision_of w) x).1 t) ∙ found),
     k.1,
   )
 
@@ -143,15 +143,15 @@ module _ (h : Service) where
   rested_now db [] ms = brought_now db ms
   rested_now db (i ∷ is) ms = rested_now db is (leaves h db i ms)
 
-  pub owed_client : (db : Db) (x : Session) (os : List Out) → Holds h x os → client h (os ++ owed h db x) ≡ Some (map seen (rested h db x.queue x.monitors))
-  owed_client db x os k =
-      client_from-append h os (owed h db x) []
-      ∙ ap (option_and_then (λ qs. client_from h qs (owed h db x))) k.1
-      ∙ owed_heard h db x.queue x.monitors k.0
+  pub owed_client : (revision : Revision) (x : Session) (os : List Out) → Holds h x os → client h (os ++ owed h revision x) ≡ Some (map seen (rested h revision.db x.queue x.monitors))
+  owed_client revision x os k =
+      client_from-append h os (owed h revision x) []
+      ∙ ap (option_and_then (λ qs. client_from h qs (owed h revision x))) k.1
+      ∙ owed_heard h revision x.queue x.monitors k.0
 
   pub brought_to_now : ReadsNamed h → HoldsAlways h (IsBroughtToNow h)
   brought_to_now named st r s x found =
-      (map seen (rested h st.world.db x.queue x.monitors), owed_client st.world.db x (st.given s) ((reached_good named st r).0 s x found), rested_now st.world.db x.queue x.monitors)
+      (map seen (rested h st.world.db x.queue x.monitors), owed_client (revision_of st.world) x (st.given s) ((reached_good named st r).0 s x found), rested_now st.world.db x.queue x.monitors)
 
   abbrev watch_of : Picture → Watch
   watch_of p = record { id = p.id; notation = p.notation; requests = p.requests }
@@ -170,5 +170,5 @@ module _ (h : Service) where
 
   pub known : ReadsNamed h → HoldsAlways h (IsKnown h)
   known named st r s x found =
-      ap (option_map (map watch_of)) (owed_client st.world.db x (st.given s) ((reached_good named st r).0 s x found))
+      ap (option_map (map watch_of)) (owed_client (revision_of st.world) x (st.given s) ((reached_good named st r).0 s x found))
       ∙ ap Some (seen_watches (rested h st.world.db x.queue x.monitors) ∙ rested_watches st.world.db x.queue x.monitors)

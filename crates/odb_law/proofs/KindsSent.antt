@@ -17,7 +17,7 @@ use Rattle.odb_monitor.specs.View.{Change, Delta, View, change, comes_in, delta,
 use Rattle.odb_request.specs.Request.{Notation, Request, Shape}
 use Rattle.odb_rpc.specs.Message.{notification, reply}
 use Rattle.odb_service.specs.Service.{Service}
-use Rattle.odb_service.specs.Session.{Item, Monitor, Out, Watch, asks, begun, brought, changed, first_out, gives, has_id, leaves, method_of, no_request, owed_from, refilter, renamed, rested, say, shapes, shift, start, stopped, sync, to, update_to}
+use Rattle.odb_service.specs.Session.{Item, Monitor, Out, Revision, Watch, asks, begun, brought, changed, first_out, gives, has_id, leaves, method_of, no_request, owed_from, refilter, renamed, rested, say, shapes, shift, start, stopped, sync, to, update_to}
 use Rattle.odb_tables.specs.Database.{Db, table_at}
 use Rattle.odb_wire.specs.Message.{id_of}
 
@@ -85,48 +85,48 @@ module _ (h : Service) where
   told_by n i ss D = cond (is_none D) None (Some (record { answers = no_request; message = notification (method_of h n) (i ∷ table_updates n false ss D ∷ []) }))
 
   -- towards requests that differ from its own in their filters alone
-  update_cut : (db : Db) (ks : List Watch) (qs : List Request) (m : Monitor) → IsAmong m.watch ks → shapes qs ≡ shapes m.watch.requests → ((D : Delta) → shown false qs D ≡ shown false m.watch.requests D) → IsCut h ks (update_to h db (all_kinds qs) (full_monitor m)) (update_to h db qs m)
-  update_cut db ks qs m among alike shows = inr (inr (
+  update_cut : (revision : Revision) (ks : List Watch) (qs : List Request) (m : Monitor) → IsAmong m.watch ks → shapes qs ≡ shapes m.watch.requests → ((D : Delta) → shown false qs D ≡ shown false m.watch.requests D) → IsCut h ks (update_to h revision (all_kinds qs) (full_monitor m)) (update_to h revision qs m)
+  update_cut revision ks qs m among alike shows = inr (inr (
     m.watch,
     among,
-    delta m.view (query db qs),
-    (λ j. told_by m.watch.notation m.watch.id (shapes_full qs j) (shown false (all_kinds qs) (delta m.view (query_full db qs j)))) ∙ (λ j. told_by m.watch.notation m.watch.id (alike j) (shown_full false db qs m.view j)),
-    (λ j. told_by m.watch.notation m.watch.id (alike j) (shows (delta m.view (query db qs)) j)),
+    delta m.view (query revision.db qs),
+    (λ j. told_by m.watch.notation m.watch.id (shapes_full qs j) (shown false (all_kinds qs) (delta m.view (query_full revision.db qs j)))) ∙ (λ j. told_by m.watch.notation m.watch.id (alike j) (shown_full false revision.db qs m.view j)),
+    (λ j. told_by m.watch.notation m.watch.id (alike j) (shows (delta m.view (query revision.db qs)) j)),
   ))
 
   abbrev first_by : Data → Watch → List Shape → Delta → Option Out
   first_by d k ss D = Some (record { answers = to d; message = reply (id_of d) (table_updates k.notation true ss D) })
 
-  first_cut : (db : Db) (ks : List Watch) (d : Data) (k : Watch) → IsCut h (ks ++ k ∷ []) (Some (first_out h db d (full_watch k))) (Some (first_out h db d k))
-  first_cut db ks d k = inr (inl (
+  first_cut : (revision : Revision) (ks : List Watch) (d : Data) (k : Watch) → IsCut h (ks ++ k ∷ []) (Some (first_out h revision d (full_watch k))) (Some (first_out h revision d k))
+  first_cut revision ks d k = inr (inl (
     d,
     k,
     last_among ks k,
-    delta (nothing k.requests) (query db k.requests),
-    (λ j. first_by d k (shapes_full k.requests j) (shown true (all_kinds k.requests) (delta (nothing_full k.requests j) (query_full db k.requests j)))) ∙ ap (first_by d k (shapes k.requests)) (shown_full true db k.requests (nothing k.requests)),
+    delta (nothing k.requests) (query revision.db k.requests),
+    (λ j. first_by d k (shapes_full k.requests j) (shown true (all_kinds k.requests) (delta (nothing_full k.requests j) (query_full revision.db k.requests j)))) ∙ ap (first_by d k (shapes k.requests)) (shown_full true revision.db k.requests (nothing k.requests)),
     refl,
   ))
 
   -- of the monitor that was found, if there is one
-  found_cut : (db : Db) (ks : List Watch) (f g : List Request → List Request) → ((qs : List Request) → all_kinds (f qs) ≡ g (all_kinds qs)) → ((qs : List Request) → shapes (f qs) ≡ shapes qs) → ((qs : List Request) (D : Delta) → shown false (f qs) D ≡ shown false qs D)
+  found_cut : (revision : Revision) (ks : List Watch) (f g : List Request → List Request) → ((qs : List Request) → all_kinds (f qs) ≡ g (all_kinds qs)) → ((qs : List Request) → shapes (f qs) ≡ shapes qs) → ((qs : List Request) (D : Delta) → shown false (f qs) D ≡ shown false qs D)
       → (o : Option Monitor) → ((m : Monitor) → o ≡ Some m → IsAmong m.watch ks)
-      → IsCut h ks (option_and_then (λ m. update_to h db (g m.watch.requests) m) (option_map full_monitor o)) (option_and_then (λ m. update_to h db (f m.watch.requests) m) o)
-  found_cut db ks f g e alike shows None among = inl refl
-  found_cut db ks f g e alike shows (Some m) among =
-      subst (λ qs. IsCut h ks (update_to h db qs (full_monitor m)) (update_to h db (f m.watch.requests) m)) (e m.watch.requests)
-      (update_cut db ks (f m.watch.requests) m (among m refl) (alike m.watch.requests) (shows m.watch.requests))
+      → IsCut h ks (option_and_then (λ m. update_to h revision (g m.watch.requests) m) (option_map full_monitor o)) (option_and_then (λ m. update_to h revision (f m.watch.requests) m) o)
+  found_cut revision ks f g e alike shows None among = inl refl
+  found_cut revision ks f g e alike shows (Some m) among =
+      subst (λ qs. IsCut h ks (update_to h revision qs (full_monitor m)) (update_to h revision (f m.watch.requests) m)) (e m.watch.requests)
+      (update_cut revision ks (f m.watch.requests) m (among m refl) (alike m.watch.requests) (shows m.watch.requests))
 
-  item_cut : (db : Db) (i : Item) (ms : List Monitor) → IsCut h (asks h i (watches ms)) (gives h db (full_item i) (map full_monitor ms)) (gives h db i ms)
-  item_cut db (say a d) ms = inl refl
-  item_cut db (start d k) ms = first_cut db (watches ms) d k
-  item_cut db (sync i) ms =
-      subst (λ o. IsCut h (watches ms) (option_and_then (λ m. update_to h db m.watch.requests m) o) (gives h db (sync i) ms)) (sym (find_map full_monitor (has_id h i) ms))
-      (found_cut db (watches ms) (λ qs. qs) (λ qs. qs) (λ qs. refl) (λ qs. refl) (λ qs D. refl) (find (has_id h i) ms) (λ m e. found_among (has_id h i) ms m e))
-  item_cut db (shift i fs) ms =
-      subst (λ o. IsCut h (watches ms) (option_and_then (λ m. update_to h db (refilter fs m.watch.requests) m) o) (gives h db (shift i fs) ms)) (sym (find_map full_monitor (has_id h i) ms))
-      (found_cut db (watches ms) (refilter fs) (refilter fs) (refilter_full fs) (shapes-refilter fs) (shown_refiltered false fs) (find (has_id h i) ms) (λ m e. found_among (has_id h i) ms m e))
-  item_cut db (renamed d old new fs) ms = inl refl
-  item_cut db (stopped d i) ms = inl refl
+  item_cut : (revision : Revision) (i : Item) (ms : List Monitor) → IsCut h (asks h i (watches ms)) (gives h revision (full_item i) (map full_monitor ms)) (gives h revision i ms)
+  item_cut revision (say a d) ms = inl refl
+  item_cut revision (start d k) ms = first_cut revision (watches ms) d k
+  item_cut revision (sync i) ms =
+      subst (λ o. IsCut h (watches ms) (option_and_then (λ m. update_to h revision m.watch.requests m) o) (gives h revision (sync i) ms)) (sym (find_map full_monitor (has_id h i) ms))
+      (found_cut revision (watches ms) (λ qs. qs) (λ qs. qs) (λ qs. refl) (λ qs. refl) (λ qs D. refl) (find (has_id h i) ms) (λ m e. found_among (has_id h i) ms m e))
+  item_cut revision (shift i fs) ms =
+      subst (λ o. IsCut h (watches ms) (option_and_then (λ m. update_to h revision (refilter fs m.watch.requests) m) o) (gives h revision (shift i fs) ms)) (sym (find_map full_monitor (has_id h i) ms))
+      (found_cut revision (watches ms) (refilter fs) (refilter fs) (refilter_full fs) (shapes-refilter fs) (shown_refiltered false fs) (find (has_id h i) ms) (λ m e. found_among (has_id h i) ms m e))
+  item_cut revision (renamed d old new fs) ms = inl refl
+  item_cut revision (stopped d i) ms = inl refl
 
   -- ---- what is left
 
@@ -156,26 +156,26 @@ module _ (h : Service) where
   -- ---- all messages
 
   -- those that are left in a list of monitors
-  rest_cut : (db : Db) (ks : List Watch) (ms : List Monitor) → ((k : Watch) → IsAmong k (watches ms) → IsAmong k ks) → AreCut h [] ks (filter_map (λ m. update_to h db m.watch.requests m) (map full_monitor ms)) (filter_map (λ m. update_to h db m.watch.requests m) ms)
-  rest_cut db ks [] among = ([], refl, refl, tt)
-  rest_cut db ks (m ∷ ms) among =
-      let r : AreCut h [] ks (filter_map (λ m. update_to h db m.watch.requests m) (map full_monitor ms)) (filter_map (λ m. update_to h db m.watch.requests m) ms) = rest_cut db ks ms (λ k a. among k (inr a)) in (
-        (update_to h db (all_kinds m.watch.requests) (full_monitor m), update_to h db m.watch.requests m) ∷ r.0,
-        ap (cons_option (update_to h db (all_kinds m.watch.requests) (full_monitor m))) r.1,
-        ap (cons_option (update_to h db m.watch.requests m)) r.2,
-        (update_cut db ks m.watch.requests m (among m.watch (inl refl)) refl (λ D. refl), r.3),
+  rest_cut : (revision : Revision) (ks : List Watch) (ms : List Monitor) → ((k : Watch) → IsAmong k (watches ms) → IsAmong k ks) → AreCut h [] ks (filter_map (λ m. update_to h revision m.watch.requests m) (map full_monitor ms)) (filter_map (λ m. update_to h revision m.watch.requests m) ms)
+  rest_cut revision ks [] among = ([], refl, refl, tt)
+  rest_cut revision ks (m ∷ ms) among =
+      let r : AreCut h [] ks (filter_map (λ m. update_to h revision m.watch.requests m) (map full_monitor ms)) (filter_map (λ m. update_to h revision m.watch.requests m) ms) = rest_cut revision ks ms (λ k a. among k (inr a)) in (
+        (update_to h revision (all_kinds m.watch.requests) (full_monitor m), update_to h revision m.watch.requests m) ∷ r.0,
+        ap (cons_option (update_to h revision (all_kinds m.watch.requests) (full_monitor m))) r.1,
+        ap (cons_option (update_to h revision m.watch.requests m)) r.2,
+        (update_cut revision ks m.watch.requests m (among m.watch (inl refl)) refl (λ D. refl), r.3),
       )
 
-  owed_cut : (db : Db) (q : List Item) (ms : List Monitor) → AreCut h q (watches ms) (owed_from h db (map full_item q) (map full_monitor ms)) (owed_from h db q ms)
-  owed_cut db [] ms = rest_cut db (watches ms) ms (λ k a. a)
-  owed_cut db (i ∷ is) ms =
-      let r : AreCut h is (watches (leaves h db i ms)) (owed_from h db (map full_item is) (map full_monitor (leaves h db i ms))) (owed_from h db is (leaves h db i ms)) = owed_cut db is (leaves h db i ms) in
-      let all : Option Out = gives h db (full_item i) (map full_monitor ms) in
-      let some : Option Out = gives h db i ms in (
+  owed_cut : (revision : Revision) (q : List Item) (ms : List Monitor) → AreCut h q (watches ms) (owed_from h revision (map full_item q) (map full_monitor ms)) (owed_from h revision q ms)
+  owed_cut revision [] ms = rest_cut revision (watches ms) ms (λ k a. a)
+  owed_cut revision (i ∷ is) ms =
+      let r : AreCut h is (watches (leaves h revision.db i ms)) (owed_from h revision (map full_item is) (map full_monitor (leaves h revision.db i ms))) (owed_from h revision is (leaves h revision.db i ms)) = owed_cut revision is (leaves h revision.db i ms) in
+      let all : Option Out = gives h revision (full_item i) (map full_monitor ms) in
+      let some : Option Out = gives h revision i ms in (
         (all, some) ∷ r.0,
-        ap (λ ns. option_to_list all ++ owed_from h db (map full_item is) ns) (sym (leaves_full db i ms)) ∙ ap (λ os. option_to_list all ++ os) r.1 ∙ sym (cons-list all (filter_map (λ p. p.0) r.0)),
+        ap (λ ns. option_to_list all ++ owed_from h revision (map full_item is) ns) (sym (leaves_full revision.db i ms)) ∙ ap (λ os. option_to_list all ++ os) r.1 ∙ sym (cons-list all (filter_map (λ p. p.0) r.0)),
         ap (λ os. option_to_list some ++ os) r.2 ∙ sym (cons-list some (filter_map (λ p. p.1) r.0)),
-        (item_cut db i ms, subst (λ ks. AreEachCut h is ks r.0) (leaves-asks h db i ms) r.3),
+        (item_cut revision i ms, subst (λ ks. AreEachCut h is ks r.0) (leaves-asks h revision.db i ms) r.3),
       )
 
   all_brought : (db : Db) (ms : List Monitor) → map full_monitor (map (λ m. brought h db m.watch.requests m) ms) ≡ map (λ m. brought h db m.watch.requests m) (map full_monitor ms)
@@ -188,6 +188,6 @@ module _ (h : Service) where
 
   pub sends_kinds : SendsKinds h
   sends_kinds = record {
-    cut = λ db x. owed_cut db x.queue x.monitors;
+    cut = λ revision x. owed_cut revision x.queue x.monitors;
     counts = λ db x j. record { queue = []; monitors = rested_full db x.queue x.monitors j };
   }

@@ -8,9 +8,8 @@ use Rattle.odb_service.proofs.SessionMaps.{get-insert}
 use Rattle.odb_law.specs.Law.{OwedIsTaken, RoundsTake, after_taking}
 use Rattle.odb_service.specs.Run.{Sent, State, if_ok, next, once, round, run, sent, sent_to, take_each, take_of}
 use Rattle.odb_service.specs.Service.{Service}
-use Rattle.odb_service.specs.Session.{Out, Session, owed, take}
-use Rattle.odb_service.specs.World.{World}
-use Rattle.odb_tables.specs.Database.{Db}
+use Rattle.odb_service.specs.Session.{Out, Revision, Session, owed, take}
+use Rattle.odb_service.specs.World.{World, revision_of}
 use Rattle.odb_service.proofs.SessionMaps.{session-itself}
 use Rattle.odb_service.proofs.SessionMaps.{eq_turned}
 use Rattle.odb_service.proofs.WhatIsOwed.{none_owed, takes}
@@ -31,8 +30,8 @@ module _ (h : Service) where
   one_taken st s x found =
       ap (λ o. Ok (of_turn st s (take_of h s o st.world))) found
       ∙ (λ i. Ok (record {
-        world = record (st.world) { sessions = insert st.world.sessions s (take h st.world.db x).1 };
-        given = λ t. given_one (st.given t) s t (take h st.world.db x).0 i;
+        world = record (st.world) { sessions = insert st.world.sessions s (take h (revision_of st.world) x).1 };
+        given = λ t. given_one (st.given t) s t (take h (revision_of st.world) x).0 i;
         requests = st.requests;
       }))
 
@@ -59,29 +58,29 @@ module _ (h : Service) where
 
   abbrev Dries : State → ℕ → Session → ℕ → Type 0
   Dries st s x n =
-      (now : State) × (run h (replicate n (round (s ∷ []))) st ≡ Ok now) × (now.given s ≡ st.given s ++ owed h st.world.db x) × (now.world.db ≡ st.world.db)
+      (now : State) × (run h (replicate n (round (s ∷ []))) st ≡ Ok now) × (now.given s ≡ st.given s ++ owed h (revision_of st.world) x) × (now.world.db ≡ st.world.db)
 
   is_empty_list : (os : List Out) → length os ≤ 0 → os ≡ []
   is_empty_list [] l = refl
   is_empty_list (o ∷ os) l = absurd (omega (arith, l))
 
-  shorter : (db : Db) (x : Session) (n : ℕ) (o : Option Out) → (take h db x).0 ≡ o → length (option_to_list o ++ owed h db (take h db x).1) ≤ suc n → length (owed h db (take h db x).1) ≤ n
-  shorter db x n None e l =
-      let none : owed h db (take h db x).1 ≡ [] = ap (λ o. option_to_list o ++ owed h db (take h db x).1) (sym e) ∙ sym (takes h db x).owes ∙ none_owed h db x e in
+  shorter : (revision : Revision) (x : Session) (n : ℕ) (o : Option Out) → (take h revision x).0 ≡ o → length (option_to_list o ++ owed h revision (take h revision x).1) ≤ suc n → length (owed h revision (take h revision x).1) ≤ n
+  shorter revision x n None e l =
+      let none : owed h revision (take h revision x).1 ≡ [] = ap (λ o. option_to_list o ++ owed h revision (take h revision x).1) (sym e) ∙ sym (takes h revision x).owes ∙ none_owed h revision x e in
       subst (λ (os : List Out). length os ≤ n) (sym none) (omega arith)
-  shorter db x n (Some o) e l = omega (arith, l)
+  shorter revision x n (Some o) e l = omega (arith, l)
 
-  dries : (n : ℕ) (st : State) (s : ℕ) (x : Session) → get st.world.sessions s ≡ Some x → length (owed h st.world.db x) ≤ n → Dries st s x n
-  dries zero st s x found l = (st, refl, sym (ap (λ os. st.given s ++ os) (is_empty_list (owed h st.world.db x) l) ∙ append-nil (st.given s)), refl)
+  dries : (n : ℕ) (st : State) (s : ℕ) (x : Session) → get st.world.sessions s ≡ Some x → length (owed h (revision_of st.world) x) ≤ n → Dries st s x n
+  dries zero st s x found l = (st, refl, sym (ap (λ os. st.given s ++ os) (is_empty_list (owed h (revision_of st.world) x) l) ∙ append-nil (st.given s)), refl)
   dries (suc n) st s x found l =
-      let db : Db = st.world.db in
+      let revision : Revision = revision_of st.world in
       let st1 : State = after_taking h s x st in
-      let found1 : get st1.world.sessions s ≡ Some (take h db x).1 = get-insert st.world.sessions s (take h db x).1 s ∙ ap (λ b. cond b (Some (take h db x).1) (get st.world.sessions s)) (session-itself s) in
-      let rest : Dries st1 s (take h db x).1 n = dries n st1 s (take h db x).1 found1 (shorter db x n (take h db x).0 refl (subst (λ os. length os ≤ suc n) (takes h db x).owes l)) in (
+      let found1 : get st1.world.sessions s ≡ Some (take h revision x).1 = get-insert st.world.sessions s (take h revision x).1 s ∙ ap (λ b. cond b (Some (take h revision x).1) (get st.world.sessions s)) (session-itself s) in
+      let rest : Dries st1 s (take h revision x).1 n = dries n st1 s (take h revision x).1 found1 (shorter revision x n (take h revision x).0 refl (subst (λ os. length os ≤ suc n) (takes h revision x).owes l)) in (
         rest.0,
         ap (if_ok (run h (replicate n (round (s ∷ []))))) (one_taken st s x found) ∙ rest.1,
-        rest.2 ∙ ap (λ b. cond b (st.given s ++ option_to_list (take h db x).0) (st.given s) ++ owed h db (take h db x).1) (eq-eqb s s refl)
-            ∙ append_assoc (st.given s) (option_to_list (take h db x).0) (owed h db (take h db x).1) ∙ ap (λ os. st.given s ++ os) (sym (takes h db x).owes),
+        rest.2 ∙ ap (λ b. cond b (st.given s ++ option_to_list (take h revision x).0) (st.given s) ++ owed h revision (take h revision x).1) (eq-eqb s s refl)
+            ∙ append_assoc (st.given s) (option_to_list (take h revision x).0) (owed h revision (take h revision x).1) ∙ ap (λ os. st.given s ++ os) (sym (takes h revision x).owes),
         rest.3,
       )
 
@@ -89,4 +88,4 @@ module _ (h : Service) where
   at_least n more = omega arith
 
   pub owed_is_taken : OwedIsTaken h
-  owed_is_taken st s x found more = dries (length (owed h st.world.db x) + more) st s x found (at_least (length (owed h st.world.db x)) more)
+  owed_is_taken st s x found more = dries (length (owed h (revision_of st.world) x) + more) st s x found (at_least (length (owed h (revision_of st.world) x)) more)

@@ -11,7 +11,7 @@ use Rattle.odb_law.proofs.TakingPictures.{item_heard}
 use Rattle.odb_law.specs.Client.{client, client_from, is_id_of}
 use Rattle.odb_law.specs.Headline.{AllSent, pictured}
 use Rattle.odb_service.specs.Service.{Service}
-use Rattle.odb_service.specs.Session.{Item, Monitor, Out, at_first, gives, has_id, leaves}
+use Rattle.odb_service.specs.Session.{Item, Monitor, Out, Revision, at_first, gives, has_id, leaves}
 use Rattle.odb_monitor.proofs.Lists.{bytes_eq-itself}
 use Rattle.odb_monitor.proofs.Views.{some_is}
 use Rattle.odb_monitor.specs.Names.{AreDistinct, IsApart}
@@ -77,8 +77,8 @@ module _ (h : Service) where
   is_now db qs m e a = ap (λ b. cond b (Some m.view) None) (sent_follow m.watch.requests a) ∙ ap Some e
 
   -- the pictures after one more item
-  pub client_item : (db : Db) (i : Item) (ms : List Monitor) (os : List Out) → IsSound h i → IsThere h i (map (λ m. m.watch) ms) → Each (IsKept h) ms → client h os ≡ Some (map seen ms)
-      → client h (os ++ option_to_list (gives h db i ms)) ≡ Some (map seen (leaves h db i ms))
-  client_item db i ms os s there k c =
-      client_from-append h os (option_to_list (gives h db i ms)) [] ∙ ap (option_and_then (λ qs. client_from h qs (option_to_list (gives h db i ms)))) c
-      ∙ client_from-one h (map seen ms) (gives h db i ms) ∙ item_heard h db i ms s there k
+  pub client_item : (revision : Revision) (i : Item) (ms : List Monitor) (os : List Out) → IsSound h i → IsThere h i (map (λ m. m.watch) ms) → Each (IsKept h) ms → client h os ≡ Some (map seen ms)
+      → client h (os ++ option_to_list (gives h revision i ms)) ≡ Some (map seen (leaves h revision.db i ms))
+  client_item revision i ms os s there k c =
+      client_from-append h os (option_to_list (gives h revision i ms)) [] ∙ ap (option_and_then (λ qs. client_from h qs (option_to_list (gives h revision i ms)))) c
+      ∙ client_from-one h (map seen ms) (gives h revision i ms) ∙ item_heard h revision i ms s there k

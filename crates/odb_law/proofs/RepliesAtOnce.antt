@@ -28,9 +28,9 @@ use Rattle.odb_service.proofs.SessionMaps.{get-insert, key-itself}
 use Rattle.odb_service.proofs.WhatIsOwed.{change_to, message_of}
 use Rattle.odb_service.specs.Run.{Sent, State, after, submitted}
 use Rattle.odb_service.specs.Service.{Service}
-use Rattle.odb_service.specs.Session.{Answers, Item, Monitor, Out, Session, Watch, first_out, gives, label, leaves, no_request, no_result, owed, owed_from, renamed, same_id, say, shift, start, stopped, sync, to, update_to}
+use Rattle.odb_service.specs.Session.{Answers, Item, Monitor, Out, Revision, Session, Watch, first_out, gives, label, leaves, no_request, no_result, owed, owed_from, renamed, same_id, say, shift, start, stopped, sync, to, update_to}
 use Rattle.odb_service.specs.Session as session
-use Rattle.odb_service.specs.World.{World, answer, are_monitored, asked_of, at_moment, change_of, fail, handle, is_conditional, lock_error, locked, on_cancel_monitor, on_lock, post, post_notices, post_to, push, shift_with, start_with, watched}
+use Rattle.odb_service.specs.World.{World, answer, are_monitored, asked_of, at_moment, change_of, fail, handle, is_conditional, lock_error, locked, on_cancel_monitor, on_lock, post, post_notices, post_to, push, revision_of, shift_with, start_with, watched}
 use Rattle.odb_tables.specs.Database.{Db}
 use Rattle.odb_wire.specs.Message.{id_of}
 
@@ -125,29 +125,29 @@ module _ (h : Service) where
   -- ---- through a queue
 
   -- what comes before the rest of the queue was taken
-  walked : (db : Db) (front rest : List Item) (ms : List Monitor) (os : List Out) → IsWell h (record { queue = front ++ rest; monitors = ms }) → client h os ≡ Some (map seen ms)
-      → IsWell h (record { queue = rest; monitors = left h db front ms }) × (client h (os ++ given h db front ms) ≡ Some (map seen (left h db front ms)))
-  walked db [] rest ms os k c = (k, ap (client h) (append-nil os) ∙ c)
-  walked db (i ∷ is) rest ms os k c =
-      let w : IsWell h (record { queue = rest; monitors = left h db is (leaves h db i ms) }) × (client h ((os ++ option_to_list (gives h db i ms)) ++ given h db is (leaves h db i ms)) ≡ Some (map seen (left h db is (leaves h db i ms)))) =
-      walked db is rest (leaves h db i ms) (os ++ option_to_list (gives h db i ms)) (next_well h db i (is ++ rest) ms k) (client_item h db i ms os k.items.0 k.distinct.1 k.kept c) in
-      (w.0, ap (client h) (sym (append_assoc os (option_to_list (gives h db i ms)) (given h db is (leaves h db i ms)))) ∙ w.1)
+  walked : (revision : Revision) (front rest : List Item) (ms : List Monitor) (os : List Out) → IsWell h (record { queue = front ++ rest; monitors = ms }) → client h os ≡ Some (map seen ms)
+      → IsWell h (record { queue = rest; monitors = left h revision.db front ms }) × (client h (os ++ given h revision front ms) ≡ Some (map seen (left h revision.db front ms)))
+  walked revision [] rest ms os k c = (k, ap (client h) (append-nil os) ∙ c)
+  walked revision (i ∷ is) rest ms os k c =
+      let w : IsWell h (record { queue = rest; monitors = left h revision.db is (leaves h revision.db i ms) }) × (client h ((os ++ option_to_list (gives h revision i ms)) ++ given h revision is (leaves h revision.db i ms)) ≡ Some (map seen (left h revision.db is (leaves h revision.db i ms)))) =
+      walked revision is rest (leaves h revision.db i ms) (os ++ option_to_list (gives h revision i ms)) (next_well h revision.db i (is ++ rest) ms k) (client_item h revision i ms os k.items.0 k.distinct.1 k.kept c) in
+      (w.0, ap (client h) (sym (append_assoc os (option_to_list (gives h revision i ms)) (given h revision is (leaves h revision.db i ms)))) ∙ w.1)
 
   -- with the queue empty, nothing is a reply
-  notices : (db : Db) (ms : List Monitor) → AreNotices (filter_map (λ m. update_to h db m.watch.requests m) ms)
-  notices db [] = tt
-  notices db (m ∷ ms) = by (is_none (change_to h db m.watch.requests m)) (notices db ms)
+  notices : (revision : Revision) (ms : List Monitor) → AreNotices (filter_map (λ m. update_to h revision m.watch.requests m) ms)
+  notices revision [] = tt
+  notices revision (m ∷ ms) = by (is_none (change_to h revision.db m.watch.requests m)) (notices revision ms)
     where
-      by : (b : Bool) → AreNotices (filter_map (λ m. update_to h db m.watch.requests m) ms) → AreNotices (cons_option (cond b None (Some (message_of h db m.watch.requests m))) (filter_map (λ m. update_to h db m.watch.requests m) ms))
+      by : (b : Bool) → AreNotices (filter_map (λ m. update_to h revision m.watch.requests m) ms) → AreNotices (cons_option (cond b None (Some (message_of h revision.db m.watch.requests m))) (filter_map (λ m. update_to h revision m.watch.requests m) ms))
       by true rest = rest
       by false rest = (refl, rest)
 
   -- what an item gives that replies
-  replies : (db : Db) (d : Data) (e : Ending) (ms : List Monitor) → (o : Out) × (gives h db (replying d e) ms ≡ Some o) × (o.answers ≡ to d)
-  replies db d (says m) ms = (record { answers = to d; message = m }, refl, refl)
-  replies db d (starts k) ms = (first_out h db d k, refl, refl)
-  replies db d (changes_filters old new fs) ms = (session.granted h d, refl, refl)
-  replies db d (stops i) ms = (session.granted h d, refl, refl)
+  replies : (revision : Revision) (d : Data) (e : Ending) (ms : List Monitor) → (o : Out) × (gives h revision (replying d e) ms ≡ Some o) × (o.answers ≡ to d)
+  replies revision d (says m) ms = (record { answers = to d; message = m }, refl, refl)
+  replies revision d (starts k) ms = (first_out h revision d k, refl, refl)
+  replies revision d (changes_filters old new fs) ms = (session.granted h d, refl, refl)
+  replies revision d (stops i) ms = (session.granted h d, refl, refl)
 
   -- its monitor is brought to now before
   ready : (db : Db) (d : Data) (e : Ending) (ms : List Monitor) → IsWell h (record { queue = replying d e ∷ []; monitors = left h db (lead e) ms }) → ReadyFor h db (Never h) (replying d e) (left h db (lead e) ms)
@@ -166,29 +166,29 @@ module _ (h : Service) where
 
   replied : (st : State) (s : ℕ) (d : Data) (e : Ending) (x : Session) → Holds h (push (posted d e) x) (st.given s) → IsRepliedTo h d st s (push (posted d e) x)
   replied st s d e x k =
-      let db : Db = st.world.db in
+      let revision : Revision = revision_of st.world in
       let os : List Out = st.given s in
-      let ms : List Monitor = left h db x.queue x.monitors in
-      let ns : List Monitor = left h db (lead e) ms in
-      let a : List Out = given h db x.queue x.monitors in
-      let b : List Out = given h db (lead e) ms in
-      let one : IsWell h (record { queue = posted d e; monitors = ms }) × (client h (os ++ a) ≡ Some (map seen ms)) = walked db x.queue (posted d e) x.monitors os k.0 k.1 in
-      let two : IsWell h (record { queue = replying d e ∷ []; monitors = ns }) × (client h ((os ++ a) ++ b) ≡ Some (map seen ns)) = walked db (lead e) (replying d e ∷ []) ms (os ++ a) one.0 one.1 in
+      let ms : List Monitor = left h revision.db x.queue x.monitors in
+      let ns : List Monitor = left h revision.db (lead e) ms in
+      let a : List Out = given h revision x.queue x.monitors in
+      let b : List Out = given h revision (lead e) ms in
+      let one : IsWell h (record { queue = posted d e; monitors = ms }) × (client h (os ++ a) ≡ Some (map seen ms)) = walked revision x.queue (posted d e) x.monitors os k.0 k.1 in
+      let two : IsWell h (record { queue = replying d e ∷ []; monitors = ns }) × (client h ((os ++ a) ++ b) ≡ Some (map seen ns)) = walked revision (lead e) (replying d e ∷ []) ms (os ++ a) one.0 one.1 in
       let heard : client h (os ++ (a ++ b)) ≡ Some (map seen ns) = ap (client h) (sym (append_assoc os a b)) ∙ two.1 in
-      let r : (o : Out) × (gives h db (replying d e) ns ≡ Some o) × (o.answers ≡ to d) = replies db d e ns in
-      let rest : List Out = owed_from h db [] (leaves h db (replying d e) ns) in
+      let r : (o : Out) × (gives h revision (replying d e) ns ≡ Some o) × (o.answers ≡ to d) = replies revision d e ns in
+      let rest : List Out = owed_from h revision [] (leaves h revision.db (replying d e) ns) in
       record {
         before = a ++ b;
         reply = r.0;
         after = rest;
-        is_owed = owed_append h db x.queue (posted d e) x.monitors
-            ∙ ap (λ l. a ++ l) (owed_append h db (lead e) (replying d e ∷ []) ms ∙ ap (λ o. b ++ (option_to_list o ++ rest)) r.1)
+        is_owed = owed_append h revision x.queue (posted d e) x.monitors
+            ∙ ap (λ l. a ++ l) (owed_append h revision (lead e) (replying d e ∷ []) ms ∙ ap (λ o. b ++ (option_to_list o ++ rest)) r.1)
             ∙ sym (append_assoc a b (r.0 ∷ rest));
         answers = r.2;
-        is_last = notices db (leaves h db (replying d e) ns);
-        dropped = λ i granted is. dropped_now db (os ++ (a ++ b)) i (item_dropped h db (Never h) (replying d e) [] ns (os ++ (a ++ b)) r.0 d i two.0 heard (ready db d e ms two.0) r.1 r.2 granted is);
+        is_last = notices revision (leaves h revision.db (replying d e) ns);
+        dropped = λ i granted is. dropped_now revision.db (os ++ (a ++ b)) i (item_dropped h revision (Never h) (replying d e) [] ns (os ++ (a ++ b)) r.0 d i two.0 heard (ready revision.db d e ms two.0) r.1 r.2 granted is);
         changed = λ old new filters granted is.
-            changed_now db (os ++ (a ++ b) ++ r.0 ∷ []) old new (item_changed h db (Never h) (replying d e) [] ns (os ++ (a ++ b)) r.0 d old new filters two.0 heard (ready db d e ms two.0) r.1 r.2 granted is);
+            changed_now revision.db (os ++ (a ++ b) ++ r.0 ∷ []) old new (item_changed h revision (Never h) (replying d e) [] ns (os ++ (a ++ b)) r.0 d old new filters two.0 heard (ready revision.db d e ms two.0) r.1 r.2 granted is);
       }
 
   pub replies_at_once : ReadsNamed h → RepliesAtOnce h

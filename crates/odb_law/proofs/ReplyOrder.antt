@@ -23,8 +23,8 @@ use Rattle.odb_service.proofs.Splits.{Split}
 use Rattle.odb_service.proofs.WhatIsOwed.{change_to, message_of, takes}
 use Rattle.odb_service.specs.Run.{Event, Sent, State, after, closed, given_after, once, opened, opens, round, sent, sent_to, submitted, take_each, take_of, ticked}
 use Rattle.odb_service.specs.Service.{Outcome, Service, ended, waiting}
-use Rattle.odb_service.specs.Session.{Answers, Item, Monitor, Out, Session, Watch, has_id, label, leaves, no_request, no_result, owed, owed_from, refilter, renamed, same_id, say, shift, start, stopped, sync, take, to, update_to}
-use Rattle.odb_service.specs.World.{Waiting, World, answer, are_monitored, asked_of, at_moment, attempt, cancel_one, change_of, close, end_transaction, fail, handle, is_conditional, is_due, is_of, lock_error, locked, notice_of, on_cancel_monitor, on_lock, on_outcome, post, post_notices, post_to, push, retry, retry_all, shift_with, split_first, start_with, succeed, tick, try_due, try_one, untried, watched, with_waiting}
+use Rattle.odb_service.specs.Session.{Answers, Item, Monitor, Out, Revision, Session, Watch, has_id, label, leaves, no_request, no_result, owed, owed_from, refilter, renamed, same_id, say, shift, start, stopped, sync, take, to, update_to}
+use Rattle.odb_service.specs.World.{Waiting, World, answer, are_monitored, asked_of, at_moment, attempt, cancel_one, change_of, close, end_transaction, fail, handle, is_conditional, is_due, is_of, lock_error, locked, notice_of, on_cancel_monitor, on_lock, on_outcome, post, post_notices, post_to, push, retry, retry_all, revision_of, shift_with, split_first, start_with, succeed, tick, try_due, try_one, untried, watched, with_waiting}
 use Rattle.odb_tables.specs.Database.{Db}
 use Rattle.odb_wire.specs.Message.{id_of}
 
@@ -184,38 +184,38 @@ module _ (h : Service) where
 
   -- ---- what is owed
 
-  updates_answer_none : (db : Db) (ms : List Monitor) → answered_in (filter_map (λ m. update_to h db m.watch.requests m) ms) ≡ []
-  updates_answer_none db [] = refl
-  updates_answer_none db (m ∷ ms) =
-      elim (is_none (change_to h db m.watch.requests m)) as (λ b. answered_in (cons_option (cond b None (Some (message_of h db m.watch.requests m))) (filter_map (λ m. update_to h db m.watch.requests m) ms)) ≡ []) [
-        | true ↦ updates_answer_none db ms
-        | false ↦ updates_answer_none db ms
+  updates_answer_none : (revision : Revision) (ms : List Monitor) → answered_in (filter_map (λ m. update_to h revision m.watch.requests m) ms) ≡ []
+  updates_answer_none revision [] = refl
+  updates_answer_none revision (m ∷ ms) =
+      elim (is_none (change_to h revision.db m.watch.requests m)) as (λ b. answered_in (cons_option (cond b None (Some (message_of h revision.db m.watch.requests m))) (filter_map (λ m. update_to h revision m.watch.requests m) ms)) ≡ []) [
+        | true ↦ updates_answer_none revision ms
+        | false ↦ updates_answer_none revision ms
       ]
 
-  update_answers_none : (db : Db) (q : Monitor → List Request) (o : Option Monitor) (os : List Out) → answered_in (option_to_list (option_and_then (λ m. update_to h db (q m) m) o) ++ os) ≡ answered_in os
-  update_answers_none db q None os = refl
-  update_answers_none db q (Some m) os =
-      elim (is_none (change_to h db (q m) m)) as (λ b. answered_in (option_to_list (cond b None (Some (message_of h db (q m) m))) ++ os) ≡ answered_in os) [ true ↦ refl | false ↦ refl ]
+  update_answers_none : (revision : Revision) (q : Monitor → List Request) (o : Option Monitor) (os : List Out) → answered_in (option_to_list (option_and_then (λ m. update_to h revision (q m) m) o) ++ os) ≡ answered_in os
+  update_answers_none revision q None os = refl
+  update_answers_none revision q (Some m) os =
+      elim (is_none (change_to h revision.db (q m) m)) as (λ b. answered_in (option_to_list (cond b None (Some (message_of h revision.db (q m) m))) ++ os) ≡ answered_in os) [ true ↦ refl | false ↦ refl ]
 
-  owed_answers : (db : Db) (q : List Item) (ms : List Monitor) → answered_in (owed_from h db q ms) ≡ will_answer q
-  owed_answers db [] ms = updates_answer_none db ms
-  owed_answers db (say a d ∷ q) ms = ap (with_request a) (owed_answers db q ms)
-  owed_answers db (start d k ∷ q) ms = ap (with_request (to d)) (owed_answers db q (leaves h db (start d k) ms))
-  owed_answers db (sync i ∷ q) ms =
-      update_answers_none db (λ m. m.watch.requests) (find (has_id h i) ms) (owed_from h db q (leaves h db (sync i) ms)) ∙ owed_answers db q (leaves h db (sync i) ms)
-  owed_answers db (shift i fs ∷ q) ms =
-      update_answers_none db (λ m. refilter fs m.watch.requests) (find (has_id h i) ms) (owed_from h db q (leaves h db (shift i fs) ms)) ∙ owed_answers db q (leaves h db (shift i fs) ms)
-  owed_answers db (renamed d old new fs ∷ q) ms = ap (with_request (to d)) (owed_answers db q (leaves h db (renamed d old new fs) ms))
-  owed_answers db (stopped d i ∷ q) ms = ap (with_request (to d)) (owed_answers db q (leaves h db (stopped d i) ms))
+  owed_answers : (revision : Revision) (q : List Item) (ms : List Monitor) → answered_in (owed_from h revision q ms) ≡ will_answer q
+  owed_answers revision [] ms = updates_answer_none revision ms
+  owed_answers revision (say a d ∷ q) ms = ap (with_request a) (owed_answers revision q ms)
+  owed_answers revision (start d k ∷ q) ms = ap (with_request (to d)) (owed_answers revision q (leaves h revision.db (start d k) ms))
+  owed_answers revision (sync i ∷ q) ms =
+      update_answers_none revision (λ m. m.watch.requests) (find (has_id h i) ms) (owed_from h revision q (leaves h revision.db (sync i) ms)) ∙ owed_answers revision q (leaves h revision.db (sync i) ms)
+  owed_answers revision (shift i fs ∷ q) ms =
+      update_answers_none revision (λ m. refilter fs m.watch.requests) (find (has_id h i) ms) (owed_from h revision q (leaves h revision.db (shift i fs) ms)) ∙ owed_answers revision q (leaves h revision.db (shift i fs) ms)
+  owed_answers revision (renamed d old new fs ∷ q) ms = ap (with_request (to d)) (owed_answers revision q (leaves h revision.db (renamed d old new fs) ms))
+  owed_answers revision (stopped d i ∷ q) ms = ap (with_request (to d)) (owed_answers revision q (leaves h revision.db (stopped d i) ms))
 
-  all_answers : (db : Db) (x : Session) (os : List Out) → answered_in (os ++ owed h db x) ≡ answered_in os ++ will_answer x.queue
-  all_answers db x os = answered-append os (owed h db x) ∙ ap (λ ds. answered_in os ++ ds) (owed_answers db x.queue x.monitors)
+  all_answers : (revision : Revision) (x : Session) (os : List Out) → answered_in (os ++ owed h revision x) ≡ answered_in os ++ will_answer x.queue
+  all_answers revision x os = answered-append os (owed h revision x) ∙ ap (λ ds. answered_in os ++ ds) (owed_answers revision x.queue x.monitors)
 
   -- ---- rounds
 
-  take_answers : (db : Db) (x : Session) → answered_in (option_to_list (take h db x).0) ++ will_answer (take h db x).1.queue ≡ will_answer x.queue
-  take_answers db x =
-      sym (all_answers db (take h db x).1 (option_to_list (take h db x).0)) ∙ ap answered_in (sym (takes h db x).owes) ∙ owed_answers db x.queue x.monitors
+  take_answers : (revision : Revision) (x : Session) → answered_in (option_to_list (take h revision x).0) ++ will_answer (take h revision x).1.queue ≡ will_answer x.queue
+  take_answers revision x =
+      sym (all_answers revision (take h revision x).1 (option_to_list (take h revision x).0)) ∙ ap answered_in (sym (takes h revision x).owes) ∙ owed_answers revision x.queue x.monitors
 
   abbrev GivesOn : World → World × List Sent → Type 0
   GivesOn w r = (s : ℕ) (y : Session) → get r.0.sessions s ≡ Some y → (x : Session) × (get w.sessions s ≡ Some x) × (answered_in (sent_to s r.1) ++ will_answer y.queue ≡ will_answer x.queue)
@@ -223,18 +223,18 @@ module _ (h : Service) where
   one_gives : (t : ℕ) (o : Option Session) (w : World) → get w.sessions t ≡ o → GivesOn w (take_of h t o w)
   one_gives t None w e s y found = (y, found, refl)
   one_gives t (Some x) w e s y found =
-      elim (eq_by_cmp nat_cmp s t) as (λ b. eq_by_cmp nat_cmp s t ≡ b → cond b (Some (take h w.db x).1) (get w.sessions s) ≡ Some y
-      → (z : Session) × (get w.sessions s ≡ Some z) × (answered_in (sent_to s (sent t (take h w.db x).0)) ++ will_answer y.queue ≡ will_answer z.queue)) [
+      elim (eq_by_cmp nat_cmp s t) as (λ b. eq_by_cmp nat_cmp s t ≡ b → cond b (Some (take h (revision_of w) x).1) (get w.sessions s) ≡ Some y
+      → (z : Session) × (get w.sessions s ≡ Some z) × (answered_in (sent_to s (sent t (take h (revision_of w) x).0)) ++ will_answer y.queue ≡ will_answer z.queue)) [
         | true ↦ λ tie f. (
           x,
           ap (get w.sessions) (same_key s t tie) ∙ e,
-          ap (λ (u : ℕ). answered_in (sent_to u (sent t (take h w.db x).0)) ++ will_answer y.queue) (same_key s t tie)
-              ∙ ap (λ os. answered_in os ++ will_answer y.queue) (sent_to_itself t (take h w.db x).0)
-              ∙ ap (λ (z : Session). answered_in (option_to_list (take h w.db x).0) ++ will_answer z.queue) (sym (some_is (take h w.db x).1 y f))
-              ∙ take_answers w.db x,
+          ap (λ (u : ℕ). answered_in (sent_to u (sent t (take h (revision_of w) x).0)) ++ will_answer y.queue) (same_key s t tie)
+              ∙ ap (λ os. answered_in os ++ will_answer y.queue) (sent_to_itself t (take h (revision_of w) x).0)
+              ∙ ap (λ (z : Session). answered_in (option_to_list (take h (revision_of w) x).0) ++ will_answer z.queue) (sym (some_is (take h (revision_of w) x).1 y f))
+              ∙ take_answers (revision_of w) x,
         )
-        | false ↦ λ apart f. (y, f, ap (λ os. answered_in os ++ will_answer y.queue) (sent_to_other s t (take h w.db x).0 apart))
-      ] refl (sym (get-insert w.sessions t (take h w.db x).1 s) ∙ found)
+        | false ↦ λ apart f. (y, f, ap (λ os. answered_in os ++ will_answer y.queue) (sent_to_other s t (take h (revision_of w) x).0 apart))
+      ] refl (sym (get-insert w.sessions t (take h (revision_of w) x).1 s) ∙ found)
 
   each_gives : (ss : List ℕ) (w : World) → GivesOn w (take_each h ss w)
   each_gives [] w s y found = (y, found, refl)
@@ -257,7 +257,7 @@ module _ (h : Service) where
   abbrev Ordered : Event → State → World × List Sent → ℕ → Session → Session → Type 0
   Ordered e st r s x y =
       get st.world.sessions s ≡ Some x → get r.0.sessions s ≡ Some y
-      → (more : List Data) × (answered_in (given_after e r.1 st.given s ++ owed h r.0.db y) ≡ answered_in (st.given s ++ owed h st.world.db x) ++ more)
+      → (more : List Data) × (answered_in (given_after e r.1 st.given s ++ owed h (revision_of r.0) y) ≡ answered_in (st.given s ++ owed h (revision_of st.world) x) ++ more)
 
   -- where nothing is sent and queues grow
   grown : (e : Event) (st : State) (v : World) (s : ℕ) (x y : Session) → opens e s ≡ false → Grows st.world v → Ordered e st (v, []) s x y
@@ -265,11 +265,11 @@ module _ (h : Service) where
       let z : (z : Session) × (get st.world.sessions s ≡ Some z) × (more : List Item) × (y.queue ≡ z.queue ++ more) = grows s y there in
       let same : y.queue ≡ x.queue ++ z.2 = z.3 ∙ ap (λ (u : Session). u.queue ++ z.2) (some_is z.0 x (sym z.1 ∙ here)) in (
         will_answer z.2,
-        all_answers v.db y (given_after e [] st.given s)
+        all_answers (revision_of v) y (given_after e [] st.given s)
             ∙ (λ i. answered_in (cond (quiet i) [] (st.given s ++ [])) ++ will_answer (same i))
             ∙ (λ i. answered_in (append-nil (st.given s) i) ++ will_answer-append x.queue z.2 i)
             ∙ sym (append_assoc (answered_in (st.given s)) (will_answer x.queue) (will_answer z.2))
-            ∙ ap (λ ds. ds ++ will_answer z.2) (sym (all_answers st.world.db x (st.given s))),
+            ∙ ap (λ ds. ds ++ will_answer z.2) (sym (all_answers (revision_of st.world) x (st.given s))),
       )
 
   opening : (t : ℕ) (st : State) (s : ℕ) (x y : Session) → opens (opened t) s ≡ false → Ordered (opened t) st (opened_world h t st.world, []) s x y
@@ -284,12 +284,12 @@ module _ (h : Service) where
       let r : World × List Sent = take_each h (once ss) st.world in
       let z : (z : Session) × (get st.world.sessions s ≡ Some z) × (answered_in (sent_to s r.1) ++ will_answer y.queue ≡ will_answer z.queue) = each_gives (once ss) st.world s y there in (
         [],
-        all_answers r.0.db y (st.given s ++ sent_to s r.1)
+        all_answers (revision_of r.0) y (st.given s ++ sent_to s r.1)
             ∙ ap (λ ds. ds ++ will_answer y.queue) (answered-append (st.given s) (sent_to s r.1))
             ∙ append_assoc (answered_in (st.given s)) (answered_in (sent_to s r.1)) (will_answer y.queue)
             ∙ ap (λ ds. answered_in (st.given s) ++ ds) (z.2 ∙ ap (λ (u : Session). will_answer u.queue) (some_is z.0 x (sym z.1 ∙ here)))
-            ∙ sym (all_answers st.world.db x (st.given s))
-            ∙ sym (append-nil (answered_in (st.given s ++ owed h st.world.db x))),
+            ∙ sym (all_answers (revision_of st.world) x (st.given s))
+            ∙ sym (append-nil (answered_in (st.given s ++ owed h (revision_of st.world) x))),
       )
 
   ordered : (e : Event) (st : State) (r : World × List Sent) → Stepped h e st.world r → (s : ℕ) (x y : Session) → opens e s ≡ false → Ordered e st r s x y
@@ -304,4 +304,4 @@ module _ (h : Service) where
   pub keeps_order : KeepsOrder h
   keeps_order st now e goes s x y quiet here there =
       let n : (r : World × List Sent) × Stepped h e st.world r × (after h e st r ≡ now) = next_is h e st now goes in
-      subst (λ (m : State). get m.world.sessions s ≡ Some y → (more : List Data) × (answered_in (m.given s ++ owed h m.world.db y) ≡ answered_in (st.given s ++ owed h st.world.db x) ++ more)) n.2 (ordered e st n.0 n.1 s x y quiet here) there
+      subst (λ (m : State). get m.world.sessions s ≡ Some y → (more : List Data) × (answered_in (m.given s ++ owed h (revision_of m.world) y) ≡ answered_in (st.given s ++ owed h (revision_of st.world) x) ++ more)) n.2 (ordered e st n.0 n.1 s x y quiet here) there

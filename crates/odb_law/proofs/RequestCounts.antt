@@ -21,9 +21,9 @@ use Rattle.odb_law.specs.Law.{answers_one}
 use Rattle.odb_service.specs.Run.{Event, Sent, State, after, beginning, closed, given_after, once, opened, requests_after, round, sent, sent_to, submitted, take_each, take_of, ticked}
 use Rattle.odb_wire.specs.Message.{is_request}
 use Rattle.odb_service.specs.Service.{Outcome, Service, ended, waiting}
-use Rattle.odb_service.specs.Session.{Answers, Item, Monitor, Out, Session, Watch, gives, has_id, label, leaves, no_request, no_result, owed_from, refilter, renamed, same_id, say, shift, start, stop_at, stopped, sync, take, take_from, take_rest, to, update_to}
+use Rattle.odb_service.specs.Session.{Answers, Item, Monitor, Out, Revision, Session, Watch, gives, has_id, label, leaves, no_request, no_result, owed_from, refilter, renamed, same_id, say, shift, start, stop_at, stopped, sync, take, take_from, take_rest, to, update_to}
 use Rattle.odb_wire.specs.Message.{id_of}
-use Rattle.odb_service.specs.World.{Waiting, World, answer, are_monitored, asked_of, at_moment, attempt, cancel_one, change_of, close, end_transaction, fail, handle, is_conditional, is_due, is_of, is_untried, locked, notice_of, on_cancel_monitor, on_lock, on_monitor, on_outcome, post, post_notices, post_to, push, retry, retry_all, run_transaction, shift_with, split_first, start_with, succeed, tick, try_due, try_one, untried, watched, with_waiting}
+use Rattle.odb_service.specs.World.{Waiting, World, answer, are_monitored, asked_of, at_moment, attempt, cancel_one, change_of, close, end_transaction, fail, handle, is_conditional, is_due, is_of, is_untried, locked, notice_of, on_cancel_monitor, on_lock, on_monitor, on_outcome, post, post_notices, post_to, push, retry, retry_all, revision_of, run_transaction, shift_with, split_first, start_with, succeed, tick, try_due, try_one, untried, watched, with_waiting}
 use Rattle.odb_locks.specs.Locks.{Answered, Notice, drop_session, lock, steal, unlock}
 use Rattle.odb_monitor.proofs.Views.{some_is}
 use Rattle.odb_monitor.specs.View.{is_none}
@@ -381,61 +381,61 @@ module _ (h : Service) (q : Data → Bool) where
   -- ---- a taking
 
   module _ where
-    update_unlabelled : (db : Db) (qs : List Request) (m : Monitor) → outs (option_to_list (update_to h db qs m)) ≡ 0
-    update_unlabelled db qs m = by (is_none (change_to h db qs m))
+    update_unlabelled : (revision : Revision) (qs : List Request) (m : Monitor) → outs (option_to_list (update_to h revision qs m)) ≡ 0
+    update_unlabelled revision qs m = by (is_none (change_to h revision.db qs m))
       where
-        by : (b : Bool) → outs (option_to_list (cond b None (Some (message_of h db qs m)))) ≡ 0
+        by : (b : Bool) → outs (option_to_list (cond b None (Some (message_of h revision.db qs m)))) ≡ 0
         by true = refl
         by false = refl
 
-    found_unlabelled : (db : Db) (f : Monitor → List Request) (o : Option Monitor) → outs (option_to_list (option_and_then (λ m. update_to h db (f m) m) o)) ≡ 0
-    found_unlabelled db f None = refl
-    found_unlabelled db f (Some m) = update_unlabelled db (f m) m
+    found_unlabelled : (revision : Revision) (f : Monitor → List Request) (o : Option Monitor) → outs (option_to_list (option_and_then (λ m. update_to h revision (f m) m) o)) ≡ 0
+    found_unlabelled revision f None = refl
+    found_unlabelled revision f (Some m) = update_unlabelled revision (f m) m
 
     said : (a : Answers) (m : Data) → outs (record { answers = a; message = m } ∷ []) ≡ bit (in_label a)
     said no_request m = refl
     said (to d) m = single (q d)
 
-    gives_label : (db : Db) (i : Item) (ms : List Monitor) → outs (option_to_list (gives h db i ms)) ≡ bit (in_label (label i))
-    gives_label db (say a m) ms = said a m
-    gives_label db (start d k) ms = single (q d)
-    gives_label db (sync i) ms = found_unlabelled db (λ m. m.watch.requests) (find (has_id h i) ms)
-    gives_label db (shift i fs) ms = found_unlabelled db (λ m. refilter fs m.watch.requests) (find (has_id h i) ms)
-    gives_label db (renamed d old new fs) ms = single (q d)
-    gives_label db (stopped d i) ms = single (q d)
+    gives_label : (revision : Revision) (i : Item) (ms : List Monitor) → outs (option_to_list (gives h revision i ms)) ≡ bit (in_label (label i))
+    gives_label revision (say a m) ms = said a m
+    gives_label revision (start d k) ms = single (q d)
+    gives_label revision (sync i) ms = found_unlabelled revision (λ m. m.watch.requests) (find (has_id h i) ms)
+    gives_label revision (shift i fs) ms = found_unlabelled revision (λ m. refilter fs m.watch.requests) (find (has_id h i) ms)
+    gives_label revision (renamed d old new fs) ms = single (q d)
+    gives_label revision (stopped d i) ms = single (q d)
 
     stop_unlabelled : (o : Option Out) (x : List Monitor) (rest : Option Out × List Monitor) → outs (option_to_list o) ≡ 0 → outs (option_to_list rest.0) ≡ 0 → outs (option_to_list (stop_at o x rest).0) ≡ 0
     stop_unlabelled None x rest e f = f
     stop_unlabelled (Some o) x rest e f = e
 
-    rest_unlabelled : (db : Db) (ms : List Monitor) → outs (option_to_list (take_rest h db ms).0) ≡ 0
-    rest_unlabelled db [] = refl
-    rest_unlabelled db (m ∷ ms) = stop_unlabelled (update_to h db m.watch.requests m) _ _ (update_unlabelled db m.watch.requests m) (rest_unlabelled db ms)
+    rest_unlabelled : (revision : Revision) (ms : List Monitor) → outs (option_to_list (take_rest h revision ms).0) ≡ 0
+    rest_unlabelled revision [] = refl
+    rest_unlabelled revision (m ∷ ms) = stop_unlabelled (update_to h revision m.watch.requests m) _ _ (update_unlabelled revision m.watch.requests m) (rest_unlabelled revision ms)
 
     stop_label : (n : ℕ) (o : Option Out) (is : List Item) (ms : List Monitor) (rest : Option Out × Session) → outs (option_to_list o) ≡ n → outs (option_to_list rest.0) + queued rest.1.queue ≡ queued is
         → outs (option_to_list (stop_at o (record { queue = is; monitors = ms }) rest).0) + queued (stop_at o (record { queue = is; monitors = ms }) rest).1.queue ≡ n + queued is
     stop_label n None is ms rest e f = let g : 0 ≡ n = e in omega (arith, f, g)
     stop_label n (Some o) is ms rest e f = let g : bit (answers_one h q o) + 0 ≡ n = e in omega (arith, g)
 
-    pub from_label : (db : Db) (is : List Item) (ms : List Monitor) → outs (option_to_list (take_from h db is ms).0) + queued (take_from h db is ms).1.queue ≡ queued is
-    from_label db [] ms = let e : outs (option_to_list (take_rest h db ms).0) ≡ 0 = rest_unlabelled db ms in omega (arith, e)
-    from_label db (i ∷ is) ms =
-        stop_label (bit (in_label (label i))) (gives h db i ms) is (leaves h db i ms) (take_from h db is (leaves h db i ms)) (gives_label db i ms) (from_label db is (leaves h db i ms))
+    pub from_label : (revision : Revision) (is : List Item) (ms : List Monitor) → outs (option_to_list (take_from h revision is ms).0) + queued (take_from h revision is ms).1.queue ≡ queued is
+    from_label revision [] ms = let e : outs (option_to_list (take_rest h revision ms).0) ≡ 0 = rest_unlabelled revision ms in omega (arith, e)
+    from_label revision (i ∷ is) ms =
+        stop_label (bit (in_label (label i))) (gives h revision i ms) is (leaves h revision.db i ms) (take_from h revision is (leaves h revision.db i ms)) (gives_label revision i ms) (from_label revision is (leaves h revision.db i ms))
 
-    all_unlabelled : (db : Db) (ms : List Monitor) → outs (filter_map (λ m. update_to h db m.watch.requests m) ms) ≡ 0
-    all_unlabelled db [] = refl
-    all_unlabelled db (m ∷ ms) = by (update_to h db m.watch.requests m) (update_unlabelled db m.watch.requests m) (all_unlabelled db ms)
+    all_unlabelled : (revision : Revision) (ms : List Monitor) → outs (filter_map (λ m. update_to h revision m.watch.requests m) ms) ≡ 0
+    all_unlabelled revision [] = refl
+    all_unlabelled revision (m ∷ ms) = by (update_to h revision m.watch.requests m) (update_unlabelled revision m.watch.requests m) (all_unlabelled revision ms)
       where
-        by : (o : Option Out) → outs (option_to_list o) ≡ 0 → outs (filter_map (λ m. update_to h db m.watch.requests m) ms) ≡ 0 → outs (cons_option o (filter_map (λ m. update_to h db m.watch.requests m) ms)) ≡ 0
+        by : (o : Option Out) → outs (option_to_list o) ≡ 0 → outs (filter_map (λ m. update_to h revision m.watch.requests m) ms) ≡ 0 → outs (cons_option o (filter_map (λ m. update_to h revision m.watch.requests m) ms)) ≡ 0
         by None e f = f
         by (Some o) e f = let g : bit (answers_one h q o) + 0 ≡ 0 = e in omega (arith, f, g)
 
-    pub owed_label : (db : Db) (is : List Item) (ms : List Monitor) → outs (owed_from h db is ms) ≡ queued is
-    owed_label db [] ms = all_unlabelled db ms
-    owed_label db (i ∷ is) ms =
-        let a : outs (option_to_list (gives h db i ms) ++ owed_from h db is (leaves h db i ms)) ≡ outs (option_to_list (gives h db i ms)) + outs (owed_from h db is (leaves h db i ms)) = count-append (answers_one h q) (option_to_list (gives h db i ms)) (owed_from h db is (leaves h db i ms)) in
-        let b : outs (option_to_list (gives h db i ms)) ≡ bit (in_label (label i)) = gives_label db i ms in
-        let c : outs (owed_from h db is (leaves h db i ms)) ≡ queued is = owed_label db is (leaves h db i ms) in
+    pub owed_label : (revision : Revision) (is : List Item) (ms : List Monitor) → outs (owed_from h revision is ms) ≡ queued is
+    owed_label revision [] ms = all_unlabelled revision ms
+    owed_label revision (i ∷ is) ms =
+        let a : outs (option_to_list (gives h revision i ms) ++ owed_from h revision is (leaves h revision.db i ms)) ≡ outs (option_to_list (gives h revision i ms)) + outs (owed_from h revision is (leaves h revision.db i ms)) = count-append (answers_one h q) (option_to_list (gives h revision i ms)) (owed_from h revision is (leaves h revision.db i ms)) in
+        let b : outs (option_to_list (gives h revision i ms)) ≡ bit (in_label (label i)) = gives_label revision i ms in
+        let c : outs (owed_from h revision is (leaves h revision.db i ms)) ≡ queued is = owed_label revision is (leaves h revision.db i ms) in
         omega (arith, a, b, c)
 
     -- ---- events
@@ -453,18 +453,18 @@ module _ (h : Service) (q : Data → Bool) where
     take_of_balanced : (t : ℕ) (o : Option Session) (w : World) → get w.sessions t ≡ o → (f : ℕ → List Out) (g : ℕ → List Data) → AreBalanced w f g → AreBalanced (take_of h t o w).0 (λ s. f s ++ sent_to s (take_of h t o w).1) g
     take_of_balanced t None w e f g k s y found = quiet_balanced w f g k s y found
     take_of_balanced t (Some x) w e f g k s y found =
-        elim (eq_by_cmp nat_cmp s t) as (λ b. eq_by_cmp nat_cmp s t ≡ b → cond b (Some (take h w.db x).1) (get w.sessions s) ≡ Some y → Balances (g s) (f s ++ sent_to s (sent t (take h w.db x).0)) (queued y.queue + count_waiting s w.waiting)) [
-          | true ↦ λ tie is. subst (λ (u : ℕ). Balances (g u) (f u ++ sent_to u (sent t (take h w.db x).0)) (queued y.queue + count_waiting u w.waiting)) (sym (same_key s t tie))
-              (subst (λ (z : Session). Balances (g t) (f t ++ sent_to t (sent t (take h w.db x).0)) (queued z.queue + count_waiting t w.waiting)) (some_is (take h w.db x).1 y is)
-              (subst (λ os. Balances (g t) (f t ++ os) (queued (take h w.db x).1.queue + count_waiting t w.waiting)) (sym (sent_to_itself t (take h w.db x).0)) here))
-          | false ↦ λ apart is. subst (λ os. Balances (g s) (f s ++ os) (queued y.queue + count_waiting s w.waiting)) (sym (sent_to_other s t (take h w.db x).0 apart)) (subst (λ os. Balances (g s) os (queued y.queue + count_waiting s w.waiting)) (sym (append-nil (f s))) (k s y is))
-        ] refl (sym (get-insert w.sessions t (take h w.db x).1 s) ∙ found)
+        elim (eq_by_cmp nat_cmp s t) as (λ b. eq_by_cmp nat_cmp s t ≡ b → cond b (Some (take h (revision_of w) x).1) (get w.sessions s) ≡ Some y → Balances (g s) (f s ++ sent_to s (sent t (take h (revision_of w) x).0)) (queued y.queue + count_waiting s w.waiting)) [
+          | true ↦ λ tie is. subst (λ (u : ℕ). Balances (g u) (f u ++ sent_to u (sent t (take h (revision_of w) x).0)) (queued y.queue + count_waiting u w.waiting)) (sym (same_key s t tie))
+              (subst (λ (z : Session). Balances (g t) (f t ++ sent_to t (sent t (take h (revision_of w) x).0)) (queued z.queue + count_waiting t w.waiting)) (some_is (take h (revision_of w) x).1 y is)
+              (subst (λ os. Balances (g t) (f t ++ os) (queued (take h (revision_of w) x).1.queue + count_waiting t w.waiting)) (sym (sent_to_itself t (take h (revision_of w) x).0)) here))
+          | false ↦ λ apart is. subst (λ os. Balances (g s) (f s ++ os) (queued y.queue + count_waiting s w.waiting)) (sym (sent_to_other s t (take h (revision_of w) x).0 apart)) (subst (λ os. Balances (g s) os (queued y.queue + count_waiting s w.waiting)) (sym (append-nil (f s))) (k s y is))
+        ] refl (sym (get-insert w.sessions t (take h (revision_of w) x).1 s) ∙ found)
       where
-        here : Balances (g t) (f t ++ option_to_list (take h w.db x).0) (queued (take h w.db x).1.queue + count_waiting t w.waiting)
+        here : Balances (g t) (f t ++ option_to_list (take h (revision_of w) x).0) (queued (take h (revision_of w) x).1.queue + count_waiting t w.waiting)
         here =
             let a : count q (g t) ≡ outs (f t) + (queued x.queue + count_waiting t w.waiting) = k t x e in
-            let b : outs (option_to_list (take h w.db x).0) + queued (take h w.db x).1.queue ≡ queued x.queue = from_label w.db x.queue x.monitors in
-            let c : outs (f t ++ option_to_list (take h w.db x).0) ≡ outs (f t) + outs (option_to_list (take h w.db x).0) = count-append (answers_one h q) (f t) (option_to_list (take h w.db x).0) in
+            let b : outs (option_to_list (take h (revision_of w) x).0) + queued (take h (revision_of w) x).1.queue ≡ queued x.queue = from_label (revision_of w) x.queue x.monitors in
+            let c : outs (f t ++ option_to_list (take h (revision_of w) x).0) ≡ outs (f t) + outs (option_to_list (take h (revision_of w) x).0) = count-append (answers_one h q) (f t) (option_to_list (take h (revision_of w) x).0) in
             omega (arith, a, b, c)
 
     take_each_balanced : (ss : List ℕ) (w : World) (f : ℕ → List Out) (g : ℕ → List Data) → AreBalanced w f g → AreBalanced (take_each h ss w).0 (λ s. f s ++ sent_to s (take_each h ss w).1) g

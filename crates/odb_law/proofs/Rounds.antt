@@ -8,9 +8,10 @@ use Rattle.odb_law.proofs.HeadlineRuns.{sent_to-append, sent_to_itself, sent_to_
 use Rattle.odb_service.proofs.SessionMaps.{get-insert, key-itself}
 use Rattle.odb_service.specs.Run.{once, sent_to, take_each, take_of}
 use Rattle.odb_service.specs.Service.{Service}
-use Rattle.odb_service.specs.Session.{Out, Session, take}
-use Rattle.odb_service.specs.World.{World}
+use Rattle.odb_service.specs.Session.{Out, Revision, Session, take}
+use Rattle.odb_service.specs.World.{World, revision_of}
 use Rattle.odb_service.proofs.SessionMaps.{apart_keys}
+use Rattle.odb_tables.specs.Database.{Db}
 
 -- ---- a round takes once for each session
 
@@ -73,7 +74,7 @@ module _ (h : Service) where
   pub of_other : (t s : ℕ) (o : Option Session) (w : World) → (s == t) ≡ false → (get (take_of h s o w).0.sessions t ≡ get w.sessions t) × (sent_to t (take_of h s o w).1 ≡ [])
   of_other t s None w e = (refl, refl)
   of_other t s (Some x) w e =
-      (get-insert w.sessions s (take h w.db x).1 t ∙ ap (λ b. cond b (Some (take h w.db x).1) (get w.sessions t)) (apart_keys t s e), sent_to_other t s (take h w.db x).0 (apart_keys t s e))
+      (get-insert w.sessions s (take h (revision_of w) x).1 t ∙ ap (λ b. cond b (Some (take h (revision_of w) x).1) (get w.sessions t)) (apart_keys t s e), sent_to_other t s (take h (revision_of w) x).0 (apart_keys t s e))
 
   pub each_other : (t : ℕ) (ss : List ℕ) (w : World) → IsIn t ss ≡ false → (get (take_each h ss w).0.sessions t ≡ get w.sessions t) × (sent_to t (take_each h ss w).1 ≡ [])
   each_other t [] w e = (refl, refl)
@@ -87,15 +88,15 @@ module _ (h : Service) where
   abbrev pub Took : List ℕ → World → ℕ → Type 0
   Took ss w t =
       (sent_to t (take_each h ss w).1 ≡ [])
-      ⊎ ((x : Session) × (get w.sessions t ≡ Some x) × (sent_to t (take_each h ss w).1 ≡ option_to_list (take h w.db x).0) × (get (take_each h ss w).0.sessions t ≡ Some (take h w.db x).1))
+      ⊎ ((x : Session) × (get w.sessions t ≡ Some x) × (sent_to t (take_each h ss w).1 ≡ option_to_list (take h (revision_of w) x).0) × (get (take_each h ss w).0.sessions t ≡ Some (take h (revision_of w) x).1))
 
   abbrev Got : Option Session → World → List Out → Option Session → Type 0
-  Got o w os p = (os ≡ []) ⊎ ((x : Session) × (o ≡ Some x) × (os ≡ option_to_list (take h w.db x).0) × (p ≡ Some (take h w.db x).1))
+  Got o w os p = (os ≡ []) ⊎ ((x : Session) × (o ≡ Some x) × (os ≡ option_to_list (take h (revision_of w) x).0) × (p ≡ Some (take h (revision_of w) x).1))
 
   of_itself : (s : ℕ) (o : Option Session) (w : World) → get w.sessions s ≡ o → Got o w (sent_to s (take_of h s o w).1) (get (take_of h s o w).0.sessions s)
   of_itself s None w e = inl refl
   of_itself s (Some x) w e =
-      inr (x, refl, sent_to_itself s (take h w.db x).0, get-insert w.sessions s (take h w.db x).1 s ∙ ap (λ b. cond b (Some (take h w.db x).1) (get w.sessions s)) (key-itself s))
+      inr (x, refl, sent_to_itself s (take h (revision_of w) x).0, get-insert w.sessions s (take h (revision_of w) x).1 s ∙ ap (λ b. cond b (Some (take h (revision_of w) x).1) (get w.sessions s)) (key-itself s))
 
   first_took : (s : ℕ) (ss : List ℕ) (w : World) → IsIn s ss ≡ false → Took (s ∷ ss) w s
   first_took s ss w a =
@@ -113,7 +114,7 @@ module _ (h : Service) where
       subst (λ os. Got (get w.sessions t) w os p)
       (sym (sent_to-append t (take_of h s (get w.sessions s) w).1 (take_each h ss v).1 ∙ ap (λ os. os ++ sent_to t (take_each h ss v).1) a.1))
       (subst (λ o. Got o w (sent_to t (take_each h ss v).1) p) a.0
-      (subst (λ db. (sent_to t (take_each h ss v).1 ≡ []) ⊎ ((x : Session) × (get v.sessions t ≡ Some x) × (sent_to t (take_each h ss v).1 ≡ option_to_list (take h db x).0) × (p ≡ Some (take h db x).1))) (of_db s (get w.sessions s) w) k))
+      (subst (λ (db : Db). let revision : Revision = record { db = db } in (sent_to t (take_each h ss v).1 ≡ []) ⊎ ((x : Session) × (get v.sessions t ≡ Some x) × (sent_to t (take_each h ss v).1 ≡ option_to_list (take h revision x).0) × (p ≡ Some (take h revision x).1))) (of_db s (get w.sessions s) w) k))
 
   pub take_once : (ss : List ℕ) (w : World) → AreOnce ss → (t : ℕ) → Took ss w t
   take_once [] w a t = inl refl

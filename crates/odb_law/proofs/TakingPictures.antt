@@ -12,7 +12,7 @@ use Rattle.odb_law.proofs.ClientUpdates.{IsLike, begun_kept, brought-followed, b
 use Rattle.odb_service.proofs.WhatIsOwed.{change_to, message_of}
 use Rattle.odb_law.specs.Client.{Picture, client_from, client_step, follow, is_id_of, on_granted, refiltered, try_drop, try_first, with_changes}
 use Rattle.odb_service.specs.Service.{Service}
-use Rattle.odb_service.specs.Session.{Item, Monitor, Out, Session, at_first, begun, brought, drop_first, gives, has_id, leaves, method_of, no_request, no_result, owed_from, refilter, renamed, rested, say, shapes, shift, start, stop_at, stopped, sync, take_from, take_rest, update_to}
+use Rattle.odb_service.specs.Session.{Item, Monitor, Out, Revision, Session, at_first, begun, brought, drop_first, gives, has_id, leaves, method_of, no_request, no_result, owed_from, refilter, renamed, rested, say, shapes, shift, start, stop_at, stopped, sync, take_from, take_rest, update_to}
 use Rattle.odb_wire.specs.Message.{id_of}
 use Rattle.odb_service.specs.World.{watched}
 use Rattle.odb_monitor.proofs.Lists.{bytes_eq-itself}
@@ -59,33 +59,33 @@ module _ (h : Service) where
       ∙ ap (λ b. cond b (option_map (λ q. q ∷ ps) (follow h m.watch.notation d (seen m))) (option_map (λ qs. seen m ∷ qs) (try_first (is_id_of h m.watch.id) (follow h m.watch.notation d) ps))) (bytes_eq-itself (h.printed m.watch.id))
       ∙ ap (option_map (λ q. q ∷ ps)) (brought-followed h db qs m kept like e)
 
-  pub one_heard : (db : Db) (qs : List Request) (m : Monitor) (ps : List Picture) → IsKept h m → IsLike h qs m.watch
-      → heard (update_to h db qs m) (seen m ∷ ps) ≡ Some (seen (brought h db qs m) ∷ ps)
-  one_heard db qs m ps kept like = out_heard db qs m ps kept like (is_none (change_to h db qs m)) refl
+  pub one_heard : (revision : Revision) (qs : List Request) (m : Monitor) (ps : List Picture) → IsKept h m → IsLike h qs m.watch
+      → heard (update_to h revision qs m) (seen m ∷ ps) ≡ Some (seen (brought h revision.db qs m) ∷ ps)
+  one_heard revision qs m ps kept like = out_heard revision.db qs m ps kept like (is_none (change_to h revision.db qs m)) refl
 
-  pub one_away : (t : List ℕ) (db : Db) (qs : List Request) (m : Monitor) → bytes_eq (h.printed m.watch.id) t ≡ false → IsAway t (update_to h db qs m)
-  one_away t db qs m e = out_away t db qs m e (is_none (change_to h db qs m))
+  pub one_away : (t : List ℕ) (revision : Revision) (qs : List Request) (m : Monitor) → bytes_eq (h.printed m.watch.id) t ≡ false → IsAway t (update_to h revision qs m)
+  one_away t revision qs m e = out_away t revision.db qs m e (is_none (change_to h revision.db qs m))
 
   -- ---- a monitor found by its id
 
-  module _ (db : Db) (q : Monitor → List Request) (like : (m : Monitor) → IsLike h (q m) m.watch) where
+  module _ (revision : Revision) (q : Monitor → List Request) (like : (m : Monitor) → IsLike h (q m) m.watch) where
     found_update : Data → List Monitor → Option Out
-    found_update i ms = option_and_then (λ m. update_to h db (q m) m) (find (has_id h i) ms)
+    found_update i ms = option_and_then (λ m. update_to h revision (q m) m) (find (has_id h i) ms)
 
-    pub found_away : (i : Data) (t : List ℕ) → bytes_eq (h.printed i) t ≡ false → (ms : List Monitor) → IsAway t (option_and_then (λ m. update_to h db (q m) m) (find (has_id h i) ms))
+    pub found_away : (i : Data) (t : List ℕ) → bytes_eq (h.printed i) t ≡ false → (ms : List Monitor) → IsAway t (option_and_then (λ m. update_to h revision (q m) m) (find (has_id h i) ms))
     found_away i t e [] = tt
     found_away i t e (m ∷ ms) =
-        elim (has_id h i m) as (λ b. has_id h i m ≡ b → IsAway t (option_and_then (λ m. update_to h db (q m) m) (cond b (Some m) (find (has_id h i) ms)))) [
-          | true ↦ λ is. one_away t db (q m) m (subst (λ s. bytes_eq s t ≡ false) ((bytes_eq-Decides (h.printed i) (h.printed m.watch.id)).0 is) e)
+        elim (has_id h i m) as (λ b. has_id h i m ≡ b → IsAway t (option_and_then (λ m. update_to h revision (q m) m) (cond b (Some m) (find (has_id h i) ms)))) [
+          | true ↦ λ is. one_away t revision (q m) m (subst (λ s. bytes_eq s t ≡ false) ((bytes_eq-Decides (h.printed i) (h.printed m.watch.id)).0 is) e)
           | false ↦ λ _. found_away i t e ms
         ] refl
 
     pub found_heard : (i : Data) (ms : List Monitor) → Each (IsKept h) ms
-        → heard (option_and_then (λ m. update_to h db (q m) m) (find (has_id h i) ms)) (map seen ms) ≡ Some (map seen (at_first (has_id h i) (λ m. brought h db (q m) m) ms))
+        → heard (option_and_then (λ m. update_to h revision (q m) m) (find (has_id h i) ms)) (map seen ms) ≡ Some (map seen (at_first (has_id h i) (λ m. brought h revision.db (q m) m) ms))
     found_heard i [] k = refl
     found_heard i (m ∷ ms) k =
-        elim (has_id h i m) as (λ b. has_id h i m ≡ b → heard (option_and_then (λ m. update_to h db (q m) m) (cond b (Some m) (find (has_id h i) ms))) (seen m ∷ map seen ms) ≡ Some (map seen (cond b (brought h db (q m) m ∷ ms) (m ∷ at_first (has_id h i) (λ m. brought h db (q m) m) ms)))) [
-          | true ↦ λ is. one_heard db (q m) m (map seen ms) k.0 (like m)
+        elim (has_id h i m) as (λ b. has_id h i m ≡ b → heard (option_and_then (λ m. update_to h revision (q m) m) (cond b (Some m) (find (has_id h i) ms))) (seen m ∷ map seen ms) ≡ Some (map seen (cond b (brought h revision.db (q m) m ∷ ms) (m ∷ at_first (has_id h i) (λ m. brought h revision.db (q m) m) ms)))) [
+          | true ↦ λ is. one_heard revision (q m) m (map seen ms) k.0 (like m)
           | false ↦ λ isnt. heard-past (seen m) (map seen ms) _ (found_away i (h.printed m.watch.id) isnt ms) ∙ ap (option_map (λ qs. seen m ∷ qs)) (found_heard i ms k.1)
         ] refl
 
@@ -121,17 +121,17 @@ module _ (h : Service) where
       ] e
 
   -- one item
-  pub item_heard : (db : Db) (i : Item) (ms : List Monitor) → IsSound h i → IsThere h i (map (λ m. m.watch) ms) → Each (IsKept h) ms → heard (gives h db i ms) (map seen ms) ≡ Some (map seen (leaves h db i ms))
-  item_heard db (say a d) ms s there k = s.0 (map seen ms)
-  item_heard db (start d w) ms s there k = first_heard h db d w s (map seen ms) ∙ ap Some (sym (seen_append ms (begun h db w)))
-  item_heard db (sync i) ms s there k = found_heard db (λ m. m.watch.requests) itself_like i ms k
-  item_heard db (shift i fs) ms s there k = found_heard db (λ m. refilter fs m.watch.requests) (refilter_like fs) i ms k
-  item_heard db (renamed d old new fs) ms s there k =
+  pub item_heard : (revision : Revision) (i : Item) (ms : List Monitor) → IsSound h i → IsThere h i (map (λ m. m.watch) ms) → Each (IsKept h) ms → heard (gives h revision i ms) (map seen ms) ≡ Some (map seen (leaves h revision.db i ms))
+  item_heard revision (say a d) ms s there k = s.0 (map seen ms)
+  item_heard revision (start d w) ms s there k = first_heard h revision d w s (map seen ms) ∙ ap Some (sym (seen_append ms (begun h revision.db w)))
+  item_heard revision (sync i) ms s there k = found_heard revision (λ m. m.watch.requests) itself_like i ms k
+  item_heard revision (shift i fs) ms s there k = found_heard revision (λ m. refilter fs m.watch.requests) (refilter_like fs) i ms k
+  item_heard revision (renamed d old new fs) ms s there k =
       reply_heard h d null (id_of d) no_result (map seen ms) (sym s.0)
       ∙ ap (λ w. on_granted h w no_result (map seen ms)) s.1.1
       ∙ ap (λ r. refiltered h old new r (map seen ms)) s.1.2
       ∙ try_new old new fs ms there
-  item_heard db (stopped d i) ms s there k =
+  item_heard revision (stopped d i) ms s there k =
       reply_heard h d null (id_of d) no_result (map seen ms) (sym s.0)
       ∙ ap (λ w. on_granted h w no_result (map seen ms)) s.1
       ∙ drop_seen i ms there
@@ -156,11 +156,11 @@ module _ (h : Service) where
   stop_away t None x rest a b = b
   stop_away t (Some o) x rest a b = a
 
-  pub rest_away : (t : List ℕ) (db : Db) (ms : List Monitor) → IsApart t (texts h (map (λ m. m.watch) ms)) → IsAway t (take_rest h db ms).0
-  rest_away t db [] a = tt
-  rest_away t db (m ∷ ms) a =
-      stop_away t (update_to h db m.watch.requests m) (brought h db m.watch.requests m ∷ ms) ((take_rest h db ms).0, brought h db m.watch.requests m ∷ (take_rest h db ms).1)
-      (one_away t db m.watch.requests m (nat_list_eq_equiv.symm (h.printed m.watch.id) t ∙ a.0)) (rest_away t db ms a.1)
+  pub rest_away : (t : List ℕ) (revision : Revision) (ms : List Monitor) → IsApart t (texts h (map (λ m. m.watch) ms)) → IsAway t (take_rest h revision ms).0
+  rest_away t revision [] a = tt
+  rest_away t revision (m ∷ ms) a =
+      stop_away t (update_to h revision m.watch.requests m) (brought h revision.db m.watch.requests m ∷ ms) ((take_rest h revision ms).0, brought h revision.db m.watch.requests m ∷ (take_rest h revision ms).1)
+      (one_away t revision m.watch.requests m (nat_list_eq_equiv.symm (h.printed m.watch.id) t ∙ a.0)) (rest_away t revision ms a.1)
 
   stop_rest : (m b : Monitor) (ms : List Monitor) (o : Option Out) (rest : Option Out × List Monitor) → heard o (seen m ∷ map seen ms) ≡ Some (seen b ∷ map seen ms)
       → heard rest.0 (map seen ms) ≡ Some (map seen rest.1) → IsAway (h.printed b.watch.id) rest.0
@@ -168,28 +168,28 @@ module _ (h : Service) where
   stop_rest m b ms None rest e r a = ap (option_and_then (heard rest.0)) e ∙ heard-past (seen b) (map seen ms) rest.0 a ∙ ap (option_map (λ qs. seen b ∷ qs)) r
   stop_rest m b ms (Some o) rest e r a = e
 
-  pub rest_heard : (db : Db) (ms : List Monitor) → Each (IsKept h) ms → AreDistinct (texts h (map (λ m. m.watch) ms)) → heard (take_rest h db ms).0 (map seen ms) ≡ Some (map seen (take_rest h db ms).1)
-  rest_heard db [] k d = refl
-  rest_heard db (m ∷ ms) k d =
-      stop_rest m (brought h db m.watch.requests m) ms (update_to h db m.watch.requests m) (take_rest h db ms)
-      (one_heard db m.watch.requests m (map seen ms) k.0 (itself_like m)) (rest_heard db ms k.1 d.1) (rest_away (h.printed m.watch.id) db ms d.0)
+  pub rest_heard : (revision : Revision) (ms : List Monitor) → Each (IsKept h) ms → AreDistinct (texts h (map (λ m. m.watch) ms)) → heard (take_rest h revision ms).0 (map seen ms) ≡ Some (map seen (take_rest h revision ms).1)
+  rest_heard revision [] k d = refl
+  rest_heard revision (m ∷ ms) k d =
+      stop_rest m (brought h revision.db m.watch.requests m) ms (update_to h revision m.watch.requests m) (take_rest h revision ms)
+      (one_heard revision m.watch.requests m (map seen ms) k.0 (itself_like m)) (rest_heard revision ms k.1 d.1) (rest_away (h.printed m.watch.id) revision ms d.0)
 
   stop_kept : (o : Option Out) (b : Monitor) (ms : List Monitor) (rest : Option Out × List Monitor) → IsKept h b → Each (IsKept h) ms → Each (IsKept h) rest.1 → Each (IsKept h) (stop_at o (b ∷ ms) (rest.0, b ∷ rest.1)).1
   stop_kept None b ms rest k l r = (k, r)
   stop_kept (Some o) b ms rest k l r = (k, l)
 
-  rest_kept : (db : Db) (ms : List Monitor) → Each (IsKept h) ms → Each (IsKept h) (take_rest h db ms).1
-  rest_kept db [] k = tt
-  rest_kept db (m ∷ ms) k =
-      stop_kept (update_to h db m.watch.requests m) (brought h db m.watch.requests m) ms (take_rest h db ms) (brought_kept h db m.watch.requests m k.0 (itself_like m)) k.1 (rest_kept db ms k.1)
+  rest_kept : (revision : Revision) (ms : List Monitor) → Each (IsKept h) ms → Each (IsKept h) (take_rest h revision ms).1
+  rest_kept revision [] k = tt
+  rest_kept revision (m ∷ ms) k =
+      stop_kept (update_to h revision m.watch.requests m) (brought h revision.db m.watch.requests m) ms (take_rest h revision ms) (brought_kept h revision.db m.watch.requests m k.0 (itself_like m)) k.1 (rest_kept revision ms k.1)
 
   stop_watch : (o : Option Out) (b : Monitor) (ms : List Monitor) (rest : Option Out × List Monitor) → map (λ m. m.watch) rest.1 ≡ map (λ m. m.watch) ms → map (λ m. m.watch) (stop_at o (b ∷ ms) (rest.0, b ∷ rest.1)).1 ≡ b.watch ∷ map (λ m. m.watch) ms
   stop_watch None b ms rest e = ap (λ ks. b.watch ∷ ks) e
   stop_watch (Some o) b ms rest e = refl
 
-  pub rest_watch : (db : Db) (ms : List Monitor) → map (λ m. m.watch) (take_rest h db ms).1 ≡ map (λ m. m.watch) ms
-  rest_watch db [] = refl
-  rest_watch db (m ∷ ms) = stop_watch (update_to h db m.watch.requests m) (brought h db m.watch.requests m) ms (take_rest h db ms) (rest_watch db ms)
+  pub rest_watch : (revision : Revision) (ms : List Monitor) → map (λ m. m.watch) (take_rest h revision ms).1 ≡ map (λ m. m.watch) ms
+  rest_watch revision [] = refl
+  rest_watch revision (m ∷ ms) = stop_watch (update_to h revision m.watch.requests m) (brought h revision.db m.watch.requests m) ms (take_rest h revision ms) (rest_watch revision ms)
 
   -- ---- a taking
 
@@ -210,16 +210,16 @@ module _ (h : Service) where
     order = order_rest i is k.order;
   }
 
-  pub from_heard : (db : Db) (q : List Item) (ms : List Monitor) → IsWell h (record { queue = q; monitors = ms }) → heard (take_from h db q ms).0 (map seen ms) ≡ Some (map seen (take_from h db q ms).1.monitors)
-  from_heard db [] ms k = rest_heard db ms k.kept k.distinct
-  from_heard db (i ∷ is) ms k =
-      stop_item (gives h db i ms) (map seen ms) (record { queue = is; monitors = leaves h db i ms }) (take_from h db is (leaves h db i ms))
-      (item_heard db i ms k.items.0 k.distinct.1 k.kept) (from_heard db is (leaves h db i ms) (next_well db i is ms k))
+  pub from_heard : (revision : Revision) (q : List Item) (ms : List Monitor) → IsWell h (record { queue = q; monitors = ms }) → heard (take_from h revision q ms).0 (map seen ms) ≡ Some (map seen (take_from h revision q ms).1.monitors)
+  from_heard revision [] ms k = rest_heard revision ms k.kept k.distinct
+  from_heard revision (i ∷ is) ms k =
+      stop_item (gives h revision i ms) (map seen ms) (record { queue = is; monitors = leaves h revision.db i ms }) (take_from h revision is (leaves h revision.db i ms))
+      (item_heard revision i ms k.items.0 k.distinct.1 k.kept) (from_heard revision is (leaves h revision.db i ms) (next_well revision.db i is ms k))
 
-  pub from_well : (db : Db) (q : List Item) (ms : List Monitor) → IsWell h (record { queue = q; monitors = ms }) → IsWell h (take_from h db q ms).1
-  from_well db [] ms k = record { items = tt; kept = rest_kept db ms k.kept; distinct = subst (λ ks. AreDistinct (texts h ks)) (sym (rest_watch db ms)) k.distinct; order = tt }
-  from_well db (i ∷ is) ms k =
-      stop_well (gives h db i ms) (record { queue = is; monitors = leaves h db i ms }) (take_from h db is (leaves h db i ms)) (next_well db i is ms k) (from_well db is (leaves h db i ms) (next_well db i is ms k))
+  pub from_well : (revision : Revision) (q : List Item) (ms : List Monitor) → IsWell h (record { queue = q; monitors = ms }) → IsWell h (take_from h revision q ms).1
+  from_well revision [] ms k = record { items = tt; kept = rest_kept revision ms k.kept; distinct = subst (λ ks. AreDistinct (texts h ks)) (sym (rest_watch revision ms)) k.distinct; order = tt }
+  from_well revision (i ∷ is) ms k =
+      stop_well (gives h revision i ms) (record { queue = is; monitors = leaves h revision.db i ms }) (take_from h revision is (leaves h revision.db i ms)) (next_well revision.db i is ms k) (from_well revision is (leaves h revision.db i ms) (next_well revision.db i is ms k))
 
   -- ---- what is owed
 
@@ -241,32 +241,32 @@ module _ (h : Service) where
   cons_away t None os a b = b
   cons_away t (Some o) os a b = (a, b)
 
-  all_away : (t : List ℕ) (db : Db) (ms : List Monitor) → IsApart t (texts h (map (λ m. m.watch) ms)) → Each (λ o. IsAway t (Some o)) (filter_map (λ m. update_to h db m.watch.requests m) ms)
-  all_away t db [] a = tt
-  all_away t db (m ∷ ms) a =
-      cons_away t (update_to h db m.watch.requests m) (filter_map (λ m. update_to h db m.watch.requests m) ms)
-      (one_away t db m.watch.requests m (nat_list_eq_equiv.symm (h.printed m.watch.id) t ∙ a.0)) (all_away t db ms a.1)
+  all_away : (t : List ℕ) (revision : Revision) (ms : List Monitor) → IsApart t (texts h (map (λ m. m.watch) ms)) → Each (λ o. IsAway t (Some o)) (filter_map (λ m. update_to h revision m.watch.requests m) ms)
+  all_away t revision [] a = tt
+  all_away t revision (m ∷ ms) a =
+      cons_away t (update_to h revision m.watch.requests m) (filter_map (λ m. update_to h revision m.watch.requests m) ms)
+      (one_away t revision m.watch.requests m (nat_list_eq_equiv.symm (h.printed m.watch.id) t ∙ a.0)) (all_away t revision ms a.1)
 
   client_from-cons : (ps : List Picture) (o : Option Out) (os : List Out) → client_from h ps (cons_option o os) ≡ option_and_then (λ qs. client_from h qs os) (heard o ps)
   client_from-cons ps None os = refl
   client_from-cons ps (Some o) os = refl
 
-  monitors_owed : (db : Db) (ms : List Monitor) → Each (IsKept h) ms → AreDistinct (texts h (map (λ m. m.watch) ms))
-      → client_from h (map seen ms) (filter_map (λ m. update_to h db m.watch.requests m) ms) ≡ Some (map seen (map (λ m. brought h db m.watch.requests m) ms))
-  monitors_owed db [] k d = refl
-  monitors_owed db (m ∷ ms) k d =
-      let os : List Out = filter_map (λ m. update_to h db m.watch.requests m) ms in
-      let b : Monitor = brought h db m.watch.requests m in
-      client_from-cons (seen m ∷ map seen ms) (update_to h db m.watch.requests m) os
-      ∙ ap (option_and_then (λ qs. client_from h qs os)) (one_heard db m.watch.requests m (map seen ms) k.0 (itself_like m))
-      ∙ client_from-past (seen b) os (all_away (h.printed m.watch.id) db ms d.0) (map seen ms)
-      ∙ ap (option_map (λ qs. seen b ∷ qs)) (monitors_owed db ms k.1 d.1)
+  monitors_owed : (revision : Revision) (ms : List Monitor) → Each (IsKept h) ms → AreDistinct (texts h (map (λ m. m.watch) ms))
+      → client_from h (map seen ms) (filter_map (λ m. update_to h revision m.watch.requests m) ms) ≡ Some (map seen (map (λ m. brought h revision.db m.watch.requests m) ms))
+  monitors_owed revision [] k d = refl
+  monitors_owed revision (m ∷ ms) k d =
+      let os : List Out = filter_map (λ m. update_to h revision m.watch.requests m) ms in
+      let b : Monitor = brought h revision.db m.watch.requests m in
+      client_from-cons (seen m ∷ map seen ms) (update_to h revision m.watch.requests m) os
+      ∙ ap (option_and_then (λ qs. client_from h qs os)) (one_heard revision m.watch.requests m (map seen ms) k.0 (itself_like m))
+      ∙ client_from-past (seen b) os (all_away (h.printed m.watch.id) revision ms d.0) (map seen ms)
+      ∙ ap (option_map (λ qs. seen b ∷ qs)) (monitors_owed revision ms k.1 d.1)
 
   -- what is owed brings a client to the monitors of the session when it rests
-  pub owed_heard : (db : Db) (q : List Item) (ms : List Monitor) → IsWell h (record { queue = q; monitors = ms })
-      → client_from h (map seen ms) (owed_from h db q ms) ≡ Some (map seen (rested h db q ms))
-  owed_heard db [] ms k = monitors_owed db ms k.kept k.distinct
-  owed_heard db (i ∷ is) ms k =
-      client_from-option (map seen ms) (gives h db i ms) (owed_from h db is (leaves h db i ms))
-      ∙ ap (option_and_then (λ qs. client_from h qs (owed_from h db is (leaves h db i ms)))) (item_heard db i ms k.items.0 k.distinct.1 k.kept)
-      ∙ owed_heard db is (leaves h db i ms) (next_well db i is ms k)
+  pub owed_heard : (revision : Revision) (q : List Item) (ms : List Monitor) → IsWell h (record { queue = q; monitors = ms })
+      → client_from h (map seen ms) (owed_from h revision q ms) ≡ Some (map seen (rested h revision.db q ms))
+  owed_heard revision [] ms k = monitors_owed revision ms k.kept k.distinct
+  owed_heard revision (i ∷ is) ms k =
+      client_from-option (map seen ms) (gives h revision i ms) (owed_from h revision is (leaves h revision.db i ms))
+      ∙ ap (option_and_then (λ qs. client_from h qs (owed_from h revision is (leaves h revision.db i ms)))) (item_heard revision i ms k.items.0 k.distinct.1 k.kept)
+      ∙ owed_heard revision is (leaves h revision.db i ms) (next_well revision.db i is ms k)

@@ -1,5 +1,5 @@
 -- What a transaction changed is told before its reply.
-use Rattle.std.proofs.Common.{◌≡◌, ℕ, ◌+◌, cond, List, [], ◌∷◌, ◌++◌, map, Some, None, refl, sym, ◌∙◌, ap, subst, append_assoc}
+use Rattle.std.proofs.Common.{◌≡◌, ℕ, ◌+◌, cond, List, [], ◌∷◌, ◌++◌, map, Option, Some, None, refl, sym, ◌∙◌, ap, subst, append_assoc}
 use Rattle.std.specs.Prelude.{option_to_list}
 use Rattle.std.specs.Cmp.Lexicographic.{nat_list_eq_equiv}
 use Rattle.odb_atoms.specs.FinMap.{get}
@@ -13,9 +13,9 @@ use Rattle.odb_law.specs.Headline.{ReadsNamed}
 use Rattle.odb_law.specs.Law.{IsToldBefore}
 use Rattle.odb_service.specs.Run.{Sent, State, after, submitted}
 use Rattle.odb_service.specs.Service.{Service, ended}
-use Rattle.odb_service.specs.Session.{Item, Monitor, Out, Session, Watch, asked, asked_after, at_first, brought, gives, has_id, leaves, owed, owed_from, say, sync, to}
+use Rattle.odb_service.specs.Session.{Item, Monitor, Out, Revision, Session, Watch, asked, asked_after, at_first, brought, gives, has_id, leaves, owed, owed_from, say, sync, to}
 use Rattle.odb_wire.specs.Message.{id_of}
-use Rattle.odb_service.specs.World.{Waiting, World, asked_of, at_moment, handle, post_to, push, retry_all}
+use Rattle.odb_service.specs.World.{Waiting, World, asked_of, at_moment, handle, post_to, push, retry_all, revision_of}
 use Rattle.odb_monitor.proofs.Lists.{bytes_eq-itself}
 use Rattle.odb_monitor.proofs.Views.{some_is}
 use Rattle.odb_monitor.specs.Names.{AreDistinct, IsApart}
@@ -28,15 +28,15 @@ module _ (h : Service) where
   left db [] ms = ms
   left db (i ∷ is) ms = left db is (leaves h db i ms)
 
-  abbrev pub given : Db → List Item → List Monitor → List Out
-  given db [] ms = []
-  given db (i ∷ is) ms = option_to_list (gives h db i ms) ++ given db is (leaves h db i ms)
+  abbrev pub given : Revision → List Item → List Monitor → List Out
+  given revision [] ms = []
+  given revision (i ∷ is) ms = option_to_list (gives h revision i ms) ++ given revision is (leaves h revision.db i ms)
 
-  pub owed_append : (db : Db) (q is : List Item) (ms : List Monitor) → owed_from h db (q ++ is) ms ≡ given db q ms ++ owed_from h db is (left db q ms)
-  owed_append db [] is ms = refl
-  owed_append db (i ∷ q) is ms =
-      ap (λ os. option_to_list (gives h db i ms) ++ os) (owed_append db q is (leaves h db i ms))
-      ∙ sym (append_assoc (option_to_list (gives h db i ms)) (given db q (leaves h db i ms)) (owed_from h db is (left db q (leaves h db i ms))))
+  pub owed_append : (revision : Revision) (q is : List Item) (ms : List Monitor) → owed_from h revision (q ++ is) ms ≡ given revision q ms ++ owed_from h revision is (left revision.db q ms)
+  owed_append revision [] is ms = refl
+  owed_append revision (i ∷ q) is ms =
+      ap (λ os. option_to_list (gives h revision i ms) ++ os) (owed_append revision q is (leaves h revision.db i ms))
+      ∙ sym (append_assoc (option_to_list (gives h revision i ms)) (given revision q (leaves h revision.db i ms)) (owed_from h revision is (left revision.db q (leaves h revision.db i ms))))
 
   left_asked : (db : Db) (q : List Item) (ms : List Monitor) → map (λ m. m.watch) (left db q ms) ≡ asked_after h q (map (λ m. m.watch) ms)
   left_asked db [] ms = refl
@@ -62,27 +62,32 @@ module _ (h : Service) where
       ∙ past db (as_now db m) (map (λ m. m.watch) ms) ms d.0
       ∙ ap (λ xs. as_now db m ∷ xs) (all_synced db ms d.1)
 
-  abbrev Told : Db → Session → Out → Type 0
-  Told db y o = (a : List Out) × (owed h db y ≡ a ++ o ∷ [])
+  abbrev Told : Revision → Session → Out → Type 0
+  Told revision y o = (a : List Out) × (owed h revision y ≡ a ++ o ∷ [])
 
   -- after syncs of all monitors asked for, a reply is the last
-  last : (db : Db) (x : Session) (o : Out) → AreDistinct (texts h (asked h x)) → Told db (push (syncs (asked h x) ++ say o.answers o.message ∷ []) x) o
-  last db x o d =
-      let ms : List Monitor = left db x.queue x.monitors in
-      let same : map (λ m. m.watch) ms ≡ asked h x = left_asked db x.queue x.monitors in
-      let synced : left db (syncs (asked h x)) ms ≡ map (as_now db) ms =
-      ap (λ ks. left db (syncs ks) ms) (sym same) ∙ all_synced db ms (subst (λ ks. AreDistinct (texts h ks)) (sym same) d) in (
-        given db x.queue x.monitors ++ given db (syncs (asked h x)) ms,
-        owed_append db x.queue (syncs (asked h x) ++ say o.answers o.message ∷ []) x.monitors
-            ∙ ap (λ os. given db x.queue x.monitors ++ os) (owed_append db (syncs (asked h x)) (say o.answers o.message ∷ []) ms
-            ∙ ap (λ xs. given db (syncs (asked h x)) ms ++ (o ∷ owed_from h db [] xs)) synced
-            ∙ ap (λ os. given db (syncs (asked h x)) ms ++ (o ∷ os)) (all_owe_nothing h db ms))
-            ∙ sym (append_assoc (given db x.queue x.monitors) (given db (syncs (asked h x)) ms) (o ∷ [])),
+  last : (revision : Revision) (x : Session) (o : Out) → AreDistinct (texts h (asked h x)) → Told revision (push (syncs (asked h x) ++ say o.answers o.message ∷ []) x) o
+  last revision x o d =
+      let ms : List Monitor = left revision.db x.queue x.monitors in
+      let same : map (λ m. m.watch) ms ≡ asked h x = left_asked revision.db x.queue x.monitors in
+      let synced : left revision.db (syncs (asked h x)) ms ≡ map (as_now revision.db) ms =
+      ap (λ ks. left revision.db (syncs ks) ms) (sym same) ∙ all_synced revision.db ms (subst (λ ks. AreDistinct (texts h ks)) (sym same) d) in (
+        given revision x.queue x.monitors ++ given revision (syncs (asked h x)) ms,
+        owed_append revision x.queue (syncs (asked h x) ++ say o.answers o.message ∷ []) x.monitors
+            ∙ ap (λ os. given revision x.queue x.monitors ++ os) (owed_append revision (syncs (asked h x)) (say o.answers o.message ∷ []) ms
+            ∙ ap (λ xs. given revision (syncs (asked h x)) ms ++ (o ∷ owed_from h revision [] xs)) synced
+            ∙ ap (λ os. given revision (syncs (asked h x)) ms ++ (o ∷ os)) (all_owe_nothing h revision ms))
+            ∙ sym (append_assoc (given revision x.queue x.monitors) (given revision (syncs (asked h x)) ms) (o ∷ [])),
       )
 
   posted : (w : World) (s : ℕ) (x : Session) (is : List Item) → get w.sessions s ≡ Some x → get (post_to s is (get w.sessions s) w).sessions s ≡ Some (push is x)
   posted w s x is e =
       ap (λ o. get (post_to s is o w).sessions s) e ∙ get-insert w.sessions s (push is x) s ∙ ap (λ b. cond b (Some (push is x)) (get w.sessions s)) (key-itself s)
+
+  -- items that are posted leave what takings look at
+  post_revision : (s : ℕ) (is : List Item) (o : Option Session) (w : World) → revision_of (post_to s is o w) ≡ revision_of w
+  post_revision s is None w = refl
+  post_revision s is (Some x) w = refl
 
   pub told_before : ReadsNamed h → IsToldBefore h
   told_before named st now reached s d fresh moment stepped none id operations call results db outcome y found =
@@ -98,5 +103,9 @@ module _ (h : Service) where
       let here : get (behind h p (ended results (Some db)) w).sessions s ≡ Some (push is x) = posted (record w { db = db; commits = w.commits + 1 }) s x is n.1.1.0 in
       let same : push is x ≡ y = some_is (push is x) y (sym here ∙ ap (λ (v : World). get v.sessions s) (sym world) ∙ found) in
       let all : asked_of h (get w.sessions s) ≡ asked h x = ap (asked_of h) n.1.1.0 in
-      subst (λ (z : Session). Told db z o) same
-      (subst (λ ks. Told db (push (syncs ks ++ say (to d) (reply (id_of d) results) ∷ []) x) o) (sym all) (last db x o (asked_distinct h x ((reached_good h named st reached).0 s x n.1.1.0).0)))
+      let revision : Revision = record { db = db } in
+      let own : revision_of (behind h p (ended results (Some db)) w) ≡ revision = post_revision s is (get w.sessions s) (record w { db = db; commits = w.commits + 1 }) in
+      subst (λ (v : World). Told (revision_of v) y o) (sym world)
+      (subst (λ (u : Revision). Told u y o) (sym own)
+      (subst (λ (z : Session). Told revision z o) same
+      (subst (λ ks. Told revision (push (syncs ks ++ say (to d) (reply (id_of d) results) ∷ []) x) o) (sym all) (last revision x o (asked_distinct h x ((reached_good h named st reached).0 s x n.1.1.0).0)))))

@@ -8,7 +8,7 @@ use Rattle.odb_service.proofs.WhatIsOwed.{change_to, message_of}
 use Rattle.odb_law.proofs.WorldInvariant.{StandsAfter}
 use Rattle.odb_law.specs.Headline.{WasLast, updated}
 use Rattle.odb_service.specs.Service.{Service}
-use Rattle.odb_service.specs.Session.{Item, Monitor, Out, Session, gives, has_id, leaves, method_of, refilter, renamed, say, shapes, shift, start, stop_at, stopped, sync, take_from, update_to}
+use Rattle.odb_service.specs.Session.{Item, Monitor, Out, Revision, Session, gives, has_id, leaves, method_of, refilter, renamed, say, shapes, shift, start, stop_at, stopped, sync, take_from, update_to}
 use Rattle.odb_monitor.proofs.Views.{some_is}
 use Rattle.odb_monitor.specs.Update.{table_updates}
 use Rattle.odb_monitor.specs.View.{is_none}
@@ -30,12 +30,12 @@ module _ (h : Service) where
   one_update db qs i m o same false e =
       subst (IsUpdateOf i) (some_is (message_of h db qs m) o e) (m.watch.id, update_about m.watch.notation m.watch.id (table_updates m.watch.notation false (shapes qs) (change_to h db qs m)), same)
 
-  found_update : (db : Db) (q : Monitor → List Request) (i : Data) (ms : List Monitor) (o : Out) → option_and_then (λ m. update_to h db (q m) m) (find (has_id h i) ms) ≡ Some o → IsUpdateOf i o
-  found_update db q i [] o e = absurd (true≢false (sym (ap is_some e)))
-  found_update db q i (m ∷ ms) o e =
-      elim (has_id h i m) as (λ b. has_id h i m ≡ b → option_and_then (λ m. update_to h db (q m) m) (cond b (Some m) (find (has_id h i) ms)) ≡ Some o → IsUpdateOf i o) [
-        | true ↦ λ same e. one_update db (q m) i m o same (is_none (change_to h db (q m) m)) e
-        | false ↦ λ _ e. found_update db q i ms o e
+  found_update : (revision : Revision) (q : Monitor → List Request) (i : Data) (ms : List Monitor) (o : Out) → option_and_then (λ m. update_to h revision (q m) m) (find (has_id h i) ms) ≡ Some o → IsUpdateOf i o
+  found_update revision q i [] o e = absurd (true≢false (sym (ap is_some e)))
+  found_update revision q i (m ∷ ms) o e =
+      elim (has_id h i m) as (λ b. has_id h i m ≡ b → option_and_then (λ m. update_to h revision (q m) m) (cond b (Some m) (find (has_id h i) ms)) ≡ Some o → IsUpdateOf i o) [
+        | true ↦ λ same e. one_update revision.db (q m) i m o same (is_none (change_to h revision.db (q m) m)) e
+        | false ↦ λ _ e. found_update revision q i ms o e
       ] refl e
 
   -- what a taking gave, before what it left
@@ -53,39 +53,39 @@ module _ (h : Service) where
   Tells o [] = Unit {0}
   Tells o (i ∷ is) = TellsOf o i
 
-  stop_tells : (db : Db) (i : Item) (ms : List Monitor) (o : Out) → gives h db i ms ≡ Some o → (d j : Data) → IsSyncOf j i → IsUpdateOf j o
-  stop_tells db (say a m) ms o e d j s = absurd s
-  stop_tells db (start r k) ms o e d j s = absurd s
-  stop_tells db (sync i) ms o e d j s = subst (λ k. IsUpdateOf k o) s (found_update db (λ m. m.watch.requests) i ms o e)
-  stop_tells db (shift i fs) ms o e d j s = absurd s
-  stop_tells db (renamed r old new fs) ms o e d j s = absurd s
-  stop_tells db (stopped r i) ms o e d j s = absurd s
+  stop_tells : (revision : Revision) (i : Item) (ms : List Monitor) (o : Out) → gives h revision i ms ≡ Some o → (d j : Data) → IsSyncOf j i → IsUpdateOf j o
+  stop_tells revision (say a m) ms o e d j s = absurd s
+  stop_tells revision (start r k) ms o e d j s = absurd s
+  stop_tells revision (sync i) ms o e d j s = subst (λ k. IsUpdateOf k o) s (found_update revision (λ m. m.watch.requests) i ms o e)
+  stop_tells revision (shift i fs) ms o e d j s = absurd s
+  stop_tells revision (renamed r old new fs) ms o e d j s = absurd s
+  stop_tells revision (stopped r i) ms o e d j s = absurd s
 
-  shift_tells : (db : Db) (i : Item) (ms : List Monitor) (o : Out) → gives h db i ms ≡ Some o → (fs : List (List ℕ × Filter)) (j : Data) → IsShiftOf j fs i → IsUpdateOf j o
-  shift_tells db (say a m) ms o e fs j s = absurd s
-  shift_tells db (start r k) ms o e fs j s = absurd s
-  shift_tells db (sync i) ms o e fs j s = absurd s
-  shift_tells db (shift i gs) ms o e fs j s = subst (λ k. IsUpdateOf k o) s.0 (found_update db (λ m. refilter gs m.watch.requests) i ms o e)
-  shift_tells db (renamed r old new gs) ms o e fs j s = absurd s
-  shift_tells db (stopped r i) ms o e fs j s = absurd s
+  shift_tells : (revision : Revision) (i : Item) (ms : List Monitor) (o : Out) → gives h revision i ms ≡ Some o → (fs : List (List ℕ × Filter)) (j : Data) → IsShiftOf j fs i → IsUpdateOf j o
+  shift_tells revision (say a m) ms o e fs j s = absurd s
+  shift_tells revision (start r k) ms o e fs j s = absurd s
+  shift_tells revision (sync i) ms o e fs j s = absurd s
+  shift_tells revision (shift i gs) ms o e fs j s = subst (λ k. IsUpdateOf k o) s.0 (found_update revision (λ m. refilter gs m.watch.requests) i ms o e)
+  shift_tells revision (renamed r old new gs) ms o e fs j s = absurd s
+  shift_tells revision (stopped r i) ms o e fs j s = absurd s
 
-  next_tells : (db : Db) (i : Item) (is : List Item) (ms : List Monitor) (o : Out) → gives h db i ms ≡ Some o → Goes i is → Tells (Some o) is
-  next_tells db i [] ms o e g = tt
-  next_tells db i (say a m ∷ is) ms o e g = tt
-  next_tells db i (start d k ∷ is) ms o e g = tt
-  next_tells db i (sync j ∷ is) ms o e g = tt
-  next_tells db i (shift j fs ∷ is) ms o e g = tt
-  next_tells db i (renamed d old new fs ∷ is) ms o e g = shift_tells db i ms o e fs old g.0
-  next_tells db i (stopped d j ∷ is) ms o e g = stop_tells db i ms o e d j g.0
+  next_tells : (revision : Revision) (i : Item) (is : List Item) (ms : List Monitor) (o : Out) → gives h revision i ms ≡ Some o → Goes i is → Tells (Some o) is
+  next_tells revision i [] ms o e g = tt
+  next_tells revision i (say a m ∷ is) ms o e g = tt
+  next_tells revision i (start d k ∷ is) ms o e g = tt
+  next_tells revision i (sync j ∷ is) ms o e g = tt
+  next_tells revision i (shift j fs ∷ is) ms o e g = tt
+  next_tells revision i (renamed d old new fs ∷ is) ms o e g = shift_tells revision i ms o e fs old g.0
+  next_tells revision i (stopped d j ∷ is) ms o e g = stop_tells revision i ms o e d j g.0
 
-  item_tells : (db : Db) (i : Item) (is : List Item) (ms : List Monitor) (o : Option Out) → gives h db i ms ≡ o → Goes i is → (rest : Option Out × Session) → Tells rest.0 rest.1.queue
-      → Tells (stop_at o (record { queue = is; monitors = leaves h db i ms }) rest).0 (stop_at o (record { queue = is; monitors = leaves h db i ms }) rest).1.queue
-  item_tells db i is ms None e g rest r = r
-  item_tells db i is ms (Some o) e g rest r = next_tells db i is ms o e g
+  item_tells : (revision : Revision) (i : Item) (is : List Item) (ms : List Monitor) (o : Option Out) → gives h revision i ms ≡ o → Goes i is → (rest : Option Out × Session) → Tells rest.0 rest.1.queue
+      → Tells (stop_at o (record { queue = is; monitors = leaves h revision.db i ms }) rest).0 (stop_at o (record { queue = is; monitors = leaves h revision.db i ms }) rest).1.queue
+  item_tells revision i is ms None e g rest r = r
+  item_tells revision i is ms (Some o) e g rest r = next_tells revision i is ms o e g
 
-  pub from_tells : (db : Db) (q : List Item) (ms : List Monitor) → InOrder q → Tells (take_from h db q ms).0 (take_from h db q ms).1.queue
-  from_tells db [] ms g = tt
-  from_tells db (i ∷ is) ms g = item_tells db i is ms (gives h db i ms) refl g (take_from h db is (leaves h db i ms)) (from_tells db is (leaves h db i ms) (order_rest i is g))
+  pub from_tells : (revision : Revision) (q : List Item) (ms : List Monitor) → InOrder q → Tells (take_from h revision q ms).0 (take_from h revision q ms).1.queue
+  from_tells revision [] ms g = tt
+  from_tells revision (i ∷ is) ms g = item_tells revision i is ms (gives h revision i ms) refl g (take_from h revision is (leaves h revision.db i ms)) (from_tells revision is (leaves h revision.db i ms) (order_rest i is g))
 
   was_last : (os : List Out) (o : Out) (i : Data) → IsUpdateOf i o → WasLast h i (os ++ o ∷ [])
   was_last os o i t = record { before = os; last = o; is_last = refl; id = t.0; of_it = t.1; same = t.2 }

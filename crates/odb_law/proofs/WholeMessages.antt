@@ -18,8 +18,8 @@ use Rattle.odb_law.proofs.WorldInvariant.{Holds, IsHeld}
 use Rattle.odb_law.specs.Headline.{BringsWhole, HasTurn, IsChanging, IsWhole, ReadsNamed, about, begun_by}
 use Rattle.odb_service.specs.Run.{Event, Sent, State, after, closed, given_after, once, opened, opens, round, sent_to, submitted, take_each, ticked}
 use Rattle.odb_service.specs.Service.{Service}
-use Rattle.odb_service.specs.Session.{Item, Monitor, Out, Session, Watch, at_first, begun, brought, gives, granted, has_id, leaves, owed_from, refilter, renamed, say, shapes, shift, start, stop_at, stopped, sync, take, take_from, take_rest, update_to}
-use Rattle.odb_service.specs.World.{World}
+use Rattle.odb_service.specs.Session.{Item, Monitor, Out, Revision, Session, Watch, at_first, begun, brought, gives, granted, has_id, leaves, owed_from, refilter, renamed, say, shapes, shift, start, stop_at, stopped, sync, take, take_from, take_rest, update_to}
+use Rattle.odb_service.specs.World.{World, revision_of}
 use Rattle.odb_monitor.proofs.Lists.{bytes_eq-itself}
 use Rattle.odb_monitor.proofs.Views.{some_is}
 use Rattle.odb_monitor.specs.Names.{AreDistinct, IsApart}
@@ -61,8 +61,8 @@ module _ (h : Service) where
   head_found G db qs m ms g true = tt
   head_found G db qs m ms g false = λ i e. (brought h db qs m, is_here i ms (brought h db qs m) (sym (message_about db qs m) ∙ e), g)
 
-  one_found : (G : Monitor → Type 0) (db : Db) (qs : List Request) (m : Monitor) (ms : List Monitor) → G (brought h db qs m) → IsFound G (update_to h db qs m) (brought h db qs m ∷ ms)
-  one_found G db qs m ms g = head_found G db qs m ms g (is_none (change_to h db qs m))
+  one_found : (G : Monitor → Type 0) (revision : Revision) (qs : List Request) (m : Monitor) (ms : List Monitor) → G (brought h revision.db qs m) → IsFound G (update_to h revision qs m) (brought h revision.db qs m ∷ ms)
+  one_found G revision qs m ms g = head_found G revision.db qs m ms g (is_none (change_to h revision.db qs m))
 
   away_id : (t : List ℕ) (o : Out) (i : Data) → IsAway h t (Some o) → about o ≡ Some i → bytes_eq (h.printed i) t ≡ false
   away_id t o i a e =
@@ -75,13 +75,13 @@ module _ (h : Service) where
       let x : (m : Monitor) × (find (has_id h i) ms ≡ Some m) × G m = w i e in
       (x.0, ap (λ t. cond t (Some m) (find (has_id h i) ms)) (away_id (h.printed m.watch.id) o i a e) ∙ x.1, x.2)
 
-  sync_found : (G : Monitor → Type 0) (db : Db) (q : Monitor → List Request) → ((m : Monitor) → IsLike h (q m) m.watch) → (j : Data) → ((m : Monitor) → has_id h j m ≡ true → G (brought h db (q m) m)) → (ms : List Monitor)
-      → IsFound G (option_and_then (λ m. update_to h db (q m) m) (find (has_id h j) ms)) (at_first (has_id h j) (λ m. brought h db (q m) m) ms)
-  sync_found G db q like j g [] = tt
-  sync_found G db q like j g (m ∷ ms) =
-      elim (has_id h j m) as (λ b. has_id h j m ≡ b → IsFound G (option_and_then (λ m. update_to h db (q m) m) (cond b (Some m) (find (has_id h j) ms))) (cond b (brought h db (q m) m ∷ ms) (m ∷ at_first (has_id h j) (λ m. brought h db (q m) m) ms))) [
-        | true ↦ λ is. one_found G db (q m) m ms (g m is)
-        | false ↦ λ apart. past_found G m (at_first (has_id h j) (λ m. brought h db (q m) m) ms) _ (found_away h db q like j (h.printed m.watch.id) apart ms) (sync_found G db q like j g ms)
+  sync_found : (G : Monitor → Type 0) (revision : Revision) (q : Monitor → List Request) → ((m : Monitor) → IsLike h (q m) m.watch) → (j : Data) → ((m : Monitor) → has_id h j m ≡ true → G (brought h revision.db (q m) m)) → (ms : List Monitor)
+      → IsFound G (option_and_then (λ m. update_to h revision (q m) m) (find (has_id h j) ms)) (at_first (has_id h j) (λ m. brought h revision.db (q m) m) ms)
+  sync_found G revision q like j g [] = tt
+  sync_found G revision q like j g (m ∷ ms) =
+      elim (has_id h j m) as (λ b. has_id h j m ≡ b → IsFound G (option_and_then (λ m. update_to h revision (q m) m) (cond b (Some m) (find (has_id h j) ms))) (cond b (brought h revision.db (q m) m ∷ ms) (m ∷ at_first (has_id h j) (λ m. brought h revision.db (q m) m) ms))) [
+        | true ↦ λ is. one_found G revision (q m) m ms (g m is)
+        | false ↦ λ apart. past_found G m (at_first (has_id h j) (λ m. brought h revision.db (q m) m) ms) _ (found_away h revision q like j (h.printed m.watch.id) apart ms) (sync_found G revision q like j g ms)
       ] refl
 
   apart_last : (n : List ℕ) (ks : List Watch) (k : Watch) → IsApart n (texts h (ks ++ k ∷ [])) → bytes_eq n (h.printed k.id) ≡ false
@@ -121,36 +121,36 @@ module _ (h : Service) where
   no_shift i fs (renamed d old new gs ∷ q) g = (d, new, q, λ j. renamed d (sym g.0.0 j) new (sym g.0.1 j) ∷ q)
   no_shift i fs (stopped d j ∷ q) g = absurd g.0
 
-  item_fine : (db : Db) (i : Item) (is : List Item) (ms : List Monitor) → IsWell h (record { queue = i ∷ is; monitors = ms }) → IsFineFor db (gives h db i ms) (record { queue = is; monitors = leaves h db i ms })
-  item_fine db (say a d) is ms k = λ i e. absurd (true≢false (sym (ap is_some (sym k.items.0.1 ∙ e))))
-  item_fine db (start d w) is ms k = λ i e.
-      (begun h db w, ap (λ j. find (has_id h j) (ms ++ begun h db w ∷ [])) (sym (some_is w.id i (sym (ap begun_by k.items.0.2.1) ∙ e))) ∙ find_last (begun h db w) ms (stay_now is (map (λ m. m.watch) ms ++ w ∷ []) k.distinct.2), inl refl)
-  item_fine db (sync i) is ms k = sync_found (Fine db is) db (λ m. m.watch.requests) (itself_like h) i (λ m _. inl refl) ms
-  item_fine db (shift i fs) is ms k =
+  item_fine : (revision : Revision) (i : Item) (is : List Item) (ms : List Monitor) → IsWell h (record { queue = i ∷ is; monitors = ms }) → IsFineFor revision.db (gives h revision i ms) (record { queue = is; monitors = leaves h revision.db i ms })
+  item_fine revision (say a d) is ms k = λ i e. absurd (true≢false (sym (ap is_some (sym k.items.0.1 ∙ e))))
+  item_fine revision (start d w) is ms k = λ i e.
+      (begun h revision.db w, ap (λ j. find (has_id h j) (ms ++ begun h revision.db w ∷ [])) (sym (some_is w.id i (sym (ap begun_by k.items.0.2.1) ∙ e))) ∙ find_last (begun h revision.db w) ms (stay_now is (map (λ m. m.watch) ms ++ w ∷ []) k.distinct.2), inl refl)
+  item_fine revision (sync i) is ms k = sync_found (Fine revision.db is) revision (λ m. m.watch.requests) (itself_like h) i (λ m _. inl refl) ms
+  item_fine revision (shift i fs) is ms k =
       let n : (d new : Data) × (rest : List Item) × (is ≡ renamed d i new fs ∷ rest) = no_shift i fs is k.order in
-      sync_found (Fine db is) db (λ m. refilter fs m.watch.requests) (refilter_like h fs) i (λ m same. inr (n.0, i, n.1, fs, n.2, n.3, same, refl)) ms
-  item_fine db (renamed d old new fs) is ms k = λ i e. absurd (true≢false (sym (ap is_some (sym (ap begun_by k.items.0.1.1) ∙ e))))
-  item_fine db (stopped d j) is ms k = λ i e. absurd (true≢false (sym (ap is_some (sym (ap begun_by k.items.0.1) ∙ e))))
+      sync_found (Fine revision.db is) revision (λ m. refilter fs m.watch.requests) (refilter_like h fs) i (λ m same. inr (n.0, i, n.1, fs, n.2, n.3, same, refl)) ms
+  item_fine revision (renamed d old new fs) is ms k = λ i e. absurd (true≢false (sym (ap is_some (sym (ap begun_by k.items.0.1.1) ∙ e))))
+  item_fine revision (stopped d j) is ms k = λ i e. absurd (true≢false (sym (ap is_some (sym (ap begun_by k.items.0.1) ∙ e))))
 
   stop_found : (G : Monitor → Type 0) (o : Option Out) (b : Monitor) (ms : List Monitor) (rest : Option Out × List Monitor) → IsFound G o (b ∷ ms) → IsAway h (h.printed b.watch.id) rest.0 → IsFound G rest.0 rest.1
       → IsFound G (stop_at o (b ∷ ms) (rest.0, b ∷ rest.1)).0 (stop_at o (b ∷ ms) (rest.0, b ∷ rest.1)).1
   stop_found G None b ms rest w a r = past_found G b rest.1 rest.0 a r
   stop_found G (Some o) b ms rest w a r = w
 
-  rest_fine : (db : Db) (ms : List Monitor) → AreDistinct (texts h (map (λ m. m.watch) ms)) → IsFound (Fine db []) (take_rest h db ms).0 (take_rest h db ms).1
-  rest_fine db [] d = tt
-  rest_fine db (m ∷ ms) d =
-      stop_found (Fine db []) (update_to h db m.watch.requests m) (brought h db m.watch.requests m) ms (take_rest h db ms)
-      (one_found (Fine db []) db m.watch.requests m ms (inl refl)) (rest_away h (h.printed m.watch.id) db ms d.0) (rest_fine db ms d.1)
+  rest_fine : (revision : Revision) (ms : List Monitor) → AreDistinct (texts h (map (λ m. m.watch) ms)) → IsFound (Fine revision.db []) (take_rest h revision ms).0 (take_rest h revision ms).1
+  rest_fine revision [] d = tt
+  rest_fine revision (m ∷ ms) d =
+      stop_found (Fine revision.db []) (update_to h revision m.watch.requests m) (brought h revision.db m.watch.requests m) ms (take_rest h revision ms)
+      (one_found (Fine revision.db []) revision m.watch.requests m ms (inl refl)) (rest_away h (h.printed m.watch.id) revision ms d.0) (rest_fine revision ms d.1)
 
   stop_fine : (db : Db) (o : Option Out) (x : Session) (rest : Option Out × Session) → IsFineFor db o x → IsFineFor db rest.0 rest.1 → IsFineFor db (stop_at o x rest).0 (stop_at o x rest).1
   stop_fine db None x rest w r = r
   stop_fine db (Some o) x rest w r = w
 
-  from_fine : (db : Db) (q : List Item) (ms : List Monitor) → IsWell h (record { queue = q; monitors = ms }) → IsFineFor db (take_from h db q ms).0 (take_from h db q ms).1
-  from_fine db [] ms k = rest_fine db ms k.distinct
-  from_fine db (i ∷ is) ms k =
-      stop_fine db (gives h db i ms) (record { queue = is; monitors = leaves h db i ms }) (take_from h db is (leaves h db i ms)) (item_fine db i is ms k) (from_fine db is (leaves h db i ms) (next_well h db i is ms k))
+  from_fine : (revision : Revision) (q : List Item) (ms : List Monitor) → IsWell h (record { queue = q; monitors = ms }) → IsFineFor revision.db (take_from h revision q ms).0 (take_from h revision q ms).1
+  from_fine revision [] ms k = rest_fine revision ms k.distinct
+  from_fine revision (i ∷ is) ms k =
+      stop_fine revision.db (gives h revision i ms) (record { queue = is; monitors = leaves h revision.db i ms }) (take_from h revision is (leaves h revision.db i ms)) (item_fine revision i is ms k) (from_fine revision is (leaves h revision.db i ms) (next_well h revision.db i is ms k))
 
   -- ---- as the client has it
 
@@ -167,8 +167,8 @@ module _ (h : Service) where
       subst (λ ks. AreDistinct (texts h ks)) (sym (leaves-asks h st.world.db (renamed d old new fs) y.monitors)) (stay_now c.4 _ stay.2) in
       record {
         reply = granted h d;
-        rest = owed_from h st.world.db c.4 (leaves h st.world.db (renamed d old new fs) y.monitors);
-        is_next = ap (λ q. owed_from h st.world.db q y.monitors) e;
+        rest = owed_from h (revision_of st.world) c.4 (leaves h st.world.db (renamed d old new fs) y.monitors);
+        is_next = ap (λ q. owed_from h (revision_of st.world) q y.monitors) e;
         request = d;
         answers = refl;
         granted = refl;
@@ -179,7 +179,7 @@ module _ (h : Service) where
         is_old = c.6;
         later = seen (with_new h new fs m);
         is_later = pictured_seen h new (st.given s ++ granted h d ∷ []) (leaves h st.world.db (renamed d old new fs) y.monitors) (with_new h new fs m)
-            (client_item h st.world.db (renamed d old new fs) y.monitors (st.given s) sound stay.1 k.0.kept k.1)
+            (client_item h (revision_of st.world) (renamed d old new fs) y.monitors (st.given s) sound stay.1 k.0.kept k.1)
             (new_found h old new fs y.monitors m (same_found h i old y.monitors m found c.6) distinct);
         same = ap (λ b. cond b (Some m.view) None) (followed-refilter fs m.watch.requests);
         now = is_now h st.world.db (refilter fs m.watch.requests) (with_new h new fs m) c.7;
@@ -221,15 +221,15 @@ module _ (h : Service) where
       by : Took h (once ss) st.world s → Brings st (round ss) now s os o rest
       by (inl none) = absurd (no_message os o rest (sym none ∙ e))
       by (inr x) =
-          let p : (os ≡ []) × (rest ≡ []) × ((take h st.world.db x.0).0 ≡ Some o) = only (take h st.world.db x.0).0 os o rest (sym x.2 ∙ e) in (
+          let p : (os ≡ []) × (rest ≡ []) × ((take h (revision_of st.world) x.0).0 ≡ Some o) = only (take h (revision_of st.world) x.0).0 os o rest (sym x.2 ∙ e) in (
             p.0,
             p.1,
             ap (λ b. b) (turn s ss st.world os o rest e (IsIn s ss) refl),
             each_db h (once ss) st.world,
             λ y found i is.
-                let same : (take h st.world.db x.0).1 ≡ y = some_is _ y (sym x.3 ∙ found) in
-                let f : IsFoundFor (Fine st.world.db (take h st.world.db x.0).1.queue) o (take h st.world.db x.0).1.monitors =
-                subst (λ t. IsFound (Fine st.world.db (take h st.world.db x.0).1.queue) t (take h st.world.db x.0).1.monitors) p.2 (from_fine st.world.db x.0.queue x.0.monitors (k.0 s x.0 x.1).0) in
+                let same : (take h (revision_of st.world) x.0).1 ≡ y = some_is _ y (sym x.3 ∙ found) in
+                let f : IsFoundFor (Fine st.world.db (take h (revision_of st.world) x.0).1.queue) o (take h (revision_of st.world) x.0).1.monitors =
+                subst (λ t. IsFound (Fine st.world.db (take h (revision_of st.world) x.0).1.queue) t (take h (revision_of st.world) x.0).1.monitors) p.2 (from_fine (revision_of st.world) x.0.queue x.0.monitors (k.0 s x.0 x.1).0) in
                 let g : (m : Monitor) × (find (has_id h i) y.monitors ≡ Some m) × Fine now.world.db y.queue m =
                 subst (λ (db : Db). (m : Monitor) × (find (has_id h i) y.monitors ≡ Some m) × Fine db y.queue m) (sym (each_db h (once ss) st.world))
                 (subst (λ (z : Session). (m : Monitor) × (find (has_id h i) z.monitors ≡ Some m) × Fine st.world.db z.queue m) same (f i is)) in

@@ -14,6 +14,7 @@ use Rattle.odb_monitor.specs.View.{View, query}
 use Rattle.odb_request.specs.Request.{Notation, Request}
 use Rattle.odb_tables.specs.Database.{Db}
 use Rattle.odb_wire.specs.Message.{at_key}
+use Rattle.odb_service.specs.World.{revision_of}
 
 -- monitor requests that are read name each table once, and in each its columns once
 pub record ReadsNamed (h : Service) : Type 0 where
@@ -83,12 +84,12 @@ module _ (h : Service) where
 
   -- A client that takes all that it is still owed has of each of its monitors just what its newest filters select from the database now.
   abbrev pub IsBroughtToNow : State → ℕ → Session → Type 0
-  IsBroughtToNow st s x = (ps : List Picture) × (client h (st.given s ++ owed h st.world.db x) ≡ Some ps) × AllNow st.world.db ps
+  IsBroughtToNow st s x = (ps : List Picture) × (client h (st.given s ++ owed h (revision_of st.world) x) ≡ Some ps) × AllNow st.world.db ps
 
   -- The monitors that it then has, with their notations and filters, are those that the server counts as asked for.
   abbrev pub IsKnown : State → ℕ → Session → Type 0
   IsKnown st s x =
-      option_map (map {B = Watch} (λ p. record { id = p.id; notation = p.notation; requests = p.requests })) (client h (st.given s ++ owed h st.world.db x)) ≡ Some (asked h x)
+      option_map (map {B = Watch} (λ p. record { id = p.id; notation = p.notation; requests = p.requests })) (client h (st.given s ++ owed h (revision_of st.world) x)) ≡ Some (asked h x)
 
   -- No message is refused: each is non-empty and names only rows and columns that differ.
   abbrev pub IsMinimal : State → ℕ → Session → Type 0
@@ -106,20 +107,20 @@ module _ (h : Service) where
   -- A cancel is answered when the client has just what the filters select: now, or, where its turn came to the message before the reply already, as it was then.
   abbrev pub IsDroppedWhole : State → ℕ → Session → Type 0
   IsDroppedWhole st s x =
-      (a : List Out) (o : Out) (b : List Out) (d i : Data) → owed h st.world.db x ≡ a ++ o ∷ b → o.answers ≡ to d → is_granted o.message ≡ true → wish_of d ≡ drops i
+      (a : List Out) (o : Out) (b : List Out) (d i : Data) → owed h (revision_of st.world) x ≡ a ++ o ∷ b → o.answers ≡ to d → is_granted o.message ≡ true → wish_of d ≡ drops i
       → (p : Picture) × (pictured i (st.given s ++ a) ≡ Some p) × (IsNow st.world.db p.requests p.view ⊎ ((a ≡ []) × WasLast i (st.given s)))
 
   -- A change of filters is answered when the client has just what the new filters select: now, or, where its turn came to the message before the reply already, as it was then.
   abbrev pub IsChangedWhole : State → ℕ → Session → Type 0
   IsChangedWhole st s x =
-      (a : List Out) (o : Out) (b : List Out) (d old new filters : Data) → owed h st.world.db x ≡ a ++ o ∷ b → o.answers ≡ to d → is_granted o.message ≡ true → wish_of d ≡ changes old new filters
+      (a : List Out) (o : Out) (b : List Out) (d old new filters : Data) → owed h (revision_of st.world) x ≡ a ++ o ∷ b → o.answers ≡ to d → is_granted o.message ≡ true → wish_of d ≡ changes old new filters
       → (p : Picture) × (pictured new (st.given s ++ a ++ o ∷ []) ≡ Some p) × (IsNow st.world.db p.requests p.view ⊎ ((a ≡ []) × WasLast old (st.given s)))
 
   -- A change of filters is on its way: its reply is owed next. With that the monitor has its new id and filters, and the view stays.
   pub record IsChanging (st : State) (s : ℕ) (x : Session) (p : Picture) : Type 0 where
     pub reply : Out
     pub rest : List Out
-    pub is_next : owed h st.world.db x ≡ reply ∷ rest
+    pub is_next : owed h (revision_of st.world) x ≡ reply ∷ rest
     pub request : Data
     pub answers : reply.answers ≡ to request
     pub granted : is_granted reply.message ≡ true

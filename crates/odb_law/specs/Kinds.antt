@@ -6,7 +6,7 @@ use Rattle.odb_monitor.specs.View.{Delta, shown}
 use Rattle.odb_request.specs.Request.{Request, Select}
 use Rattle.odb_rpc.specs.Message.{reply}
 use Rattle.odb_service.specs.Service.{Service}
-use Rattle.odb_service.specs.Session.{Item, Monitor, Out, Session, Watch, asks, drained, owed, renamed, say, shapes, shift, start, stopped, sync, to, told, told_of}
+use Rattle.odb_service.specs.Session.{Item, Monitor, Out, Revision, Session, Watch, asks, drained, owed, renamed, say, shapes, shift, start, stopped, sync, to, told, told_of}
 use Rattle.odb_tables.specs.Database.{Db}
 use Rattle.odb_wire.specs.Message.{id_of}
 
@@ -73,5 +73,5 @@ module _ (h : Service) where
 
   -- What a session is owed is what it would be owed had it asked for all kinds of change, message by message without those that its monitor has off. What isn't sent counts as told: when nothing more is owed, the two sessions are the same again.
   pub record SendsKinds : Type 0 where
-    pub cut : (db : Db) (x : Session) → AreCut x.queue (told h x) (owed h db (full x)) (owed h db x)
+    pub cut : (revision : Revision) (x : Session) → AreCut x.queue (told h x) (owed h revision (full x)) (owed h revision x)
     pub counts : (db : Db) (x : Session) → full (drained h db x) ≡ drained h db (full x)

@@ -10,7 +10,7 @@ use Rattle.odb_wire.specs.Message.{is_request}
 use Rattle.odb_service.specs.Service.{Outcome, Service, ended, waiting}
 use Rattle.odb_service.specs.Session.{Answers, Out, Session, Watch, asked, at_first, changed, drop_first, no_request, owed, same_id, take, to}
 use Rattle.odb_wire.specs.Message.{id_of}
-use Rattle.odb_service.specs.World.{Waiting, World, are_monitored, at_moment, is_conditional, owed_replies, untried, watched}
+use Rattle.odb_service.specs.World.{Waiting, World, are_monitored, at_moment, is_conditional, owed_replies, revision_of, untried, watched}
 use Rattle.odb_locks.specs.Locks.{owns}
 use Rattle.odb_rpc.specs.Message.{Call, call_of, reply}
 use Rattle.odb_tables.specs.Database.{Db}
@@ -50,8 +50,8 @@ module _ (h : Service) where
   -- the state in which this session took once, and nothing else differs
   abbrev pub after_taking : ℕ → Session → State → State
   after_taking s x st = record {
-    world = record (st.world) { sessions = insert st.world.sessions s (take h st.world.db x).1 };
-    given = λ t. if t == s then st.given t ++ option_to_list (take h st.world.db x).0 else st.given t;
+    world = record (st.world) { sessions = insert st.world.sessions s (take h (revision_of st.world) x).1 };
+    given = λ t. if t == s then st.given t ++ option_to_list (take h (revision_of st.world) x).0 else st.given t;
     requests = st.requests;
   }
 
@@ -65,7 +65,7 @@ module _ (h : Service) where
   abbrev pub OwedIsTaken : Type 0
   OwedIsTaken =
       (st : State) (s : ℕ) (x : Session) → get st.world.sessions s ≡ Some x → (more : ℕ)
-      → (now : State) × (run h (replicate (length (owed h st.world.db x) + more) (round (s ∷ []))) st ≡ Ok now) × (now.given s ≡ st.given s ++ owed h st.world.db x) × (now.world.db ≡ st.world.db)
+      → (now : State) × (run h (replicate (length (owed h (revision_of st.world) x) + more) (round (s ∷ []))) st ≡ Ok now) × (now.given s ≡ st.given s ++ owed h (revision_of st.world) x) × (now.world.db ≡ st.world.db)
 
   -- ---- monitors
 
@@ -121,7 +121,7 @@ module _ (h : Service) where
       (st now : State) → IsReached h st → (s : ℕ) (d : Data) (fresh : List Uuid) (moment : ℕ) → next h (submitted s d fresh moment) st ≡ Ok now → st.world.waiting ≡ []
       → (id : Data) (operations : List Data) → call_of h.db_name h.schema h.serves d ≡ message.transact id operations
       → (results : Data) (db : Db) → (let w = at_moment h moment st.world in h.transact w.db (w.commits + 1) operations (record { fresh = fresh; arrival = w.now; now = w.now; owns = owns w.locks s }) ≡ ended results (Some db))
-      → (y : Session) → get now.world.sessions s ≡ Some y → (a : List Out) × (owed h db y ≡ a ++ record { answers = to d; message = reply (id_of d) results } ∷ [])
+      → (y : Session) → get now.world.sessions s ≡ Some y → (a : List Out) × (owed h (revision_of now.world) y ≡ a ++ record { answers = to d; message = reply (id_of d) results } ∷ [])
 
   -- ---- answers
 
@@ -136,7 +136,7 @@ module _ (h : Service) where
   abbrev pub IsAnsweredOnce : State → ℕ → Session → Type 0
   IsAnsweredOnce st s x =
       (is : Data → Bool)
-      → count_by is (st.requests s) ≡ count_by (answers_one is) (st.given s ++ owed h st.world.db x) + count_by (λ p. (p.session == s) && is p.request) st.world.waiting
+      → count_by is (st.requests s) ≡ count_by (answers_one is) (st.given s ++ owed h (revision_of st.world) x) + count_by (λ p. (p.session == s) && is p.request) st.world.waiting
 
   -- As many requests were submitted as replies were given and are owed; and more than 256 are never owed.
   pub record IsCounted (st : State) (s : ℕ) (x : Session) : Type 0 where

@@ -11,6 +11,7 @@ use Rattle.odb_service.specs.Run.{Event, State, next, opens, submitted}
 use Rattle.odb_service.specs.Service.{Service}
 use Rattle.odb_service.specs.Session.{Answers, Out, Session, no_request, owed, to}
 use Rattle.odb_tables.specs.Database.{Db}
+use Rattle.odb_service.specs.World.{revision_of}
 
 -- no message of these is a reply
 abbrev pub AreNotices : List Out → Type 0
@@ -49,7 +50,7 @@ module _ (h : Service) where
     pub before : List Out
     pub reply : Out
     pub after : List Out
-    pub is_owed : owed h st.world.db x ≡ before ++ reply ∷ after
+    pub is_owed : owed h (revision_of st.world) x ≡ before ++ reply ∷ after
     pub answers : reply.answers ≡ to d
     pub is_last : AreNotices after
     pub dropped : (i : Data) → is_granted reply.message ≡ true → wish_of d ≡ drops i → HasNow st.world.db i (st.given s ++ before)
@@ -65,4 +66,4 @@ module _ (h : Service) where
   abbrev pub KeepsOrder : Type 0
   KeepsOrder =
       (st now : State) (e : Event) → next h e st ≡ Ok now → (s : ℕ) (x y : Session) → opens e s ≡ false → get st.world.sessions s ≡ Some x → get now.world.sessions s ≡ Some y
-      → (more : List Data) × (answered_in (now.given s ++ owed h now.world.db y) ≡ answered_in (st.given s ++ owed h st.world.db x) ++ more)
+      → (more : List Data) × (answered_in (now.given s ++ owed h (revision_of now.world) y) ≡ answered_in (st.given s ++ owed h (revision_of st.world) x) ++ more)

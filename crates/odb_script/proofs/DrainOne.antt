@@ -13,6 +13,7 @@ use Rattle.odb_service.proofs.WhatIsOwed as owed_ones
 use Rattle.odb_service.proofs.SessionMaps.{get-insert, key-itself, same_map}
 use Rattle.odb_script.specs.Script.{line_of}
 use Rattle.odb_script.specs.Represented.Draining.{drained_in, drain_if, lines_for, drained_session}
+use Rattle.odb_service.specs.World.{revision_of}
 
 abbrev Sends : Type 0
 Sends = List (ℕ × List ℕ)
@@ -20,7 +21,7 @@ Sends = List (ℕ × List ℕ)
 -- how many messages a session of this number is owed
 abbrev owed_if : Server → Option Session → ℕ
 owed_if s None = 0
-owed_if s (Some x) = length (owed (served_by s.schema) s.world.db x)
+owed_if s (Some x) = length (owed (served_by s.schema) (revision_of s.world) x)
 
 abbrev pub owed_count : ℕ → Server → ℕ
 owed_count n s = owed_if s (get s.world.sessions n)
@@ -53,7 +54,7 @@ module _ (name : List ℕ) (n : ℕ) (p : Server) (t : List ℕ) where
   abbrev after_one : Session → Server
   after_one y = record p { world = record (p.world) { sessions = insert p.world.sessions n y } }
 
-  took : (x : Session) → get p.world.sessions n ≡ Some x → takes (n ∷ []) p ≡ (after_one (take (served_by p.schema) p.world.db x).1, map printed (sent n (take (served_by p.schema) p.world.db x).0 ++ []))
+  took : (x : Session) → get p.world.sessions n ≡ Some x → takes (n ∷ []) p ≡ (after_one (take (served_by p.schema) (revision_of p.world) x).1, map printed (sent n (take (served_by p.schema) (revision_of p.world) x).0 ++ []))
   took x there = rw there refl
 
   took_none : get p.world.sessions n ≡ None → takes (n ∷ []) p ≡ (p, [])
@@ -63,41 +64,41 @@ module _ (name : List ℕ) (n : ℕ) (p : Server) (t : List ℕ) where
   dry-some x there = ap (λ o. drain_if name n o (p, t)) there
 
   -- a taking that gives nothing is the last
-  pub ends : (x : Session) → get p.world.sessions n ≡ Some x → (take (served_by p.schema) p.world.db x).0 ≡ None → drained_session name n (p, t) ≡ (after_one (take (served_by p.schema) p.world.db x).1, t)
+  pub ends : (x : Session) → get p.world.sessions n ≡ Some x → (take (served_by p.schema) (revision_of p.world) x).0 ≡ None → drained_session name n (p, t) ≡ (after_one (take (served_by p.schema) (revision_of p.world) x).1, t)
   ends x there none =
       let h = served_by p.schema in
       dry-some x there
-      ∙ (λ i. let r : Server × List ℕ = (after_one (sym ((owed_ones.takes h p.world.db x).none none) i), t ++ flat_map (λ o. line_of name (compact_text o.message)) (owed_ones.none_owed h p.world.db x none i)) in r)
-      ∙ ap (λ u. let r : Server × List ℕ = (after_one (take h p.world.db x).1, u) in r) (append-nil t)
+      ∙ (λ i. let r : Server × List ℕ = (after_one (sym ((owed_ones.takes h (revision_of p.world) x).none none) i), t ++ flat_map (λ o. line_of name (compact_text o.message)) (owed_ones.none_owed h (revision_of p.world) x none i)) in r)
+      ∙ ap (λ u. let r : Server × List ℕ = (after_one (take h (revision_of p.world) x).1, u) in r) (append-nil t)
 
   -- one that gives a message leaves the others owed
-  goes_on : (x : Session) (o : Out) → get p.world.sessions n ≡ Some x → (take (served_by p.schema) p.world.db x).0 ≡ Some o
-      → drained_session name n (p, t) ≡ drained_session name n (after_one (take (served_by p.schema) p.world.db x).1, t ++ line_of name (compact_text o.message))
+  goes_on : (x : Session) (o : Out) → get p.world.sessions n ≡ Some x → (take (served_by p.schema) (revision_of p.world) x).0 ≡ Some o
+      → drained_session name n (p, t) ≡ drained_session name n (after_one (take (served_by p.schema) (revision_of p.world) x).1, t ++ line_of name (compact_text o.message))
   goes_on x o there gives =
       let h = served_by p.schema in
-      let db = p.world.db in
-      let y = (take h db x).1 in
-      let k = owed_ones.takes h db x in
-      let owes : owed h db x ≡ o ∷ owed h db y = k.owes ∙ ap (λ a. option_to_list a ++ owed h db y) gives in
+      let revision = revision_of p.world in
+      let y = (take h revision x).1 in
+      let k = owed_ones.takes h revision x in
+      let owes : owed h revision x ≡ o ∷ owed h revision y = k.owes ∙ ap (λ a. option_to_list a ++ owed h revision y) gives in
       let back : get (after_one y).world.sessions n ≡ Some y = get-itself p.world.sessions n y in
-      let stays : insert p.world.sessions n (drained h db x) ≡ insert (insert p.world.sessions n y) n (drained h db y) = ap (insert p.world.sessions n) (sym k.ends) ∙ sym (insert_again p.world.sessions n y (drained h db y)) in
+      let stays : insert p.world.sessions n (drained h revision.db x) ≡ insert (insert p.world.sessions n y) n (drained h revision.db y) = ap (insert p.world.sessions n) (sym k.ends) ∙ sym (insert_again p.world.sessions n y (drained h revision.db y)) in
       let line = line_of name (compact_text o.message) in
-      let told : t ++ flat_map (λ a. line_of name (compact_text a.message)) (owed h db x) ≡ (t ++ line) ++ flat_map (λ a. line_of name (compact_text a.message)) (owed h db y) = ap (λ os. t ++ flat_map (λ a. line_of name (compact_text a.message)) os) owes ∙ sym (append_assoc t line _) in
+      let told : t ++ flat_map (λ a. line_of name (compact_text a.message)) (owed h revision x) ≡ (t ++ line) ++ flat_map (λ a. line_of name (compact_text a.message)) (owed h revision y) = ap (λ os. t ++ flat_map (λ a. line_of name (compact_text a.message)) os) owes ∙ sym (append_assoc t line _) in
       dry-some x there
       ∙ (λ i. let r : Server × List ℕ = (record p { world = record (p.world) { sessions = stays i } }, told i) in r)
       ∙ ap (λ a. drain_if name n a (after_one y, t ++ line)) (sym back)
 
   -- fewer are owed then
-  fewer : (x : Session) (o : Out) → get p.world.sessions n ≡ Some x → (take (served_by p.schema) p.world.db x).0 ≡ Some o
-      → owed_count n (after_one (take (served_by p.schema) p.world.db x).1) < owed_count n p
+  fewer : (x : Session) (o : Out) → get p.world.sessions n ≡ Some x → (take (served_by p.schema) (revision_of p.world) x).0 ≡ Some o
+      → owed_count n (after_one (take (served_by p.schema) (revision_of p.world) x).1) < owed_count n p
   fewer x o there gives =
       let h = served_by p.schema in
-      let db = p.world.db in
-      let y = (take h db x).1 in
-      let k = owed_ones.takes h db x in
-      let owes : owed h db x ≡ o ∷ owed h db y = k.owes ∙ ap (λ a. option_to_list a ++ owed h db y) gives in
-      let now : owed_count n (after_one y) ≡ length (owed h db y) = ap (owed_if (after_one y)) (get-itself p.world.sessions n y) in
-      let before : owed_count n p ≡ suc (length (owed h db y)) = ap (owed_if p) there ∙ ap length owes in
+      let revision = revision_of p.world in
+      let y = (take h revision x).1 in
+      let k = owed_ones.takes h revision x in
+      let owes : owed h revision x ≡ o ∷ owed h revision y = k.owes ∙ ap (λ a. option_to_list a ++ owed h revision y) gives in
+      let now : owed_count n (after_one y) ≡ length (owed h revision y) = ap (owed_if (after_one y)) (get-itself p.world.sessions n y) in
+      let before : owed_count n p ≡ suc (length (owed h revision y)) = ap (owed_if p) there ∙ ap length owes in
       omega (arith, now, before)
 
   -- what a round says of a session that is drained
@@ -111,12 +112,12 @@ module _ (name : List ℕ) (n : ℕ) (p : Server) (t : List ℕ) where
   only (Some a) [] k line e = (a, refl, ap (λ (os : Sends). (slice_index_or {A = ℕ × List ℕ} os 0 (k, line)).1) e)
   only (Some a) (r ∷ rest) k line e = absurd (omega (arith, ap length e, length-append rest ((k, line) ∷ [])))
 
-  rests_by : (x : Session) → get p.world.sessions n ≡ Some x → Rests (after_one (take (served_by p.schema) p.world.db x).1) (map printed (sent n (take (served_by p.schema) p.world.db x).0 ++ []))
+  rests_by : (x : Session) → get p.world.sessions n ≡ Some x → Rests (after_one (take (served_by p.schema) (revision_of p.world) x).1) (map printed (sent n (take (served_by p.schema) (revision_of p.world) x).0 ++ []))
   rests_by x there = record {
-    last = λ none. ends x there (nothing (take (served_by p.schema) p.world.db x).0 none);
+    last = λ none. ends x there (nothing (take (served_by p.schema) (revision_of p.world) x).0 none);
     more = λ rest k line e.
-        let one = only (take (served_by p.schema) p.world.db x).0 rest k line e in
-        (goes_on x one.0 there one.1 ∙ ap (λ u. drained_session name n (after_one (take (served_by p.schema) p.world.db x).1, t ++ line_of name u)) one.2, fewer x one.0 there one.1);
+        let one = only (take (served_by p.schema) (revision_of p.world) x).0 rest k line e in
+        (goes_on x one.0 there one.1 ∙ ap (λ u. drained_session name n (after_one (take (served_by p.schema) (revision_of p.world) x).1, t ++ line_of name u)) one.2, fewer x one.0 there one.1);
   }
     where
       nothing : (o : Option Out) → map printed (sent n o ++ []) ≡ [] → o ≡ None

@@ -8,7 +8,7 @@ use Rattle.odb_service.specs.Server.{served_by}
 use Rattle.odb_service.specs.Service.{Service, service}
 use Rattle.odb_schema.specs.Schema.{Schema}
 use Rattle.odb_service.specs.Session.{Session, drained, owed}
-use Rattle.odb_service.specs.World.{World}
+use Rattle.odb_service.specs.World.{World, revision_of}
 use Rattle.odb_wire.specs.Stream.{Ending, fault_bad, fault_too_long, goes_on, messages}
 use Rattle.odb_atoms.specs.Text.{is_digit}
 use Rattle.odb_atoms.specs.Uuid.{Uuid, uuid_from}
@@ -108,7 +108,7 @@ module _ (h : Service) where
   drain_one x None p = (p, [])
   drain_one x (Some s) p = (
     record p { world = record (p.world) { sessions = finmap.insert p.world.sessions x.session (drained h p.world.db s) } },
-    flat_map (λ o. line_of x.name (h.printed o.message)) (owed h p.world.db s),
+    flat_map (λ o. line_of x.name (h.printed o.message)) (owed h (revision_of p.world) s),
   )
 
   abbrev pub drain_each : List ScriptSession → Script → Script × List ℕ

@@ -9,7 +9,7 @@ use Rattle.odb_service.specs.Run.{take_each, take_of}
 use Rattle.odb_service.specs.Service.{Service}
 use Rattle.odb_service.specs.Session.{Item, Session, Watch, no_request, renamed, same_id, say, shift, start, stopped, sync, take, to}
 use Rattle.odb_wire.specs.Message.{id_of}
-use Rattle.odb_service.specs.World.{Waiting, World, answer, are_monitored, asked_of, change_of, fail, is_conditional, notice_of, on_cancel_monitor, on_lock, on_monitor, post, post_notices, post_to, push, shift_with, start_with, watched}
+use Rattle.odb_service.specs.World.{Waiting, World, answer, are_monitored, asked_of, change_of, fail, is_conditional, notice_of, on_cancel_monitor, on_lock, on_monitor, post, post_notices, post_to, push, revision_of, shift_with, start_with, watched}
 use Rattle.odb_locks.specs.Locks.{Answered, Notice}
 use Rattle.odb_request.specs.Request.{Notation, Request}
 use Rattle.odb_rpc.specs.Message.{failure, reply}
@@ -98,7 +98,7 @@ module _ (h : Service) where
 
   takes_one : (s : ℕ) (o : Option Session) (w : World) → get w.sessions s ≡ o → rest (take_of h s o w).0 ≡ rest w
   takes_one s None w e = refl
-  takes_one s (Some x) w e = λ i. (w.db, w.commits, w.now, (λ t. replaced w.sessions s x (take h w.db x).1 e t i), w.waiting)
+  takes_one s (Some x) w e = λ i. (w.db, w.commits, w.now, (λ t. replaced w.sessions s x (take h (revision_of w) x).1 e t i), w.waiting)
 
   pub takes_each : (ss : List ℕ) (w : World) → rest (take_each h ss w).0 ≡ rest w
   takes_each [] w = refl

@@ -5,7 +5,7 @@ use Rattle.std.specs.List.{cons_option}
 use Rattle.std.specs.FinMap.Entries.{find}
 use Rattle.odb_atoms.specs.FinMap.{FinMap, combine, get, map_entries}
 use Rattle.odb_service.specs.Service.{Service}
-use Rattle.odb_service.specs.Session.{Item, Monitor, Out, Session, brought, drained, gives, leaves, owed, owed_from, rested, stop_at, take, take_from, take_rest, update_to}
+use Rattle.odb_service.specs.Session.{Item, Monitor, Out, Revision, Session, brought, drained, gives, leaves, owed, owed_from, rested, stop_at, take, take_from, take_rest, update_to}
 use Rattle.odb_monitor.proofs.Cells.{same_cells-itself}
 use Rattle.odb_monitor.proofs.Maps.{get-combine, get-map_entries, key-itself}
 use Rattle.odb_monitor.specs.View.{Cells, Change, Delta, View, change, delta, differs, is_empty, is_none, is_shown, query, shown}
@@ -67,81 +67,81 @@ module _ (h : Service) where
   abbrev now : Db → Monitor → Monitor
   now db m = brought h db m.watch.requests m
 
-  abbrev owes : Db → Monitor → Option Out
-  owes db m = update_to h db m.watch.requests m
+  abbrev owes : Revision → Monitor → Option Out
+  owes revision m = update_to h revision m.watch.requests m
 
   -- a monitor that was brought to now owes nothing
-  owes_nothing : (db : Db) (m : Monitor) → owes db (now db m) ≡ None
-  owes_nothing db m =
-      ap (λ b. cond b None (Some (message_of db m.watch.requests (now db m)))) (shown_none false m.watch.requests (delta (query db m.watch.requests) (query db m.watch.requests)) (delta-itself (query db m.watch.requests)))
+  owes_nothing : (revision : Revision) (m : Monitor) → owes revision (now revision.db m) ≡ None
+  owes_nothing revision m =
+      ap (λ b. cond b None (Some (message_of revision.db m.watch.requests (now revision.db m)))) (shown_none false m.watch.requests (delta (query revision.db m.watch.requests) (query revision.db m.watch.requests)) (delta-itself (query revision.db m.watch.requests)))
 
-  pub all_owe_nothing : (db : Db) (ms : List Monitor) → filter_map (owes db) (map (now db) ms) ≡ []
-  all_owe_nothing db [] = refl
-  all_owe_nothing db (m ∷ ms) = ap (λ o. cons_option o (filter_map (owes db) (map (now db) ms))) (owes_nothing db m) ∙ all_owe_nothing db ms
+  pub all_owe_nothing : (revision : Revision) (ms : List Monitor) → filter_map (owes revision) (map (now revision.db) ms) ≡ []
+  all_owe_nothing revision [] = refl
+  all_owe_nothing revision (m ∷ ms) = ap (λ o. cons_option o (filter_map (owes revision) (map (now revision.db) ms))) (owes_nothing revision m) ∙ all_owe_nothing revision ms
 
   now_twice : (db : Db) (ms : List Monitor) → map (now db) (map (now db) ms) ≡ map (now db) ms
   now_twice db [] = refl
   now_twice db (m ∷ ms) = ap (λ xs. now db m ∷ xs) (now_twice db ms)
 
   -- the monitors after a taking, and what they still owe
-  record Rest (db : Db) (ms : List Monitor) (r : Option Out × List Monitor) : Type 0 where
-    owed_so : filter_map (owes db) ms ≡ option_to_list r.0 ++ filter_map (owes db) r.1
-    ends : map (now db) r.1 ≡ map (now db) ms
-    none : r.0 ≡ None → r.1 ≡ map (now db) ms
+  record Rest (revision : Revision) (ms : List Monitor) (r : Option Out × List Monitor) : Type 0 where
+    owed_so : filter_map (owes revision) ms ≡ option_to_list r.0 ++ filter_map (owes revision) r.1
+    ends : map (now revision.db) r.1 ≡ map (now revision.db) ms
+    none : r.0 ≡ None → r.1 ≡ map (now revision.db) ms
 
-  stop_rest : (db : Db) (m : Monitor) (ms : List Monitor) (o : Option Out) → owes db m ≡ o → (r : Option Out × List Monitor) → Rest db ms r → Rest db (m ∷ ms) (stop_at o (now db m ∷ ms) (r.0, now db m ∷ r.1))
-  stop_rest db m ms None e r k = record {
-    owed_so = ap (λ o. cons_option o (filter_map (owes db) ms)) e ∙ k.owed_so ∙ ap (λ o. option_to_list r.0 ++ cons_option o (filter_map (owes db) r.1)) (sym (owes_nothing db m));
-    ends = ap (λ xs. now db m ∷ xs) k.ends;
-    none = λ n. ap (λ xs. now db m ∷ xs) (k.none n);
+  stop_rest : (revision : Revision) (m : Monitor) (ms : List Monitor) (o : Option Out) → owes revision m ≡ o → (r : Option Out × List Monitor) → Rest revision ms r → Rest revision (m ∷ ms) (stop_at o (now revision.db m ∷ ms) (r.0, now revision.db m ∷ r.1))
+  stop_rest revision m ms None e r k = record {
+    owed_so = ap (λ o. cons_option o (filter_map (owes revision) ms)) e ∙ k.owed_so ∙ ap (λ o. option_to_list r.0 ++ cons_option o (filter_map (owes revision) r.1)) (sym (owes_nothing revision m));
+    ends = ap (λ xs. now revision.db m ∷ xs) k.ends;
+    none = λ n. ap (λ xs. now revision.db m ∷ xs) (k.none n);
   }
-  stop_rest db m ms (Some o) e r k = record {
-    owed_so = ap (λ o. cons_option o (filter_map (owes db) ms)) e ∙ ap (λ p. o ∷ cons_option p (filter_map (owes db) ms)) (sym (owes_nothing db m));
+  stop_rest revision m ms (Some o) e r k = record {
+    owed_so = ap (λ o. cons_option o (filter_map (owes revision) ms)) e ∙ ap (λ p. o ∷ cons_option p (filter_map (owes revision) ms)) (sym (owes_nothing revision m));
     ends = refl;
     none = λ n. absurd (true≢false (ap is_some n));
   }
 
-  rest_owes : (db : Db) (ms : List Monitor) → Rest db ms (take_rest h db ms)
-  rest_owes db [] = record { owed_so = refl; ends = refl; none = λ n. refl }
-  rest_owes db (m ∷ ms) = stop_rest db m ms (owes db m) refl (take_rest h db ms) (rest_owes db ms)
+  rest_owes : (revision : Revision) (ms : List Monitor) → Rest revision ms (take_rest h revision ms)
+  rest_owes revision [] = record { owed_so = refl; ends = refl; none = λ n. refl }
+  rest_owes revision (m ∷ ms) = stop_rest revision m ms (owes revision m) refl (take_rest h revision ms) (rest_owes revision ms)
 
   -- one taking: it gives the first of what is owed, the rest stays owed, and the session ends alike
-  pub record Takes (db : Db) (x : Session) (r : Option Out × Session) : Type 0 where
-    pub owes : owed h db x ≡ option_to_list r.0 ++ owed h db r.1
-    pub ends : drained h db r.1 ≡ drained h db x
-    pub none : r.0 ≡ None → r.1 ≡ drained h db x
+  pub record Takes (revision : Revision) (x : Session) (r : Option Out × Session) : Type 0 where
+    pub owes : owed h revision x ≡ option_to_list r.0 ++ owed h revision r.1
+    pub ends : drained h revision.db r.1 ≡ drained h revision.db x
+    pub none : r.0 ≡ None → r.1 ≡ drained h revision.db x
 
-  stop_item : (db : Db) (i : Item) (is : List Item) (ms : List Monitor) (o : Option Out) → gives h db i ms ≡ o → (r : Option Out × Session) → Takes db (record { queue = is; monitors = leaves h db i ms }) r
-      → Takes db (record { queue = i ∷ is; monitors = ms }) (stop_at o (record { queue = is; monitors = leaves h db i ms }) r)
-  stop_item db i is ms None e r k = record {
-    owes = ap (λ o. option_to_list o ++ owed_from h db is (leaves h db i ms)) e ∙ k.owes;
+  stop_item : (revision : Revision) (i : Item) (is : List Item) (ms : List Monitor) (o : Option Out) → gives h revision i ms ≡ o → (r : Option Out × Session) → Takes revision (record { queue = is; monitors = leaves h revision.db i ms }) r
+      → Takes revision (record { queue = i ∷ is; monitors = ms }) (stop_at o (record { queue = is; monitors = leaves h revision.db i ms }) r)
+  stop_item revision i is ms None e r k = record {
+    owes = ap (λ o. option_to_list o ++ owed_from h revision is (leaves h revision.db i ms)) e ∙ k.owes;
     ends = k.ends;
     none = k.none;
   }
-  stop_item db i is ms (Some o) e r k = record {
-    owes = ap (λ o. option_to_list o ++ owed_from h db is (leaves h db i ms)) e;
+  stop_item revision i is ms (Some o) e r k = record {
+    owes = ap (λ o. option_to_list o ++ owed_from h revision is (leaves h revision.db i ms)) e;
     ends = refl;
     none = λ n. absurd (true≢false (ap is_some n));
   }
 
-  from_takes : (db : Db) (q : List Item) (ms : List Monitor) → Takes db (record { queue = q; monitors = ms }) (take_from h db q ms)
-  from_takes db [] ms =
-      let k : Rest db ms (take_rest h db ms) = rest_owes db ms in
+  from_takes : (revision : Revision) (q : List Item) (ms : List Monitor) → Takes revision (record { queue = q; monitors = ms }) (take_from h revision q ms)
+  from_takes revision [] ms =
+      let k : Rest revision ms (take_rest h revision ms) = rest_owes revision ms in
       record {
         owes = k.owed_so;
         ends = ap (λ xs. let x : Session = record { queue = []; monitors = xs } in x) k.ends;
         none = λ n. ap (λ xs. let x : Session = record { queue = []; monitors = xs } in x) (k.none n);
       }
-  from_takes db (i ∷ is) ms = stop_item db i is ms (gives h db i ms) refl (take_from h db is (leaves h db i ms)) (from_takes db is (leaves h db i ms))
+  from_takes revision (i ∷ is) ms = stop_item revision i is ms (gives h revision i ms) refl (take_from h revision is (leaves h revision.db i ms)) (from_takes revision is (leaves h revision.db i ms))
 
-  pub takes : (db : Db) (x : Session) → Takes db x (take h db x)
-  takes db x = from_takes db x.queue x.monitors
+  pub takes : (revision : Revision) (x : Session) → Takes revision x (take h revision x)
+  takes revision x = from_takes revision x.queue x.monitors
 
-  rested_owe_nothing : (db : Db) (q : List Item) (ms : List Monitor) → filter_map (owes db) (rested h db q ms) ≡ []
-  rested_owe_nothing db [] ms = all_owe_nothing db ms
-  rested_owe_nothing db (i ∷ is) ms = rested_owe_nothing db is (leaves h db i ms)
+  rested_owe_nothing : (revision : Revision) (q : List Item) (ms : List Monitor) → filter_map (owes revision) (rested h revision.db q ms) ≡ []
+  rested_owe_nothing revision [] ms = all_owe_nothing revision ms
+  rested_owe_nothing revision (i ∷ is) ms = rested_owe_nothing revision is (leaves h revision.db i ms)
 
   -- where a taking gives nothing, nothing was owed
-  pub none_owed : (db : Db) (x : Session) → (take h db x).0 ≡ None → owed h db x ≡ []
-  none_owed db x n =
-      (takes db x).owes ∙ (λ i. option_to_list (n i) ++ owed h db ((takes db x).none n i)) ∙ rested_owe_nothing db x.queue x.monitors
+  pub none_owed : (revision : Revision) (x : Session) → (take h revision x).0 ≡ None → owed h revision x ≡ []
+  none_owed revision x n =
+      (takes revision x).owes ∙ (λ i. option_to_list (n i) ++ owed h revision ((takes revision x).none n i)) ∙ rested_owe_nothing revision x.queue x.monitors

@@ -6,7 +6,7 @@ use Rattle.odb_atoms.specs.FinMap as map
 use Rattle.odb_atoms.specs.FinMap.{FinMap, get, insert, len}
 use Rattle.odb_service.specs.Service.{Service}
 use Rattle.odb_service.specs.Session.{Out, Session, take}
-use Rattle.odb_service.specs.World.{World, at_moment, close, handle, owed_replies, tick}
+use Rattle.odb_service.specs.World.{World, at_moment, close, handle, owed_replies, revision_of, tick}
 use Rattle.odb_rpc.specs.Message.{call_of, has_reply}
 use Rattle.odb_atoms.specs.Uuid.{Uuid}
 
@@ -48,7 +48,7 @@ module _ (h : Service) where
   -- one taking for a session, if it is open
   abbrev pub take_of : ℕ → Option Session → World → World × List Sent
   take_of s None w = (w, [])
-  take_of s (Some x) w = (record w { sessions = insert w.sessions s (take h w.db x).1 }, sent s (take h w.db x).0)
+  take_of s (Some x) w = (record w { sessions = insert w.sessions s (take h (revision_of w) x).1 }, sent s (take h (revision_of w) x).0)
 
   abbrev pub take_each : List ℕ → World → World × List Sent
   take_each [] w = (w, [])

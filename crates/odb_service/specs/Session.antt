@@ -10,6 +10,10 @@ use Rattle.odb_request.specs.Request.{Notation, Request, Shape, update, update2}
 use Rattle.odb_rpc.specs.Message.{notification, reply}
 use Rattle.odb_tables.specs.Database.{Db}
 
+-- what takings look at: the database as it is now
+pub record Revision : Type 0 where
+  pub db : Db
+
 -- what a monitor watches: its id, its notation, and its requests with their filters
 pub record Watch : Type 0 where
   pub id : Data
@@ -111,16 +115,16 @@ module _ (h : Service) where
   abbrev pub brought : Db → List Request → Monitor → Monitor
   brought db qs m = record m { view = query db qs }
 
-  abbrev pub update_to : Db → List Request → Monitor → Option Out
-  update_to db qs m = told_of m.watch.notation m.watch.id qs (shown false qs (delta m.view (query db qs)))
+  abbrev pub update_to : Revision → List Request → Monitor → Option Out
+  update_to revision qs m = told_of m.watch.notation m.watch.id qs (shown false qs (delta m.view (query revision.db qs)))
 
   abbrev pub begun : Db → Watch → Monitor
   begun db k = record { watch = k; view = query db k.requests }
 
-  abbrev pub first_out : Db → Data → Watch → Out
-  first_out db d k = record {
+  abbrev pub first_out : Revision → Data → Watch → Out
+  first_out revision d k = record {
     answers = to d;
-    message = reply (id_of d) (table_updates k.notation true (shapes k.requests) (shown true k.requests (delta (nothing k.requests) (query db k.requests))));
+    message = reply (id_of d) (table_updates k.notation true (shapes k.requests) (shown true k.requests (delta (nothing k.requests) (query revision.db k.requests))));
   }
 
   abbrev pub granted : Data → Out
@@ -130,13 +134,13 @@ module _ (h : Service) where
   has_id i m = same_id i m.watch.id
 
   -- what one item gives, and the monitors after it. An item of a monitor that is gone gives nothing
-  abbrev pub gives : Db → Item → List Monitor → Option Out
-  gives db (say a d) ms = Some (record { answers = a; message = d })
-  gives db (start d k) ms = Some (first_out db d k)
-  gives db (sync i) ms = option_and_then (λ m. update_to db m.watch.requests m) (find (has_id i) ms)
-  gives db (shift i fs) ms = option_and_then (λ m. update_to db (refilter fs m.watch.requests) m) (find (has_id i) ms)
-  gives db (renamed d old new fs) ms = Some (granted d)
-  gives db (stopped d i) ms = Some (granted d)
+  abbrev pub gives : Revision → Item → List Monitor → Option Out
+  gives revision (say a d) ms = Some (record { answers = a; message = d })
+  gives revision (start d k) ms = Some (first_out revision d k)
+  gives revision (sync i) ms = option_and_then (λ m. update_to revision m.watch.requests m) (find (has_id i) ms)
+  gives revision (shift i fs) ms = option_and_then (λ m. update_to revision (refilter fs m.watch.requests) m) (find (has_id i) ms)
+  gives revision (renamed d old new fs) ms = Some (granted d)
+  gives revision (stopped d i) ms = Some (granted d)
 
   abbrev pub leaves : Db → Item → List Monitor → List Monitor
   leaves db (say a d) ms = ms
@@ -147,27 +151,27 @@ module _ (h : Service) where
   leaves db (stopped d i) ms = drop_first (has_id i) ms
 
   -- with an empty queue the monitors are brought to now, in order of creation, until there is an out
-  abbrev pub take_rest : Db → List Monitor → Option Out × List Monitor
-  take_rest db [] = (None, [])
-  take_rest db (m ∷ ms) =
-      stop_at (update_to db m.watch.requests m) (brought db m.watch.requests m ∷ ms)
-      ((take_rest db ms).0, brought db m.watch.requests m ∷ (take_rest db ms).1)
+  abbrev pub take_rest : Revision → List Monitor → Option Out × List Monitor
+  take_rest revision [] = (None, [])
+  take_rest revision (m ∷ ms) =
+      stop_at (update_to revision m.watch.requests m) (brought revision.db m.watch.requests m ∷ ms)
+      ((take_rest revision ms).0, brought revision.db m.watch.requests m ∷ (take_rest revision ms).1)
 
   -- from the front of the queue until there is an out
-  abbrev pub take_from : Db → List Item → List Monitor → Option Out × Session
-  take_from db [] ms = ((take_rest db ms).0, record { queue = []; monitors = (take_rest db ms).1 })
-  take_from db (i ∷ is) ms = stop_at (gives db i ms) (record { queue = is; monitors = leaves db i ms }) (take_from db is (leaves db i ms))
+  abbrev pub take_from : Revision → List Item → List Monitor → Option Out × Session
+  take_from revision [] ms = ((take_rest revision ms).0, record { queue = []; monitors = (take_rest revision ms).1 })
+  take_from revision (i ∷ is) ms = stop_at (gives revision i ms) (record { queue = is; monitors = leaves revision.db i ms }) (take_from revision is (leaves revision.db i ms))
 
-  abbrev pub take : Db → Session → Option Out × Session
-  take db s = take_from db s.queue s.monitors
+  abbrev pub take : Revision → Session → Option Out × Session
+  take revision s = take_from revision s.queue s.monitors
 
   -- what further takings give until there is none: what each item gives, and then each monitor
-  abbrev pub owed_from : Db → List Item → List Monitor → List Out
-  owed_from db [] ms = filter_map (λ m. update_to db m.watch.requests m) ms
-  owed_from db (i ∷ is) ms = option_to_list (gives db i ms) ++ owed_from db is (leaves db i ms)
+  abbrev pub owed_from : Revision → List Item → List Monitor → List Out
+  owed_from revision [] ms = filter_map (λ m. update_to revision m.watch.requests m) ms
+  owed_from revision (i ∷ is) ms = option_to_list (gives revision i ms) ++ owed_from revision is (leaves revision.db i ms)
 
-  abbrev pub owed : Db → Session → List Out
-  owed db s = owed_from db s.queue s.monitors
+  abbrev pub owed : Revision → Session → List Out
+  owed revision s = owed_from revision s.queue s.monitors
 
   -- the session when nothing more is owed
   abbrev pub rested : Db → List Item → List Monitor → List Monitor

@@ -7,7 +7,7 @@ use Rattle.odb_rpc.specs.Message as message
 use Rattle.odb_atoms.specs.FinMap.{FinMap, get, insert, remove}
 use Rattle.odb_cond.specs.Filter.{Filter}
 use Rattle.odb_service.specs.Service.{Outcome, Service, ended, waiting}
-use Rattle.odb_service.specs.Session.{Item, Session, Watch, asked, no_request, no_result, renamed, replies_in, same_id, say, shift, start, stopped, sync, to}
+use Rattle.odb_service.specs.Session.{Item, Revision, Session, Watch, asked, no_request, no_result, renamed, replies_in, same_id, say, shift, start, stopped, sync, to}
 use Rattle.odb_wire.specs.Message.{id_of}
 use Rattle.odb_locks.specs.Locks.{Answered, Locks, Notice, drop_session, lock, owns, steal, unlock}
 use Rattle.odb_monitor.specs.Update.{one}
@@ -36,6 +36,10 @@ pub record World : Type 0 where
   pub waiting : List Waiting
   pub locks : Locks
   pub sessions : FinMap nat_cmp Session
+
+-- as its takings look at it
+abbrev pub revision_of : World → Revision
+revision_of w = record { db = w.db }
 
 -- items go to the end of an open session's queue
 abbrev pub push : List Item → Session → Session

@@ -10,7 +10,7 @@ use Rattle.odb_rpc.specs.Message.{notification}
 use Rattle.odb_rpc.specs.Represented.Shared.{update_method}
 use Rattle.odb_schema.specs.Json.{Data}
 use Rattle.odb_service.specs.Service.{Service}
-use Rattle.odb_service.specs.Session.{Monitor, Out, method_of, no_request, shapes, told_of}
+use Rattle.odb_service.specs.Session.{Monitor, Out, Revision, method_of, no_request, shapes, told_of}
 use Rattle.odb_sessions.specs.Composed.{asked_of, first_job, first_part, first_updates, later_job, notified_text, part_to}
 use Rattle.odb_sessions.specs.Foreseen.{update_text}
 use Rattle.odb_sessions.specs.Held.{Watched, view_of}
@@ -76,16 +76,16 @@ abbrev monitor_so : Data → Notation → List Request → View → Monitor
 monitor_so i n rs V = record { watch = record { id = i; notation = n; requests = rs }; view = V }
 
 -- the text of parts that lead from what the client has to what these requests select
-pub parts_sent : (h : Service) (db : Db) (i : Data) (n : Notation) (rs qs : List Request) (V : View) (ps : List Part)
-    → map (λ (p : Part). p.request) ps ≡ qs → map (λ (p : Part). p.told) ps ≡ V → map (λ (p : Part). p.asked) ps ≡ query db qs
-    → option_map (notified_text n i) (updates_of (later_job n ps)) ≡ update_text h db qs (monitor_so i n rs V)
-parts_sent h db i n rs qs V ps asked told now =
+pub parts_sent : (h : Service) (revision : Revision) (i : Data) (n : Notation) (rs qs : List Request) (V : View) (ps : List Part)
+    → map (λ (p : Part). p.request) ps ≡ qs → map (λ (p : Part). p.told) ps ≡ V → map (λ (p : Part). p.asked) ps ≡ query revision.db qs
+    → option_map (notified_text n i) (updates_of (later_job n ps)) ≡ update_text h revision qs (monitor_so i n rs V)
+parts_sent h revision i n rs qs V ps asked told now =
     (λ j. option_map (notified_text n i) (updates_between n (asked j) (told j) (now j)))
-    ∙ sym (option_twice compact_text (in_notification n i) (updates_between n qs V (query db qs)))
-    ∙ ap (option_map compact_text) (sym (either_way h n i qs V (query db qs)))
-    ∙ option_twice compact_text (λ (o : Out). o.message) (told_of h n i qs (shown false qs (delta V (query db qs))))
-    ∙ ap (option_map out_text) (update_given h db qs (monitor_so i n rs V))
-    ∙ option_twice out_text (out_of h db) (update_of h db qs (monitor_so i n rs V))
+    ∙ sym (option_twice compact_text (in_notification n i) (updates_between n qs V (query revision.db qs)))
+    ∙ ap (option_map compact_text) (sym (either_way h n i qs V (query revision.db qs)))
+    ∙ option_twice compact_text (λ (o : Out). o.message) (told_of h n i qs (shown false qs (delta V (query revision.db qs))))
+    ∙ ap (option_map out_text) (update_given h revision qs (monitor_so i n rs V))
+    ∙ option_twice out_text (out_of h revision) (update_of h revision.db qs (monitor_so i n rs V))
 
 -- ---- first replies
 

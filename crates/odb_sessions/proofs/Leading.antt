@@ -6,7 +6,7 @@ use Rattle.odb_chain.specs.Chains.{Chains}
 use Rattle.odb_schema.specs.Schema.{Schema}
 use Rattle.odb_service.specs.Server.{served_by}
 use Rattle.odb_service.specs.Session as machine
-use Rattle.odb_service.specs.Session.{Monitor, leaves}
+use Rattle.odb_service.specs.Session.{Monitor, Revision, leaves}
 use Rattle.odb_sessions.specs.Foreseen.{due_text, finished_text, last_used}
 use Rattle.odb_sessions.specs.Held.{item_seen, marks_due}
 use Rattle.odb_sessions.specs.Planned.{Due, Plan, due, from_item, plan_from, plan_rest}
@@ -83,33 +83,33 @@ finished_due s db (machine.shift i fs) ms e = absurd (true≢false (sym e))
 finished_due s db (machine.renamed d old new fs) ms e = refl
 finished_due s db (machine.stopped d i) ms e = refl
 
-finished_says : (s : Schema) (db : Db) (i : machine.Item) (ms : List Monitor) → is_some (finished_text i) ≡ true → finished_text i ≡ option_map (due_text (served_by s) db) (due (served_by s) db i ms)
-finished_says s db (machine.say a d) ms e = refl
-finished_says s db (machine.start d k) ms e = absurd (true≢false (sym e))
-finished_says s db (machine.sync i) ms e = absurd (true≢false (sym e))
-finished_says s db (machine.shift i fs) ms e = absurd (true≢false (sym e))
-finished_says s db (machine.renamed d old new fs) ms e = refl
-finished_says s db (machine.stopped d i) ms e = refl
+finished_says : (s : Schema) (revision : Revision) (i : machine.Item) (ms : List Monitor) → is_some (finished_text i) ≡ true → finished_text i ≡ option_map (due_text (served_by s) revision) (due (served_by s) revision.db i ms)
+finished_says s revision (machine.say a d) ms e = refl
+finished_says s revision (machine.start d k) ms e = absurd (true≢false (sym e))
+finished_says s revision (machine.sync i) ms e = absurd (true≢false (sym e))
+finished_says s revision (machine.shift i fs) ms e = absurd (true≢false (sym e))
+finished_says s revision (machine.renamed d old new fs) ms e = refl
+finished_says s revision (machine.stopped d i) ms e = refl
 
-module _ (s : Schema) (db : Db) (ms : List Monitor) where
-  first_plan : (xs : List Item) (x : Item) → 0 < length xs → x ≡ slice_index_or xs 0 x → is_some (finished_text (seen_item x)) ≡ true → plan_at s db xs ms ≡ record { items = 1; monitors = 0; out = due (served_by s) db (seen_item x) ms }
+module _ (s : Schema) (revision : Revision) (ms : List Monitor) where
+  first_plan : (xs : List Item) (x : Item) → 0 < length xs → x ≡ slice_index_or xs 0 x → is_some (finished_text (seen_item x)) ≡ true → plan_at s revision.db xs ms ≡ record { items = 1; monitors = 0; out = due (served_by s) revision.db (seen_item x) ms }
   first_plan [] x low at e = absurd (omega (arith, low))
   first_plan (y ∷ ys) x low at e =
-      ap (λ z. plan_at s db (z ∷ ys) ms) (sym at)
-      ∙ one_used (plan_at s db ys (leaves (served_by s) db (seen_item x) ms)) (due (served_by s) db (seen_item x) ms) (finished_due s db (seen_item x) ms e)
+      ap (λ z. plan_at s revision.db (z ∷ ys) ms) (sym at)
+      ∙ one_used (plan_at s revision.db ys (leaves (served_by s) revision.db (seen_item x) ms)) (due (served_by s) revision.db (seen_item x) ms) (finished_due s revision.db (seen_item x) ms e)
 
-  pub first_items : (xs : List Item) (x : Item) → 0 < length xs → x ≡ slice_index_or xs 0 x → is_some (finished_text (seen_item x)) ≡ true → 1 ≡ (plan_at s db xs ms).items
+  pub first_items : (xs : List Item) (x : Item) → 0 < length xs → x ≡ slice_index_or xs 0 x → is_some (finished_text (seen_item x)) ≡ true → 1 ≡ (plan_at s revision.db xs ms).items
   first_items xs x low at e = sym (ap (λ (p : Plan). p.items) (first_plan xs x low at e))
 
-  pub first_monitors : (xs : List Item) (x : Item) → 0 < length xs → x ≡ slice_index_or xs 0 x → is_some (finished_text (seen_item x)) ≡ true → 0 ≡ (plan_at s db xs ms).monitors
+  pub first_monitors : (xs : List Item) (x : Item) → 0 < length xs → x ≡ slice_index_or xs 0 x → is_some (finished_text (seen_item x)) ≡ true → 0 ≡ (plan_at s revision.db xs ms).monitors
   first_monitors xs x low at e = sym (ap (λ (p : Plan). p.monitors) (first_plan xs x low at e))
 
   pub first_text : (xs : List Item) (x : Item) → 0 < length xs → x ≡ slice_index_or xs 0 x → is_some (finished_text (seen_item x)) ≡ true
-      → option_and_then finished_text (last_used 1 (all_seen xs)) ≡ option_map (due_text (served_by s) db) (plan_at s db xs ms).out
+      → option_and_then finished_text (last_used 1 (all_seen xs)) ≡ option_map (due_text (served_by s) revision) (plan_at s revision.db xs ms).out
   first_text [] x low at e = absurd (omega (arith, low))
   first_text (y ∷ ys) x low at e =
-      ap (λ z. finished_text (seen_item z)) (sym at) ∙ finished_says s db (seen_item x) ms e
-      ∙ sym (ap (λ (p : Plan). option_map (due_text (served_by s) db) p.out) (first_plan (y ∷ ys) x low at e))
+      ap (λ z. finished_text (seen_item z)) (sym at) ∙ finished_says s revision (seen_item x) ms e
+      ∙ sym (ap (λ (p : Plan). option_map (due_text (served_by s) revision) p.out) (first_plan (y ∷ ys) x low at e))
 
 -- ---- items by their places
 

@@ -8,7 +8,7 @@ use Rattle.odb_cond.specs.Filter.{Filter}
 use Rattle.odb_monitor.specs.View.{query, selected}
 use Rattle.odb_request.specs.Request.{Request}
 use Rattle.odb_service.specs.Service.{Service}
-use Rattle.odb_service.specs.Session.{Monitor, Out, brought, update_to}
+use Rattle.odb_service.specs.Session.{Monitor, Out, Revision, brought, update_to}
 use Rattle.odb_service.proofs.WhatIsOwed.{all_owe_nothing}
 use Rattle.odb_sessions.specs.Composed.{AreNow, part_to}
 use Rattle.odb_sessions.specs.Foreseen.{due_text, update_text}
@@ -39,14 +39,14 @@ nothing_due f (Some d) e = absurd (none-some (f d) (sym e))
 pub brought_same : (h : Service) (db : Db) (x : Held) → AreNow db x.tables → monitor_of x ≡ brought h db (watch_of x).requests (monitor_of x)
 brought_same h db x same = (λ i. let n : Monitor = record { watch = watch_of x; view = view_now db x same i } in n)
 
-pub nothing_sent : (h : Service) (db : Db) (x : Held) → AreNow db x.tables → update_to h db (watch_of x).requests (monitor_of x) ≡ None
-nothing_sent h db x same =
+pub nothing_sent : (h : Service) (revision : Revision) (x : Held) → AreNow revision.db x.tables → update_to h revision (watch_of x).requests (monitor_of x) ≡ None
+nothing_sent h revision x same =
     let m : Monitor = monitor_of x in
     let qs : List Request = (watch_of x).requests in
-    ap (λ (n : Monitor). update_to h db qs n) (brought_same h db x same) ∙ no_more (update_to h db qs (brought h db qs m)) (all_owe_nothing h db (m ∷ []))
+    ap (λ (n : Monitor). update_to h revision qs n) (brought_same h revision.db x same) ∙ no_more (update_to h revision qs (brought h revision.db qs m)) (all_owe_nothing h revision (m ∷ []))
 
-pub quiet : (h : Service) (db : Db) (x : Held) → AreNow db x.tables → None ≡ update_text h db (watch_of x).requests (monitor_of x)
-quiet h db x same =
+pub quiet : (h : Service) (revision : Revision) (x : Held) → AreNow revision.db x.tables → None ≡ update_text h revision (watch_of x).requests (monitor_of x)
+quiet h revision x same =
     let m : Monitor = monitor_of x in
     let qs : List Request = (watch_of x).requests in
-    sym (ap (option_map (due_text h db)) (nothing_due (out_of h db) (update_of h db qs m) (sym (update_given h db qs m) ∙ nothing_sent h db x same)))
+    sym (ap (option_map (due_text h revision)) (nothing_due (out_of h revision) (update_of h revision.db qs m) (sym (update_given h revision qs m) ∙ nothing_sent h revision x same)))

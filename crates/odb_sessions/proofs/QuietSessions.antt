@@ -10,9 +10,9 @@ use Rattle.odb_atoms.specs.FinMap as finite
 use Rattle.odb_chain.specs.Chains.{Chains}
 use Rattle.odb_service.specs.Server.{served_by}
 use Rattle.odb_service.specs.Service.{Service}
-use Rattle.odb_service.specs.Session.{Monitor, Out, Session, brought, stop_at, take, take_from, take_rest, update_to}
+use Rattle.odb_service.specs.Session.{Monitor, Out, Revision, Session, brought, stop_at, take, take_from, take_rest, update_to}
 use Rattle.odb_tables.specs.Database.{Db}
-use Rattle.odb_sessions.specs.Book.{Book}
+use Rattle.odb_sessions.specs.Book.{Book, revision_in}
 use Rattle.odb_sessions.specs.Composed.{AreNow}
 use Rattle.odb_sessions.specs.Held.{Held, Kept, Queued, Sessions, all_seen, item_seen, marks_in, monitor_of, seen}
 use Rattle.odb_sessions.specs.Quiet.{IsQuiet, IsQuietAt}
@@ -39,25 +39,25 @@ Rest = Option Out × List Monitor
 abbrev Taken : Type 0
 Taken = Option Out × Session
 
-rest_quiet : (h : Service) (db : Db) (xs : List Held) → AllByRecursion (λ (x : Held). AreNow db x.tables) xs → take_rest h db (map monitor_of xs) ≡ (None, map monitor_of xs)
-rest_quiet h db [] now = refl
-rest_quiet h db (x ∷ xs) now =
+rest_quiet : (h : Service) (revision : Revision) (xs : List Held) → AllByRecursion (λ (x : Held). AreNow revision.db x.tables) xs → take_rest h revision (map monitor_of xs) ≡ (None, map monitor_of xs)
+rest_quiet h revision [] now = refl
+rest_quiet h revision (x ∷ xs) now =
     let m : Monitor = monitor_of x in
-    let b : Monitor = brought h db m.watch.requests m in
-    let rest : Rest = take_rest h db (map monitor_of xs) in
-    let same : m ≡ b = brought_same h db x now.0 in
-    let later : rest ≡ (None, map monitor_of xs) = rest_quiet h db xs now.1 in
-    ap (λ (o : Option Out). let r : Rest = stop_at o (b ∷ map monitor_of xs) (rest.0, b ∷ rest.1) in r) (nothing_sent h db x now.0)
+    let b : Monitor = brought h revision.db m.watch.requests m in
+    let rest : Rest = take_rest h revision (map monitor_of xs) in
+    let same : m ≡ b = brought_same h revision.db x now.0 in
+    let later : rest ≡ (None, map monitor_of xs) = rest_quiet h revision xs now.1 in
+    ap (λ (o : Option Out). let r : Rest = stop_at o (b ∷ map monitor_of xs) (rest.0, b ∷ rest.1) in r) (nothing_sent h revision x now.0)
     ∙ (λ i. let r : Rest = ((later i).0, sym same i ∷ (later i).1) in r)
 
-pub session_quiet : (db : Db) (x : Kept) → x.queue ≡ [] → All (λ (m : Held). AreNow db m.tables) x.monitors → IsQuiet db (seen x)
-session_quiet db x none now = (
+pub session_quiet : (revision : Revision) (x : Kept) → x.queue ≡ [] → All (λ (m : Held). AreNow revision.db m.tables) x.monitors → IsQuiet revision (seen x)
+session_quiet revision x none now = (
   ap (map item_seen) none,
   λ s.
       let h : Service = served_by s in
       let ms : List Monitor = map monitor_of x.monitors in
-      let rest : take_rest h db ms ≡ (None, ms) = rest_quiet h db x.monitors (recursion_from_All (λ (m : Held). AreNow db m.tables) x.monitors now) in
-      ap (λ (q : List Queued). let r : Taken = take_from h db (map item_seen q) ms in r) none
+      let rest : take_rest h revision ms ≡ (None, ms) = rest_quiet h revision x.monitors (recursion_from_All (λ (m : Held). AreNow revision.db m.tables) x.monitors now) in
+      ap (λ (q : List Queued). let r : Taken = take_from h revision (map item_seen q) ms in r) none
       ∙ (λ i. let r : Taken = ((rest i).0, record { queue = []; monitors = (rest i).1 }) in r)
       ∙ ap (λ (q : List Queued). let r : Taken = (None, record { queue = map item_seen q; monitors = ms }) in r) (sym none),
 )
@@ -71,5 +71,5 @@ seen_at b m s y is there = sym (get-seen m s) ∙ ap (λ (n : finite.FinMap nat_
 pub quiet_shut : (b : Book) (m : Sessions) (s : ℕ) → all_seen m ≡ b.sessions → finite.get m s ≡ None → IsQuietAt b s
 quiet_shut b m s is none y there = absurd (none-some y (sym (ap (option_map seen) none) ∙ seen_at b m s y is there))
 
-pub quiet_open : (b : Book) (m : Sessions) (s : ℕ) (x : Kept) → all_seen m ≡ b.sessions → finite.get m s ≡ Some x → IsQuiet b.db (seen x) → IsQuietAt b s
-quiet_open b m s x is found quiet y there = subst (IsQuiet b.db) (same_Some (seen x) y (sym (ap (option_map seen) found) ∙ seen_at b m s y is there)) quiet
+pub quiet_open : (b : Book) (m : Sessions) (s : ℕ) (x : Kept) → all_seen m ≡ b.sessions → finite.get m s ≡ Some x → IsQuiet (revision_in b) (seen x) → IsQuietAt b s
+quiet_open b m s x is found quiet y there = subst (IsQuiet (revision_in b)) (same_Some (seen x) y (sym (ap (option_map seen) found) ∙ seen_at b m s y is there)) quiet

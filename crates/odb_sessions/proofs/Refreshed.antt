@@ -4,10 +4,10 @@ use Rattle.std.proofs.lemmas.Option.{none-some}
 use Rattle.odb_chain.specs.Chains.{Chains}
 use Rattle.odb_service.specs.Server.{served_by}
 use Rattle.odb_service.specs.Service.{Service}
-use Rattle.odb_service.specs.Session.{Item, Monitor, Out, Session, brought, stop_at, take_from, take_rest, update_to}
+use Rattle.odb_service.specs.Session.{Item, Monitor, Out, Revision, Session, brought, stop_at, take_from, take_rest, update_to}
 use Rattle.odb_service.proofs.SessionMaps.{same_map}
 use Rattle.odb_tables.specs.Database.{Db}
-use Rattle.odb_sessions.specs.Book.{Book}
+use Rattle.odb_sessions.specs.Book.{Book, revision_at}
 use Rattle.odb_sessions.specs.Carried.{used_by}
 use Rattle.odb_sessions.specs.Held.{Sessions, all_seen}
 use Rattle.odb_sessions.specs.Owed.{book_seen}
@@ -33,24 +33,24 @@ none_given : (o : Option Out) (b m : Monitor) (ms : List Monitor) (r : Rest) →
 none_given None b m ms r e = (ap (λ (t : Rest). first_of m t.1) e, ap (λ (t : Rest). t.0) e, ap (λ (t : Rest). rest_of t.1) e)
 none_given (Some x) b m ms r e = absurd (none-some x (sym (ap (λ (t : Rest). t.0) e)))
 
-first_same : (h : Service) (db : Db) (n : ℕ) (ms : List Monitor) → (take_rest h db ms).0 ≡ None → (take_rest h db ms).1 ≡ ms → first_brought h db n ms ≡ ms
-first_same h db zero ms none same = refl
-first_same h db (suc n) [] none same = refl
-first_same h db (suc n) (m ∷ ms) none same =
-    let r : Rest = take_rest h db ms in
-    let e : stop_at (update_to h db m.watch.requests m) (brought h db m.watch.requests m ∷ ms) (r.0, brought h db m.watch.requests m ∷ r.1) ≡ (None, m ∷ ms) = λ i. (none i, same i) in
-    let g : (brought h db m.watch.requests m ≡ m) × (r.0 ≡ None) × (r.1 ≡ ms) = none_given (update_to h db m.watch.requests m) (brought h db m.watch.requests m) m ms r e in
-    λ i. g.0 i ∷ first_same h db n ms g.1 g.2 i
+first_same : (h : Service) (revision : Revision) (n : ℕ) (ms : List Monitor) → (take_rest h revision ms).0 ≡ None → (take_rest h revision ms).1 ≡ ms → first_brought h revision.db n ms ≡ ms
+first_same h revision zero ms none same = refl
+first_same h revision (suc n) [] none same = refl
+first_same h revision (suc n) (m ∷ ms) none same =
+    let r : Rest = take_rest h revision ms in
+    let e : stop_at (update_to h revision m.watch.requests m) (brought h revision.db m.watch.requests m ∷ ms) (r.0, brought h revision.db m.watch.requests m ∷ r.1) ≡ (None, m ∷ ms) = λ i. (none i, same i) in
+    let g : (brought h revision.db m.watch.requests m ≡ m) × (r.0 ≡ None) × (r.1 ≡ ms) = none_given (update_to h revision m.watch.requests m) (brought h revision.db m.watch.requests m) m ms r e in
+    λ i. g.0 i ∷ first_same h revision n ms g.1 g.2 i
 
-used_same : (h : Service) (db : Db) (n : ℕ) (x : Session) → x.queue ≡ [] → take_from h db x.queue x.monitors ≡ (None, x) → used_by h db 0 n x ≡ x
-used_same h db n x queue taken =
-    let t : take_from h db [] x.monitors ≡ (None, x) = ap (λ (is : List Item). take_from h db is x.monitors) (sym queue) ∙ taken in
-    let none : (take_rest h db x.monitors).0 ≡ None = ap (λ (p : Option Out × Session). p.0) t in
-    let same : (take_rest h db x.monitors).1 ≡ x.monitors = ap (λ (p : Option Out × Session). p.1.monitors) t in
-    λ i. record { queue = x.queue; monitors = first_same h db n x.monitors none same i }
+used_same : (h : Service) (revision : Revision) (n : ℕ) (x : Session) → x.queue ≡ [] → take_from h revision x.queue x.monitors ≡ (None, x) → used_by h revision.db 0 n x ≡ x
+used_same h revision n x queue taken =
+    let t : take_from h revision [] x.monitors ≡ (None, x) = ap (λ (is : List Item). take_from h revision is x.monitors) (sym queue) ∙ taken in
+    let none : (take_rest h revision x.monitors).0 ≡ None = ap (λ (p : Option Out × Session). p.0) t in
+    let same : (take_rest h revision x.monitors).1 ≡ x.monitors = ap (λ (p : Option Out × Session). p.1.monitors) t in
+    λ i. record { queue = x.queue; monitors = first_same h revision n x.monitors none same i }
 
 pub refreshed : (k : Chains) (m : Sessions) (s n : ℕ) → IsQuietAt (book_seen k m) s → (let b : Book = record { db = k.db; sessions = at_number (used_by (served_by no_schema) k.db 0 n) (all_seen m) s } in b) ≡ book_seen k m
 refreshed k m s n quiet =
     let same = same_map (at_number (used_by (served_by no_schema) k.db 0 n) (all_seen m) s) (all_seen m)
-    (λ q. same_at (used_by (served_by no_schema) k.db 0 n) (all_seen m) s q (λ x there here. let h : IsQuiet k.db x = quiet x there in used_same (served_by no_schema) k.db n x h.0 (h.1 no_schema))) in
+    (λ q. same_at (used_by (served_by no_schema) k.db 0 n) (all_seen m) s q (λ x there here. let h : IsQuiet (revision_at k) x = quiet x there in used_same (served_by no_schema) (revision_at k) n x h.0 (h.1 no_schema))) in
     λ i. record { db = k.db; sessions = same i }

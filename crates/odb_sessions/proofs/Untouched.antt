@@ -17,12 +17,12 @@ use Rattle.odb_monitor.specs.View.{View, cut, delta, query, selected, shown}
 use Rattle.odb_request.specs.Request.{Request}
 use Rattle.odb_service.specs.Server.{served_by}
 use Rattle.odb_service.specs.Service.{Service}
-use Rattle.odb_service.specs.Session.{Item, Monitor, Out, Session, stop_at, take_from, take_rest, told_of}
+use Rattle.odb_service.specs.Session.{Item, Monitor, Out, Revision, Session, stop_at, take_from, take_rest, told_of}
 use Rattle.odb_service.proofs.SessionMaps.{other}
 use Rattle.odb_tables.specs.Change.{Changes, after, all_changed_by, before, changed_by}
 use Rattle.odb_tables.specs.Database.{Db, table_at}
 use Rattle.odb_tables.specs.Installing.{IsChangeOf}
-use Rattle.odb_sessions.specs.Book.{Book}
+use Rattle.odb_sessions.specs.Book.{Book, revision_in}
 use Rattle.odb_sessions.specs.Held.{Sessions}
 use Rattle.odb_sessions.specs.Owed.{AreAtRest, AreNoted, IsAtRest, book_seen, interest_if, interest_in, interest_of, is_among}
 use Rattle.odb_sessions.specs.Quiet.{IsQuiet}
@@ -54,13 +54,13 @@ both_false : (a b : Bool) → (a || b) ≡ false → (a ≡ false) × (b ≡ fal
 both_false true b e = absurd (true≢false e)
 both_false false b e = (refl, e)
 
-module _ (db : Db) (cs : List Changes) (is : IsChangeOf db cs) where
-  selected_stays : (q : Request) → is_hit (change_at cs q.place) q.filter ≡ false → selected q (table_at (all_changed_by db cs) q.place) ≡ selected q (table_at db q.place)
+module _ (revision : Revision) (cs : List Changes) (is : IsChangeOf revision.db cs) where
+  selected_stays : (q : Request) → is_hit (change_at cs q.place) q.filter ≡ false → selected q (table_at (all_changed_by revision.db cs) q.place) ≡ selected q (table_at revision.db q.place)
   selected_stays q miss =
-      ap (selected q) (table_changed db cs q.place is.0)
-      ∙ unhit_stays q.filter (table_at db q.place) (change_at cs q.place) (change_of db cs q.place is) miss (cut q.shape.columns)
+      ap (selected q) (table_changed revision.db cs q.place is.0)
+      ∙ unhit_stays q.filter (table_at revision.db q.place) (change_at cs q.place) (change_of revision.db cs q.place is) miss (cut q.shape.columns)
 
-  query_stays : (qs : List Request) → is_touched cs (interest_in qs) ≡ false → query (all_changed_by db cs) qs ≡ query db qs
+  query_stays : (qs : List Request) → is_touched cs (interest_in qs) ≡ false → query (all_changed_by revision.db cs) qs ≡ query revision.db qs
   query_stays [] e = refl
   query_stays (q ∷ qs) e =
       let h : (is_hit (change_at cs q.place) q.filter ≡ false) × (is_touched cs (interest_in qs) ≡ false) = both_false (is_hit (change_at cs q.place) q.filter) (is_touched cs (interest_in qs)) e in
@@ -88,23 +88,26 @@ module _ (db : Db) (cs : List Changes) (is : IsChangeOf db cs) where
       both_false (is_touched cs (interest_in m.watch.requests)) (is_touched cs (interest_all ms))
       (sym (list_any-append (λ (a : Asked). is_hit (change_at cs a.0) a.1) (interest_in m.watch.requests) (interest_all ms)) ∙ e)
 
-  rest_stays : (h : Service) (ms : List Monitor) → is_touched cs (interest_all ms) ≡ false → take_rest h (all_changed_by db cs) ms ≡ take_rest h db ms
+  -- after the change
+  abbrev later : Revision
+  later = record { db = all_changed_by revision.db cs }
+
+  rest_stays : (h : Service) (ms : List Monitor) → is_touched cs (interest_all ms) ≡ false → take_rest h later ms ≡ take_rest h revision ms
   rest_stays h [] e = refl
   rest_stays h (m ∷ ms) e =
       let f : (is_touched cs (interest_in m.watch.requests) ≡ false) × (is_touched cs (interest_all ms) ≡ false) = one_by_one m ms e in
       λ i. taken_by h m (query_stays m.watch.requests f.0 i) ms (rest_stays h ms f.1 i)
 
-  still_quiet : (x : Session) → is_touched cs (interest_of x) ≡ false → IsQuiet db x → IsQuiet (all_changed_by db cs) x
+  still_quiet : (x : Session) → is_touched cs (interest_of x) ≡ false → IsQuiet revision x → IsQuiet later x
   still_quiet x e quiet = (
     quiet.0,
     λ s.
         let h : Service = served_by s in
-        let new : Db = all_changed_by db cs in
         let ms : List Monitor = x.monitors in
-        let rest : take_rest h new ms ≡ take_rest h db ms = rest_stays h ms e in
-        ap (λ (is : List Item). let r : Taken = take_from h new is ms in r) quiet.0
+        let rest : take_rest h later ms ≡ take_rest h revision ms = rest_stays h ms e in
+        ap (λ (is : List Item). let r : Taken = take_from h later is ms in r) quiet.0
         ∙ (λ i. let r : Taken = ((rest i).0, record { queue = []; monitors = (rest i).1 }) in r)
-        ∙ sym (ap (λ (is : List Item). let r : Taken = take_from h db is ms in r) quiet.0)
+        ∙ sym (ap (λ (is : List Item). let r : Taken = take_from h revision is ms in r) quiet.0)
         ∙ quiet.1 s,
   )
 
@@ -125,7 +128,7 @@ untouched_rest : (i : Interests) (b : Book) (cs : List Changes) (ss : List ℕ) 
 untouched_rest i b cs ss is touched s out rest = (
   λ x there.
       let miss : is_touched cs (interest_of x) ≡ false = ap (is_touched cs) (sym (rest.1 ∙ ap interest_if there)) ∙ sym (touched s) ∙ not_among s ss out in
-      still_quiet b.db cs is x miss (rest.0 x there),
+      still_quiet (revision_in b) cs is x miss (rest.0 x there),
   rest.1,
 )
 

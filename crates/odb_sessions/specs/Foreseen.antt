@@ -8,7 +8,7 @@ use Rattle.odb_monitor.specs.View.{View, query, selected}
 use Rattle.odb_request.specs.Request.{Request}
 use Rattle.odb_rpc.specs.Message.{reply}
 use Rattle.odb_service.specs.Service.{Service}
-use Rattle.odb_service.specs.Session.{Item, Monitor, filter_of, no_result, refilter, renamed, say, shift, start, stopped, sync}
+use Rattle.odb_service.specs.Session.{Item, Monitor, Revision, filter_of, no_result, refilter, renamed, say, shift, start, stopped, sync}
 use Rattle.odb_sessions.specs.Held.{Held, Watched, marks_in, view_of, watch_of}
 use Rattle.odb_sessions.specs.Planned.{Due, out_of, update_of}
 use Rattle.odb_tables.specs.Database.{Db, table_at}
@@ -63,12 +63,12 @@ all_parts_again db told (w ∷ ws) (q ∷ qs) = part_again db told w q ∷ all_p
 -- ---- texts
 
 -- the text of what is due
-abbrev pub due_text : Service → Db → Due → List ℕ
-due_text h db d = compact_text (out_of h db d).message
+abbrev pub due_text : Service → Revision → Due → List ℕ
+due_text h revision d = compact_text (out_of h revision d).message
 
 -- the text of what leads a monitor to these requests, if something of it is shown
-abbrev pub update_text : Service → Db → List Request → Monitor → Option (List ℕ)
-update_text h db qs m = option_map (due_text h db) (update_of h db qs m)
+abbrev pub update_text : Service → Revision → List Request → Monitor → Option (List ℕ)
+update_text h revision qs m = option_map (due_text h revision) (update_of h revision.db qs m)
 
 -- the text of an item that was finished when it was queued
 abbrev pub finished_text : Item → Option (List ℕ)

@@ -10,7 +10,7 @@ use Rattle.odb_rpc.specs.Message.{notification}
 use Rattle.odb_schema.specs.Json.{Data}
 use Rattle.odb_service.specs.Run.{Sent, sent}
 use Rattle.odb_service.specs.Service.{Service}
-use Rattle.odb_service.specs.Session.{Answers, Item, Monitor, Out, Session, Watch, brought, first_out, granted, has_id, leaves, method_of, no_request, refilter, renamed, say, shapes, shift, start, stopped, sync}
+use Rattle.odb_service.specs.Session.{Answers, Item, Monitor, Out, Revision, Session, Watch, brought, first_out, granted, has_id, leaves, method_of, no_request, refilter, renamed, say, shapes, shift, start, stopped, sync}
 use Rattle.odb_sessions.specs.Posts.{at_number}
 use Rattle.odb_tables.specs.Database.{Db}
 
@@ -51,14 +51,14 @@ module _ (h : Service) where
   abbrev pub change_to : Db → List Request → Monitor → Delta
   change_to db qs m = shown false qs (delta m.view (query db qs))
 
-  abbrev pub notified : Db → List Request → Monitor → Out
-  notified db qs m = record { answers = no_request; message = notification (method_of h m.watch.notation) (m.watch.id ∷ table_updates m.watch.notation false (shapes qs) (change_to db qs m) ∷ []) }
+  abbrev pub notified : Revision → List Request → Monitor → Out
+  notified revision qs m = record { answers = no_request; message = notification (method_of h m.watch.notation) (m.watch.id ∷ table_updates m.watch.notation false (shapes qs) (change_to revision.db qs m) ∷ []) }
 
-  abbrev pub out_of : Db → Due → Out
-  out_of db (text_due a d) = record { answers = a; message = d }
-  out_of db (first_due d k) = first_out h db d k
-  out_of db (update_due m qs) = notified db qs m
-  out_of db (grant_due d) = granted h d
+  abbrev pub out_of : Revision → Due → Out
+  out_of revision (text_due a d) = record { answers = a; message = d }
+  out_of revision (first_due d k) = first_out h revision d k
+  out_of revision (update_due m qs) = notified revision qs m
+  out_of revision (grant_due d) = granted h d
 
   -- an update, if anything of it is shown
   abbrev pub update_of : Db → List Request → Monitor → Option Due
@@ -118,11 +118,11 @@ module _ (h : Service) where
   abbrev pub plans : Db → FinMap nat_cmp Session → List ℕ → List (ℕ × Plan)
   plans db m ss = flat_map (λ s. plan_at db s (get m s)) ss
 
-  abbrev pub planned_out : Db → ℕ × Plan → List Sent
-  planned_out db p = sent p.0 (option_map (out_of db) p.1.out)
+  abbrev pub planned_out : Revision → ℕ × Plan → List Sent
+  planned_out revision p = sent p.0 (option_map (out_of revision) p.1.out)
 
-  abbrev pub planned_outs : Db → List (ℕ × Plan) → List Sent
-  planned_outs db ps = flat_map (planned_out db) ps
+  abbrev pub planned_outs : Revision → List (ℕ × Plan) → List Sent
+  planned_outs revision ps = flat_map (planned_out revision) ps
 
   abbrev pub applied_at : Db → FinMap nat_cmp Session → ℕ × Plan → FinMap nat_cmp Session
   applied_at db m p = at_number (applied db p.1) m p.0

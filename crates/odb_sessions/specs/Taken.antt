@@ -5,8 +5,8 @@ use Rattle.odb_queue.specs.Represented.Item.{text_of}
 use Rattle.odb_schema.specs.Schema.{Schema}
 use Rattle.odb_service.specs.Server.{served_by}
 use Rattle.odb_service.specs.Service.{Service}
-use Rattle.odb_service.specs.Session.{Item, Session, take}
-use Rattle.odb_sessions.specs.Book.{Book}
+use Rattle.odb_service.specs.Session.{Item, Revision, Session, take}
+use Rattle.odb_sessions.specs.Book.{Book, revision_in}
 use Rattle.odb_sessions.specs.Carried.{used_by}
 use Rattle.odb_sessions.specs.Foreseen.{finished_text, last_used}
 use Rattle.odb_tables.specs.Database.{Db}
@@ -37,18 +37,18 @@ pub record Ready : Type 0 where
 
 -- so many items and monitors are what a taking of the session uses up, if it is open
 abbrev pub UsesUp : Book → ℕ → ℕ → ℕ → Type 0
-UsesUp b n items monitors = (s : Schema) (x : Session) → get b.sessions n ≡ Some x → used_by (served_by s) b.db items monitors x ≡ (take (served_by s) b.db x).1
+UsesUp b n items monitors = (s : Schema) (x : Session) → get b.sessions n ≡ Some x → used_by (served_by s) b.db items monitors x ≡ (take (served_by s) (revision_in b) x).1
 
-abbrev pub IsReadyFor : Schema → Db → Option Session → Ready → Type 0
-IsReadyFor s db None r = r.text ≡ no_text
-IsReadyFor s db (Some x) r =
-    (used_by (served_by s) db r.items r.monitors x ≡ (take (served_by s) db x).1)
-    × (text_from r.text (last_used r.items x.queue) ≡ option_map text_of (take (served_by s) db x).0)
+abbrev pub IsReadyFor : Schema → Revision → Option Session → Ready → Type 0
+IsReadyFor s revision None r = r.text ≡ no_text
+IsReadyFor s revision (Some x) r =
+    (used_by (served_by s) revision.db r.items r.monitors x ≡ (take (served_by s) revision x).1)
+    × (text_from r.text (last_used r.items x.queue) ≡ option_map text_of (take (served_by s) revision x).0)
 
 -- the text that a taking gives
-abbrev pub text_taken : Service → Db → Option Session → Option (List ℕ)
-text_taken h db None = None
-text_taken h db (Some x) = option_map text_of (take h db x).0
+abbrev pub text_taken : Service → Revision → Option Session → Option (List ℕ)
+text_taken h revision None = None
+text_taken h revision (Some x) = option_map text_of (take h revision x).0
 
 -- a session, and the taking that is planned for it
 abbrev pub Pending : Type 0
@@ -60,7 +60,7 @@ sessions_in ps = map (λ p. p.0) ps
 -- each is ready for its session
 abbrev pub AreReady : Schema → Book → List Pending → Type 0
 AreReady s b [] = Unit {0}
-AreReady s b (p ∷ ps) = IsReadyFor s b.db (get b.sessions p.0) p.1 × AreReady s b ps
+AreReady s b (p ∷ ps) = IsReadyFor s (revision_in b) (get b.sessions p.0) p.1 × AreReady s b ps
 
 -- the same, whatever the schema
 abbrev pub AreOf : Book → List Pending → Type 0

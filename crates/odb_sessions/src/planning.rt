@@ -14,6 +14,7 @@ ghost use Rattle.odb_sessions.specs.Jobs.{Keeps, certainly, composition_at};
 ghost use Rattle.odb_sessions.specs.Represented.Composed.{Tells, text_under};
 ghost use Rattle.odb_sessions.specs.Represented.Under.{filters_in};
 ghost use Rattle.odb_sessions.specs.Tied.{AreLive};
+ghost use Rattle.odb_sessions.specs.Book.{revision_at};
 
 use crate::composing::{Message, around_updates, parts_of};
 use crate::monitor::{Monitor, Watching};
@@ -45,7 +46,7 @@ impl Monitor {
     ) -> Result<Option<Message>, AllocError>
         requires { AreLive wanted.old.chains (marks_in self.now) }
         ensures text { IfOk result (λ message. (h : Service) → Tells wanted.new.jobs message
-            (update_text h wanted.old.chains.db (refilter (filters_in under.entry) (watch_of self.now).requests) (seen_ahead wanted.old.chains.db (as_told self.now)))) }
+            (update_text h (revision_at wanted.old.chains) (refilter (filters_in under.entry) (watch_of self.now).requests) (seen_ahead wanted.old.chains.db (as_told self.now)))) }
         ensures jobs { Keeps wanted.old.jobs wanted.new.jobs }
         ensures chains { wanted.new.chains ≡ wanted.old.chains }
     {
@@ -59,7 +60,7 @@ impl Monitor {
     fn update_asked<'a>(&'a self, wanted: &mut Wanted<'a>) -> Result<Option<Message>, AllocError>
         requires { AreLive wanted.old.chains (marks_in self.now) }
         ensures text { IfOk result (λ message. (h : Service) → Tells wanted.new.jobs message
-            (update_text h wanted.old.chains.db (watch_of self.now).requests (monitor_of self.now))) }
+            (update_text h (revision_at wanted.old.chains) (watch_of self.now).requests (monitor_of self.now))) }
         ensures jobs { Keeps wanted.old.jobs wanted.new.jobs }
         ensures chains { wanted.new.chains ≡ wanted.old.chains }
     {
@@ -78,7 +79,7 @@ impl Monitor {
     ) -> Result<Option<Message>, AllocError>
         requires { AreLive wanted.old.chains (marks_in self.now) }
         ensures text { IfOk result (λ message. (h : Service) → Tells wanted.new.jobs message
-            (update_text h wanted.old.chains.db (refilter (filters_in under.entry) (watch_of self.now).requests) (monitor_of self.now))) }
+            (update_text h (revision_at wanted.old.chains) (refilter (filters_in under.entry) (watch_of self.now).requests) (monitor_of self.now))) }
         ensures jobs { Keeps wanted.old.jobs wanted.new.jobs }
         ensures chains { wanted.new.chains ≡ wanted.old.chains }
     {
@@ -96,7 +97,7 @@ impl Monitor {
     ) -> Result<Option<Message>, AllocError>
         requires { AreLive wanted.old.chains (marks_in self.now) }
         ensures text { IfOk result (λ message. (h : Service) → Tells wanted.new.jobs message
-            (update_text h wanted.old.chains.db (refilter (filters_in under.entry) (watch_of self.now).requests) (seen_ahead wanted.old.chains.db (record { held = self.now; told = Some (filters_in told.entry) })))) }
+            (update_text h (revision_at wanted.old.chains) (refilter (filters_in under.entry) (watch_of self.now).requests) (seen_ahead wanted.old.chains.db (record { held = self.now; told = Some (filters_in told.entry) })))) }
         ensures jobs { Keeps wanted.old.jobs wanted.new.jobs }
         ensures chains { wanted.new.chains ≡ wanted.old.chains }
     {

@@ -6,6 +6,7 @@ ghost use Rattle.odb_sessions.specs.Composed.{AreNow};
 ghost use Rattle.odb_sessions.specs.Held.{marks_in, marks_of, seen};
 ghost use Rattle.odb_sessions.specs.Quiet.{IsQuiet, IsQuietAt};
 ghost use Rattle.odb_sessions.specs.Tied.{AreLive};
+ghost use Rattle.odb_sessions.specs.Book.{revision_at};
 
 use crate::interest::cover;
 use crate::monitor::Monitor;
@@ -52,7 +53,7 @@ impl Session {
     /// the filters that are asked. `false` says nothing.
     pub(crate) fn rests(&self, chains: &Chains) -> bool
         requires { AreLive chains.now (marks_of self.now) }
-        ensures { result ≡ true → IsQuiet chains.now.db (seen self.now) }
+        ensures { result ≡ true → IsQuiet (revision_at chains.now) (seen self.now) }
     {
         if !self.queue.is_empty() {
             return false;

@@ -7,7 +7,7 @@ ghost use Rattle.odb_schema.specs.Schema.{Schema};
 ghost use Rattle.odb_service.specs.Run.{take_each};
 ghost use Rattle.odb_service.specs.Server.{printed, served_by};
 ghost use Rattle.odb_service.specs.Session.{take};
-ghost use Rattle.odb_service.specs.World.{World};
+ghost use Rattle.odb_service.specs.World.{World, revision_of};
 ghost use Rattle.odb_sessions.specs.Held.{all_seen, seen};
 ghost use Rattle.odb_sessions.specs.Jobs.{AreOfJobs, Keeps};
 ghost use Rattle.odb_sessions.specs.Planned.{AreOnce};
@@ -17,6 +17,7 @@ ghost use Rattle.odb_sessions.specs.Represented.Ready.{pending_of, ready_of};
 ghost use Rattle.odb_sessions.specs.Represented.Taking.{pending_by, ready_by};
 ghost use Rattle.odb_sessions.specs.Taken.{AreOf, AreReady, IsReadyFor, given_by, sessions_in, text_taken};
 ghost use Rattle.odb_sessions.specs.Tied.{AreAllLive};
+ghost use Rattle.odb_sessions.specs.Book.{revision_at, revision_in};
 
 use crate::foreseen::Planner;
 use crate::jobs::{Jobs, Planned, Prepared};
@@ -37,7 +38,7 @@ fn taking_at<'a>(
     requires { AreAllLive planner.old.chains sessions.now }
     ensures session { IfOk result (λ planned. planned.session ≡ session) }
     ensures ready { IfOk result (λ planned. (s : Schema) (all : List model_job.Job) → Keeps planner.new.jobs all
-        → IsReadyFor s planner.old.chains.db (option_map seen (finite.get sessions.now session)) (ready_by all planned.taking)) }
+        → IsReadyFor s (revision_at planner.old.chains) (option_map seen (finite.get sessions.now session)) (ready_by all planned.taking)) }
     ensures jobs { Keeps planner.old.jobs planner.new.jobs }
     ensures chains { planner.new.chains ≡ planner.old.chains }
 {
@@ -92,9 +93,9 @@ impl Sessions {
 
     /// Carries a taking out, and returns the message that comes, if one does. It can't be refused.
     fn take(&mut self, ready: Ready) -> Option<Out>
-        requires { (s : Schema) → IsReadyFor s self.old.db (finite.get self.old.sessions ready.session) (ready_of ready) }
-        ensures book { (s : Schema) → self.new ≡ record (self.old) { sessions = at_number (λ x. (take (served_by s) self.old.db x).1) self.old.sessions ready.session } }
-        ensures out { (s : Schema) → option_map sent_in result ≡ option_map (λ t. (ready.session, t)) (text_taken (served_by s) self.old.db (finite.get self.old.sessions ready.session)) }
+        requires { (s : Schema) → IsReadyFor s (revision_in self.old) (finite.get self.old.sessions ready.session) (ready_of ready) }
+        ensures book { (s : Schema) → self.new ≡ record (self.old) { sessions = at_number (λ x. (take (served_by s) (revision_in self.old) x).1) self.old.sessions ready.session } }
+        ensures out { (s : Schema) → option_map sent_in result ≡ option_map (λ t. (ready.session, t)) (text_taken (served_by s) (revision_in self.old) (finite.get self.old.sessions ready.session)) }
     {
         let Ready {
             session,
@@ -118,7 +119,7 @@ impl Sessions {
         requires ready { AreOf self.old (map pending_of takings.items) }
         requires none { outs.items ≡ [] }
         requires room { length takings.items ≤ vec_capacity outs }
-        ensures round { (schema : Schema) (w : World) → w.db ≡ self.old.db → w.sessions ≡ self.old.sessions
+        ensures round { (schema : Schema) (w : World) → revision_of w ≡ revision_in self.old → w.sessions ≡ self.old.sessions
             → (let r = take_each (served_by schema) (sessions_in (map pending_of takings.items)) w in (r.0 ≡ record w { sessions = self.new.sessions }) × (map printed r.1 ≡ map sent_in result.items)) }
         ensures database { self.new.db ≡ self.old.db }
     {
@@ -136,7 +137,7 @@ impl Sessions {
     pub fn accept(&mut self, prepared: Prepared) -> Vec<Out>
         requires once { AreOnce (sessions_in prepared) }
         requires ready { AreOf self.old prepared }
-        ensures round { (schema : Schema) (w : World) → w.db ≡ self.old.db → w.sessions ≡ self.old.sessions
+        ensures round { (schema : Schema) (w : World) → revision_of w ≡ revision_in self.old → w.sessions ≡ self.old.sessions
             → (let r = take_each (served_by schema) (sessions_in prepared) w in (r.0 ≡ record w { sessions = self.new.sessions }) × (map printed r.1 ≡ map sent_in result.items)) }
         ensures texts { map sent_in result.items ≡ flat_map (given_by self.old) prepared }
         ensures database { self.new.db ≡ self.old.db }
@@ -149,7 +150,7 @@ impl Sessions {
     /// memory is refused nothing was taken.
     pub fn round(&mut self, listed: &[SessionId]) -> Result<Vec<Out>, AllocError>
         requires { AreOnce listed.now }
-        ensures ok { IfOk result (λ outs. (schema : Schema) (w : World) → w.db ≡ self.old.db → w.sessions ≡ self.old.sessions
+        ensures ok { IfOk result (λ outs. (schema : Schema) (w : World) → revision_of w ≡ revision_in self.old → w.sessions ≡ self.old.sessions
             → (let r = take_each (served_by schema) listed.now w in (r.0 ≡ record w { sessions = self.new.sessions }) × (map printed r.1 ≡ map sent_in outs.items))) }
         ensures database { self.new.db ≡ self.old.db }
         ensures err { OnErr result (self.new ≡ self.old) }

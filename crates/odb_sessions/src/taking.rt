@@ -17,6 +17,7 @@ ghost use Rattle.odb_sessions.specs.Represented.Taking.{Comes, Gives, coming_tex
 ghost use Rattle.odb_sessions.specs.Represented.Under.{item_in};
 ghost use Rattle.odb_sessions.specs.Tied.{AreLive};
 ghost use Rattle.odb_tables.specs.Database as model_db;
+ghost use Rattle.odb_sessions.specs.Book.{revision_at};
 
 use crate::composing::Message;
 use crate::foreseen::Planner;
@@ -63,7 +64,7 @@ impl Start {
     fn first_reply<'a>(&'a self, wanted: &mut Wanted<'a>) -> Result<Message, AllocError>
         requires { AreLive wanted.old.chains (marks_in self.now.monitor) }
         ensures text { IfOk result (λ message. (h : Service) (all : List model_job.Job) → Keeps wanted.new.jobs all
-            → text_under all message ≡ compact_text (first_out h wanted.old.chains.db self.now.origin (watch_of self.now.monitor)).message) }
+            → text_under all message ≡ compact_text (first_out h (revision_at wanted.old.chains) self.now.origin (watch_of self.now.monitor)).message) }
         ensures jobs { Keeps wanted.old.jobs wanted.new.jobs }
         ensures chains { wanted.new.chains ≡ wanted.old.chains }
     {
@@ -94,7 +95,7 @@ impl<'a> Planner<'a> {
         requires { AreLive self.old.chains (marks_in start.now.monitor) }
         ensures comes { IfOk result (λ coming. is_some coming ≡ true) }
         ensures text { IfOk result (λ coming. (h : Service) (last : Option machine.Item) → Comes self.new.jobs coming last
-            (Some (due_text h self.old.chains.db (first_due start.now.origin (watch_of start.now.monitor))))) }
+            (Some (due_text h (revision_at self.old.chains) (first_due start.now.origin (watch_of start.now.monitor))))) }
         ensures jobs { Keeps self.old.jobs self.new.jobs }
         ensures chains { self.new.chains ≡ self.old.chains }
     {
@@ -107,7 +108,7 @@ impl<'a> Planner<'a> {
         ensures comes { IfOk result (λ coming. (s : Schema) → is_some coming
             ≡ is_some (due (served_by s) self.old.chains.db (item_in id.now under.entry) self.old.monitors)) }
         ensures text { IfOk result (λ coming. (s : Schema) (last : Option machine.Item) → Comes self.new.jobs coming last
-            (option_map (due_text (served_by s) self.old.chains.db) (due (served_by s) self.old.chains.db (item_in id.now under.entry) self.old.monitors))) }
+            (option_map (due_text (served_by s) (revision_at self.old.chains)) (due (served_by s) self.old.chains.db (item_in id.now under.entry) self.old.monitors))) }
         ensures passed { OnOk result ((s : Schema)
             → self.new.monitors ≡ leaves (served_by s) self.old.chains.db (item_in id.now under.entry) self.old.monitors) }
         ensures jobs { Keeps self.old.jobs self.new.jobs }
@@ -124,7 +125,7 @@ impl<'a> Planner<'a> {
         ensures comes { IfOk result (λ coming. (s : Schema) → is_some coming
             ≡ is_some (due (served_by s) self.old.chains.db (item_seen (queued_of item.now)) self.old.monitors)) }
         ensures text { IfOk result (λ coming. (s : Schema) → Comes self.new.jobs coming (Some (item_seen (queued_of item.now)))
-            (option_map (due_text (served_by s) self.old.chains.db) (due (served_by s) self.old.chains.db (item_seen (queued_of item.now)) self.old.monitors))) }
+            (option_map (due_text (served_by s) (revision_at self.old.chains)) (due (served_by s) self.old.chains.db (item_seen (queued_of item.now)) self.old.monitors))) }
         ensures passed { IfOk result (λ coming. is_some coming ≡ false → (s : Schema)
             → self.new.monitors ≡ leaves (served_by s) self.old.chains.db (item_seen (queued_of item.now)) self.old.monitors) }
         ensures jobs { Keeps self.old.jobs self.new.jobs }
@@ -147,9 +148,9 @@ fn at_once(items: &VecDeque<Item>) -> Option<Taking>
         ≡ (plan_from (served_by s) db (map item_seen (map queued_of items.now.items)) ms).items) }
     ensures monitors { IfSome result (λ taking. (s : Schema) (db : model_db.Db) (ms : List machine.Monitor) → taking.monitors
         ≡ (plan_from (served_by s) db (map item_seen (map queued_of items.now.items)) ms).monitors) }
-    ensures text { IfSome result (λ taking. (s : Schema) (db : model_db.Db) (ms : List machine.Monitor) (all : List model_job.Job)
+    ensures text { IfSome result (λ taking. (s : Schema) (revision : machine.Revision) (ms : List machine.Monitor) (all : List model_job.Job)
         → taking_text all taking (map item_seen (map queued_of items.now.items))
-        ≡ option_map (due_text (served_by s) db) (plan_from (served_by s) db (map item_seen (map queued_of items.now.items)) ms).out) }
+        ≡ option_map (due_text (served_by s) revision) (plan_from (served_by s) revision.db (map item_seen (map queued_of items.now.items)) ms).out) }
 {
     let first = items.front()?;
     if !first.is_finished() {
@@ -171,7 +172,7 @@ fn taking_of<'a>(items: &'a VecDeque<Item>, planner: &mut Planner<'a>) -> Result
     ensures monitors { IfOk result (λ taking. (s : Schema) → taking.monitors
         ≡ (plan_from (served_by s) planner.old.chains.db (map item_seen (map queued_of items.now.items)) planner.old.monitors).monitors) }
     ensures text { IfOk result (λ taking. (s : Schema) → Gives planner.new.jobs taking (map item_seen (map queued_of items.now.items))
-        (option_map (due_text (served_by s) planner.old.chains.db)
+        (option_map (due_text (served_by s) (revision_at planner.old.chains))
         (plan_from (served_by s) planner.old.chains.db (map item_seen (map queued_of items.now.items)) planner.old.monitors).out)) }
     ensures jobs { Keeps planner.old.jobs planner.new.jobs }
     ensures chains { planner.new.chains ≡ planner.old.chains }
@@ -204,7 +205,7 @@ impl Session {
         ensures monitors { IfOk result (λ taking. (s : Schema)
             → taking.monitors ≡ (plan (served_by s) planner.old.chains.db (seen self.now)).monitors) }
         ensures text { IfOk result (λ taking. (s : Schema) → Gives planner.new.jobs taking (seen self.now).queue
-            (option_map (due_text (served_by s) planner.old.chains.db) (plan (served_by s) planner.old.chains.db (seen self.now)).out)) }
+            (option_map (due_text (served_by s) (revision_at planner.old.chains)) (plan (served_by s) planner.old.chains.db (seen self.now)).out)) }
         ensures jobs { Keeps planner.old.jobs planner.new.jobs }
         ensures chains { planner.new.chains ≡ planner.old.chains }
     {
@@ -224,9 +225,9 @@ impl Queue {
             → taking.items ≡ (plan_from (served_by s) db (map item_seen self.now) ms).items) }
         ensures monitors { IfSome result (λ taking. (s : Schema) (db : model_db.Db) (ms : List machine.Monitor)
             → taking.monitors ≡ (plan_from (served_by s) db (map item_seen self.now) ms).monitors) }
-        ensures text { IfSome result (λ taking. (s : Schema) (db : model_db.Db) (ms : List machine.Monitor) (all : List model_job.Job)
+        ensures text { IfSome result (λ taking. (s : Schema) (revision : machine.Revision) (ms : List machine.Monitor) (all : List model_job.Job)
             → taking_text all taking (map item_seen self.now)
-            ≡ option_map (due_text (served_by s) db) (plan_from (served_by s) db (map item_seen self.now) ms).out) }
+            ≡ option_map (due_text (served_by s) revision) (plan_from (served_by s) revision.db (map item_seen self.now) ms).out) }
     {
         at_once(&self.items)
     }
@@ -239,7 +240,7 @@ impl Queue {
         ensures monitors { IfOk result (λ taking. (s : Schema)
             → taking.monitors ≡ (plan_from (served_by s) planner.old.chains.db (map item_seen self.now) planner.old.monitors).monitors) }
         ensures text { IfOk result (λ taking. (s : Schema) → Gives planner.new.jobs taking (map item_seen self.now)
-            (option_map (due_text (served_by s) planner.old.chains.db)
+            (option_map (due_text (served_by s) (revision_at planner.old.chains))
             (plan_from (served_by s) planner.old.chains.db (map item_seen self.now) planner.old.monitors).out)) }
         ensures jobs { Keeps planner.old.jobs planner.new.jobs }
         ensures chains { planner.new.chains ≡ planner.old.chains }

@@ -6,7 +6,7 @@ use Rattle.odb_atoms.specs.FinMap as finite
 use Rattle.odb_service.specs.Server.{Server, served_by}
 use Rattle.odb_service.specs.Service.{Service}
 use Rattle.odb_service.specs.Session.{Session, take}
-use Rattle.odb_service.specs.World.{World, untried}
+use Rattle.odb_service.specs.World.{World, revision_of, untried}
 use Rattle.odb_schema.specs.Schema.{Schema}
 use Rattle.odb_commit.specs.Sound.{IsSound}
 
@@ -35,4 +35,4 @@ new_server schema = record { schema = schema; world = empty_world (length schema
 
 -- a taking of an open session that isn't in the set gives nothing and changes nothing
 abbrev pub IsQuietBut : BTreeSet ℕ → Server → Type 0
-IsQuietBut owed s = (q : ℕ) (x : Session) → contains nat_cmp owed q ≡ false → finite.get s.world.sessions q ≡ Some x → take (served_by s.schema) s.world.db x ≡ (None, x)
+IsQuietBut owed s = (q : ℕ) (x : Session) → contains nat_cmp owed q ≡ false → finite.get s.world.sessions q ≡ Some x → take (served_by s.schema) (revision_of s.world) x ≡ (None, x)

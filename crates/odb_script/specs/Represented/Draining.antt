@@ -9,9 +9,10 @@ use Rattle.odb_service.specs.Server.{Server, served_by}
 use Rattle.odb_service.specs.Session.{Session, drained, owed}
 use Rattle.odb_script.specs.Script.{ScriptSession, line_of}
 use Rattle.odb_script.specs.Represented.Names.{by_number}
+use Rattle.odb_service.specs.World.{revision_of}
 
 abbrev pub lines_for : List ℕ → Server → Session → List ℕ
-lines_for name s x = flat_map (λ o. line_of name (compact_text o.message)) (owed (served_by s.schema) s.world.db x)
+lines_for name s x = flat_map (λ o. line_of name (compact_text o.message)) (owed (served_by s.schema) (revision_of s.world) x)
 
 abbrev pub drained_in : ℕ → Server → Session → Server
 drained_in n s x = record s { world = record (s.world) { sessions = insert s.world.sessions n (drained (served_by s.schema) s.world.db x) } }

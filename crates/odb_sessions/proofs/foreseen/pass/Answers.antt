@@ -7,11 +7,12 @@ use Rattle.odb_sessions.specs.Tied.{AreLive}
 use Rattle.odb_sessions.proofs.Aheads.{due_found, due_nowhere, leaves_found, leaves_nowhere, live_ahead, same_marks}
 use Rattle.odb_sessions.proofs.Places.{keeps_itself}
 use Rattle.odb_sessions.proofs.foreseen.pass.Goals as goal
+use Rattle.odb_sessions.specs.Book.{revision_at}
 
 pub returns-in_default-clause-text : goal.returns-in_default-clause-text
 returns-in_default-clause-text c = λ s all kept.
     let none : position (λ (a : Ahead). is_same c.args.id.now a.held.id) c.args.monitors.now.items ≡ None = search rules in
-    sym (ap (option_map (due_text (served_by s) c.args.wanted.now.chains.db)) (due_nowhere s c.args.wanted.now.chains.db c.args.id.now c.args.under c.args.monitors.now.items none))
+    sym (ap (option_map (due_text (served_by s) (revision_at c.args.wanted.now.chains))) (due_nowhere s c.args.wanted.now.chains.db c.args.id.now c.args.under c.args.monitors.now.items none))
 
 pub returns-in_default-clause-passed : goal.returns-in_default-clause-passed
 returns-in_default-clause-passed c = λ s.
@@ -30,12 +31,13 @@ update-requires c =
 pub returns-clause-text : goal.returns-clause-text
 returns-clause-text c = λ s all kept.
     let db = c.args.wanted.now.chains.db in
+    let revision = revision_at c.args.wanted.now.chains in
     let xs : List Ahead = c.args.monitors.now.items in
     let k = c.in-Some.place in
     let x : Ahead = c.index.result.now in
     let some : position (λ (a : Ahead). is_same c.args.id.now a.held.id) xs ≡ Some k = search rules in
     let at : x ≡ slice_index_or xs k x = search rules in
-    c.in_ok-message.ensures.text (served_by s) all kept ∙ sym (ap (option_map (due_text (served_by s) db)) (due_found s db c.args.id.now c.args.under xs x k some at))
+    c.in_ok-message.ensures.text (served_by s) all kept ∙ sym (ap (option_map (due_text (served_by s) revision)) (due_found s db c.args.id.now c.args.under xs x k some at))
 
 pub returns-clause-passed : goal.returns-clause-passed
 returns-clause-passed c = λ s.

@@ -11,6 +11,7 @@ use Rattle.odb_sessions.proofs.Aheads.{live_ahead}
 use Rattle.odb_sessions.proofs.Places.{keeps_itself, keeps_on}
 use Rattle.odb_sessions.proofs.Rests.{found_monitors, found_out, is_mapped, none_yet, rest_done, rest_none, rest_of, text_at, text_to}
 use Rattle.odb_sessions.proofs.foreseen.rest_due.Goals as goal
+use Rattle.odb_sessions.specs.Book.{revision_at}
 
 pub loop-place-init : goal.loop-place-init
 loop-place-init c = record {
@@ -33,7 +34,7 @@ update-requires c =
 
 pub loop-place-preserved : goal.loop-place-preserved
 loop-place-preserved c =
-    let db = c.args.wanted.now.chains.db in
+    let revision = revision_at c.args.wanted.now.chains in
     let xs : List Ahead = c.args.monitors.now in
     let i = c.loop-place.place in
     let x : Ahead = c.index-monitors-place.result in
@@ -48,12 +49,12 @@ loop-place-preserved c =
       jobs = keeps_on c.args.wanted.now.jobs c.loop-place.wanted.jobs js c.loop-place.invariant.jobs c.update.ensures.jobs;
       within = omega (arith, low);
       rest = λ h. c.loop-place.invariant.rest h
-          ∙ rest_none h db xs i x step text (c.in_ok-message.ensures.text h js (keeps_itself js) ∙ text_at h c.loop-place.wanted.chains c.args.wanted.now.chains x c.loop-place.invariant.chains) (is_mapped (text_under js) c.in_ok-message.message ∙ none);
+          ∙ rest_none h revision xs i x step text (c.in_ok-message.ensures.text h js (keeps_itself js) ∙ text_at h c.loop-place.wanted.chains c.args.wanted.now.chains x c.loop-place.invariant.chains) (is_mapped (text_under js) c.in_ok-message.message ∙ none);
     }
 
 pub returns-then-is_some-clause-monitors : goal.returns-then-is_some-clause-monitors
 returns-then-is_some-clause-monitors c = λ h.
-    let db = c.args.wanted.now.chains.db in
+    let revision = revision_at c.args.wanted.now.chains in
     let xs : List Ahead = c.args.monitors.now in
     let i = c.loop-place.place in
     let x : Ahead = c.index-monitors-place.result in
@@ -64,11 +65,11 @@ returns-then-is_some-clause-monitors c = λ h.
     let text = option_map (text_under js) c.in_ok-message.message in
     let some : is_some c.in_ok-message.message ≡ true = search rules in
     sym (ap (λ (p : Plan). p.monitors) (c.loop-place.invariant.rest h)
-    ∙ found_monitors h db xs i x step text (c.in_ok-message.ensures.text h js (keeps_itself js) ∙ text_at h c.loop-place.wanted.chains c.args.wanted.now.chains x c.loop-place.invariant.chains) (is_mapped (text_under js) c.in_ok-message.message ∙ some))
+    ∙ found_monitors h revision xs i x step text (c.in_ok-message.ensures.text h js (keeps_itself js) ∙ text_at h c.loop-place.wanted.chains c.args.wanted.now.chains x c.loop-place.invariant.chains) (is_mapped (text_under js) c.in_ok-message.message ∙ some))
 
 pub returns-then-is_some-clause-text : goal.returns-then-is_some-clause-text
 returns-then-is_some-clause-text c = λ h all kept.
-    let db = c.args.wanted.now.chains.db in
+    let revision = revision_at c.args.wanted.now.chains in
     let xs : List Ahead = c.args.monitors.now in
     let i = c.loop-place.place in
     let x : Ahead = c.index-monitors-place.result in
@@ -77,8 +78,8 @@ returns-then-is_some-clause-text c = λ h all kept.
     let step : drop i xs ≡ x ∷ drop (i + 1) xs = drop_more xs i x low ∙ ap (λ (y : Ahead). y ∷ drop (i + 1) xs) (sym at) in
     let text = option_map (text_under all) c.in_ok-message.message in
     let some : is_some c.in_ok-message.message ≡ true = search rules in
-    sym (ap (λ (p : Plan). option_map (due_text h db) p.out) (c.loop-place.invariant.rest h)
-    ∙ found_out h db xs i x step text (c.in_ok-message.ensures.text h all kept ∙ text_at h c.loop-place.wanted.chains c.args.wanted.now.chains x c.loop-place.invariant.chains) (is_mapped (text_under all) c.in_ok-message.message ∙ some))
+    sym (ap (λ (p : Plan). option_map (due_text h revision) p.out) (c.loop-place.invariant.rest h)
+    ∙ found_out h revision xs i x step text (c.in_ok-message.ensures.text h all kept ∙ text_at h c.loop-place.wanted.chains c.args.wanted.now.chains x c.loop-place.invariant.chains) (is_mapped (text_under all) c.in_ok-message.message ∙ some))
 
 pub returns-then-is_some-clause-jobs : goal.returns-then-is_some-clause-jobs
 returns-then-is_some-clause-jobs c = keeps_on c.args.wanted.now.jobs c.loop-place.wanted.jobs c.update.new.wanted.jobs c.loop-place.invariant.jobs c.update.ensures.jobs
@@ -100,7 +101,7 @@ returns-clause-text c = λ h all kept.
     let xs : List Ahead = c.args.monitors.now in
     let past : length xs ≤ c.loop-place.place = search rules in
     let within : c.loop-place.place ≤ length xs = c.loop-place.invariant.within in
-    sym (ap (λ (p : Plan). option_map (due_text h c.args.wanted.now.chains.db) p.out) (c.loop-place.invariant.rest h ∙ rest_done h c.args.wanted.now.chains.db xs c.loop-place.place c.loop-place.place past within (omega (arith, past, within))))
+    sym (ap (λ (p : Plan). option_map (due_text h (revision_at c.args.wanted.now.chains)) p.out) (c.loop-place.invariant.rest h ∙ rest_done h c.args.wanted.now.chains.db xs c.loop-place.place c.loop-place.place past within (omega (arith, past, within))))
 
 pub returns-clause-jobs : goal.returns-clause-jobs
 returns-clause-jobs c = c.loop-place.invariant.jobs

@@ -6,11 +6,12 @@ use Rattle.odb_sessions.specs.Taken.{IsReadyFor}
 use Rattle.odb_sessions.proofs.Places.{keeps_itself}
 use Rattle.odb_sessions.proofs.Rounds.{ready_by_plan}
 use Rattle.odb_sessions.proofs.round.taking_at.Goals as goal
+use Rattle.odb_sessions.specs.Book.{revision_at}
 
 pub returns-in_default-clause-ready : goal.returns-in_default-clause-ready
 returns-in_default-clause-ready c = λ s all kept.
     let none : finite.get c.args.sessions.now c.args.session ≡ None = search rules in
-    subst (λ (o : Option Kept). IsReadyFor s c.args.planner.now.chains.db (option_map seen o) (ready_by all c.none.result.taking)) (sym none) (c.none.ensures.coming all)
+    subst (λ (o : Option Kept). IsReadyFor s (revision_at c.args.planner.now.chains) (option_map seen o) (ready_by all c.none.result.taking)) (sym none) (c.none.ensures.coming all)
 
 pub returns-in_default-clause-jobs : goal.returns-in_default-clause-jobs
 returns-in_default-clause-jobs c = keeps_itself c.args.planner.now.jobs
@@ -22,14 +23,14 @@ taking-requires c =
 
 pub returns-clause-ready : goal.returns-clause-ready
 returns-clause-ready c = λ s all kept.
-    let db = c.args.planner.now.chains.db in
+    let revision = revision_at c.args.planner.now.chains in
     let x : Kept = c.in-Some.of.now in
     let there : finite.get c.args.sessions.now c.args.session ≡ Some x = search rules in
     let t = c.in_ok-taking.taking in
-    let planned : IsReadyFor s db (Some (seen x)) (ready_by all t) =
-    ready_by_plan s db (seen x) t.items t.monitors (text_planned all t.coming) (c.in_ok-taking.ensures.items s) (c.in_ok-taking.ensures.monitors s) (c.in_ok-taking.ensures.text s all kept)
+    let planned : IsReadyFor s revision (Some (seen x)) (ready_by all t) =
+    ready_by_plan s revision (seen x) t.items t.monitors (text_planned all t.coming) (c.in_ok-taking.ensures.items s) (c.in_ok-taking.ensures.monitors s) (c.in_ok-taking.ensures.text s all kept)
     in
-    subst (λ (o : Option Kept). IsReadyFor s db (option_map seen o) (ready_by all t)) (sym there) planned
+    subst (λ (o : Option Kept). IsReadyFor s revision (option_map seen o) (ready_by all t)) (sym there) planned
 
 pub returns-clause-jobs : goal.returns-clause-jobs
 returns-clause-jobs c = c.taking.ensures.jobs

@@ -6,7 +6,7 @@ use Rattle.odb_chain.specs.Chains.{Chains}
 use Rattle.odb_monitor.specs.Job.{Job}
 use Rattle.odb_schema.specs.Schema.{Schema}
 use Rattle.odb_service.specs.Session.{Session}
-use Rattle.odb_sessions.specs.Book.{Book}
+use Rattle.odb_sessions.specs.Book.{Book, revision_at}
 use Rattle.odb_sessions.specs.Held.{Sessions, all_seen, seen}
 use Rattle.odb_sessions.specs.Jobs.{Keeps}
 use Rattle.odb_sessions.specs.Represented.Taking.{pending_by, ready_by}
@@ -53,8 +53,8 @@ loop-session-preserved c =
     let inside : i < length ns = search rules in
     let n : ℕ = get_or ns i 0 in
     let named : p.session ≡ n = search rules in
-    let ready : (s : Schema) (all : List Job) → Keeps now all → IsReadyFor s k.db (get (all_seen m) n) (ready_by all p.taking) =
-    λ s all kept. subst (λ (o : Option Session). IsReadyFor s k.db o (ready_by all p.taking)) (sym (get-seen m n)) (subst (λ (q : Chains). IsReadyFor s q.db (option_map seen (get m n)) (ready_by all p.taking)) same (c.in_ok-taking_at.ensures.ready s all kept))
+    let ready : (s : Schema) (all : List Job) → Keeps now all → IsReadyFor s (revision_at k) (get (all_seen m) n) (ready_by all p.taking) =
+    λ s all kept. subst (λ (o : Option Session). IsReadyFor s (revision_at k) o (ready_by all p.taking)) (sym (get-seen m n)) (subst (λ (q : Chains). IsReadyFor s (revision_at q) (option_map seen (get m n)) (ready_by all p.taking)) same (c.in_ok-taking_at.ensures.ready s all kept))
     in
     let len : vec_len c.push_reserved.new.self ≡ vec_len c.loop-session.takings + 1 = search rules in
     let before : vec_len c.loop-session.takings ≡ i = c.loop-session.invariant.2 in
@@ -65,7 +65,7 @@ loop-session-preserved c =
       λ s all kept. subst (AreReady s (book k m)) (sym (ap (map (pending_by all)) grown ∙ map-append (pending_by all) ps (p ∷ [])))
           (ready-append s (book k m) (map (pending_by all) ps) (pending_by all p)
           (c.loop-session.invariant.1 s all (keeps_on c.loop-session.planner.jobs now all c.taking_at.ensures.jobs kept))
-          (subst (λ (n : ℕ). IsReadyFor s k.db (get (all_seen m) n) (ready_by all p.taking)) (sym named) (ready s all kept))),
+          (subst (λ (n : ℕ). IsReadyFor s (revision_at k) (get (all_seen m) n) (ready_by all p.taking)) (sym named) (ready s all kept))),
       omega (arith, len, before),
       omega (arith, capacity, fits),
       c.taking_at.ensures.chains ∙ same,

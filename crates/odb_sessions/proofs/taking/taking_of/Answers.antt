@@ -2,7 +2,7 @@ use Rattle.std.proofs.Common.{rules, ◌≡◌, ◌+◌, ◌<◌, ◌≤◌, ari
 use Rattle.std.proofs.lemmas.List.{drop_more}
 use Rattle.odb_chain.specs.Chains.{Chains}
 use Rattle.odb_service.specs.Server.{served_by}
-use Rattle.odb_service.specs.Session.{Monitor, leaves}
+use Rattle.odb_service.specs.Session.{Monitor, Revision, leaves}
 use Rattle.odb_sessions.specs.Foreseen.{due_text}
 use Rattle.odb_sessions.specs.Held.{marks_due}
 use Rattle.odb_sessions.specs.Planned.{Plan, due, plan_rest}
@@ -14,6 +14,7 @@ use Rattle.odb_sessions.proofs.Leading.{at_end, ended, goes_on, last_at, live_du
 use Rattle.odb_sessions.proofs.Places.{keeps_itself, keeps_on}
 use Rattle.odb_sessions.proofs.taking.taking_of.Goals as goal
 use Rattle.odb_tables.specs.Database.{Db}
+use Rattle.odb_sessions.specs.Book.{revision_at}
 
 pub loop-place-init : goal.loop-place-init
 loop-place-init c = record {
@@ -88,7 +89,7 @@ returns-then-is_some-clause-monitors c = λ s.
 
 pub returns-then-is_some-clause-text : goal.returns-then-is_some-clause-text
 returns-then-is_some-clause-text c = λ s all kept.
-    let db : Db = c.args.planner.now.chains.db in
+    let revision : Revision = revision_at c.args.planner.now.chains in
     let ms : List Monitor = c.loop-place.planner.monitors in
     let xs : List Item = c.args.items.now.items in
     let i = c.loop-place.place in
@@ -96,13 +97,13 @@ returns-then-is_some-clause-text c = λ s all kept.
     let low : i < length xs = search rules in
     let at : x ≡ slice_index_or xs i x = search rules in
     let step : drop i xs ≡ x ∷ drop (i + 1) xs = drop_more xs i x low ∙ ap (λ (y : Item). y ∷ drop (i + 1) xs) (sym at) in
-    let same : c.loop-place.planner.chains.db ≡ db = ap (λ (k : Chains). k.db) c.loop-place.invariant.chains in
+    let same : c.loop-place.planner.chains.db ≡ revision.db = ap (λ (k : Chains). k.db) c.loop-place.invariant.chains in
     let some : is_some c.in_ok-coming.coming ≡ true = search rules in
     ap (coming_text all c.in_ok-coming.coming) (last_at xs i x low at)
     ∙ c.in_ok-coming.ensures.text s all kept
-    ∙ ap (λ (d : Db). option_map (due_text (served_by s) d) (due (served_by s) d (seen_item x) ms)) same
-    ∙ sym (ap (λ (p : Plan). option_map (due_text (served_by s) db) p.out) (c.loop-place.invariant.rest s
-    ∙ ended s db xs i x step ms (ap (λ (d : Db). is_some (due (served_by s) d (seen_item x) ms)) (sym same) ∙ sym (c.in_ok-coming.ensures.comes s) ∙ some)))
+    ∙ ap (λ (d : Db). let r : Revision = record { db = d } in option_map (due_text (served_by s) r) (due (served_by s) d (seen_item x) ms)) same
+    ∙ sym (ap (λ (p : Plan). option_map (due_text (served_by s) revision) p.out) (c.loop-place.invariant.rest s
+    ∙ ended s revision.db xs i x step ms (ap (λ (d : Db). is_some (due (served_by s) d (seen_item x) ms)) (sym same) ∙ sym (c.in_ok-coming.ensures.comes s) ∙ some)))
 
 pub returns-clause-items : goal.returns-clause-items
 returns-clause-items c = λ s.
@@ -126,17 +127,17 @@ returns-clause-monitors c = λ s.
 
 pub returns-clause-text : goal.returns-clause-text
 returns-clause-text c = λ s all kept.
-    let db : Db = c.args.planner.now.chains.db in
+    let revision : Revision = revision_at c.args.planner.now.chains in
     let ms : List Monitor = c.loop-place.planner.monitors in
     let xs : List Item = c.args.items.now.items in
     let i = c.loop-place.place in
     let past : length xs ≤ i = search rules in
     let within : i ≤ length xs = c.loop-place.invariant.within in
-    let same : c.loop-place.planner.chains.db ≡ db = ap (λ (k : Chains). k.db) c.loop-place.invariant.chains in
+    let same : c.loop-place.planner.chains.db ≡ revision.db = ap (λ (k : Chains). k.db) c.loop-place.invariant.chains in
     c.composed.ensures.text all _
     ∙ c.in_ok-rest.ensures.text (served_by s) all kept
-    ∙ ap (λ (d : Db). option_map (due_text (served_by s) d) (plan_rest (served_by s) d ms).out) same
-    ∙ sym (ap (λ (p : Plan). option_map (due_text (served_by s) db) p.out) (c.loop-place.invariant.rest s ∙ at_end s db xs i i ms past within (omega (arith, past, within))))
+    ∙ ap (λ (d : Db). let r : Revision = record { db = d } in option_map (due_text (served_by s) r) (plan_rest (served_by s) d ms).out) same
+    ∙ sym (ap (λ (p : Plan). option_map (due_text (served_by s) revision) p.out) (c.loop-place.invariant.rest s ∙ at_end s revision.db xs i i ms past within (omega (arith, past, within))))
 
 pub returns-then-is_some-clause-jobs : goal.returns-then-is_some-clause-jobs
 returns-then-is_some-clause-jobs c = keeps_on c.args.planner.now.jobs c.loop-place.planner.jobs c.give.new.self.jobs c.loop-place.invariant.jobs c.give.ensures.jobs

@@ -5,21 +5,24 @@ use Rattle.odb_sessions.specs.Foreseen.{Ahead, as_told, seen_ahead, update_text}
 use Rattle.odb_sessions.specs.Held.{Held, watch_of}
 use Rattle.odb_sessions.specs.Represented.Under.{filters_in}
 use Rattle.odb_sessions.proofs.foreseen.Ahead.update.Goals as goal
+use Rattle.odb_sessions.specs.Book.{revision_at}
 
 pub returns-in-None-clause-text : goal.returns-in-None-clause-text
 returns-in-None-clause-text c =
     let db = c.args.wanted.now.chains.db in
+    let revision = revision_at c.args.wanted.now.chains in
     let fs = filters_in c.args.under in
     let x : Held = c.self.inside.monitor.now in
     let none : c.self.inside.told ≡ None = search rules in
     let same : as_told x ≡ c.args.self.now = (λ i. let a : Ahead = record { held = x; told = option_map filters_in (sym none i) } in a) ∙ c.self.view_is in
     IfOk-weaker c.update.result _ _
-    (λ message e. λ h all kept. e h all kept ∙ ap (λ (a : Ahead). update_text h db (refilter fs (watch_of a.held).requests) (seen_ahead db a)) same)
+    (λ message e. λ h all kept. e h all kept ∙ ap (λ (a : Ahead). update_text h revision (refilter fs (watch_of a.held).requests) (seen_ahead db a)) same)
     c.update.ensures.text
 
 pub returns-in-Some-clause-text : goal.returns-in-Some-clause-text
 returns-in-Some-clause-text c =
     let db = c.args.wanted.now.chains.db in
+    let revision = revision_at c.args.wanted.now.chains in
     let fs = filters_in c.args.under in
     let x : Held = c.self.inside.monitor.now in
     let told = c.in-Some.told in
@@ -27,5 +30,5 @@ returns-in-Some-clause-text c =
     let last : Ahead = record { held = x; told = Some (filters_in told) } in
     let same : last ≡ c.args.self.now = (λ i. let a : Ahead = record { held = x; told = option_map filters_in (sym some i) } in a) ∙ c.self.view_is in
     IfOk-weaker c.update_again.result _ _
-    (λ message e. λ h all kept. e h all kept ∙ ap (λ (a : Ahead). update_text h db (refilter fs (watch_of a.held).requests) (seen_ahead db a)) same)
+    (λ message e. λ h all kept. e h all kept ∙ ap (λ (a : Ahead). update_text h revision (refilter fs (watch_of a.held).requests) (seen_ahead db a)) same)
     c.update_again.ensures.text

@@ -8,14 +8,16 @@ use Rattle.odb_sessions.specs.Represented.Under.{item_in}
 use Rattle.odb_sessions.proofs.Places.{keeps_itself}
 use Rattle.odb_sessions.proofs.Rests.{is_mapped}
 use Rattle.odb_sessions.proofs.foreseen.Planner.bring.Goals as goal
+use Rattle.odb_sessions.specs.Book.{revision_at}
 
 pub returns-clause-comes : goal.returns-clause-comes
 returns-clause-comes c = λ s.
     let db = c.args.self.now.chains.db in
+    let revision = revision_at c.args.self.now.chains in
     let js : List Job = c.pass.new.self.jobs in
     c.composed.ensures.comes ∙ sym (is_mapped (text_under js) c.in_ok-message.message)
     ∙ ap is_some (c.in_ok-message.ensures.text s js (keeps_itself js))
-    ∙ is_mapped (due_text (served_by s) db) (due (served_by s) db (item_in c.args.id.now c.args.under) c.args.self.now.monitors)
+    ∙ is_mapped (due_text (served_by s) revision) (due (served_by s) db (item_in c.args.id.now c.args.under) c.args.self.now.monitors)
 
 pub returns-clause-text : goal.returns-clause-text
 returns-clause-text c = λ s last all kept. c.composed.ensures.text all last ∙ c.in_ok-message.ensures.text s all kept

@@ -11,6 +11,7 @@ use Rattle.odb_sessions.specs.Represented.Composed.{Tells}
 use Rattle.odb_sessions.specs.Represented.Under.{item_in}
 use Rattle.odb_sessions.specs.Tied.{AreLive}
 use Rattle.odb_sessions.proofs.foreseen.Planner.pass.Goals as goal
+use Rattle.odb_sessions.specs.Book.{revision_at}
 
 pub invariant_of-self : goal.invariant_of-self
 invariant_of-self c = subst (λ (k : Chains). AreLive k (marks_ahead c.pass.new.monitors.items)) (sym c.pass.ensures.chains) c.pass.ensures.live
@@ -18,7 +19,7 @@ invariant_of-self c = subst (λ (k : Chains). AreLive k (marks_ahead c.pass.new.
 pub returns-clause-text : goal.returns-clause-text
 returns-clause-text c =
     subst (λ (f : Foreseen). IfOk c.pass.result (λ message. (s : Schema) → Tells c.pass.new.wanted.jobs message
-    (option_map (due_text (served_by s) f.chains.db) (due (served_by s) f.chains.db (item_in c.args.id.now c.args.under) f.monitors))))
+    (option_map (due_text (served_by s) (revision_at f.chains)) (due (served_by s) f.chains.db (item_in c.args.id.now c.args.under) f.monitors))))
     c.self.view_is c.pass.ensures.text
 
 pub returns-clause-passed : goal.returns-clause-passed

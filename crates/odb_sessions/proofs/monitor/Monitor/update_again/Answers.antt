@@ -8,16 +8,18 @@ use Rattle.odb_sessions.specs.Held.{Held}
 use Rattle.odb_sessions.specs.Represented.Under.{filters_in}
 use Rattle.odb_sessions.proofs.Updates.{sent_again}
 use Rattle.odb_sessions.proofs.monitor.Monitor.update_again.Goals as goal
+use Rattle.odb_sessions.specs.Book.{revision_at}
 
 pub returns-clause-text : goal.returns-clause-text
 returns-clause-text c =
     let db = c.args.wanted.now.chains.db in
+    let revision = revision_at c.args.wanted.now.chains in
     let x : Held = c.args.self.now in
     let fs = filters_in c.args.under in
     let gs = filters_in c.args.told in
     IfOk-weaker c.notification.result _ _
     (λ message told. λ h all kept.
-    told all (updates_of (later_job x.notation (all_parts_again db gs x.tables (refilter fs (asked_of x.tables))))) (c.in_ok-place.ensures.place all kept) ∙ sent_again h db gs fs x)
+    told all (updates_of (later_job x.notation (all_parts_again db gs x.tables (refilter fs (asked_of x.tables))))) (c.in_ok-place.ensures.place all kept) ∙ sent_again h revision gs fs x)
     c.notification.ensures
 
 pub returns-clause-jobs : goal.returns-clause-jobs

@@ -11,6 +11,7 @@ use Rattle.odb_sessions.proofs.Quiet.{quiet}
 use Rattle.odb_sessions.proofs.Theirs.{known_all}
 use Rattle.odb_sessions.proofs.Updates.{sent_asked}
 use Rattle.odb_sessions.proofs.monitor.Monitor.update_asked.Goals as goal
+use Rattle.odb_sessions.specs.Book.{revision_at}
 
 pub are_now-requires : goal.are_now-requires
 are_now-requires c =
@@ -26,7 +27,7 @@ returns-then-are_now-clause-text c = λ h all kept.
     let slice : c.as_slice.result.now ≡ c.self.inside.tables.items = search rules in
     let tables : c.as_slice.result.now ≡ x.tables = slice ∙ ap (λ (y : Held). y.tables) c.self.view_is in
     let now : c.are_now.result ≡ true = search rules in
-    quiet h c.args.wanted.now.chains.db x (subst (λ (k : Chains). AreNow k.db x.tables) c.chains.ensures (subst (AreNow c.chains.result.now.db) tables (c.are_now.ensures now)))
+    quiet h (revision_at c.args.wanted.now.chains) x (subst (λ (k : Chains). AreNow k.db x.tables) c.chains.ensures (subst (AreNow c.chains.result.now.db) tables (c.are_now.ensures now)))
 
 pub returns-then-are_now-clause-jobs : goal.returns-then-are_now-clause-jobs
 returns-then-are_now-clause-jobs c = keeps_itself c.args.wanted.now.jobs
@@ -34,9 +35,10 @@ returns-then-are_now-clause-jobs c = keeps_itself c.args.wanted.now.jobs
 pub returns-clause-text : goal.returns-clause-text
 returns-clause-text c =
     let db = c.args.wanted.now.chains.db in
+    let revision = revision_at c.args.wanted.now.chains in
     let x : Held = c.args.self.now in
     IfOk-weaker c.notification.result _ _
-    (λ message told. λ h all kept. told all (updates_of (later_job x.notation (map (part_to db) x.tables))) (c.in_ok-place.ensures.place all kept) ∙ sent_asked h db x)
+    (λ message told. λ h all kept. told all (updates_of (later_job x.notation (map (part_to db) x.tables))) (c.in_ok-place.ensures.place all kept) ∙ sent_asked h revision x)
     c.notification.ensures
 
 pub returns-clause-jobs : goal.returns-clause-jobs

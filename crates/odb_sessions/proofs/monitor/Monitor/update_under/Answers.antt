@@ -7,15 +7,17 @@ use Rattle.odb_sessions.specs.Held.{Held}
 use Rattle.odb_sessions.specs.Represented.Under.{filters_in}
 use Rattle.odb_sessions.proofs.Updates.{sent_under}
 use Rattle.odb_sessions.proofs.monitor.Monitor.update_under.Goals as goal
+use Rattle.odb_sessions.specs.Book.{revision_at}
 
 pub returns-clause-text : goal.returns-clause-text
 returns-clause-text c =
     let db = c.args.wanted.now.chains.db in
+    let revision = revision_at c.args.wanted.now.chains in
     let x : Held = c.args.self.now in
     let fs = filters_in c.args.under in
     IfOk-weaker c.notification.result _ _
     (λ message told. λ h all kept.
-    told all (updates_of (later_job x.notation (map (part_to db) (all_asked_as x.tables (refilter fs (asked_of x.tables)))))) (c.in_ok-place.ensures.place all kept) ∙ sent_under h db fs x)
+    told all (updates_of (later_job x.notation (map (part_to db) (all_asked_as x.tables (refilter fs (asked_of x.tables)))))) (c.in_ok-place.ensures.place all kept) ∙ sent_under h revision fs x)
     c.notification.ensures
 
 pub returns-clause-jobs : goal.returns-clause-jobs

@@ -6,12 +6,14 @@ use Rattle.odb_sessions.specs.Held.{Queued, item_seen}
 use Rattle.odb_sessions.specs.Planned.{plan_from}
 use Rattle.odb_sessions.specs.Represented.Taking.{taking_text}
 use Rattle.odb_sessions.proofs.queue.Queue.taking.Goals as goal
+use Rattle.odb_sessions.specs.Book.{revision_at}
 
 pub returns-clause-text : goal.returns-clause-text
 returns-clause-text c =
     let db = c.args.planner.now.chains.db in
+    let revision = revision_at c.args.planner.now.chains in
     let ms = c.args.planner.now.monitors in
     IfOk-weaker c.taking_of.result _ _
     (λ taking e. λ s all kept.
-    subst (λ (q : List Queued). taking_text all taking (map item_seen q) ≡ option_map (due_text (served_by s) db) (plan_from (served_by s) db (map item_seen q) ms).out) c.self.view_is (e s all kept))
+    subst (λ (q : List Queued). taking_text all taking (map item_seen q) ≡ option_map (due_text (served_by s) revision) (plan_from (served_by s) db (map item_seen q) ms).out) c.self.view_is (e s all kept))
     c.taking_of.ensures.text

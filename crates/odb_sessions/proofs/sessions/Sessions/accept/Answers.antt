@@ -24,8 +24,8 @@ pub take_all-requires-clause-room : goal.take_all-requires-clause-room
 take_all-requires-clause-room c = c.prepared.invariant.1
 
 pub returns-clause-round : goal.returns-clause-round
-returns-clause-round c = λ s w db sessions.
-    let r = c.take_all.ensures.round s w db sessions in (
+returns-clause-round c = λ s w revision sessions.
+    let r = c.take_all.ensures.round s w revision sessions in (
       ap (λ (ps : List Pending). (take_each (served_by s) (sessions_in ps) w).0) (sym c.prepared.view_is) ∙ r.0,
       ap (λ (ps : List Pending). map printed (take_each (served_by s) (sessions_in ps) w).1) (sym c.prepared.view_is) ∙ r.1,
     )

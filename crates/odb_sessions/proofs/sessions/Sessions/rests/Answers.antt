@@ -7,6 +7,8 @@ use Rattle.odb_sessions.specs.Quiet.{IsQuiet, IsQuietAt}
 use Rattle.odb_sessions.specs.Tied.{AreLive}
 use Rattle.odb_sessions.proofs.QuietSessions.{on_true, quiet_open, quiet_shut}
 use Rattle.odb_sessions.proofs.sessions.Sessions.rests.Goals as goal
+use Rattle.odb_tables.specs.Database.{Db}
+use Rattle.odb_service.specs.Session.{Revision}
 
 pub rests-requires : goal.rests-requires
 rests-requires c =
@@ -29,4 +31,4 @@ returns c =
     let there : finite.get m c.args.session ≡ Some x = search rules in
     let db : c.chains.result.now.db ≡ b.db = ap (λ (k : Chains). k.db) c.chains.ensures ∙ ap (λ (d : Book). d.db) c.self.view_is in
     on_true c.rests.result (IsQuietAt b c.args.session)
-    (λ told. quiet_open b m c.args.session x (ap (λ (d : Book). d.sessions) c.self.view_is) there (subst (λ d. IsQuiet d (seen x)) db (c.rests.ensures told)))
+    (λ told. quiet_open b m c.args.session x (ap (λ (d : Book). d.sessions) c.self.view_is) there (subst (λ (d : Db). let r : Revision = record { db = d } in IsQuiet r (seen x)) db (c.rests.ensures told)))

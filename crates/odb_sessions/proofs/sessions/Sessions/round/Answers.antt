@@ -11,8 +11,8 @@ pub accept-requires-clause-ready : goal.accept-requires-clause-ready
 accept-requires-clause-ready c = c.in_ok-prepared.ensures.ready
 
 pub returns-clause-ok : goal.returns-clause-ok
-returns-clause-ok c = λ s w db sessions.
-    let r = c.accept.ensures.round s w db sessions in (
+returns-clause-ok c = λ s w revision sessions.
+    let r = c.accept.ensures.round s w revision sessions in (
       ap (λ (ns : List ℕ). (take_each (served_by s) ns w).0) (sym c.in_ok-prepared.ensures.sessions) ∙ r.0,
       ap (λ (ns : List ℕ). map printed (take_each (served_by s) ns w).1) (sym c.in_ok-prepared.ensures.sessions) ∙ r.1,
     )

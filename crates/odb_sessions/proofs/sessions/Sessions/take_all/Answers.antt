@@ -5,7 +5,7 @@ use Rattle.odb_schema.specs.Schema.{Schema}
 use Rattle.odb_service.specs.Run.{take_each}
 use Rattle.odb_service.specs.Server.{printed, served_by}
 use Rattle.odb_service.specs.World.{World}
-use Rattle.odb_sessions.specs.Book.{Book}
+use Rattle.odb_sessions.specs.Book.{Book, revision_in}
 use Rattle.odb_sessions.specs.Planned.{AreOnce}
 use Rattle.odb_sessions.specs.Represented.Out.{sent_in}
 use Rattle.odb_sessions.specs.Represented.Ready.{pending_of}
@@ -14,6 +14,7 @@ use Rattle.odb_sessions.specs.declared.out.Out.{Out}
 use Rattle.odb_sessions.specs.declared.ready.Ready.{Ready}
 use Rattle.odb_sessions.proofs.Rounds.{GoesOn, goes_on, left_ready, no_schema}
 use Rattle.odb_sessions.proofs.sessions.Sessions.take_all.Goals as goal
+use Rattle.odb_service.specs.Session.{Revision}
 
 abbrev listed_in : List Ready → List ℕ
 listed_in rs = sessions_in (map pending_of rs)
@@ -58,7 +59,7 @@ loop-ready-preserved-in-Some-take c =
     let ps : List Pending = map pending_of rs in
     let steps : c.loop-ready.ready-iterator.rest.items ≡ r ∷ rs = c.in-Some.ensures.steps.0 in
     let once : AreOnce (listed_in (r ∷ rs)) = subst (λ (qs : List Ready). AreOnce (listed_in qs)) steps c.loop-ready.invariant.1 in
-    let same : b.db ≡ c.args.self.now.db = c.loop-ready.invariant.3 in
+    let same : revision_in b ≡ revision_in c.args.self.now = c.loop-ready.invariant.3 in
     let o : Out = c.in-Some-take.out in
     let grown : c.push_reserved.new.self.items ≡ c.loop-ready.sent.items ++ o ∷ [] = search rules in
     let sent : map sent_in c.push_reserved.new.self.items ≡ map sent_in c.loop-ready.sent.items ++ sent_in o ∷ [] = ap (map sent_in) grown ∙ map-append sent_in c.loop-ready.sent.items (o ∷ []) in
@@ -69,12 +70,12 @@ loop-ready-preserved-in-Some-take c =
     let fits : vec_len c.loop-ready.sent + length c.loop-ready.ready-iterator.rest.items ≤ vec_capacity c.loop-ready.sent = c.loop-ready.invariant.4 in (
       λ s. left_ready s b c.take.new.self p ps once (subst (λ (qs : List Ready). AreReady s b (map pending_of qs)) steps (c.loop-ready.invariant.0 s)) (c.take.ensures.book s),
       once.1,
-      λ s w db sessions.
+      λ s w revision sessions.
           subst (λ os. GoesOn s ns w c.take.new.self.sessions ps os) (sym sent)
-          (goes_on s ns w b c.take.new.self p ps (map sent_in c.loop-ready.sent.items) (Some (sent_in o)) (db ∙ sym same)
-          (subst (λ (qs : List Ready). GoesOn s ns w b.sessions (map pending_of qs) (map sent_in c.loop-ready.sent.items)) steps (c.loop-ready.invariant.2 s w db sessions))
+          (goes_on s ns w b c.take.new.self p ps (map sent_in c.loop-ready.sent.items) (Some (sent_in o)) (revision ∙ sym same)
+          (subst (λ (qs : List Ready). GoesOn s ns w b.sessions (map pending_of qs) (map sent_in c.loop-ready.sent.items)) steps (c.loop-ready.invariant.2 s w revision sessions))
           (c.take.ensures.book s) (ap (option_map sent_in) (sym is) ∙ c.take.ensures.out s)),
-      ap (λ (d : Book). d.db) (c.take.ensures.book no_schema) ∙ same,
+      ap (λ (d : Book). revision_in d) (c.take.ensures.book no_schema) ∙ same,
       omega (arith, len, capacity, many, fits),
     )
 
@@ -88,31 +89,31 @@ loop-ready-preserved c =
     let ps : List Pending = map pending_of rs in
     let steps : c.loop-ready.ready-iterator.rest.items ≡ r ∷ rs = c.in-Some.ensures.steps.0 in
     let once : AreOnce (listed_in (r ∷ rs)) = subst (λ (qs : List Ready). AreOnce (listed_in qs)) steps c.loop-ready.invariant.1 in
-    let same : b.db ≡ c.args.self.now.db = c.loop-ready.invariant.3 in
+    let same : revision_in b ≡ revision_in c.args.self.now = c.loop-ready.invariant.3 in
     let many : length c.loop-ready.ready-iterator.rest.items ≡ suc (length rs) = ap length steps in
     let fits : vec_len c.loop-ready.sent + length c.loop-ready.ready-iterator.rest.items ≤ vec_capacity c.loop-ready.sent = c.loop-ready.invariant.4 in (
       λ s. left_ready s b c.take.new.self p ps once (subst (λ (qs : List Ready). AreReady s b (map pending_of qs)) steps (c.loop-ready.invariant.0 s)) (c.take.ensures.book s),
       once.1,
-      λ s w db sessions.
+      λ s w revision sessions.
           subst (λ os. GoesOn s ns w c.take.new.self.sessions ps os) (append-nil (map sent_in c.loop-ready.sent.items))
-          (goes_on s ns w b c.take.new.self p ps (map sent_in c.loop-ready.sent.items) None (db ∙ sym same)
-          (subst (λ (qs : List Ready). GoesOn s ns w b.sessions (map pending_of qs) (map sent_in c.loop-ready.sent.items)) steps (c.loop-ready.invariant.2 s w db sessions))
+          (goes_on s ns w b c.take.new.self p ps (map sent_in c.loop-ready.sent.items) None (revision ∙ sym same)
+          (subst (λ (qs : List Ready). GoesOn s ns w b.sessions (map pending_of qs) (map sent_in c.loop-ready.sent.items)) steps (c.loop-ready.invariant.2 s w revision sessions))
           (c.take.ensures.book s) (ap (option_map sent_in) (sym c.in_default.is) ∙ c.take.ensures.out s)),
-      ap (λ (d : Book). d.db) (c.take.ensures.book no_schema) ∙ same,
+      ap (λ (d : Book). revision_in d) (c.take.ensures.book no_schema) ∙ same,
       omega (arith, many, fits),
     )
 
 pub returns-clause-round : goal.returns-clause-round
-returns-clause-round c = λ s w db sessions.
+returns-clause-round c = λ s w revision sessions.
     let all : c.into_iter-ready-iterator.result.rest.items ≡ c.args.takings.items = c.into_iter-ready-iterator.ensures.into_iter_gives.0 in
     let zero : length c.loop-ready.ready-iterator.rest.items ≡ 0 = search rules in
     let none : c.loop-ready.ready-iterator.rest.items ≡ [] = nil_from_length c.loop-ready.ready-iterator.rest.items zero in
     let end : GoesOn s (listed_in c.into_iter-ready-iterator.result.rest.items) w c.loop-ready.self.sessions [] (map sent_in c.loop-ready.sent.items) =
-    subst (λ (qs : List Ready). GoesOn s (listed_in c.into_iter-ready-iterator.result.rest.items) w c.loop-ready.self.sessions (map pending_of qs) (map sent_in c.loop-ready.sent.items)) none (c.loop-ready.invariant.2 s w db sessions)
+    subst (λ (qs : List Ready). GoesOn s (listed_in c.into_iter-ready-iterator.result.rest.items) w c.loop-ready.self.sessions (map pending_of qs) (map sent_in c.loop-ready.sent.items)) none (c.loop-ready.invariant.2 s w revision sessions)
     in (
       ap (λ (qs : List Ready). (take_each (served_by s) (listed_in qs) w).0) (sym all) ∙ end.0,
       ap (λ (qs : List Ready). map printed (take_each (served_by s) (listed_in qs) w).1) (sym all) ∙ end.1 ∙ append-nil (map sent_in c.loop-ready.sent.items),
     )
 
 pub returns-clause-database : goal.returns-clause-database
-returns-clause-database c = c.loop-ready.invariant.3
+returns-clause-database c = ap (λ (r : Revision). r.db) c.loop-ready.invariant.3
