@@ -10,6 +10,7 @@ mod Copies
 mod Counted
 pub mod Crossing
 mod Endings
+mod FirstTexts
 mod Firsts
 mod Interests
 mod Leading

@@ -1,5 +1,5 @@
 -- Takings that are planned, with the bodies of their messages.
-use Rattle.std.proofs.Common.{◌≡◌, ◌++◌, ℕ, suc, Option, Some, None, List, [], ◌∷◌, length, map, refl, sym, ap, append_assoc, ◌∙◌}
+use Rattle.std.proofs.Common.{◌≡◌, ◌++◌, suc, Option, Some, None, List, [], ◌∷◌, length, map, refl, sym, ap, append_assoc, ◌∙◌}
 use Rattle.std.proofs.lemmas.List.{map-append}
 use Rattle.odb_monitor.specs.Job.{Job}
 use Rattle.odb_sessions.specs.Jobs.{AreOfJobs, IsOfJob}

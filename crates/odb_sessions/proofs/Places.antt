@@ -1,8 +1,9 @@
 -- Jobs by their places, in lists that grow.
-use Rattle.std.proofs.Common.{◌≡◌, ℕ, zero, suc, ◌++◌, true, false, List, [], ◌∷◌, is_some, length, map, slice_get, slice_index_or, Option, Some, None, refl, sym, ap, append_assoc, ◌∙◌, true≢false}
+use Rattle.std.proofs.Common.{◌≡◌, ◌<◌, ℕ, zero, suc, arith, ◌++◌, true, false, List, [], ◌∷◌, is_some, length, map, slice_get, slice_index_or, Option, Some, None, refl, sym, ap, append_assoc, ◌∙◌, true≢false}
 use Rattle.std.specs.List.{All}
 use Rattle.std.specs.Prelude.{Vec, option_and_then, option_map}
 use Rattle.std.specs.declared.sync.Arc.{Arc}
+use Rattle.std.proofs.lemmas.List.{length-map}
 use Rattle.std.proofs.lemmas.Option.{none-some, same_Some}
 use Rattle.serde_json.specs.Written.{compact_text}
 use Rattle.odb_chain.specs.Chains.{Chains}
@@ -46,6 +47,16 @@ keeps_added a b j is n i at = ap (λ (js : List Job). slice_get js n) is ∙ fro
 
 pub added_at : (a b : List Job) (j : Job) (n : ℕ) → b ≡ a ++ j ∷ [] → n ≡ length a → slice_get b n ≡ Some j
 added_at a b j n is len = (λ i. slice_get (is i) (len i)) ∙ last_at a j
+
+-- as many elements as others of which the same is made
+pub same_length : {A B C : Type 0} (f : A → C) (g : B → C) (xs : List A) (ys : List B) → map f xs ≡ map g ys → length xs ≡ length ys
+same_length f g xs ys e = sym (length-map xs f) ∙ ap length e ∙ length-map ys g
+
+-- the element at a place
+pub found_at : {A : Type 0} (xs : List A) (n : ℕ) (x : A) → n < length xs → x ≡ slice_index_or xs n x → slice_get xs n ≡ Some x
+found_at [] n x low at = absurd (omega (arith, low))
+found_at (y ∷ xs) zero x low at = ap Some (sym at)
+found_at (y ∷ xs) (suc n) x low at = found_at xs n x (omega (arith, low)) at
 
 -- ---- places
 

@@ -1,5 +1,5 @@
 -- A client that has what its tables are now is owed nothing.
-use Rattle.std.proofs.Common.{◌≡◌, arith, List, [], ◌∷◌, length, map, Option, Some, None, refl, sym, ap, ◌∙◌}
+use Rattle.std.proofs.Common.{◌≡◌, arith, List, [], ◌∷◌, length, Option, Some, None, refl, sym, ap, ◌∙◌}
 use Rattle.std.specs.List.{cons_option}
 use Rattle.std.specs.Prelude.{option_map}
 use Rattle.std.proofs.lemmas.Option.{none-some}
@@ -10,7 +10,7 @@ use Rattle.odb_request.specs.Request.{Request}
 use Rattle.odb_service.specs.Service.{Service}
 use Rattle.odb_service.specs.Session.{Monitor, Out, Revision, brought, update_to}
 use Rattle.odb_service.proofs.WhatIsOwed.{all_owe_nothing}
-use Rattle.odb_sessions.specs.Composed.{AreNow, part_to}
+use Rattle.odb_sessions.specs.Composed.{AreNow}
 use Rattle.odb_sessions.specs.Foreseen.{due_text, update_text}
 use Rattle.odb_sessions.specs.Held.{Held, Watched, monitor_of, view_of, watch_of}
 use Rattle.odb_sessions.specs.Planned.{Due, out_of, update_of}

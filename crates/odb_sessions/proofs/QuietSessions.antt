@@ -1,5 +1,5 @@
 -- A session of which nothing is queued, and whose clients have what their tables are now, is owed nothing.
-use Rattle.std.proofs.Common.{◌≡◌, ℕ, zero, suc, ◌+◌, ◌<◌, arith, Bool, true, false, List, [], ◌∷◌, flat_map, get_or, length, map, Option, Some, None, refl, sym, ap, subst, ◌∙◌}
+use Rattle.std.proofs.Common.{◌≡◌, ℕ, zero, suc, ◌<◌, arith, Bool, true, false, List, [], ◌∷◌, flat_map, get_or, length, map, Option, Some, None, refl, sym, ap, subst, ◌∙◌}
 use Rattle.std.specs.Prelude.{option_map}
 use Rattle.std.specs.Bool.{OnTrue}
 use Rattle.std.specs.List.{All, AllByRecursion}
@@ -10,8 +10,7 @@ use Rattle.odb_atoms.specs.FinMap as finite
 use Rattle.odb_chain.specs.Chains.{Chains}
 use Rattle.odb_service.specs.Server.{served_by}
 use Rattle.odb_service.specs.Service.{Service}
-use Rattle.odb_service.specs.Session.{Monitor, Out, Revision, Session, brought, stop_at, take, take_from, take_rest, update_to}
-use Rattle.odb_tables.specs.Database.{Db}
+use Rattle.odb_service.specs.Session.{Monitor, Out, Revision, Session, brought, stop_at, take_from, take_rest}
 use Rattle.odb_sessions.specs.Book.{Book, revision_in}
 use Rattle.odb_sessions.specs.Composed.{AreNow}
 use Rattle.odb_sessions.specs.Held.{Held, Kept, Queued, Sessions, all_seen, item_seen, marks_in, monitor_of, seen}

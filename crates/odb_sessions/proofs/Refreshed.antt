@@ -6,7 +6,6 @@ use Rattle.odb_service.specs.Server.{served_by}
 use Rattle.odb_service.specs.Service.{Service}
 use Rattle.odb_service.specs.Session.{Item, Monitor, Out, Revision, Session, brought, stop_at, take_from, take_rest, update_to}
 use Rattle.odb_service.proofs.SessionMaps.{same_map}
-use Rattle.odb_tables.specs.Database.{Db}
 use Rattle.odb_sessions.specs.Book.{Book, revision_at}
 use Rattle.odb_sessions.specs.Carried.{used_by}
 use Rattle.odb_sessions.specs.Held.{Sessions, all_seen}

@@ -2,8 +2,7 @@
 use Rattle.std.proofs.Common.{◌≡◌, ℕ, zero, suc, ◌==◌, ◌||◌, Bool, true, false, cond, List, [], ◌∷◌, ◌++◌, map, Option, Some, None, refl, sym, ap, append_assoc, subst, ◌∙◌, true≢false}
 use Rattle.std.specs.Prelude.{flat_map, option_and_then, option_map, option_to_list, slice_get}
 use Rattle.std.proofs.lemmas.List.{map-append}
-use Rattle.std.specs.Ordering.{eq_by_cmp, nat_cmp}
-use Rattle.serde_json.specs.Written.{compact_text}
+use Rattle.std.specs.Ordering.{nat_cmp}
 use Rattle.odb_atoms.specs.FinMap.{FinMap, get, insert}
 use Rattle.odb_queue.specs.Represented.Item.{item_of, text_of}
 use Rattle.odb_queue.specs.declared.finished.Finished.{Finished}
@@ -14,7 +13,6 @@ use Rattle.odb_service.specs.Service.{Service}
 use Rattle.odb_service.specs.Session.{Item, Out, Revision, Session, renamed, say, shift, start, stopped, sync, take}
 use Rattle.odb_service.specs.World.{World, revision_of}
 use Rattle.odb_service.proofs.SessionMaps.{apart_keys, eq_turned, get-insert}
-use Rattle.odb_tables.specs.Database.{Db}
 use Rattle.odb_sessions.specs.Book.{Book, revision_in}
 use Rattle.odb_sessions.specs.Carried.{finished_in, last_finished, used_by}
 use Rattle.odb_sessions.specs.Foreseen.{due_text, finished_text, last_used}

@@ -1,5 +1,5 @@
 -- Clients of monitors that are alike are owed the same.
-use Rattle.std.proofs.Common.{◌≡◌, ◌<◌, suc, arith, List, [], ◌∷◌, length, map, Some, refl, sym, ap, ◌∙◌}
+use Rattle.std.proofs.Common.{◌≡◌, suc, arith, List, [], ◌∷◌, length, map, Some, refl, sym, ap, ◌∙◌}
 use Rattle.std.specs.Prelude.{option_map}
 use Rattle.std.proofs.lemmas.Option.{same_Some}
 use Rattle.serde_json.specs.Written.{compact_text}

@@ -1,5 +1,5 @@
 -- The jobs of a monitor in each of the ways.
-use Rattle.std.proofs.Common.{◌≡◌, Bool, true, false, List, [], map, Option, Some, None, is_some, refl, sym, ap, ◌∙◌, true≢false}
+use Rattle.std.proofs.Common.{◌≡◌, Bool, true, false, List, [], map, Option, Some, None, is_some, sym, ap, true≢false}
 use Rattle.odb_request.specs.Request.{Request}
 use Rattle.odb_sessions.specs.Composed.{all_asked_as, later_job, part_to}
 use Rattle.odb_sessions.specs.Foreseen.{Filters, all_parts_again}

@@ -1,5 +1,5 @@
 -- Monitors whose clients are owed the same. [P 9.2, 10.1]
-use Rattle.std.specs.Prelude.{◌≡◌, ℕ, List, map}
+use Rattle.std.specs.Prelude.{◌≡◌, ℕ, map}
 use Rattle.odb_cond.specs.Filter.{Filter}
 use Rattle.odb_request.specs.Request.{Request}
 use Rattle.odb_sessions.specs.Held.{Held, Watched}

@@ -4,6 +4,7 @@ pub mod Book
 pub mod Carried
 pub mod Committed
 pub mod Composed
+pub mod FirstTexts
 pub mod Foreseen
 pub mod Held
 pub mod Jobs

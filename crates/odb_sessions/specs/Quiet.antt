@@ -5,7 +5,6 @@ use Rattle.odb_schema.specs.Schema.{Schema}
 use Rattle.odb_service.specs.Server.{served_by}
 use Rattle.odb_service.specs.Session.{Revision, Session, take}
 use Rattle.odb_sessions.specs.Book.{Book, revision_in}
-use Rattle.odb_tables.specs.Database.{Db}
 
 -- nothing is queued, and a taking gives nothing and changes nothing
 abbrev pub IsQuiet : Revision → Session → Type 0

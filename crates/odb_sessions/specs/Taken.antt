@@ -9,7 +9,6 @@ use Rattle.odb_service.specs.Session.{Item, Revision, Session, take}
 use Rattle.odb_sessions.specs.Book.{Book, revision_in}
 use Rattle.odb_sessions.specs.Carried.{used_by}
 use Rattle.odb_sessions.specs.Foreseen.{finished_text, last_used}
-use Rattle.odb_tables.specs.Database.{Db}
 
 -- what comes: nothing, the text of the last item that is used up, or a composition with the text before it and the text after it
 pub data Text : Type 0 where

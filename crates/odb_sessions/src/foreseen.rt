@@ -5,6 +5,8 @@ ghost use Rattle.odb_service.specs.Server.{served_by};
 ghost use Rattle.odb_service.specs.Service.{Service};
 ghost use Rattle.odb_service.specs.Session.{leaves, refilter};
 ghost use Rattle.odb_sessions.specs.Asked.{is_same};
+ghost use Rattle.std.specs.List.{All};
+ghost use Rattle.odb_sessions.specs.FirstTexts.{AreFirstTexts, IsOfNow};
 ghost use Rattle.odb_sessions.specs.Foreseen.{as_told, due_text, marks_ahead, seen_ahead, update_text};
 ghost use Rattle.odb_sessions.specs.Held.{marks_in, monitor_of, watch_of};
 ghost use Rattle.odb_sessions.specs.Planned.{due, plan_rest};
@@ -15,6 +17,7 @@ ghost use Rattle.odb_sessions.specs.Tied.{AreLive};
 ghost use Rattle.odb_sessions.specs.Book.{revision_at};
 
 use crate::composing::Message;
+use crate::first_texts::FirstTexts;
 use crate::id::Id;
 use crate::job::Job;
 use crate::monitor::Monitor;
@@ -194,11 +197,12 @@ impl<'a> Model for Planner<'a> {
 
 impl<'a> Planner<'a> {
     /// No jobs, and no monitors. O(1).
-    pub(crate) fn new(alloc: Global, chains: &'a Chains) -> Planner<'a>
+    pub(crate) fn new(alloc: Global, chains: &'a Chains, firsts: &'a FirstTexts) -> Planner<'a>
+        requires { AreFirstTexts chains.now.db firsts.now }
         ensures { result ≡ record { chains = chains.now; jobs = []; monitors = [] } }
     {
         Planner {
-            wanted: Wanted::new(alloc, chains),
+            wanted: Wanted::new(alloc, chains, firsts),
             monitors: Vec::new(alloc),
         }
     }
@@ -243,7 +247,8 @@ impl<'a> Planner<'a> {
 
     /// The jobs.
     pub(crate) fn into_jobs(self) -> Vec<Job<'a>>
-        ensures { result.items ≡ self.entry.jobs }
+        ensures jobs { result.items ≡ self.entry.jobs }
+        ensures now { All (IsOfNow self.entry.chains.db) result.items }
     {
         let Planner {
             wanted,

@@ -1,17 +1,21 @@
 //! Jobs: what is to be composed for the client of a monitor. [P 9.2, 9.3, 9.5]
-ghost use Rattle.std.specs.Prelude.{◌≡◌, IfOk, is_some, map};
+ghost use Rattle.std.specs.Prelude.{◌≡◌, IfOk, IfSome, Some, is_some, map};
 ghost use Rattle.odb_monitor.specs.Job.{updates_of};
 ghost use Rattle.odb_sessions.specs.Composed.{all_asked_as, later_job, own_job, part_to};
 ghost use Rattle.odb_sessions.specs.Foreseen.{all_parts_again};
+ghost use Rattle.odb_sessions.specs.FirstTexts.{IsFirstText, IsOfNow};
 ghost use Rattle.odb_sessions.specs.Held.{marks_in};
 ghost use Rattle.odb_sessions.specs.Jobs.{composition};
-ghost use Rattle.odb_sessions.specs.Represented.Composed.{bytes_in};
+ghost use Rattle.odb_sessions.specs.Represented.Composed.{bytes_in, bytes_of};
 ghost use Rattle.odb_sessions.specs.Represented.Job.{asked_by, filters_by, job_in, AreRefiltered};
 ghost use Rattle.odb_sessions.specs.Represented.Under.{filters_in};
 ghost use Rattle.odb_sessions.specs.Tied.{AreLive};
+ghost use Rattle.odb_sessions.specs.declared.way.Way.TheVariants as way;
+ghost use Rattle.odb_tables.specs.Database as model_db;
 
 use crate::again::parts_again;
 use crate::composing::parts_of;
+use crate::first_texts::FirstText;
 use crate::monitor::Monitor;
 use crate::planning::parts_under;
 use crate::under::{Under, requests_under};
@@ -23,20 +27,27 @@ use std::alloc::{AllocError, Global};
 use std::marker::Model;
 use std::sync::Arc;
 
-/// What is to be composed for the client of a monitor. Contracts see the job of `odb_monitor` that it is.
+/// From how many bytes on the text of a first reply is kept: a shorter one is composed as fast as it is found.
+const LEAST_KEPT: usize = 4096;
+
+/// What is to be composed for the client of a monitor, and its text where that is kept. Contracts see the job of
+/// `odb_monitor` that it is.
 #[derive(Drop)]
 pub struct Job<'a> {
     chains: &'a Chains,
     monitor: &'a Monitor,
     way: Way<'a>,
     requests: Vec<Request>,
+    text: Option<&'a Arc<Vec<u8>>>,
 }
 
 impl<'a> Model for Job<'a> {
-    ghost use Rattle.std.specs.Prelude.{◌≡◌};
+    ghost use Rattle.std.specs.Prelude.{◌≡◌, IfSome, Some};
     ghost use Rattle.odb_monitor.specs.Job as model;
     ghost use Rattle.odb_monitor.specs.Represented.Part.{job_code};
     ghost use Rattle.odb_sessions.specs.Held.{marks_in};
+    ghost use Rattle.odb_sessions.specs.Jobs.{composition};
+    ghost use Rattle.odb_sessions.specs.Represented.Composed.{bytes_of};
     ghost use Rattle.odb_sessions.specs.Represented.Job.{asked_by, filters_by, job_in};
     ghost use Rattle.odb_sessions.specs.Tied.{AreLive};
 
@@ -46,7 +57,7 @@ impl<'a> Model for Job<'a> {
 
     ghost view = { λ j. job_in j.chains.now.db j.monitor.now j.way };
 
-    ghost invariant = { λ j. AreLive j.chains.now (marks_in j.monitor.now) × (j.requests.items ≡ asked_by j.monitor.now.tables (filters_by j.way)) };
+    ghost invariant = { λ j. AreLive j.chains.now (marks_in j.monitor.now) × (j.requests.items ≡ asked_by j.monitor.now.tables (filters_by j.way)) × IfSome j.text (λ t. Some (bytes_of t.now) ≡ composition (job_in j.chains.now.db j.monitor.now j.way)) };
 }
 
 impl<'a> Job<'a> {
@@ -67,7 +78,28 @@ impl<'a> Job<'a> {
             monitor,
             way,
             requests,
+            text: None,
         })
+    }
+
+    /// That of the first reply of this monitor, with its text where that is kept. O(1).
+    pub(crate) fn first(
+        alloc: Global,
+        chains: &'a Chains,
+        monitor: &'a Monitor,
+        text: Option<&'a Arc<Vec<u8>>>,
+    ) -> Job<'a>
+        requires live { AreLive chains.now (marks_in monitor.now) }
+        requires text { IfSome text (λ t. Some (bytes_of t.now) ≡ composition (job_in chains.now.db monitor.now way.First)) }
+        ensures { result ≡ job_in chains.now.db monitor.now way.First }
+    {
+        Job {
+            chains,
+            monitor,
+            way: Way::First,
+            requests: Vec::new(alloc),
+            text,
+        }
     }
 
     /// Whether something is sent. The costs are those of `odb_monitor::Job::has_updates` and, for each table, of
@@ -79,16 +111,61 @@ impl<'a> Job<'a> {
         job.has_updates(alloc)
     }
 
-    /// The text of the table updates, without the monitor's id; `None` where nothing is sent. The costs are those of
-    /// `odb_monitor::compose` and, for each table, of `odb_chain::Chains::since`.
+    /// The text of the table updates, without the monitor's id; `None` where nothing is sent. One that is kept is
+    /// shared; else the costs are those of `odb_monitor::compose` and, for each table, of `odb_chain::Chains::since`.
     pub fn compose(&self, alloc: Global) -> Result<Option<Arc<Vec<u8>>>, AllocError>
         ensures { IfOk result (λ body. bytes_in body ≡ composition self.now) }
     {
+        if let Some(text) = self.text {
+            return Ok(Some(text.clone()?));
+        }
         let job = self.differences(alloc)?;
         let Some(text) = compose(alloc, &job)? else {
             return Ok(None);
         };
         Ok(Some(Arc::new(alloc, text)?))
+    }
+
+    /// What is to be kept of it, of which this was composed: where it is that of a first reply, a long text that isn't
+    /// kept. O(n) for n tables.
+    pub(crate) fn first_text(
+        &self,
+        alloc: Global,
+        body: &Option<Arc<Vec<u8>>>,
+    ) -> Result<Option<FirstText>, AllocError>
+        requires { bytes_in body.now ≡ composition self.now }
+        ensures { IfOk result (λ first. IfSome first (λ f. (db : model_db.Db) → IsOfNow db self.now → IsFirstText db f)) }
+    {
+        if self.text.is_some() {
+            return Ok(None);
+        }
+        let Some(text) = body else {
+            return Ok(None);
+        };
+        if text.len() < LEAST_KEPT {
+            return Ok(None);
+        }
+        self.told_first(alloc, text)
+    }
+
+    /// The text, where it is that of a first reply.
+    fn told_first(
+        &self,
+        alloc: Global,
+        text: &Arc<Vec<u8>>,
+    ) -> Result<Option<FirstText>, AllocError>
+        requires { Some (bytes_of text.now) ≡ composition self.now }
+        ensures { IfOk result (λ first. IfSome first (λ f. (db : model_db.Db) → IsOfNow db self.now → IsFirstText db f)) }
+    {
+        match self.way {
+            Way::First => {
+                let first = FirstText::new(alloc, self.monitor, text)?;
+                Ok(Some(first))
+            }
+            Way::Asked => Ok(None),
+            Way::Changed(_) => Ok(None),
+            Way::Again(_, _) => Ok(None),
+        }
     }
 
     /// The job, with the tables as they are now and how they changed.

@@ -1,12 +1,16 @@
 //! A round as it is planned: what is to be composed, and then what is to be carried out. [P 10.3]
-ghost use Rattle.std.specs.Prelude.{◌≡◌, IfOk, List, map};
+ghost use Rattle.std.specs.Prelude.{◌≡◌, IfOk, IfSome, List, map};
+ghost use Rattle.std.specs.List.{All};
 ghost use Rattle.odb_monitor.specs.Job as model_job;
+ghost use Rattle.odb_sessions.specs.FirstTexts.{IsFirstText, IsOfNow};
 ghost use Rattle.odb_sessions.specs.Jobs.{composition};
 ghost use Rattle.odb_sessions.specs.Represented.Composed.{bytes_in};
 ghost use Rattle.odb_sessions.specs.Represented.Ready.{pending_of};
 ghost use Rattle.odb_sessions.specs.Represented.Taking.{pending_by, text_planned};
 ghost use Rattle.odb_sessions.specs.Taken.{no_text};
+ghost use Rattle.odb_tables.specs.Database as model_db;
 
+use crate::first_texts::FirstText;
 use crate::job::Job;
 use crate::out::Out;
 use crate::ready::{Ready, with_bodies};
@@ -122,6 +126,18 @@ impl<'a> Jobs<'a> {
         compose_all(self.alloc, self.jobs.as_slice())
     }
 
+    /// The text of a first reply among these bodies, which are composed of the jobs, that is to be kept: of the last.
+    /// O(n) for n jobs.
+    pub(crate) fn first_text(
+        &self,
+        bodies: &[Option<Arc<Vec<u8>>>],
+    ) -> Result<Option<FirstText>, AllocError>
+        requires { map bytes_in bodies.now ≡ map composition self.now.jobs }
+        ensures { IfOk result (λ first. IfSome first (λ f. (db : model_db.Db) → All (IsOfNow db) self.now.jobs → IsFirstText db f)) }
+    {
+        last_first(self.alloc, self.jobs.as_slice(), bodies)
+    }
+
     /// The round, with a body for each job, in their order: what is composed of it. Each message shares the body of
     /// its job. O(n) for n sessions.
     pub fn finish(self, bodies: &[Option<Arc<Vec<u8>>>]) -> Result<Prepared, AllocError>
@@ -137,6 +153,27 @@ impl<'a> Jobs<'a> {
         let takings = all_ready(alloc, takings, bodies)?;
         Ok(Prepared { takings, outs })
     }
+}
+
+/// The text of the last first reply among these that is to be kept.
+fn last_first(
+    alloc: Global,
+    jobs: &[Job<'_>],
+    bodies: &[Option<Arc<Vec<u8>>>],
+) -> Result<Option<FirstText>, AllocError>
+    requires { map bytes_in bodies.now ≡ map composition jobs.now }
+    ensures { IfOk result (λ first. IfSome first (λ f. (db : model_db.Db) → All (IsOfNow db) jobs.now → IsFirstText db f)) }
+{
+    let mut place = jobs.len();
+    while place > 0 {
+        let at = place - 1;
+        let first = jobs[at].first_text(alloc, &bodies[at])?;
+        if first.is_some() {
+            return Ok(first);
+        }
+        place = at;
+    }
+    Ok(None)
 }
 
 /// What is composed of each of these jobs, in their order.

@@ -14,6 +14,7 @@ mod composing;
 mod copying;
 mod ending;
 mod filters;
+mod first_texts;
 mod foreseen;
 mod granted;
 mod id;

@@ -2,6 +2,7 @@
 ghost use Rattle.std.specs.Prelude.{◌≡◌, map, IfErr, IfOk, OnErr, OnOk};
 ghost use Rattle.odb_chain.specs.Chains.{IsLive, IsNow, absorbed, chains_of, released};
 ghost use Rattle.odb_sessions.specs.Composed.{AreTheirs};
+ghost use Rattle.odb_sessions.specs.FirstTexts.{AreFirstTexts, IsFirstText};
 ghost use Rattle.odb_service.specs.Service.{Service};
 ghost use Rattle.odb_service.specs.Session.{brought, refilter};
 ghost use Rattle.odb_sessions.specs.Held.{marks_in, monitor_of, table_marks, watch_of};
@@ -11,6 +12,7 @@ ghost use Rattle.odb_sessions.specs.Started.{AreOfTables};
 ghost use Rattle.odb_sessions.specs.Tied.{Adds, HasAll};
 ghost use Rattle.odb_tables.specs.Installing.{IsChangeOf};
 
+use crate::first_texts::{FirstText, FirstTexts};
 use crate::item::Changes;
 use crate::monitor::{Monitor, Watching, watch_all};
 use odb_chain::{Chains, Mark};
@@ -20,16 +22,19 @@ use std::alloc::{AllocError, AllocFailed, Global};
 use std::hash::RandomState;
 use std::marker::Model;
 
-/// The database with its past, and one more than marks were made so far. Contracts see the chains.
+/// The database with its past, one more than marks were made so far, and texts of first replies. Contracts see the
+/// chains.
 #[derive(Drop)]
 pub(crate) struct Past {
     chains: Chains,
     made: usize,
+    firsts: FirstTexts,
 }
 
 impl Model for Past {
     ghost use Rattle.odb_chain.specs.Chains as model;
     ghost use Rattle.odb_chain.specs.Represented.Codes.{chains_code};
+    ghost use Rattle.odb_sessions.specs.FirstTexts.{AreFirstTexts};
     ghost use Rattle.odb_sessions.specs.Tied.{HasRoom};
 
     ghost Value = { model.Chains };
@@ -38,7 +43,7 @@ impl Model for Past {
 
     ghost view = { λ p. p.chains };
 
-    ghost invariant = { λ p. HasRoom p.chains p.made };
+    ghost invariant = { λ p. HasRoom p.chains p.made × AreFirstTexts p.chains.db p.firsts };
 }
 
 impl Past {
@@ -48,7 +53,11 @@ impl Past {
         ensures now { IfOk result (λ past. IsNow past) }
     {
         let chains = Chains::new(alloc, db, hashing)?;
-        Ok(Past { chains, made: 1 })
+        Ok(Past {
+            chains,
+            made: 1,
+            firsts: FirstTexts::new(alloc),
+        })
     }
 
     /// The database as it is now.
@@ -65,6 +74,21 @@ impl Past {
         &self.chains
     }
 
+    /// Texts of first replies. O(1).
+    pub(crate) fn firsts(&self) -> &FirstTexts
+        ensures { AreFirstTexts self.now.db result.now }
+    {
+        &self.firsts
+    }
+
+    /// Keeps the text of a first reply.
+    pub(crate) fn keep(&mut self, first: FirstText)
+        requires { IsFirstText self.old.db first }
+        ensures { self.new ≡ self.old }
+    {
+        self.firsts.keep(first);
+    }
+
     /// Makes the whole change, or none, and then the change comes back.
     pub(crate) fn absorb(&mut self, change: ChangeSet) -> Result<(), AllocFailed<ChangeSet>>
         requires { IsChangeOf self.old.db change }
@@ -73,6 +97,7 @@ impl Past {
         ensures handed_back { IfErr result (λ refused. refused.value ≡ change) }
         ensures now { IsNow self.new }
     {
+        self.firsts.clear();
         self.chains.absorb(change)
     }
 
@@ -129,13 +154,14 @@ impl Past {
     }
 
     /// An equal database, with an equal past.
-    pub(crate) fn try_copy(&self) -> Result<Past, AllocError>
+    pub(crate) fn try_copy(&self, alloc: Global) -> Result<Past, AllocError>
         ensures { IfOk result (λ copy. copy ≡ self.now) }
     {
         let chains = self.chains.try_copy()?;
         Ok(Past {
             chains,
             made: self.made,
+            firsts: FirstTexts::new(alloc),
         })
     }
 }

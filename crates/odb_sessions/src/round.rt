@@ -1,6 +1,7 @@
 //! Rounds: each listed session is given its next message, if it has one. All are planned, and composed, before one is
 //! carried out, which takes no memory. [P 10.3]
-ghost use Rattle.std.specs.Prelude.{◌≡◌, ◌≤◌, [], List, flat_map, map, length, option_map, vec_capacity, IfOk, OnErr};
+ghost use Rattle.std.specs.Prelude.{◌≡◌, ◌≤◌, [], List, flat_map, map, length, option_map, vec_capacity, IfOk, IfSome, OnErr, OnOk};
+ghost use Rattle.std.specs.List.{All};
 ghost use Rattle.odb_atoms.specs.FinMap as finite;
 ghost use Rattle.odb_monitor.specs.Job as model_job;
 ghost use Rattle.odb_schema.specs.Schema.{Schema};
@@ -8,6 +9,7 @@ ghost use Rattle.odb_service.specs.Run.{take_each};
 ghost use Rattle.odb_service.specs.Server.{printed, served_by};
 ghost use Rattle.odb_service.specs.Session.{take};
 ghost use Rattle.odb_service.specs.World.{World, revision_of};
+ghost use Rattle.odb_sessions.specs.FirstTexts.{IsFirstText, IsOfNow};
 ghost use Rattle.odb_sessions.specs.Held.{all_seen, seen};
 ghost use Rattle.odb_sessions.specs.Jobs.{AreOfJobs, Keeps};
 ghost use Rattle.odb_sessions.specs.Planned.{AreOnce};
@@ -19,6 +21,7 @@ ghost use Rattle.odb_sessions.specs.Taken.{AreOf, AreReady, IsReadyFor, given_by
 ghost use Rattle.odb_sessions.specs.Tied.{AreAllLive};
 ghost use Rattle.odb_sessions.specs.Book.{revision_at, revision_in};
 
+use crate::first_texts::FirstText;
 use crate::foreseen::Planner;
 use crate::jobs::{Jobs, Planned, Prepared};
 use crate::numbered::Numbered;
@@ -27,6 +30,13 @@ use crate::ready::{Coming, Ready, finished};
 use crate::sessions::Sessions;
 use odb_locks::SessionId;
 use std::alloc::{AllocError, Global};
+
+/// A round that is composed, and the text of a first reply of it that is to be kept.
+#[derive(Drop)]
+struct Composed {
+    prepared: Prepared,
+    first: Option<FirstText>,
+}
 
 /// What a taking of a session uses up, and what comes, if it is open. O(log n) for n sessions, and what
 /// `Session::taking` costs.
@@ -60,6 +70,7 @@ fn takings_at<'a>(
     ensures sessions { IfOk result (λ planned. map (λ p. p.session) planned.items ≡ listed.now) }
     ensures ready { IfOk result (λ planned. (s : Schema) (all : List model_job.Job) → Keeps planner.new.jobs all
         → AreReady s (record { db = planner.old.chains.db; sessions = all_seen sessions.now }) (map (pending_by all) planned.items)) }
+    ensures chains { OnOk result (planner.new.chains ≡ planner.old.chains) }
 {
     let mut takings = Vec::with_capacity(alloc, listed.len())?;
     for session in listed {
@@ -75,20 +86,34 @@ impl Sessions {
         ensures sessions { IfOk result (λ jobs. sessions_in jobs.takings ≡ listed.now) }
         ensures ready { IfOk result (λ jobs. AreOf self.now jobs.takings) }
         ensures jobs { IfOk result (λ jobs. AreOfJobs jobs.jobs jobs.takings) }
+        ensures now { IfOk result (λ jobs. All (IsOfNow self.now.db) jobs.jobs) }
     {
-        let mut planner = Planner::new(self.alloc, self.past.chains());
+        let mut planner = Planner::new(self.alloc, self.past.chains(), self.past.firsts());
         let takings = takings_at(self.alloc, &self.sessions, listed, &mut planner)?;
         Ok(Jobs::new(self.alloc, planner.into_jobs(), takings))
     }
 
     /// The same, composed.
-    fn prepared(&self, listed: &[SessionId]) -> Result<Prepared, AllocError>
-        ensures sessions { IfOk result (λ prepared. sessions_in prepared ≡ listed.now) }
-        ensures ready { IfOk result (λ prepared. AreOf self.now prepared) }
+    fn composed(&self, listed: &[SessionId]) -> Result<Composed, AllocError>
+        ensures sessions { IfOk result (λ composed. sessions_in composed.prepared ≡ listed.now) }
+        ensures ready { IfOk result (λ composed. AreOf self.now composed.prepared) }
+        ensures first { IfOk result (λ composed. IfSome composed.first (IsFirstText self.now.db)) }
     {
         let jobs = self.jobs(listed)?;
         let bodies = jobs.compose()?;
-        jobs.finish(bodies.as_slice())
+        let first = jobs.first_text(bodies.as_slice())?;
+        let prepared = jobs.finish(bodies.as_slice())?;
+        Ok(Composed { prepared, first })
+    }
+
+    /// Keeps the text of a first reply, if there is one.
+    fn keep(&mut self, first: Option<FirstText>)
+        requires { IfSome first (IsFirstText self.old.db) }
+        ensures { self.new ≡ self.old }
+    {
+        if let Some(first) = first {
+            self.past.keep(first);
+        }
     }
 
     /// Carries a taking out, and returns the message that comes, if one does. It can't be refused.
@@ -155,7 +180,8 @@ impl Sessions {
         ensures database { self.new.db ≡ self.old.db }
         ensures err { OnErr result (self.new ≡ self.old) }
     {
-        let prepared = self.prepared(listed)?;
+        let Composed { prepared, first } = self.composed(listed)?;
+        self.keep(first);
         Ok(self.accept(prepared))
     }
 }

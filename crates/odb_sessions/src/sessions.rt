@@ -372,7 +372,7 @@ impl Sessions {
     pub fn try_copy(&self) -> Result<Sessions, AllocError>
         ensures { IfOk result (λ copy. copy ≡ self.now) }
     {
-        let past = self.past.try_copy()?;
+        let past = self.past.try_copy(self.alloc)?;
         let sessions = self.sessions.try_copy()?;
         let owed = self.owed.clone()?;
         let interest = self.interest.try_copy()?;

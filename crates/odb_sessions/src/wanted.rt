@@ -3,13 +3,16 @@ ghost use Rattle.std.specs.Prelude.{◌≡◌, [], IfOk, IfSome, List, Some, sli
 ghost use Rattle.std.specs.Bool.{OnTrue};
 ghost use Rattle.odb_monitor.specs.Job as model_job;
 ghost use Rattle.odb_sessions.specs.Alike.{AreAlike};
+ghost use Rattle.std.specs.List.{All};
 ghost use Rattle.odb_sessions.specs.Composed.{updates_for};
+ghost use Rattle.odb_sessions.specs.FirstTexts.{AreFirstTexts, IsOfNow};
 ghost use Rattle.odb_sessions.specs.Held.{marks_in};
 ghost use Rattle.odb_sessions.specs.Jobs.{IsFor, Keeps, composition, composition_at};
 ghost use Rattle.odb_sessions.specs.Represented.Job.{job_in};
 ghost use Rattle.odb_sessions.specs.Tied.{AreLive};
 ghost use Rattle.odb_sessions.specs.declared.way.Way.TheVariants as way;
 
+use crate::first_texts::FirstTexts;
 use crate::job::Job;
 use crate::monitor::Monitor;
 use crate::way::Way;
@@ -54,16 +57,19 @@ impl<'a> Decision<'a> {
     }
 }
 
-/// The jobs that a round needs, in the database with its past, and the last decisions.
+/// The jobs that a round needs, in the database with its past, with the texts of first replies that are kept, and the
+/// last decisions.
 pub(crate) struct Wanted<'a> {
     alloc: Global,
     chains: &'a Chains,
+    firsts: &'a FirstTexts,
     jobs: Vec<Job<'a>>,
     last: Vec<Decision<'a>>,
 }
 
 impl<'a> Model for Wanted<'a> {
     ghost use Rattle.std.specs.List.{All};
+    ghost use Rattle.odb_sessions.specs.FirstTexts.{AreFirstTexts, IsOfNow};
     ghost use Rattle.odb_sessions.specs.Jobs as model;
     ghost use Rattle.odb_sessions.specs.Jobs.{IsDecided};
     ghost use Rattle.odb_sessions.specs.Represented.Codes.{wanted_code};
@@ -74,17 +80,19 @@ impl<'a> Model for Wanted<'a> {
 
     ghost view = { λ w. record { chains = w.chains.now; jobs = w.jobs.items } };
 
-    ghost invariant = { λ w. All (IsDecided w.chains.now w.jobs.items) w.last.items };
+    ghost invariant = { λ w. All (IsDecided w.chains.now w.jobs.items) w.last.items × AreFirstTexts w.chains.now.db w.firsts.now × All (IsOfNow w.chains.now.db) w.jobs.items };
 }
 
 impl<'a> Wanted<'a> {
     /// No job is needed yet. O(1).
-    pub(crate) fn new(alloc: Global, chains: &'a Chains) -> Wanted<'a>
+    pub(crate) fn new(alloc: Global, chains: &'a Chains, firsts: &'a FirstTexts) -> Wanted<'a>
+        requires { AreFirstTexts chains.now.db firsts.now }
         ensures { result ≡ record { chains = chains.now; jobs = [] } }
     {
         Wanted {
             alloc,
             chains,
+            firsts,
             jobs: Vec::new(alloc),
             last: Vec::new(alloc),
         }
@@ -103,11 +111,13 @@ impl<'a> Wanted<'a> {
 
     /// The jobs.
     pub(crate) fn into_jobs(self) -> Vec<Job<'a>>
-        ensures { result.items ≡ self.entry.jobs }
+        ensures jobs { result.items ≡ self.entry.jobs }
+        ensures now { All (IsOfNow self.entry.chains.db) result.items }
     {
         let Wanted {
             alloc: _,
             chains: _,
+            firsts: _,
             jobs,
             last: _,
         } = self;
@@ -187,7 +197,8 @@ impl<'a> Wanted<'a> {
         Ok(Some(place))
     }
 
-    /// The place of a new job for the client of a monitor: its first reply. O(1).
+    /// The place of a new job for the client of a monitor: its first reply, with its text where that is kept. The costs
+    /// are those of `FirstTexts::find`.
     pub(crate) fn first_reply(&mut self, monitor: &'a Monitor) -> Result<usize, AllocError>
         requires { AreLive self.old.chains (marks_in monitor.now) }
         ensures place { IfOk result (λ place. (all : List model_job.Job) → Keeps self.new.jobs all
@@ -195,12 +206,14 @@ impl<'a> Wanted<'a> {
         ensures jobs { Keeps self.old.jobs self.new.jobs }
         ensures chains { self.new.chains ≡ self.old.chains }
     {
-        let job = Job::new(self.alloc, self.chains, monitor, Way::First)?;
+        let text = self.firsts.find(monitor);
+        let job = Job::first(self.alloc, self.chains, monitor, text);
         self.add(job)
     }
 
     /// The place of one job more.
     fn add(&mut self, job: Job<'a>) -> Result<usize, AllocError>
+        requires { IsOfNow self.old.chains.db job }
         ensures place { IfOk result (λ place. slice_get self.new.jobs place ≡ Some job.entry) }
         ensures jobs { Keeps self.old.jobs self.new.jobs }
         ensures chains { self.new.chains ≡ self.old.chains }
@@ -219,6 +232,7 @@ impl Drop for Wanted<'_> {
         let Wanted {
             alloc: _,
             chains: _,
+            firsts: _,
             jobs: _,
             last: _,
         } = self;

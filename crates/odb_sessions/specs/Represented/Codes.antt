@@ -17,6 +17,7 @@ use Rattle.odb_service.specs.Session.{Item, Monitor, Session, Watch}
 use Rattle.odb_service.specs.WorldCode.{item_code, monitor_code, session_code, watch_code}
 use Rattle.odb_tables.specs.Database.{Db, db_code}
 use Rattle.odb_sessions.specs.Book.{Book}
+use Rattle.odb_sessions.specs.FirstTexts.{FirstText}
 use Rattle.odb_sessions.specs.Foreseen.{Ahead, Filters, Foreseen}
 use Rattle.odb_sessions.specs.Held.{Held, Kept, Queued, Sessions, Watched, due, plain}
 use Rattle.odb_sessions.specs.Jobs.{Decision, Round, Wanted}
@@ -79,6 +80,12 @@ ahead_code = code_by (Held × Option Filters) (coded× held_code (coded_option f
 
 abbrev pub decision_code : Coded Decision
 decision_code = code_by (Held × Option ℕ) (coded× held_code (coded_option coded_ℕ)) (λ d. (d.held, d.place)) (λ p. record { held = p.0; place = p.1 }) (λ d. refl)
+
+abbrev pub first_text_code : Coded FirstText
+first_text_code = code_by (Notation × (List Request × List ℕ)) (coded× notation_code (coded× (coded_list request_code) (coded_list coded_ℕ))) (λ f. (f.notation, (f.requests, f.text))) (λ p. record { notation = p.0; requests = p.1.0; text = p.1.1 }) (λ f. refl)
+
+abbrev pub first_texts_code : Coded (List FirstText)
+first_texts_code = coded_list first_text_code
 
 abbrev pub wanted_code : Coded Wanted
 wanted_code = code_by (Chains × List Job) (coded× chains_code (coded_list job_code)) (λ w. (w.chains, w.jobs)) (λ p. record { chains = p.0; jobs = p.1 }) (λ w. refl)

@@ -1,4 +1,4 @@
-use Rattle.std.proofs.Common.{rules, ◌≡◌, ◌+◌, ◌++◌, ◌<◌, ◌≤◌, List, [], ◌∷◌, arith, length, map, slice_index_or, subst, sym, ◌∙◌}
+use Rattle.std.proofs.Common.{rules, ◌≡◌, ◌++◌, ◌<◌, List, [], ◌∷◌, length, slice_index_or, subst, sym, ◌∙◌}
 use Rattle.odb_monitor.specs.Job.{Part}
 use Rattle.odb_sessions.specs.Composed.{IsKnown, part_in}
 use Rattle.odb_sessions.specs.Held.{Watched}

@@ -1,4 +1,4 @@
-use Rattle.std.proofs.Common.{rules, ◌≡◌, ◌+◌, ◌++◌, ◌<◌, ◌≤◌, List, [], ◌∷◌, arith, length, map, slice_index_or, subst, sym, ◌∙◌}
+use Rattle.std.proofs.Common.{rules, ◌≡◌, ◌++◌, ◌<◌, List, [], ◌∷◌, length, slice_index_or, sym, ◌∙◌}
 use Rattle.odb_sessions.specs.Foreseen.{as_told}
 use Rattle.odb_sessions.specs.Held.{Held}
 use Rattle.odb_sessions.proofs.Loops.{mapped_more}

@@ -1,4 +1,4 @@
-use Rattle.std.proofs.Common.{rules, ◌≡◌, ◌+◌, ◌<◌, ◌≤◌, arith, true, false, List, [], ◌∷◌, drop, is_some, length, option_map, slice_index_or, refl, subst, sym, ap, ◌∙◌}
+use Rattle.std.proofs.Common.{rules, ◌≡◌, ◌+◌, ◌<◌, ◌≤◌, arith, true, false, List, ◌∷◌, drop, is_some, length, option_map, slice_index_or, refl, subst, sym, ap, ◌∙◌}
 use Rattle.std.proofs.lemmas.List.{drop_more}
 use Rattle.odb_chain.specs.Chains.{Chains}
 use Rattle.odb_monitor.specs.Job.{Job}
@@ -9,7 +9,7 @@ use Rattle.odb_sessions.specs.Represented.Composed.{text_under}
 use Rattle.odb_sessions.specs.Tied.{AreLive}
 use Rattle.odb_sessions.proofs.Aheads.{live_ahead}
 use Rattle.odb_sessions.proofs.Places.{keeps_itself, keeps_on}
-use Rattle.odb_sessions.proofs.Rests.{found_monitors, found_out, is_mapped, none_yet, rest_done, rest_none, rest_of, text_at, text_to}
+use Rattle.odb_sessions.proofs.Rests.{found_monitors, found_out, is_mapped, none_yet, rest_done, rest_none, rest_of, text_at}
 use Rattle.odb_sessions.proofs.foreseen.rest_due.Goals as goal
 use Rattle.odb_sessions.specs.Book.{revision_at}
 

@@ -1,4 +1,4 @@
-use Rattle.std.proofs.Common.{rules, ◌≡◌, List, [], Option, Some, None, sym, ap, ◌∙◌}
+use Rattle.std.proofs.Common.{rules, ◌≡◌, List, [], Some, None, ap, ◌∙◌}
 use Rattle.std.proofs.lemmas.Result.{IfOk-weaker}
 use Rattle.odb_service.specs.Session.{refilter}
 use Rattle.odb_sessions.specs.Composed.{asked_of}

@@ -1,4 +1,4 @@
-use Rattle.std.proofs.Common.{rules, ◌≡◌, ◌+◌, ◌++◌, ◌≤◌, suc, List, [], ◌∷◌, arith, append-nil, length, map, refl, sym, ap, ◌∙◌}
+use Rattle.std.proofs.Common.{rules, ◌≡◌, ◌+◌, ◌++◌, ◌≤◌, suc, List, [], ◌∷◌, arith, append-nil, length, map, sym, ap, ◌∙◌}
 use Rattle.std.specs.Prelude.{vec_capacity, vec_len}
 use Rattle.std.proofs.lemmas.List.{nil_from_length}
 use Rattle.odb_sessions.specs.Represented.Ready.{pending_of}

@@ -1,4 +1,4 @@
-use Rattle.std.proofs.Common.{rules, ◌≡◌, List, Option, Some, None, option_map, sym, ap, subst, ◌∙◌}
+use Rattle.std.proofs.Common.{rules, ◌≡◌, Option, Some, None, option_map, sym, subst}
 use Rattle.odb_atoms.specs.FinMap as finite
 use Rattle.odb_sessions.specs.Held.{Kept, seen}
 use Rattle.odb_sessions.specs.Represented.Taking.{ready_by, text_planned}

@@ -1,4 +1,4 @@
-use Rattle.std.proofs.Common.{rules, ◌≡◌, ℕ, ◌<◌, ◌≤◌, ◌+◌, ◌++◌, ◌∷◌, [], List, Option, get_or, length, map, option_map, take, take_all, refl, sym, ap, subst, ◌∙◌, arith}
+use Rattle.std.proofs.Common.{rules, ◌≡◌, ℕ, ◌<◌, ◌≤◌, ◌+◌, ◌++◌, ◌∷◌, [], List, Option, get_or, length, map, option_map, take_all, refl, sym, ap, subst, ◌∙◌, arith}
 use Rattle.std.specs.Prelude.{vec_capacity, vec_len}
 use Rattle.std.proofs.lemmas.List.{map-append, take_more}
 use Rattle.odb_atoms.specs.FinMap.{get}
@@ -10,7 +10,7 @@ use Rattle.odb_sessions.specs.Book.{Book, revision_at}
 use Rattle.odb_sessions.specs.Held.{Sessions, all_seen, seen}
 use Rattle.odb_sessions.specs.Jobs.{Keeps}
 use Rattle.odb_sessions.specs.Represented.Taking.{pending_by, ready_by}
-use Rattle.odb_sessions.specs.Taken.{AreReady, IsReadyFor, Pending}
+use Rattle.odb_sessions.specs.Taken.{AreReady, IsReadyFor}
 use Rattle.odb_sessions.specs.Tied.{AreAllLive}
 use Rattle.odb_sessions.specs.declared.jobs.Planned.{Planned}
 use Rattle.odb_sessions.proofs.Places.{keeps_on}
@@ -81,3 +81,6 @@ taking_at-requires c = subst (λ (k : Chains). AreAllLive k c.args.sessions.now)
 
 pub returns-clause-ready : goal.returns-clause-ready
 returns-clause-ready c = c.loop-session.invariant.1
+
+pub returns-clause-chains : goal.returns-clause-chains
+returns-clause-chains c = c.loop-session.invariant.4

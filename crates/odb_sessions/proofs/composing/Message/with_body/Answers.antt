@@ -1,4 +1,4 @@
-use Rattle.std.proofs.Common.{◌≡◌, Option, List, ℕ, ◌∙◌}
+use Rattle.std.proofs.Common.{◌≡◌, ◌∙◌}
 use Rattle.odb_sessions.specs.Jobs.{composition_at}
 use Rattle.odb_sessions.specs.Represented.Composed.{bytes_in}
 use Rattle.odb_sessions.specs.Taken.{composed_text}

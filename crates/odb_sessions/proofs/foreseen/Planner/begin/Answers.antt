@@ -1,4 +1,4 @@
-use Rattle.std.proofs.Common.{◌≡◌, List, Some, subst, sym, ap, ◌∙◌}
+use Rattle.std.proofs.Common.{List, Some, subst, sym, ap, ◌∙◌}
 use Rattle.odb_chain.specs.Chains.{Chains}
 use Rattle.odb_monitor.specs.Job.{Job}
 use Rattle.odb_sessions.specs.Foreseen.{Foreseen, due_text, marks_ahead}

@@ -1,4 +1,4 @@
-use Rattle.std.proofs.Common.{◌≡◌, List, is_some, sym, ap, ◌∙◌}
+use Rattle.std.proofs.Common.{List, is_some, sym, ap, ◌∙◌}
 use Rattle.odb_monitor.specs.Job.{Job}
 use Rattle.odb_service.specs.Server.{served_by}
 use Rattle.odb_sessions.specs.Foreseen.{due_text}

@@ -1,4 +1,4 @@
-use Rattle.std.proofs.Common.{rules, ◌≡◌, List, flat_map, map, subst, sym, ap, ◌∙◌}
+use Rattle.std.proofs.Common.{List, flat_map, map, subst, sym, ap, ◌∙◌}
 use Rattle.odb_chain.specs.Chains.{Chains}
 use Rattle.odb_sessions.specs.Foreseen.{Ahead, Foreseen, marks_ahead, seen_ahead}
 use Rattle.odb_sessions.specs.Held.{marks_in}

@@ -1,10 +1,9 @@
-use Rattle.std.proofs.Common.{rules, ◌≡◌, true, List, is_some, subst, sym, ap, ◌∙◌}
+use Rattle.std.proofs.Common.{rules, ◌≡◌, true, List, is_some, sym, ap, ◌∙◌}
 use Rattle.std.proofs.lemmas.Result.{IfOk-weaker}
 use Rattle.odb_monitor.specs.Job.{Job, Part}
-use Rattle.odb_request.specs.Request.{Request}
 use Rattle.odb_sessions.specs.Composed.{asked_of, first_job, first_part, own_job}
 use Rattle.odb_sessions.specs.Held.{Held, Watched}
-use Rattle.odb_sessions.specs.Represented.Job.{asked_by, filters_by, job_in}
+use Rattle.odb_sessions.specs.Represented.Job.{filters_by, job_in}
 use Rattle.odb_sessions.specs.Represented.Under.{filters_in}
 use Rattle.odb_sessions.specs.declared.way.Way.TheVariants as way
 use Rattle.odb_sessions.proofs.Replays.{map-map}

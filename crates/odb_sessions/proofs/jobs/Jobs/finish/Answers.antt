@@ -3,8 +3,6 @@ use Rattle.std.specs.Prelude.{vec_capacity}
 use Rattle.odb_monitor.specs.Job.{Job}
 use Rattle.odb_sessions.specs.Jobs.{Round, composition}
 use Rattle.odb_sessions.specs.Represented.Composed.{bytes_in}
-use Rattle.odb_sessions.specs.Represented.Ready.{pending_of}
-use Rattle.odb_sessions.specs.Represented.Taking.{pending_by}
 use Rattle.odb_sessions.proofs.Pendings.{as_many_ready}
 use Rattle.odb_sessions.proofs.jobs.Jobs.finish.Goals as goal
 

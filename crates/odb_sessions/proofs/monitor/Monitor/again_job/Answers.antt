@@ -1,7 +1,7 @@
 use Rattle.std.proofs.Common.{rules, ◌≡◌, false, List, length, subst, sym, ap, ◌∙◌}
 use Rattle.std.specs.List.{All}
 use Rattle.odb_chain.specs.Chains.{Chains}
-use Rattle.odb_monitor.specs.Job.{Job, Part}
+use Rattle.odb_monitor.specs.Job.{Job}
 use Rattle.odb_request.specs.Represented.Kind.{notation_of}
 use Rattle.odb_sessions.specs.Composed.{IsKnown}
 use Rattle.odb_sessions.specs.Foreseen.{Filters, all_parts_again}

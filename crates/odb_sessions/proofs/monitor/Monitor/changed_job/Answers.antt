@@ -1,8 +1,7 @@
 use Rattle.std.proofs.Common.{rules, ◌≡◌, false, List, length, map, subst, sym, ap, ◌∙◌}
 use Rattle.std.specs.List.{All}
 use Rattle.odb_chain.specs.Chains.{Chains}
-use Rattle.odb_monitor.specs.Job.{Job, Part}
-use Rattle.odb_request.specs.Request.{Request}
+use Rattle.odb_monitor.specs.Job.{Job}
 use Rattle.odb_request.specs.Represented.Kind.{notation_of}
 use Rattle.odb_service.specs.Session.{refilter}
 use Rattle.odb_sessions.specs.Composed.{IsKnown, all_asked_as, asked_of, part_to}

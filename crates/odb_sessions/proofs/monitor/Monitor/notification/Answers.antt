@@ -1,4 +1,4 @@
-use Rattle.std.proofs.Common.{rules, ◌≡◌, Option, Some, None, option_map, sym, ap, ◌∙◌}
+use Rattle.std.proofs.Common.{rules, ◌≡◌, Some, None, option_map, sym, ap, ◌∙◌}
 use Rattle.odb_request.specs.Represented.Kind.{notation_of}
 use Rattle.odb_sessions.specs.Composed.{notified_text}
 use Rattle.odb_sessions.specs.Held.{Held}

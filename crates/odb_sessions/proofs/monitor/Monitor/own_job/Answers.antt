@@ -1,6 +1,6 @@
 use Rattle.std.proofs.Common.{rules, ◌≡◌, List, map, subst, sym, ap, ◌∙◌}
 use Rattle.std.specs.List.{All}
-use Rattle.odb_monitor.specs.Job.{Job, Part}
+use Rattle.odb_monitor.specs.Job.{Job}
 use Rattle.odb_request.specs.Represented.Kind.{notation_of}
 use Rattle.odb_sessions.specs.Composed.{IsKnown, part_in}
 use Rattle.odb_sessions.specs.Held.{Held, Watched}

@@ -1,4 +1,4 @@
-use Rattle.std.proofs.Common.{◌≡◌, List, [], map, refl, ap, subst, sym, ◌∙◌}
+use Rattle.std.proofs.Common.{List, [], map, refl, ap, subst, sym, ◌∙◌}
 use Rattle.std.specs.Prelude.{flat_map}
 use Rattle.odb_atoms.specs.FinMap.{empty}
 use Rattle.odb_service.specs.Run.{take_each}

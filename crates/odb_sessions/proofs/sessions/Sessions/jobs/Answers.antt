@@ -1,7 +1,10 @@
-use Rattle.std.proofs.Common.{rules, ◌≡◌, List, map, ap, subst, sym, ◌∙◌}
+use Rattle.std.proofs.Common.{◌≡◌, List, map, ap, subst, sym, ◌∙◌}
 use Rattle.odb_chain.specs.Chains.{Chains}
 use Rattle.odb_monitor.specs.Job.{Job}
+use Rattle.std.specs.List.{All}
 use Rattle.odb_sessions.specs.Book.{Book}
+use Rattle.odb_sessions.specs.FirstTexts.{IsOfNow}
+use Rattle.odb_tables.specs.Database.{Db}
 use Rattle.odb_sessions.specs.Foreseen.{Foreseen}
 use Rattle.odb_sessions.specs.Held.{all_seen}
 use Rattle.odb_sessions.specs.Jobs.{AreOfJobs, Round}
@@ -25,8 +28,14 @@ returns-clause-ready c = λ s.
     let js : List Job = c.into_jobs.result.items in
     let planner : c.new-planner.result.chains ≡ c.self.inside.past = ap (λ (f : Foreseen). f.chains) c.new-planner.ensures ∙ c.chains.ensures in
     let same = (λ i. let k : Chains = planner i in let b : Book = record { db = k.db; sessions = all_seen c.self.inside.sessions } in b) ∙ c.self.view_is in
-    let ready = c.in_ok-takings.ensures.ready s js (keeps_same c.takings_at.new.planner.jobs js c.into_jobs.ensures) in
+    let ready = c.in_ok-takings.ensures.ready s js (keeps_same c.takings_at.new.planner.jobs js c.into_jobs.ensures.jobs) in
     subst (λ (r : Round). AreReady s c.args.self.now r.takings) (sym c.new.ensures) (subst (λ (b : Book). AreReady s b (map (pending_by js) c.in_ok-takings.takings.items)) same ready)
 
 pub returns-clause-jobs : goal.returns-clause-jobs
 returns-clause-jobs c = subst (λ (r : Round). AreOfJobs r.jobs r.takings) (sym c.new.ensures) (of_jobs c.into_jobs.result.items c.in_ok-takings.takings.items)
+
+pub returns-clause-now : goal.returns-clause-now
+returns-clause-now c =
+    let planner : c.new-planner.result.chains ≡ c.self.inside.past = ap (λ (f : Foreseen). f.chains) c.new-planner.ensures ∙ c.chains.ensures in
+    let db : c.takings_at.new.planner.chains.db ≡ c.args.self.now.db = ap (λ (k : Chains). k.db) (c.in_ok-takings.ensures.chains ∙ planner) ∙ ap (λ (b : Book). b.db) c.self.view_is in
+    subst (λ (r : Round). All (IsOfNow c.args.self.now.db) r.jobs) (sym c.new.ensures) (subst (λ (d : Db). All (IsOfNow d) c.into_jobs.result.items) db c.into_jobs.ensures.now)

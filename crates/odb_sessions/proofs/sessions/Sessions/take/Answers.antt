@@ -1,19 +1,15 @@
-use Rattle.std.proofs.Common.{rules, ◌≡◌, ℕ, List, Option, Some, None, option_map, refl, sym, ap, subst, ◌∙◌}
+use Rattle.std.proofs.Common.{rules, ◌≡◌, ℕ, List, Option, Some, None, option_map, sym, ap, ◌∙◌}
 use Rattle.std.specs.Prelude.{option_and_then}
 use Rattle.odb_atoms.specs.FinMap.{get}
-use Rattle.odb_queue.specs.Represented.Item.{item_of}
 use Rattle.odb_queue.specs.declared.finished.Finished.{Finished}
-use Rattle.odb_schema.specs.Schema.{Schema}
 use Rattle.odb_service.specs.Server.{served_by}
-use Rattle.odb_service.specs.Session.{Session, take}
+use Rattle.odb_service.specs.Session.{Session}
 use Rattle.odb_sessions.specs.Book.{Book, revision_in}
-use Rattle.odb_sessions.specs.Carried.{last_finished}
 use Rattle.odb_sessions.specs.Foreseen.{last_used}
 use Rattle.odb_sessions.specs.Represented.Composed.{bytes_in}
 use Rattle.odb_sessions.specs.Represented.Out.{sent_in}
 use Rattle.odb_sessions.specs.Represented.Ready.{ready_of, text_coming}
 use Rattle.odb_sessions.specs.Taken.{Text, composed_text, last_text, no_text, text_from, text_taken}
-use Rattle.odb_sessions.specs.declared.out.Out.{Out}
 use Rattle.odb_sessions.proofs.Rounds.{book_ready, queued_text, text_ready, uses_of}
 use Rattle.odb_sessions.proofs.sessions.Sessions.take.Goals as goal
 use Rattle.odb_sessions.proofs.sessions.Sessions.take.Goals.{in-Nothing+in-Some-1, in-Nothing+in-None-1, in-Queued+in_ok-queued-in-Queued, in-Composed+in-Some-1, in-Composed+in-None-1}

@@ -1,7 +1,6 @@
-use Rattle.std.proofs.Common.{rules, ◌≡◌, ℕ, suc, ◌<◌, ◌≤◌, ◌+◌, ◌++◌, ◌∷◌, [], List, Option, Some, None, length, map, append-nil, refl, sym, ap, subst, ◌∙◌, arith}
-use Rattle.std.specs.Prelude.{option_map, option_to_list, vec_capacity, vec_len}
+use Rattle.std.proofs.Common.{rules, ◌≡◌, ℕ, suc, ◌≤◌, ◌+◌, ◌++◌, ◌∷◌, [], List, Some, None, length, map, append-nil, refl, sym, ap, subst, ◌∙◌, arith}
+use Rattle.std.specs.Prelude.{option_map, vec_capacity, vec_len}
 use Rattle.std.proofs.lemmas.List.{map-append, nil_from_length}
-use Rattle.odb_schema.specs.Schema.{Schema}
 use Rattle.odb_service.specs.Run.{take_each}
 use Rattle.odb_service.specs.Server.{printed, served_by}
 use Rattle.odb_service.specs.World.{World}

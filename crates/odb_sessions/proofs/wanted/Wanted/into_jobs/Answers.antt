@@ -1,6 +1,11 @@
-use Rattle.std.proofs.Common.{ap}
+use Rattle.std.proofs.Common.{ap, subst}
+use Rattle.std.specs.List.{All}
+use Rattle.odb_sessions.specs.FirstTexts.{IsOfNow}
 use Rattle.odb_sessions.specs.Jobs.{Wanted}
 use Rattle.odb_sessions.proofs.wanted.Wanted.into_jobs.Goals as goal
 
-pub returns : goal.returns
-returns c = ap (λ (w : Wanted). w.jobs) c.self.view_is
+pub returns-clause-jobs : goal.returns-clause-jobs
+returns-clause-jobs c = ap (λ (w : Wanted). w.jobs) c.self.view_is
+
+pub returns-clause-now : goal.returns-clause-now
+returns-clause-now c = subst (λ (w : Wanted). All (IsOfNow w.chains.db) c.self.inside.jobs.items) c.self.view_is c.self.invariant.2

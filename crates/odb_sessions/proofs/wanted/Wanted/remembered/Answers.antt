@@ -1,4 +1,4 @@
-use Rattle.std.proofs.Common.{rules, ◌≡◌, ◌<◌, true, List, Option, ℕ, length, slice_index_or, subst, sym, ap, ◌∙◌}
+use Rattle.std.proofs.Common.{rules, ◌≡◌, ◌<◌, true, List, length, slice_index_or, subst, sym}
 use Rattle.std.specs.Bool.{OnTrue}
 use Rattle.odb_chain.specs.Chains.{Chains}
 use Rattle.odb_monitor.specs.Job.{Job}
@@ -20,7 +20,7 @@ returns-then-serves c =
     let y : Held = c.args.monitor.now in
     let inside : i < length xs = search rules in
     let is : x ≡ slice_index_or xs i x = search rules in
-    let decided : IsDecided k js x = subst (IsDecided k js) (sym is) (c.self.invariant i x inside) in
+    let decided : IsDecided k js x = subst (IsDecided k js) (sym is) (c.self.invariant.0 i x inside) in
     let serves : c.serves.result ≡ true = search rules in
     let alike : AreAlike x.held y = subst (λ b. OnTrue b (AreAlike x.held y)) serves c.serves.ensures in
     let live : AreLive k (marks_in y) = subst (λ (w : Wanted). AreLive w.chains (marks_in y)) (sym c.self.view_is) c.requires in

@@ -1,6 +1,5 @@
-use Rattle.std.proofs.Common.{◌≡◌, Option, List, ℕ, subst, sym, ap, ◌∙◌}
+use Rattle.std.proofs.Common.{subst, sym}
 use Rattle.odb_chain.specs.Chains.{Chains}
-use Rattle.odb_monitor.specs.Job.{Job}
 use Rattle.odb_sessions.specs.Composed.{updates_for}
 use Rattle.odb_sessions.specs.Held.{marks_in}
 use Rattle.odb_sessions.specs.Jobs.{IsFor, Keeps, Wanted}

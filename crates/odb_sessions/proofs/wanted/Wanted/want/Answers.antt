@@ -1,10 +1,11 @@
-use Rattle.std.proofs.Common.{rules, ◌≡◌, true, false, is_some, Option, Some, None, List, ℕ, subst, sym, ap, ◌∙◌}
-use Rattle.odb_chain.specs.Chains.{Chains}
+use Rattle.std.proofs.Common.{rules, ◌≡◌, true, false, is_some, Some, None, subst, sym, ap, ◌∙◌}
 use Rattle.odb_monitor.specs.Job.{Job, updates_of}
-use Rattle.odb_sessions.specs.Held.{Held, marks_in}
+use Rattle.odb_sessions.specs.FirstTexts.{IsOfNow}
+use Rattle.odb_sessions.specs.Held.{marks_in}
 use Rattle.odb_sessions.specs.Jobs.{IsFor, Wanted, composition}
 use Rattle.odb_sessions.specs.Represented.Job.{job_in}
 use Rattle.odb_sessions.specs.Tied.{AreLive}
+use Rattle.odb_sessions.proofs.FirstTexts.{of_now}
 use Rattle.odb_sessions.proofs.Places.{keeps_itself, none_for, some_for}
 use Rattle.odb_sessions.proofs.wanted.Wanted.want.Goals as goal
 
@@ -22,6 +23,13 @@ returns-then-not-is_sent-clause-place c =
 
 pub returns-then-not-is_sent-clause-jobs : goal.returns-then-not-is_sent-clause-jobs
 returns-then-not-is_sent-clause-jobs c = keeps_itself c.args.self.now.jobs
+
+pub add-requires : goal.add-requires
+add-requires c =
+    let is : c.in_ok-job.job ≡ job_in c.args.self.now.chains.db c.args.monitor.now c.args.way =
+    c.in_ok-job.ensures ∙ ap (λ (w : Wanted). job_in w.chains.db c.args.monitor.now c.args.way) c.self.view_is
+    in
+    subst (IsOfNow c.args.self.now.chains.db) (sym is) (of_now c.args.self.now.chains.db c.args.monitor.now c.args.way)
 
 pub returns-clause-place : goal.returns-clause-place
 returns-clause-place c =
