@@ -17,6 +17,7 @@ pub(crate) struct Crew {
     idle: Mutex<Idle>,
 }
 
+/// The desks of the pairs that are idle, and whether the daemon ends.
 #[derive(Drop)]
 struct Idle {
     desks: Vec<Arc<Desk>>,
@@ -24,7 +25,7 @@ struct Idle {
 }
 
 impl Crew {
-    /// No pair is idle.
+    /// Makes a crew of which no pair is idle.
     pub(crate) fn new(alloc: Global) -> Crew {
         Crew {
             alloc,
@@ -50,8 +51,8 @@ impl Crew {
         Err(stream)
     }
 
-    /// The next connection of a pair that has none. None where it is given none for a minute, where memory is refused, and
-    /// where the daemon ends.
+    /// Waits for the next connection of a pair that has none. None where it is given none for a minute, where memory is
+    /// refused, and where the daemon ends.
     pub(crate) fn next<R: Wait>(&self, rt: &R) -> Option<TcpStream> {
         let desk = Arc::new(self.alloc, Desk::new()).ok()?;
         let mine = Arc::try_clone(&desk).ok()?;
@@ -68,7 +69,7 @@ impl Crew {
         !idle.closed && idle.desks.push(desk).is_ok()
     }
 
-    /// The daemon ends: no pair is given a connection any more.
+    /// Ends the crew, as the daemon ends: no pair is given a connection any more.
     pub(crate) fn close<R: Wait>(&self, rt: &R) {
         let desks = self.take_all(rt);
         for desk in desks {
@@ -76,6 +77,7 @@ impl Crew {
         }
     }
 
+    /// Takes the desks of all that are idle, and lets nobody come after them.
     fn take_all<R: Wait>(&self, rt: &R) -> Vec<Arc<Desk>> {
         let mut idle = self.idle.lock(rt);
         idle.closed = true;
@@ -83,13 +85,14 @@ impl Crew {
     }
 }
 
-/// Where a pair that is idle is given a connection.
+/// The place where a pair that is idle is given a connection.
 #[derive(Drop)]
 struct Desk {
     place: Mutex<Place>,
     given: Parker,
 }
 
+/// The connection that a pair was given, and whether the pair has left.
 #[derive(Drop)]
 struct Place {
     stream: Option<TcpStream>,
@@ -97,6 +100,7 @@ struct Place {
 }
 
 impl Desk {
+    /// Makes a desk where nothing was given.
     fn new() -> Desk {
         Desk {
             place: Mutex::new(Place {
@@ -120,7 +124,7 @@ impl Desk {
         Ok(())
     }
 
-    /// What the pair was given. Where that is nothing it has left, and is given nothing.
+    /// Takes what the pair was given. Where that is nothing it has left, and is given nothing.
     fn take_or_leave<R: Wait>(&self, rt: &R) -> Option<TcpStream> {
         let mut place = self.place.lock(rt);
         let stream = place.stream.take();

@@ -27,7 +27,7 @@ pub(crate) struct Pair {
 }
 
 impl Pair {
-    /// No session is handed over.
+    /// Makes what the threads share before a session is handed over.
     pub(crate) fn new() -> Pair {
         Pair {
             work: Mutex::new(None),
@@ -44,13 +44,13 @@ impl Pair {
         self.writer.unpark();
     }
 
-    /// There are no more sessions.
+    /// Ends the pair: there are no more sessions.
     pub(crate) fn end(&self) {
         self.ended.store(1, Ordering::SeqCst);
         self.writer.unpark();
     }
 
-    /// The next session, or none when there are no more.
+    /// Waits for the next session; none when there are no more.
     pub(crate) fn next<R: Wait>(&self, rt: &R) -> Option<Work> {
         for _ in rt.forever() {
             if let Some(work) = self.work.lock(rt).take() {

@@ -2,9 +2,10 @@
 
 use std::alloc::{AllocError, Global};
 
-/// How many bytes are read at once where little comes, and where more does.
+/// How many bytes are read at once where little comes.
 const LEAST: usize = 512;
 
+/// How many bytes are read at once where more comes.
 const MOST: usize = 8_192;
 
 /// After how many reads in a row that needed no more than the least room the rest is given back.
@@ -18,7 +19,7 @@ pub(crate) struct Piece {
 }
 
 impl Piece {
-    /// The least room.
+    /// Makes the least room.
     pub(crate) fn new(alloc: Global) -> Result<Piece, AllocError> {
         let mut bytes = Vec::new(alloc);
         bytes.resize(LEAST, 0u8)?;
