@@ -1,5 +1,5 @@
 -- What is kept stays so at each event.
-use Rattle.std.proofs.Common.{◌≡◌, ℕ, ◌+◌, ◌==◌, ◌≤◌, length, Bool, true, false, cond, List, [], ◌∷◌, ◌++◌, map, Option, Some, None, is_some, refl, sym, ap, subst, ◌∙◌, append-nil, append_assoc, true≢false, arith, inl, inr, Ok}
+use Rattle.std.proofs.Common.{◌≡◌, ℕ, ◌+◌, ◌==◌, ◌≤◌, length, Bool, true, false, cond, List, [], ◌∷◌, ◌++◌, map, Option, Some, None, is_some, refl, sym, ap, subst, ◌∙◌, append-nil, append_assoc, true≢false, arith, Ok}
 use Rattle.std.specs.Prelude.{◌-◌, ◌^◌, min, nat_le, option_to_list}
 use Rattle.std.proofs.lemmas.List.{length-append, length-map}
 use Rattle.std.proofs.lemmas.Bool.Decides.{nat_tests}
@@ -9,7 +9,7 @@ use Rattle.serde_json.specs.Data.{Data}
 use Rattle.odb_atoms.specs.FinMap.{empty, get, insert, remove}
 use Rattle.odb_atoms.specs.Uuid.{Uuid}
 use Rattle.odb_hub.specs.Kept.{AreOpen, AreTold, AreUnused, EndsWith, IsKept, counted, Kept, Takes, TakesRound, is_in, text_of}
-use Rattle.odb_hub.specs.Rings.{HandsOver, HasRoom, IsFlushed, IsFlushedAt, IsServed, Ring, Rings, Text, free_of, is_free_at, room_of, texts, texts_to}
+use Rattle.odb_hub.specs.Rings.{HandsOver, HasRoom, IsFlushedAt, IsServed, Ring, Rings, Text, free_of, is_free_at, room_of, texts, texts_to}
 use Rattle.odb_hub.proofs.Free.{listed, rising}
 use Rattle.odb_hub.proofs.HandingOver.{flushed_texts, served, still_texts}
 use Rattle.odb_hub.proofs.Stepping.{IsTold, history_begins, history_on, ends_nothing, open_closed, open_opened, open_round, open_submitted, open_ticked, ok_is, served_with, step_of, told_on}

@@ -3,6 +3,7 @@ pub mod Counting
 pub mod Crossing
 pub mod Free
 pub mod FreeAmong
+pub mod Given
 pub mod HandingOver
 pub mod Keeping
 pub mod OwnRounds

@@ -1,16 +1,16 @@
 -- A round of one session alone.
-use Rattle.std.proofs.Common.{◌≡◌, ℕ, ◌+◌, ◌==◌, ◌≤◌, ◌||◌, length, Bool, true, false, cond, List, [], ◌∷◌, ◌++◌, Option, Some, None, refl, sym, ap, subst, ◌∙◌, append-nil, true≢false, arith, Ok}
+use Rattle.std.proofs.Common.{◌≡◌, ℕ, ◌+◌, ◌==◌, ◌≤◌, ◌||◌, length, Bool, true, false, cond, List, [], ◌∷◌, Option, Some, None, refl, sym, ap, subst, ◌∙◌, append-nil, true≢false, arith, Ok}
 use Rattle.std.proofs.lemmas.List.{nil_from_length}
 use borrow.Author.Tests.{eqb-true}
 use Rattle.odb_atoms.specs.FinMap.{get}
 use Rattle.odb_hub.specs.Counted.{submits}
 use Rattle.odb_hub.specs.Kept.{IsKept, Kept, Takes}
-use Rattle.odb_hub.specs.Own.{FlushesOwn, GivesOwn, LeavesOthers, TakesIf, TakesOwnRound, TakesOwnRounds}
-use Rattle.odb_hub.specs.Rings.{HandsOver, HasRoom, IsFlushedAt, IsServed, Ring, Rings, Text, is_free_at, room_of, texts, texts_to}
+use Rattle.odb_hub.specs.Own.{FlushesOwn, GivesOwn, TakesIf, TakesOwnRound, TakesOwnRounds}
+use Rattle.odb_hub.specs.Rings.{HandsOver, HasRoom, IsFlushedAt, Ring, Rings, Text, is_free_at, room_of, texts, texts_to}
 use Rattle.odb_hub.proofs.Counting.{same_count, same_events}
 use Rattle.odb_hub.proofs.HandingOver.{flushed_itself, nothing_more, served}
 use Rattle.odb_hub.proofs.Keeping.{Grows, grown, grown_kept, most_texts, round_kept}
-use Rattle.odb_service.specs.Run.{Event, round}
+use Rattle.odb_service.specs.Run.{round}
 use Rattle.odb_service.specs.Server.{Server, serve}
 
 abbrev Same : ℕ → Rings → Rings → Type 0

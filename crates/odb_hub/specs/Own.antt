@@ -1,9 +1,12 @@
 -- Rounds of one session alone.
-use Rattle.std.specs.Prelude.{◌≡◌, ℕ, ◌==◌, length, Bool, true, false, List, [], ◌∷◌}
+use Rattle.std.specs.Prelude.{◌≡◌, ℕ, ◌==◌, length, Bool, true, false, List, [], ◌∷◌, Some}
 use Rattle.odb_atoms.specs.FinMap.{get}
 use Rattle.odb_service.specs.Run.{Event, round}
+use Rattle.odb_service.specs.Server.{Server, served_by}
+use Rattle.odb_service.specs.Session.{Session, owed}
+use Rattle.odb_service.specs.World.{revision_of}
 use Rattle.odb_hub.specs.Kept.{Kept, Takes}
-use Rattle.odb_hub.specs.Rings.{IsFlushedAt, IsServed, Text, texts_to}
+use Rattle.odb_hub.specs.Rings.{IsFlushedAt, IsServed, Text, is_free_at, texts_to}
 
 -- the event is taken; or it isn't, and nothing is sent
 abbrev pub TakesIf : Bool → Event → Kept → Kept → List (ℕ × Text) → Type 0
@@ -32,3 +35,11 @@ FlushesOwn s old new = (new.server ≡ old.server) × (new.base ≡ old.base) ×
 -- rounds of this session alone; where memory was refused to one more, what was held back for it may have been sent
 abbrev pub GivesOwn : ℕ → Kept → Kept → Type 0
 GivesOwn s old new = (counts : List ℕ) × (last : Kept) × TakesOwnRounds s counts old last × FlushesOwn s last new
+
+-- further takings give the session nothing
+abbrev pub IsOwedNothing : ℕ → Server → Type 0
+IsOwedNothing s v = (x : Session) → get v.world.sessions s ≡ Some x → owed (served_by v.schema) (revision_of v.world) x ≡ []
+
+-- a message is held back for the session, or it is owed nothing
+abbrev pub IsGiven : ℕ → Kept → Type 0
+IsGiven s k = is_free_at (get k.rings s) ≡ true → IsOwedNothing s k.server

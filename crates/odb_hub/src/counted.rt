@@ -57,7 +57,7 @@ impl<L: Ledger> Counted<L> {
     ghost use Rattle.odb_hub.specs.Batch.{IsSome, IsTurn, Submits, is_sooner};
     ghost use Rattle.odb_hub.specs.Counted.{Closes, IsCounted, SameCount, submits};
     ghost use Rattle.odb_hub.specs.Kept.{IsKept, IsQuiet, Takes, TakesRound, counted};
-    ghost use Rattle.odb_hub.specs.Own.{GivesOwn};
+    ghost use Rattle.odb_hub.specs.Own.{GivesOwn, IsGiven};
     ghost use Rattle.odb_hub.specs.Represented.Mailbox.{name_of, taken};
     ghost use Rattle.odb_hub.specs.Represented.Submission.{events_of};
     ghost use Rattle.odb_hub.specs.Rings.{AreShort, fresh_ring, IsFlushedAt};
@@ -154,6 +154,7 @@ impl<L: Ledger> Counted<L> {
     /// As [`HubState::rounds_for`].
     pub fn rounds_for(&mut self, session: SessionId) -> Result<(), AllocError>
         ensures rounds { GivesOwn session self.old.kept self.new.kept }
+        ensures given { OnOk result (IsGiven session self.new.kept) }
         ensures count { SameCount self.old self.new }
     {
         self.state.rounds_for(session)

@@ -45,7 +45,7 @@ impl<L: Ledger> Hub<L> {
     ghost use Rattle.odb_hub.specs.Batch.{IsSome, IsTurn, Submits};
     ghost use Rattle.odb_hub.specs.Counted.{Closes, UnderLock};
     ghost use Rattle.odb_hub.specs.Kept.{IsQuiet, Takes, TakesRound, counted};
-    ghost use Rattle.odb_hub.specs.Own.{GivesOwn};
+    ghost use Rattle.odb_hub.specs.Own.{GivesOwn, IsGiven};
     ghost use Rattle.odb_hub.specs.Represented.Submission.{events_of};
     ghost use Rattle.odb_hub.specs.Represented.Mailbox.{taken};
 
@@ -125,7 +125,7 @@ impl<L: Ledger> Hub<L> {
 
     /// Gives a session, and no other, what it is owed, until its ring holds a message back: its ring has room again.
     pub fn rounds_for<R: Wait>(&self, rt: &R, session: SessionId) -> Result<(), AllocError>
-        ensures { UnderLock (λ old new. GivesOwn session old.kept new.kept) }
+        ensures { UnderLock (λ old new. GivesOwn session old.kept new.kept × OnOk result (IsGiven session new.kept)) }
     {
         self.enter(rt).rounds_for(session)
     }

@@ -1,5 +1,5 @@
 //! What the lock guards.
-ghost use Rattle.std.specs.Prelude.{◌≡◌, ◌≤◌, ◌⊎◌, ℕ, false, [], map, length, IfErr, IfOk, Ok, OnErr, OnOk};
+ghost use Rattle.std.specs.Prelude.{◌≡◌, ◌≤◌, ◌⊎◌, ℕ, true, false, [], map, length, IfErr, IfOk, Ok, OnErr, OnOk};
 ghost use Rattle.odb_atoms.specs.Represented.Atom.{uuid_of};
 ghost use Rattle.odb_wire.specs.Message.{inserts_of};
 ghost use Rattle.odb_wire.specs.Shown.{request_data};
@@ -57,7 +57,7 @@ impl HubState {
     ghost use Rattle.odb_core.specs.Represented.Reason.{IsReason};
     ghost use Rattle.odb_hub.specs.Batch.{IsSome, IsTurn, RefusesFirst, TakesUpTo};
     ghost use Rattle.odb_hub.specs.Kept.{IsKept, IsQuiet, Takes, TakesRound, counted};
-    ghost use Rattle.odb_hub.specs.Own.{FlushesOwn, GivesOwn, TakesOwnRound};
+    ghost use Rattle.odb_hub.specs.Own.{FlushesOwn, GivesOwn, IsGiven, IsOwedNothing, TakesOwnRound};
     ghost use Rattle.odb_hub.specs.Represented.Submission.{events_of};
     ghost use Rattle.odb_hub.specs.Represented.Mailbox.{name_of, taken};
     ghost use Rattle.odb_hub.specs.Rings.{AreShort, fresh_ring, IsFlushedAt};
@@ -242,10 +242,11 @@ impl HubState {
     }
 
     /// Gives this session alone what it is owed, until it is owed nothing more or its ring holds one back. An error says that
-    /// memory was refused to the last of these rounds. It costs what the rounds cost, of which none is planned where nothing
-    /// is owed.
+    /// memory was refused to the last of these rounds, or that there were 2^64-1. It costs what the rounds cost, of which
+    /// none is planned where nothing is owed.
     pub fn rounds_for(&mut self, session: SessionId) -> Result<(), AllocError>
-        ensures { GivesOwn session self.old self.new }
+        ensures rounds { GivesOwn session self.old self.new }
+        ensures given { OnOk result (IsGiven session self.new) }
     {
         for _ in 0..u64::MAX {
             if self.rests(session) {
@@ -256,12 +257,21 @@ impl HubState {
                 return Ok(());
             }
         }
-        Ok(())
+        Err(AllocError)
     }
 
-    /// Whether nothing is owed to the session, and nothing is held back for it.
-    fn rests(&self, session: SessionId) -> bool {
-        !self.core.owed().contains(&session) && self.rings.is_free(session)
+    /// Says whether nothing is owed to the session, and nothing is held back for it. O(log n).
+    fn rests(&self, session: SessionId) -> bool
+        ensures { result ≡ true → IsOwedNothing session self.now.server }
+    {
+        !self.may_be_owed(session) && self.rings.is_free(session)
+    }
+
+    /// Says whether the session is among those that may be owed something. O(log n).
+    fn may_be_owed(&self, session: SessionId) -> bool
+        ensures { result ≡ false → IsOwedNothing session self.now.server }
+    {
+        self.core.owed().contains(&session)
     }
 
     /// As [`Core::next_deadline`].

@@ -1,7 +1,7 @@
 use Rattle.std.proofs.Common.{rules, ◌≡◌, ℕ, ◌+◌, ◌-◌, length, Bool, List, Ok, Err, ap, subst, arith}
 use Rattle.std.specs.Prelude.{Result}
 use Rattle.odb_core.specs.declared.refused.Refused.{Refused}
-use Rattle.odb_hub.specs.Batch.{RefusesFirst, Submits}
+use Rattle.odb_hub.specs.Batch.{Submits}
 use Rattle.odb_hub.specs.Counted.{Counted, Seat, submits}
 use Rattle.odb_hub.specs.Kept.{Kept}
 use Rattle.odb_hub.specs.Represented.Submission.{events_of}
@@ -25,7 +25,7 @@ invariant_of-self g c =
     let answered : total ≡ i.book.total + (length xs - length ys) = search rules in
     let before = c.self.invariant.0 in
     let counts : total ≡ i.settled.value.total + submits mid.events = omega (arith, grown, answered, before) in
-    (own_counted c.seat.inside.session mid c.rounds_for.new.self total i.settled.value.total counts c.rounds_for.ensures, c.self.invariant.1)
+    (own_counted c.seat.inside.session mid c.rounds_for.new.self total i.settled.value.total counts c.rounds_for.ensures.rounds, c.self.invariant.1)
 
 pub returns-clause-submits : goal.returns-clause-submits
 returns-clause-submits g c =
@@ -40,9 +40,9 @@ returns-clause-submits g c =
       | in-Ok w ↦ rw (w.result-is) (
           let r : Result Bool Refused = Ok w.owes.result in
           subst (λ q. Submitted r q c.args.now xs ys c.args.self.now.kept new) same_seat
-          (subst (λ (k : Kept). Submitted r s c.args.now xs ys k new) same_kept (mid, c.submit_turn-submitted.ensures.taken, tt, c.rounds_for.ensures)))
+          (subst (λ (k : Kept). Submitted r s c.args.now xs ys k new) same_kept (mid, c.submit_turn-submitted.ensures.taken, tt, c.rounds_for.ensures.rounds)))
       | in-Err w ↦ rw (w.result-is) (
           let r : Result Bool Refused = Err w.in-Err.why in
           subst (λ q. Submitted r q c.args.now xs ys c.args.self.now.kept new) same_seat
-          (subst (λ (k : Kept). Submitted r s c.args.now xs ys k new) same_kept (mid, c.submit_turn-submitted.ensures.taken, search rules, c.rounds_for.ensures)))
+          (subst (λ (k : Kept). Submitted r s c.args.now xs ys k new) same_kept (mid, c.submit_turn-submitted.ensures.taken, search rules, c.rounds_for.ensures.rounds)))
     ]

@@ -1,6 +1,6 @@
-use Rattle.std.proofs.Common.{rules, ◌≡◌, List, ℕ, subst, sym}
+use Rattle.std.proofs.Common.{rules, List, ℕ}
 use Rattle.odb_sessions.specs.Represented.Out.{text_of_out}
-use Rattle.odb_hub.specs.Rings.{IsPut, Ring}
+use Rattle.odb_hub.specs.Rings.{IsPut}
 use Rattle.odb_hub.proofs.HandingOver.{put_again}
 use Rattle.odb_hub.proofs.ring.Ring.put.Goals.{in-Ok, in-Err}
 use Rattle.odb_hub.proofs.ring.Ring.put.Goals as goal

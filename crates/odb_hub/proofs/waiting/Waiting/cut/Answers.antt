@@ -1,5 +1,4 @@
-use Rattle.std.proofs.Common.{rules, ◌≡◌, ◌≤◌, ℕ, ◌+◌, List, [], ◌∷◌, length, ap, arith, ◌∙◌}
-use Rattle.std.specs.Prelude.{◌-◌}
+use Rattle.std.proofs.Common.{rules, ◌≡◌, ◌≤◌, ℕ, ◌+◌, List, ◌∷◌, length, ap, arith}
 use Rattle.std.proofs.lemmas.Bool.Decides.{nat_tests}
 use Rattle.odb_hub.specs.Room.{total}
 use Rattle.odb_hub.proofs.Rooms.{IsCutTo, cut_more}

@@ -1,7 +1,6 @@
 use Rattle.std.proofs.Common.{rules, ◌≡◌, ◌≤◌, ℕ, ◌+◌, List, [], ◌∷◌, ◌++◌, true, ap, arith, ◌∙◌}
 use Rattle.std.specs.Prelude.{◌-◌, ◌^◌}
 use Rattle.std.proofs.lemmas.Bool.Decides.{nat_tests}
-use Rattle.std.specs.VecDeque.{deque_capacity}
 use Rattle.odb_hub.specs.Room.{has_room, total}
 use Rattle.odb_hub.proofs.Rooms.{room_most, total_push}
 use Rattle.odb_hub.proofs.waiting.Waiting.push.Goals as goal
