@@ -15,7 +15,11 @@ pub struct Bell {
     failed: AtomicU64,
     holds: AtomicU64,
     asks: AtomicU64,
+    told: AtomicU64,
 }
+
+/// After how many milliseconds a session that was given something has rested.
+const REST: u64 = 2;
 
 impl Bell {
     /// Nothing was rung, and the session goes on.
@@ -27,6 +31,7 @@ impl Bell {
             failed: AtomicU64::new(0),
             holds: AtomicU64::new(0),
             asks: AtomicU64::new(0),
+            told: AtomicU64::new(0),
         }
     }
 
@@ -34,6 +39,16 @@ impl Bell {
     pub fn ring(&self) {
         self.writer.unpark();
         self.reader.unpark();
+    }
+
+    /// Remembers the moment, in milliseconds, at which the session is given something.
+    pub(crate) fn note(&self, moment: u64) {
+        self.told.store(moment, Ordering::SeqCst);
+    }
+
+    /// Says whether the session was given nothing in the last milliseconds before this moment.
+    pub(crate) fn has_rested(&self, moment: u64) -> bool {
+        moment.saturating_sub(self.told.load(Ordering::SeqCst)) >= REST
     }
 
     /// The session ends: the thread that writes writes what its mailbox has, and returns.

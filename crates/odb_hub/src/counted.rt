@@ -20,6 +20,8 @@ use std::time::Clock;
 pub struct BatchOutcome {
     /// Whether a session may be owed something, where nothing was refused; else why the turn stopped.
     pub owes: Result<bool, Refused>,
+    /// Whether few sessions may be owed something, of which half or more have rested, so that they are to be told at once.
+    pub few: bool,
     /// Whether a transaction waits that is due sooner than any was before.
     pub due_sooner: bool,
 }
@@ -138,6 +140,7 @@ impl<L: Ledger> Counted<L> {
     {
         let due = self.state.next_deadline();
         let before = batch.len();
+        self.state.set_moment(now);
         let submitted = self.state.submit_turn(rt, seat.session, batch, now);
         let answered = before.saturating_sub(batch.len());
         self.book.add(&mut seat.share, answered as u64);
@@ -147,6 +150,7 @@ impl<L: Ledger> Counted<L> {
                 Ok(()) => Ok(self.state.owes()),
                 Err(why) => Err(why),
             },
+            few: self.state.owes_few(),
             due_sooner: is_sooner(self.state.next_deadline(), due),
         }
     }
@@ -186,6 +190,13 @@ impl<L: Ledger> Counted<L> {
         ensures { result ≡ earliest self.now.kept.server.world.waiting }
     {
         self.state.next_deadline()
+    }
+
+    /// As [`HubState::owes`].
+    pub(crate) fn owes(&self) -> bool
+        ensures { result ≡ false → IsQuiet self.now.kept.server }
+    {
+        self.state.owes()
     }
 
     /// As `HubState::has_more`.

@@ -20,6 +20,8 @@ pub struct Round {
     pub given: usize,
     /// Whether another one, at once, is likely to give something.
     pub more: bool,
+    /// Whether a session may be owed something.
+    pub owes: bool,
     /// How long it took from when it had the lock, zero where the clock can't be read.
     pub took: Duration,
     /// The earliest moment, in milliseconds, at which a transaction that waits is due.
@@ -110,6 +112,7 @@ impl<L: Ledger> Hub<L> {
     /// Gives each session its next message.
     pub fn round<R: Wait + Clock>(&self, rt: &R) -> Result<Round, AllocError>
         ensures ok { UnderLock (λ old new. IfOk result (λ round. TakesRound round.given old.kept new.kept)) }
+        ensures quiet { UnderLock (λ old new. IfOk result (λ round. round.owes ≡ false → IsQuiet new.kept.server)) }
         ensures deadline { UnderLock (λ old new. IfOk result (λ round. round.deadline ≡ earliest new.kept.server.world.waiting)) }
     {
         let mut state = self.enter(rt);
@@ -118,6 +121,7 @@ impl<L: Ledger> Hub<L> {
         Ok(Round {
             given,
             more: state.has_more(),
+            owes: state.owes(),
             took: turn.took(rt),
             deadline: state.next_deadline(),
         })

@@ -71,6 +71,16 @@ impl Ring {
         self.held.is_some()
     }
 
+    /// Remembers the moment, in milliseconds, at which the session is given something.
+    pub(crate) fn note(&self, moment: u64) {
+        self.bell.note(moment);
+    }
+
+    /// Says whether the session was given nothing in the last milliseconds before this moment. O(1).
+    pub(crate) fn has_rested(&self, moment: u64) -> bool {
+        self.bell.has_rested(moment)
+    }
+
     /// Sends the message that is held back, if the ring has room for it now.
     pub(crate) fn flush(&mut self)
         ensures { IsFlushed self.old self.new }

@@ -19,6 +19,7 @@ pub(crate) struct Rings {
     alloc: Global,
     rings: BTreeMap<SessionId, Ring>,
     holding: Vec<SessionId>,
+    moment: u64,
 }
 
 impl Model for Rings {
@@ -48,6 +49,33 @@ impl Rings {
             alloc,
             rings: BTreeMap::new(alloc),
             holding: Vec::new(alloc),
+            moment: 0,
+        }
+    }
+
+    /// Remembers the moment, in milliseconds, at which sessions are given what they are given from now on.
+    pub(crate) fn set_moment(&mut self, now: u64)
+        ensures { self.new ≡ self.old }
+    {
+        self.moment = now;
+    }
+
+    /// Says whether half of these sessions, or more, have rested. O(k log n) for k of them. No contract speaks of it.
+    pub(crate) fn have_rested(&self, owed: &BTreeSet<SessionId>) -> bool {
+        let mut rested: usize = 0;
+        for session in owed.iter() {
+            if self.has_rested(*session) {
+                rested = rested.saturating_add(1);
+            }
+        }
+        rested.saturating_mul(2) >= owed.len()
+    }
+
+    /// Says whether the session was given nothing in the last milliseconds.
+    fn has_rested(&self, session: SessionId) -> bool {
+        match self.rings.get(&session) {
+            Some(ring) => ring.has_rested(self.moment),
+            None => false,
         }
     }
 
@@ -194,6 +222,7 @@ impl Rings {
         let Some(ring) = self.rings.get_mut(&out.session) else {
             return;
         };
+        ring.note(self.moment);
         ring.put(out);
     }
 }
@@ -205,6 +234,7 @@ impl Drop for Rings {
             alloc: _,
             rings: _,
             holding: _,
+            moment: _,
         } = self;
     }
 }

@@ -22,6 +22,9 @@ use std::time::Clock;
 /// How many submissions one turn takes at most.
 const MOST: usize = 64;
 
+/// How many sessions are few: those whom one thread may tell at once.
+const FEW: usize = 32;
+
 /// A server, the events that it took since a base state, and the rings of its sessions. Each call is one event of the
 /// service machine: where it succeeds the journal grows by that event, and where it is refused nothing changes. What
 /// is always so (`IsKept`): base and journal are a legal history that ends in the server's state, and each ring was
@@ -286,6 +289,20 @@ impl HubState {
         ensures { result ≡ false → IsQuiet self.now.server }
     {
         !self.core.owed().is_empty()
+    }
+
+    /// Remembers the moment, in milliseconds, by which it is told how long ago sessions were given something.
+    pub(crate) fn set_moment(&mut self, now: u64)
+        ensures { self.new ≡ self.old }
+    {
+        self.rings.set_moment(now);
+    }
+
+    /// Says whether at most 32 sessions may be owed something, half of which or more were given nothing in the last
+    /// milliseconds: then little is gained by waiting until they are owed more. O(log n). No contract speaks of it.
+    pub(crate) fn owes_few(&self) -> bool {
+        let owed = self.core.owed();
+        owed.len() <= FEW && self.rings.have_rested(owed)
     }
 
     /// Whether more sessions may be owed something than have a message held back, so that another round is likely to give

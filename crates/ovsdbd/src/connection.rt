@@ -334,7 +334,7 @@ fn submit_turn<L: Ledger, R: Wait + Clock>(
         daemon.pace.wake();
     }
     if !is_quiet(&submitted.owes) {
-        daemon.tell_all(rt);
+        daemon.tell_all(rt, submitted.few);
     }
     match submitted.owes {
         Ok(_) => Ok(()),

@@ -90,12 +90,15 @@ impl<L: Ledger> Daemon<L> {
         given
     }
 
-    /// Gives each session its next message where the pump sleeps and that is brief, so that a single update doesn't wait
-    /// for the pump to wake. The pump does the rest.
-    pub(crate) fn tell_all<R: Wait + Clock>(&self, rt: &R) {
-        if self.pace.lets_others() {
+    /// Gives each session its next message where few are owed something, and where the pump sleeps and that is brief, so
+    /// that an update doesn't wait for the pump. The pump does the rest.
+    pub(crate) fn tell_all<R: Wait + Clock>(&self, rt: &R, few: bool) {
+        if few || self.pace.lets_others() {
             if let Ok(round) = self.hub.round(rt) {
                 self.pace.note(round);
+                if few && !round.owes {
+                    return;
+                }
             }
         }
         self.pace.tell();

@@ -12,8 +12,12 @@ const REST: u32 = 3;
 /// For how many microseconds it rests at least. A round that took less is brief.
 const BRIEF: u64 = 100;
 
-/// For how many milliseconds it rests at most, also where the processor was taken away in the midst of a round.
+/// For how many milliseconds it rests at most.
 const LONG: u64 = 100;
+
+/// For how many microseconds it rests at most for each message that its round gave, also where the processor was taken away
+/// in the midst of it.
+const EACH: u64 = 100;
 
 /// What the pump sleeps by. One that sleeps begins at once when it is told that something may be owed. While it is awake it
 /// rests after rounds, so that it holds the lock and wakes writers for a part of the time, and replies have the rest; but
@@ -79,8 +83,7 @@ impl Pace {
             return;
         }
         if round.given > 0 || self.is_told() {
-            let rest = round.took.saturating_mul(REST);
-            self.rest(rt, rest.min(Duration::from_millis(LONG)), left);
+            self.rest(rt, rest_after(round), left);
         } else {
             self.sleep(rt, left);
         }
@@ -112,4 +115,15 @@ impl Pace {
     fn is_told(&self) -> bool {
         self.told.load(Ordering::SeqCst) != 0
     }
+}
+
+/// How long the pump rests after a round.
+fn rest_after(round: Round) -> Duration {
+    let given = u64::try_from(round.given).unwrap_or(u64::MAX);
+    let most = Duration::from_micros(given.saturating_mul(EACH));
+    round
+        .took
+        .saturating_mul(REST)
+        .min(most)
+        .min(Duration::from_millis(LONG))
 }
