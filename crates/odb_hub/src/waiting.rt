@@ -9,7 +9,7 @@ use std::marker::Model;
 pub(crate) const ROOM: usize = 64;
 
 /// For how many bytes of text a ring has room, besides a message that finds it empty.
-const TEXT: usize = 1_048_576;
+const TEXT: usize = 524_288;
 
 /// How many bytes the messages have that may be in a ring still, the oldest first.
 #[derive(Drop)]
@@ -47,7 +47,7 @@ impl Waiting {
     }
 
     /// Whether there is room for a message of so many bytes: one always fits into a ring that is empty, which has room for
-    /// 64 of them, and for 1 MiB of text.
+    /// 64 of them, and for 512 KiB of text.
     pub(crate) fn has_room(&self, size: usize) -> bool
         ensures { result ≡ has_room self.now size }
     {
