@@ -180,6 +180,7 @@ def requests(draw):
         ("transact", ["hst", {"op": "assert", "lock": lock}, {"op": "commit", "durable": True}]), ("transact", ["hst"]),
         ("monitor", ["hst", number, quiet]), ("monitor_cond", ["hst", [number], {"Quiet": [{"where": [["n", "<", 5]]}]}]),
         ("monitor_cond_change", [number, [number], {"Quiet": [{"where": [True]}]}]), ("monitor_cancel", [number]),
+        ("monitor_cond_since", ["hst", [number], {"Quiet": [{"columns": ["n"]}]}, "ffffffff-ffff-ffff-ffff-ffffffffffff"]),
     ]
     for method, params in draw.choices(calls, k=draw.randrange(1, 13)):
         yield {"method": method, "params": params, "id": draw.randrange(100)}

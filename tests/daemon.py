@@ -148,7 +148,7 @@ class OvsdbServer(Served):
     def __init__(self, schema=NET):
         self.folder = tempfile.TemporaryDirectory()
         database, log = (os.path.join(self.folder.name, name) for name in ("db", "log"))
-        made = subprocess.run([TOOL, "create", database, schema], capture_output=True, text=True, check=False)
+        made = subprocess.run(self.made(database, schema), capture_output=True, text=True, check=False)
         if made.returncode:
             self.folder.cleanup()
             raise Wrong(made.stderr.strip())
@@ -159,6 +159,10 @@ class OvsdbServer(Served):
         except Wrong:
             self.end()
             raise
+
+    def made(self, database, schema):
+        """The command that makes the file of the database."""
+        return [TOOL, "create", database, schema]
 
     def listens(self, log):
         if os.path.exists(log):

@@ -27,6 +27,15 @@ def compact(value):
     return json.dumps(value, separators=(",", ":"), ensure_ascii=False, sort_keys=True)
 
 
+def commit_in(message):
+    """The identifier of the commit that a message names, or None."""
+    if message.get("method") == "update3":
+        return message["params"][1]
+    result = message.get("result")
+    is_since = isinstance(result, list) and len(result) == 3 and isinstance(result[0], bool)
+    return result[1] if is_since and isinstance(result[1], str) else None
+
+
 def of_tables(requests):
     """Which rows of which tables the requests of a monitor ask for."""
     found = {}
@@ -78,6 +87,9 @@ class Record:
                     self.numbers[results[place]["uuid"][1].lower()] = f"00000000-0000-4000-8000-{number:012x}"
             if any(isinstance(it, dict) and it.get("error") == "timed out" for it in results) and session.asked.get(name, ("", 0, 0))[2]:
                 self.line(f"!tick {max(self.moment(), session.asked[name][2])}")
+        commit = commit_in(message)
+        if commit is not None:  # the word of a script's run is 0
+            self.numbers[commit.lower()] = "00000000-0000-0000" + commit[18:]
         if "method" not in message and session.inserts.pop(name, None) is not None:
             self.open_inserts.discard((session.name, name))
         self.line((session.name, text), self.sent)

@@ -12,6 +12,7 @@ use Rattle.odb_request.specs.declared.change.Change.{Change}
 use Rattle.odb_rpc.specs.Message.{Failure, failed, unknown_monitor}
 use Rattle.odb_schema.specs.Json.{Data}
 use Rattle.odb_schema.specs.Schema.{Schema}
+use Rattle.odb_atoms.specs.Uuid.{Uuid}
 use Rattle.odb_service.specs.Service.{Service}
 use Rattle.odb_service.specs.Session.{Watch, renamed, shapes, shift, stopped, sync}
 use Rattle.odb_service.specs.World.{World, asked_of, change_of, fail, is_conditional, on_cancel_monitor, on_monitor, post, shift_with, start_with, watched}
@@ -20,18 +21,18 @@ use Rattle.odb_core.specs.Represented.Monitors.{Filters, are_among, change_for, 
 
 -- ---- a monitor that is asked for
 
-module _ (h : Service) (s : ℕ) (d : Data) (n : Notation) (i requests : Data) (w : World) where
+module _ (h : Service) (s : ℕ) (d : Data) (n : Notation) (i : Data) (since : Option Uuid) (requests : Data) (w : World) where
   abbrev used : Bool
   used = is_some (watched h i (asked_of h (get w.sessions s)))
 
   abbrev unless_used : Bool → World
-  unless_used b = cond b (fail s d (failed syntax_error) w) (start_with h s d n i (h.read_requests n requests) w)
+  unless_used b = cond b (fail s d (failed syntax_error) w) (start_with h s d n i since (h.read_requests n requests) w)
 
-  pub used_fails : used ≡ true → on_monitor h s d n i requests w ≡ fail s d (failed syntax_error) w
+  pub used_fails : used ≡ true → on_monitor h s d n i since requests w ≡ fail s d (failed syntax_error) w
   used_fails is = ap unless_used is
 
-  pub reads_on : (r : Result (List Request) Error) → used ≡ false → h.read_requests n requests ≡ r → on_monitor h s d n i requests w ≡ start_with h s d n i r w
-  reads_on r isnt e = ap unless_used isnt ∙ ap (λ r. start_with h s d n i r w) e
+  pub reads_on : (r : Result (List Request) Error) → used ≡ false → h.read_requests n requests ≡ r → on_monitor h s d n i since requests w ≡ start_with h s d n i since r w
+  reads_on r isnt e = ap unless_used isnt ∙ ap (λ r. start_with h s d n i since r w) e
 
 -- ---- a cancel
 

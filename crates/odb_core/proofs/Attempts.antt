@@ -20,7 +20,7 @@ use Rattle.odb_wire.specs.Message.{id_of}
 use Rattle.odb_wire.specs.Shown.{request_data}
 use Rattle.odb_service.specs.Server.{served_by}
 use Rattle.odb_service.specs.Service.{Service, outcome_of}
-use Rattle.odb_service.specs.Session.{Item, Session, say, sync, to}
+use Rattle.odb_service.specs.Session.{Item, Session, say, sync, to, with_content}
 use Rattle.odb_service.specs.World.{Waiting, World, asked_of, attempt, end_transaction, on_outcome, post, post_to, push}
 use Rattle.odb_core.specs.declared.submitted.Submitted.{Submitted}
 use Rattle.odb_core.specs.Represented.Waiting.{context_in, outcome_in, waiting_as}
@@ -42,14 +42,14 @@ post_as n is w = by (get w.sessions n)
 
 -- a commit changes the database, its count and the session that asked for it
 pub commit_as : (s : Schema) (n : ℕ) (d r : Data) (db : Db) (w : World)
-    → end_transaction (served_by s) n d r (Some db) w ≡ record w { db = db; commits = w.commits + 1; sessions = at_number (ended_in s (say (to d) (reply (id_of d) r))) w.sessions n }
+    → end_transaction (served_by s) n d r (Some db) w ≡ record w { db = db; commits = w.commits + 1; earlier = with_content w.db w.earlier; sessions = at_number (ended_in s (say (to d) (reply (id_of d) r))) w.sessions n }
 commit_as s n d r db w = by (get w.sessions n)
   where
     i : Item
     i = say (to d) (reply (id_of d) r)
 
-    by : (o : Option Session) → post_to n (map (λ k. sync k.id) (asked_of (served_by s) o) ++ i ∷ []) o (record w { db = db; commits = w.commits + 1 })
-        ≡ record w { db = db; commits = w.commits + 1; sessions = elim o as (λ _. Sessions) [ None ↦ w.sessions | Some x ↦ insert w.sessions n (ended_in s i x) ] }
+    by : (o : Option Session) → post_to n (map (λ k. sync k.id) (asked_of (served_by s) o) ++ i ∷ []) o (record w { db = db; commits = w.commits + 1; earlier = with_content w.db w.earlier })
+        ≡ record w { db = db; commits = w.commits + 1; earlier = with_content w.db w.earlier; sessions = elim o as (λ _. Sessions) [ None ↦ w.sessions | Some x ↦ insert w.sessions n (ended_in s i x) ] }
     by None = refl
     by (Some x) = refl
 

@@ -15,8 +15,8 @@ use Rattle.odb_service.proofs.WhoIsOpen as open_ones
 use Rattle.odb_service.proofs.SessionMaps.{get-insert, same_key}
 use Rattle.odb_core.proofs.SessionNumbers.{unused_in_none, unused_same}
 
-pub new_sound : (s : Schema) → IsValid s (empty_world (length s.tables)) 0
-new_sound s = (empty_sound s, λ h. refl, unused_in_none)
+pub new_sound : (run most : ℕ) (s : Schema) → IsValid s (empty_world run most (length s.tables)) 0
+new_sound run most s = (empty_sound s, λ h. refl, unused_in_none)
 
 -- a taking leaves who is open
 takes_one : (h : Service) (s q : ℕ) (w : World) (o : Option Session) → get w.sessions s ≡ o → is_some (get (take_of h s o w).0.sessions q) ≡ is_some (get w.sessions q)

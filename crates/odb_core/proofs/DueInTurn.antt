@@ -78,7 +78,7 @@ module _ (s : Schema) (w : World) where
     waits_again left rest posts deadline e h =
         let q : Waiting = record p { deadline = deadline; tried = w.commits } in
         in_turn left rest posts posts (Some q) h (none_pushed test left q h.tried (none_untried w.commits p deadline))
-        (λ m. attempt_is s w a p is (standing left posts m w) (waiting deadline) refl refl refl refl e)
+        (λ m. attempt_is s w a p is (standing left posts m w) (waiting deadline) refl refl refl refl refl e)
 
     ends_now : (left rest : List Waiting) (posts : List (ℕ × Item)) (results : Vec Value Global) → transacted ≡ ended (array_of (results_of results)) None → AreDue s w left (p ∷ rest) posts
         → AreDue s w left rest (posts ++ reply_of p results ∷ [])
@@ -86,7 +86,7 @@ module _ (s : Schema) (w : World) where
         subst (λ ps. AreDue s w ps rest (posts ++ reply_of p results ∷ [])) (append-nil left)
         (in_turn left rest posts (posts ++ reply_of p results ∷ []) None h (ap (split_first test) (append-nil left) ∙ h.tried)
         (λ m. let v : World = standing left posts m w in
-        attempt_is s w a p is v (ended (array_of (results_of results)) None) refl refl refl refl e
+        attempt_is s w a p is v (ended (array_of (results_of results)) None) refl refl refl refl refl e
         ∙ ap (λ u. let t : Tried = (u, None) in t)
         (post_as p.session (say (to p.request) (reply (id_of p.request) (array_of (results_of results))) ∷ []) v
         ∙ ap (λ n. let u : World = record v { sessions = n } in u) (sym (posted_append m posts (reply_of p results ∷ []))))))

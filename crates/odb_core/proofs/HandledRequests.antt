@@ -4,6 +4,8 @@ use Rattle.std.specs.Prelude.{option_to_list, slice_get}
 use Rattle.std.proofs.lemmas.List.{append-nil}
 use Rattle.serde_json.specs.Data.{Data}
 use Rattle.odb_atoms.specs.Uuid.{Uuid}
+use Rattle.std.specs.Prelude.{option_map}
+use Rattle.odb_atoms.specs.Uuid.{uuid_from}
 use Rattle.odb_rpc.specs.Message.{Call, answered, cancel, cancel_monitor, change_filters, lock, monitor, operations_of, passed_over, steal, transact, unlock}
 use Rattle.odb_rpc.specs.Represented.Monitor.{monitor_called}
 use Rattle.odb_rpc.specs.Represented.Printable.{printable_data}
@@ -19,7 +21,7 @@ use Rattle.odb_schema.specs.SchemaText.{write_schema}
 use Rattle.odb_wire.specs.Message.{has_left_out, id_of}
 use Rattle.odb_service.specs.Server.{served_by}
 use Rattle.odb_service.specs.Service.{Outcome, Service, ended, waiting}
-use Rattle.odb_service.specs.Session.{Item, Session}
+use Rattle.odb_service.specs.Session.{Item, Session, with_content}
 use Rattle.odb_service.specs.World.{Waiting, World, attempt, handle, on_outcome, post_to, retry_all, run_transaction, try_one, untried, with_waiting}
 use Rattle.odb_queue.specs.Represented.Answer.{call_at}
 use Rattle.odb_core.specs.Represented.Requests.{asks_transaction}
@@ -44,7 +46,7 @@ module _ (s : Schema) (d : Data) where
   unlock_own id name e = own (unlock-asked s.name (write_schema s) served d id name e).0
 
   pub monitor_own : (id : Data) (m : MonitorCall) → call_at s d ≡ monitor_called id m → Own
-  monitor_own id (Start a) e = own (monitor-asked s.name (write_schema s) served d id (notation_of a.kind) (printable_data a.id) (view a.requests.now) e).0
+  monitor_own id (Start a) e = own (monitor-asked s.name (write_schema s) served d id (notation_of a.kind) (printable_data a.id) (view a.requests.now) (option_map uuid_from a.since) e).0
   monitor_own id (Change a) e = own (change-asked s.name (write_schema s) served d id (printable_data a.old) (printable_data a.new) (view a.filters.now) e).0
   monitor_own id (Cancel i) e = own (cancel_monitor-asked s.name (write_schema s) served d id (printable_data i) e).0
 
@@ -54,7 +56,7 @@ module _ (s : Schema) (d : Data) where
   is_asking : (c : Call) → asks_transaction c ≡ true → Asking c
   is_asking (transact id operations) e = (id, operations, refl)
   is_asking (answered r) e = absurd (true≢false (sym e))
-  is_asking (monitor id n i requests) e = absurd (true≢false (sym e))
+  is_asking (monitor id n i requests since) e = absurd (true≢false (sym e))
   is_asking (change_filters id old new filters) e = absurd (true≢false (sym e))
   is_asking (cancel_monitor id i) e = absurd (true≢false (sym e))
   is_asking (lock id name) e = absurd (true≢false (sym e))
@@ -86,7 +88,7 @@ module _ (h : Service) where
   -- a try leaves those that wait
   pub still_waiting : (p : Waiting) (o : Outcome) (w : World) → (on_outcome h p o w).0.waiting ≡ w.waiting
   still_waiting p (ended r None) w = posted_waiting p.session _ _ w
-  still_waiting p (ended r (Some db)) w = posted_waiting p.session _ _ (record w { db = db; commits = w.commits + 1 })
+  still_waiting p (ended r (Some db)) w = posted_waiting p.session _ _ (record w { db = db; commits = w.commits + 1; earlier = with_content w.db w.earlier })
   still_waiting p (waiting moment) w = refl
 
   abbrev Tried : Type 0
@@ -128,7 +130,7 @@ module _ (h : Service) where
 
   beside : (p : Waiting) (o : Outcome) (w : World) (ps : List Waiting) → on_outcome h p o (record w { waiting = ps }) ≡ (record ((on_outcome h p o w).0) { waiting = ps }, (on_outcome h p o w).1)
   beside p (ended r None) w ps = ap (λ v. let t : Tried = (v, None) in t) (posted_beside p.session _ (get w.sessions p.session) w ps)
-  beside p (ended r (Some db)) w ps = ap (λ v. let t : Tried = (v, None) in t) (posted_beside p.session _ (get w.sessions p.session) (record w { db = db; commits = w.commits + 1 }) ps)
+  beside p (ended r (Some db)) w ps = ap (λ v. let t : Tried = (v, None) in t) (posted_beside p.session _ (get w.sessions p.session) (record w { db = db; commits = w.commits + 1; earlier = with_content w.db w.earlier }) ps)
   beside p (waiting moment) w ps = refl
 
   abbrev Split : Type 0

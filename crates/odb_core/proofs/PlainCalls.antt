@@ -20,7 +20,7 @@ use Rattle.odb_core.proofs.WorldPosts.{nothing_posted}
 abbrev pub is_plain : message.Call → Bool
 is_plain (answered d) = true
 is_plain (transact id ops) = false
-is_plain (monitor id n i requests) = false
+is_plain (monitor id n i requests since) = false
 is_plain (change_filters id old new filters) = false
 is_plain (cancel_monitor id i) = false
 is_plain (lock id name) = false
@@ -34,7 +34,7 @@ pub plain_as : (s : Schema) (n : ℕ) (d : Data) (fresh : List Uuid) (w v : Worl
     → ((found : Option Data) → at_once k ≡ Some found → post n (option_to_list (option_map (said d) found)) w ≡ v) → handle (served_by s) n d fresh k w ≡ v
 plain_as s n d fresh w v (answered text) e p = p (Some text) refl
 plain_as s n d fresh w v (transact id ops) e p = absurd (true≢false (sym e))
-plain_as s n d fresh w v (monitor id m i requests) e p = absurd (true≢false (sym e))
+plain_as s n d fresh w v (monitor id m i requests since) e p = absurd (true≢false (sym e))
 plain_as s n d fresh w v (change_filters id old new filters) e p = absurd (true≢false (sym e))
 plain_as s n d fresh w v (cancel_monitor id i) e p = absurd (true≢false (sym e))
 plain_as s n d fresh w v (lock id name) e p = absurd (true≢false (sym e))

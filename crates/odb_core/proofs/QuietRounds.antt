@@ -12,6 +12,7 @@ use Rattle.odb_service.specs.Session.{Out, Session, take}
 use Rattle.odb_service.specs.World.{World, revision_of}
 use Rattle.odb_service.proofs.SessionMaps.{get-insert, same_key}
 use Rattle.odb_core.specs.Represented.Core.{IsQuietBut}
+use Rattle.odb_core.specs.Represented.Rounds.{book_in}
 use Rattle.odb_sessions.specs.Book.{Sessions}
 use Rattle.odb_sessions.specs.Owed.{AreOwed}
 use Rattle.odb_core.proofs.WorldPosts.{reinserted}
@@ -101,5 +102,5 @@ round_among owed s quiet ss =
     (fewer_taken p h (once ss) s.world quiet ∙ ap (λ ys. take_each h ys s.world) (sym (once-filter p ss)))
 
 -- who isn't in the set of those that may be owed something is quiet
-pub quiet_but : (owed : BTreeSet ℕ) (s : Server) → AreOwed owed (record { db = s.world.db; sessions = s.world.sessions }) → IsQuietBut owed s
-quiet_but owed s quiet q x out there = (quiet q out x there).1 s.schema
+pub quiet_but : (owed : BTreeSet ℕ) (s : Server) → AreOwed owed (book_in s.world) → IsQuietBut owed s
+quiet_but owed s quiet q x out there = (quiet q out x there).1 s.schema (revision_of s.world) refl

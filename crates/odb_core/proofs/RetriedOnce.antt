@@ -88,10 +88,10 @@ module _ (s : Schema) (w : World) where
     transacted = outcome_of w.db (outcome_in s w a)
 
     -- what a try of it is
-    pub attempt_is : (v : World) (o : Outcome) → v.db ≡ w.db → v.commits ≡ w.commits → v.now ≡ w.now → v.locks ≡ w.locks → transacted ≡ o → attempt (served_by s) p v ≡ on_outcome (served_by s) p o v
-    attempt_is v o db commits now locks e =
+    pub attempt_is : (v : World) (o : Outcome) → v.db ≡ w.db → v.commits ≡ w.commits → v.earlier ≡ w.earlier → v.now ≡ w.now → v.locks ≡ w.locks → transacted ≡ o → attempt (served_by s) p v ≡ on_outcome (served_by s) p o v
+    attempt_is v o db commits earlier now locks e =
         let from : World = record w { waiting = v.waiting; sessions = v.sessions } in
-        let same : from ≡ v = λ i. record { db = sym db i; commits = sym commits i; now = sym now i; waiting = v.waiting; locks = sym locks i; sessions = v.sessions } in
+        let same : from ≡ v = λ i. record { db = sym db i; commits = sym commits i; earlier = sym earlier i; now = sym now i; waiting = v.waiting; locks = sym locks i; sessions = v.sessions } in
         ap (λ u. attempt (served_by s) p u) (sym same)
         ∙ ap (λ q. attempt (served_by s) q from) (sym is)
         ∙ ap (λ q. on_outcome (served_by s) (waiting_as a p.deadline p.tried) q from) e
@@ -102,7 +102,7 @@ module _ (s : Schema) (w : World) where
         → IsOnTheWay s w (left ++ record p { deadline = deadline; tried = w.commits } ∷ []) rest posts
     waits_on left rest posts deadline e h =
         next left rest p (Some (record p { deadline = deadline; tried = w.commits })) posts posts h (none_untried w.commits p deadline, tt)
-        (λ m. attempt_is (standing (left ++ p ∷ rest) posts m w) (waiting deadline) refl refl refl refl e)
+        (λ m. attempt_is (standing (left ++ p ∷ rest) posts m w) (waiting deadline) refl refl refl refl refl e)
 
     ends_on : (left rest : List Waiting) (posts : List (ℕ × Item)) (results : Vec Value Global) → transacted ≡ ended (array_of (results_of results)) None → IsOnTheWay s w left (p ∷ rest) posts
         → IsOnTheWay s w left rest (posts ++ reply_of p results ∷ [])
@@ -110,7 +110,7 @@ module _ (s : Schema) (w : World) where
         subst (λ ps. IsOnTheWay s w ps rest (posts ++ reply_of p results ∷ [])) (append-nil left)
         (next left rest p None posts (posts ++ reply_of p results ∷ []) h tt
         (λ m. let v : World = standing (left ++ p ∷ rest) posts m w in
-        attempt_is v (ended (array_of (results_of results)) None) refl refl refl refl e
+        attempt_is v (ended (array_of (results_of results)) None) refl refl refl refl refl e
         ∙ ap (λ u. let t : Tried = (u, None) in t)
         (post_as p.session (say (to p.request) (reply (id_of p.request) (array_of (results_of results))) ∷ []) v
         ∙ ap (λ n. let u : World = record v { sessions = n } in u) (sym (posted_append m posts (reply_of p results ∷ []))))))

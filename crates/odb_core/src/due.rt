@@ -95,7 +95,7 @@ impl State {
             return foreseen.pass_over(waiting);
         }
         let told = self.tell_now(schema, waiting.submitted())?;
-        foreseen.note(self.alloc, waiting, told, self.commits)
+        foreseen.note(self.alloc, waiting, told, self.sessions.commits())
     }
 
     /// What is told of a transaction as the database is.

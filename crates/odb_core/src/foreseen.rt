@@ -137,7 +137,7 @@ impl State {
         requires tried { (h : Service) → untried h self.now ≡ None }
         ensures { IfOk result (λ found. IfSome found (λ f. IsForeseen schema.now (committed change.now self.entry.now) f.left (map post_of f.posts.items))) }
     {
-        let commits = self.commits.checked_add(1).ok_or(AllocError)?;
+        let commits = self.sessions.commits().checked_add(1).ok_or(AllocError)?;
         let mut foreseen = Foreseen::new(self.alloc);
         for waiting in self.waiting.as_slice() {
             let told = self.tell(schema, change, waiting.submitted())?;

@@ -1,5 +1,5 @@
-//! The calls about monitors (RFC 7047, sections 4.1.5 and 4.1.7; ovsdb-server(7), 4.1.12 and
-//! 4.1.13). [P 9.1, 9.5, 9.6]
+//! The calls about monitors (RFC 7047, sections 4.1.5 and 4.1.7; ovsdb-server(7), 4.1.12,
+//! 4.1.13 and 4.1.15). [P 9.1, 9.5, 9.6, 9.8]
 
 ghost use Rattle.std.specs.Prelude.{◌≡◌, ◌∷◌, [], bytes_eq, false, is_some, map, option_map, IfOk, List, Ok, OnErr, OnOk};
 ghost use Rattle.std.specs.List.{list_all, list_any};
@@ -8,6 +8,7 @@ ghost use Rattle.serde_json.specs.Data.{Data};
 ghost use Rattle.serde_json.specs.View.{view};
 ghost use Rattle.odb_atoms.specs.FinMap.{get};
 ghost use Rattle.odb_atoms.specs.Uuid as identifiers;
+ghost use Rattle.odb_atoms.specs.Uuid.{uuid_from};
 ghost use Rattle.odb_commit.specs.Sound.{IsSound};
 ghost use Rattle.odb_request.specs.Represented.Change as requested;
 ghost use Rattle.odb_request.specs.Represented.Kind.{notation_of};
@@ -66,7 +67,7 @@ impl State {
         }
     }
 
-    /// `monitor` or `monitor_cond`. Where the session has a monitor of the id as asked it is `syntax error`; then
+    /// `monitor`, `monitor_cond` or `monitor_cond_since`. Where the session has a monitor of the id as asked it is `syntax error`; then
     /// come the faults of the requests. It costs what `odb_request::read_requests` and
     /// `odb_sessions::Sessions::start` do, and O(monitors + items queued) for the session's.
     fn start_monitor(
@@ -79,7 +80,7 @@ impl State {
         requires own { has_left_out (id_of (request_data request.now)) ≡ false }
         requires sound { IsSound served.now self.old.db }
         ensures ok { OnOk result (on_monitor (served_by served.now) session (request_data request.now)
-            (notation_of asked.entry.kind) (printable_data asked.entry.id) (view asked.entry.requests.now) self.old ≡ self.new) }
+            (notation_of asked.entry.kind) (printable_data asked.entry.id) (option_map uuid_from asked.entry.since) (view asked.entry.requests.now) self.old ≡ self.new) }
         ensures rest { self.new ≡ record (self.old) { sessions = self.new.sessions } }
         ensures err { OnErr result (self.new ≡ self.old) }
     {
@@ -116,11 +117,12 @@ impl State {
           id = printable_data asked.entry.id;
           notation = notation_of asked.entry.kind;
           requests = requests.items;
+          since = option_map uuid_from asked.entry.since;
         }) ∷ []) self.old ≡ self.new) }
         ensures rest { self.new ≡ record (self.old) { sessions = self.new.sessions } }
         ensures err { OnErr result (self.new ≡ self.old) }
     {
-        let starting = Starting::new(self.alloc, request, asked.id, asked.kind, requests)?;
+        let starting = Starting::new(self.alloc, request, asked, requests)?;
         self.sessions.start(session, starting)?;
         Ok(())
     }

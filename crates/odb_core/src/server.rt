@@ -22,6 +22,9 @@ use std::hash::RandomState;
 use std::marker::Model;
 use uuid::Uuid;
 
+/// How many contents can be found of a run without a number of its own: those that its last commits made.
+const MOST_FOUND: usize = 100;
+
 /// How many sessions may be open at once.
 const MAX_SESSIONS: usize = 4_096;
 
@@ -59,17 +62,34 @@ impl Core {
     ghost use Rattle.odb_sessions.specs.Represented.Out.{sent_in};
     ghost use Rattle.odb_core.specs.Represented.Reason.{IsReason};
 
-    /// A server of the schema with empty tables and no session, whose tables will hash by `hashing`.
-    /// Where memory is refused it hands back what was moved in.
+    /// Makes a server of the schema with empty tables and no session, whose tables will hash by `hashing`: the run's word is
+    /// 0, and the contents that the last 100 commits made can be found. Where memory is refused it hands back what was moved
+    /// in.
     pub fn new(
         alloc: Global,
         schema: Schema,
         hashing: RandomState,
     ) -> Result<Core, (Schema, RandomState, AllocError)>
-        ensures ok { IfOk result (λ core. core ≡ new_server schema) }
+        ensures ok { IfOk result (λ core. core ≡ new_server 0 100 schema) }
         ensures err { IfErr result (λ back. (back.0 ≡ schema) × (back.1 ≡ hashing)) }
     {
-        let state = match State::new(alloc, &schema, hashing) {
+        Core::with_run(alloc, schema, hashing, 0, MOST_FOUND)
+    }
+
+    /// Makes the same in a run with this word, which stands in the upper 64 bits of its commits' identifiers. The contents
+    /// that the last `most` commits made can be found by these (ovsdb-server(7), 4.1.15); none, where that is 0. O(`most`)
+    /// in memory.
+    pub fn with_run(
+        alloc: Global,
+        schema: Schema,
+        hashing: RandomState,
+        run: u64,
+        most: usize,
+    ) -> Result<Core, (Schema, RandomState, AllocError)>
+        ensures ok { IfOk result (λ core. core ≡ new_server run most schema) }
+        ensures err { IfErr result (λ back. (back.0 ≡ schema) × (back.1 ≡ hashing)) }
+    {
+        let state = match State::new(alloc, &schema, hashing, run, most) {
             Ok(state) => state,
             Err(refused) => return Err((schema, hashing, refused)),
         };

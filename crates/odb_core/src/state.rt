@@ -55,7 +55,6 @@ pub(crate) const MAX_ROWS: usize = 1_000_000;
 /// arrival, and the locks. Contracts see it as the state of the service machine (`specs/World.antt`).
 pub(crate) struct State {
     pub(crate) alloc: Global,
-    pub(crate) commits: u64,
     pub(crate) now: u64,
     pub(crate) waiting: WaitingList,
     pub(crate) locks: Locks,
@@ -70,7 +69,7 @@ impl Model for State {
 
     ghost coded = { world_code };
 
-    ghost view = { λ s. record { db = s.sessions.db; commits = s.commits; now = s.now; waiting = s.waiting; locks = s.locks; sessions = s.sessions.sessions } };
+    ghost view = { λ s. record { db = s.sessions.db; commits = s.sessions.commits; earlier = s.sessions.earlier; now = s.now; waiting = s.waiting; locks = s.locks; sessions = s.sessions.sessions } };
 }
 
 impl State {
@@ -83,22 +82,24 @@ impl State {
     ghost use Rattle.odb_core.specs.Represented.Core.{empty_world};
     ghost use Rattle.odb_core.specs.Represented.Retrying.{IsRetrying};
 
-    /// Empty tables that keep what the schema asks for, at moment 0, with no commit and no session.
+    /// Empty tables that keep what the schema asks for, at moment 0, with no commit and no session, in a run with this
+    /// word, of which so many contents can be found.
     pub(crate) fn new(
         alloc: Global,
         schema: &Schema,
         hashing: RandomState,
+        run: u64,
+        most: usize,
     ) -> Result<State, AllocError>
-        ensures { IfOk result (λ state. state ≡ empty_world (length schema.now.tables)) }
+        ensures { IfOk result (λ state. state ≡ empty_world run most (length schema.now.tables)) }
     {
         let db = Db::for_schema(alloc, schema, hashing)?;
         Ok(State {
             alloc,
-            commits: 0,
             now: 0,
             waiting: WaitingList::new(alloc),
             locks: Locks::new(alloc),
-            sessions: Sessions::new(alloc, db, hashing)?,
+            sessions: Sessions::new(alloc, db, hashing, run, most)?,
         })
     }
 
@@ -114,7 +115,7 @@ impl State {
             now: self.now,
             owned: owned.as_slice(),
         };
-        let number = self.commits.checked_add(1).ok_or(AllocError)?;
+        let number = self.sessions.commits().checked_add(1).ok_or(AllocError)?;
         transact(
             self.alloc,
             self.sessions.db(),
@@ -165,11 +166,9 @@ impl State {
         ensures waiting { self.new.waiting ≡ self.old.waiting }
         ensures err { OnErr result (self.new ≡ self.old) }
     {
-        let number = self.commits.checked_add(1).ok_or(AllocError)?;
         let reply = replied(self.alloc, &asked.request, &Value::from(results))?;
         let posts = Vec::new(self.alloc);
         self.sessions.commit(asked.session, reply, posts, change)?;
-        self.commits = number;
         Ok(())
     }
 
@@ -214,7 +213,10 @@ impl State {
         let outcome = self.outcome(schema, waiting.submitted())?;
         match self.attempt_with(schema, waiting.submitted(), outcome)? {
             Tried::Ended => Ok(None),
-            Tried::Waiting { deadline } => Ok(Some(waiting.tried_again(deadline, self.commits))),
+            Tried::Waiting { deadline } => Ok(Some(waiting.tried_again(
+                deadline,
+                self.sessions.commits(),
+            ))),
         }
     }
 
@@ -254,7 +256,7 @@ impl State {
     fn count_of_commits(&self) -> u64
         ensures { result ≡ self.entry.now.commits }
     {
-        self.commits
+        self.sessions.commits()
     }
 
     /// Tries the next one of them, where there are still as many commits and it wasn't tried at these. It goes
@@ -291,7 +293,7 @@ impl State {
     fn is_to_try(&self, waiting: &Waiting, commits: u64) -> bool
         ensures { result ≡ (self.entry.now.commits == commits) && is_untried commits waiting.now }
     {
-        self.commits == commits && waiting.is_untried(commits)
+        self.count_of_commits() == commits && waiting.is_untried(commits)
     }
 
     /// Takes out all that wait.
@@ -458,11 +460,9 @@ impl State {
         ensures ok { OnOk result ((s : Schema) → self.new ≡ standing foreseen.left (map post_of foreseen.posts.items) (at_number (ended_in s (reply_with asked.now results)) self.old.sessions asked.now.session) (committed change self.old)) }
         ensures err { OnErr result (self.new ≡ self.old) }
     {
-        let commits = self.commits.checked_add(1).ok_or(AllocError)?;
         let reply = replied(self.alloc, &asked.request, &Value::from(results))?;
         let Foreseen { left, posts } = foreseen;
         self.sessions.commit(asked.session, reply, posts, change)?;
-        self.commits = commits;
         self.waiting = left;
         Ok(())
     }
@@ -477,7 +477,7 @@ impl State {
         ensures err { OnErr result (self.new ≡ self.old) }
         ensures back { IfErr result (λ back. back.0 ≡ asked) }
     {
-        self.waiting.wait(asked, deadline, self.commits)
+        self.waiting.wait(asked, deadline, self.sessions.commits())
     }
 
     /// Gives each listed session that is open its next message, if it has one, in the order of the list. Where
@@ -519,7 +519,6 @@ impl State {
     {
         Ok(State {
             alloc: self.alloc,
-            commits: self.commits,
             now: self.now,
             waiting: self.waiting.try_copy()?,
             locks: self.locks.try_copy(self.alloc)?,
@@ -563,7 +562,6 @@ impl Drop for State {
     fn drop(self) {
         let State {
             alloc: _,
-            commits: _,
             now: _,
             waiting: _,
             locks: _,

@@ -9,6 +9,7 @@ pub mod OfLaw
 pub mod OfLimits
 pub mod OfNotations
 pub mod OfResults
+pub mod OfResumed
 pub mod OfRules
 pub mod OfRuns
 pub mod OfSchemaFaults

@@ -14,7 +14,7 @@ use Rattle.odb_monitor.specs.View.{Contents}
 use Rattle.odb_atoms.specs.FinMap.{empty}
 use Rattle.odb_schema.specs.SchemaText.{schema_of_text}
 
-abbrev of : List ℕ → Data
+abbrev pub of : List ℕ → Data
 of t = unwrap_or (read t) null
 
 abbrev method_of : Notation → List ℕ
@@ -22,14 +22,15 @@ method_of update = codes "monitor"
 method_of update2 = codes "monitor_cond"
 
 -- the reply to a request for the monitor "m"
-abbrev reply_to : Notation → List ℕ → List ℕ → Out
+abbrev pub reply_to : Notation → List ℕ → List ℕ → Out
 reply_to n request first = record {
   answers = to (of ((quoted (codes "{'method':'")) ++ method_of n ++ (quoted (codes "','params':['net','m',")) ++ request ++ (quoted (codes "],'id':1}"))));
   message = of first;
+  held = None;
 }
 
-abbrev told : List ℕ → Out
-told text = record { answers = no_request; message = of text }
+abbrev pub told : List ℕ → Out
+told text = record { answers = no_request; message = of text; held = None }
 
 -- whether the client of this monitor accepts a first reply and then these notifications
 abbrev accepts : Notation → List ℕ → List ℕ → List (List ℕ) → Option Bool

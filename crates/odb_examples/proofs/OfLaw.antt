@@ -70,7 +70,7 @@ module _ (h : Service) where
   dropped_at st s a o = by o.answers
     where
       of : Wish → Bool
-      of (adds n i d) = true
+      of (adds n since i d) = true
       of (changes i j d) = true
       of nothing_else = true
       of (drops i) = if is_granted o.message then elim (pictured h i (st.given s ++ a)) [ None ↦ false | Some p ↦ is_now st.world.db p.requests p.view || (nat_le (length a) 0 && was_last i (st.given s)) ] else true
@@ -83,7 +83,7 @@ module _ (h : Service) where
   changed_at st s a o = by o.answers
     where
       of : Wish → Bool
-      of (adds n i d) = true
+      of (adds n since i d) = true
       of (drops i) = true
       of nothing_else = true
       of (changes old new d) = if is_granted o.message then elim (pictured h new (st.given s ++ a ++ o ∷ [])) [ None ↦ false | Some p ↦ is_now st.world.db p.requests p.view || (nat_le (length a) 0 && was_last old (st.given s)) ] else true
@@ -162,7 +162,7 @@ module _ (h : Service) where
   is_changing st s x p = elim (owed h (revision_of st.world) x) [ [] ↦ false | o ∷ os ↦ by o o.answers ]
     where
       of : Out → Wish → Bool
-      of o (adds n i d) = false
+      of o (adds n since i d) = false
       of o (drops i) = false
       of o nothing_else = false
       of o (changes old new d) =
@@ -193,7 +193,7 @@ module _ (h : Service) where
   -- where none waits; the databases are compared by how many rows they have
   abbrev committed : State → Event → State → Bool
   committed st e now = elim st.world.waiting [
-    | [] ↦ ((now.world.commits == (committed_by h e st.world).1) && pointwise (λ t u. len t == len u) now.world.db (committed_by h e st.world).0)
+    | [] ↦ ((now.world.commits == (committed_by h e st.world).commits) && pointwise (λ t u. len t == len u) now.world.db (committed_by h e st.world).db)
     | p ∷ ps ↦ true
   ]
 
@@ -220,7 +220,7 @@ module _ (h : Service) where
   has_now db i os = elim (pictured h i os) [ None ↦ false | Some p ↦ is_now db p.requests p.view ]
 
   abbrev is_whole_by : State → ℕ → List Out → Out → Wish → Bool
-  is_whole_by st s a o (adds n i d) = true
+  is_whole_by st s a o (adds n since i d) = true
   is_whole_by st s a o nothing_else = true
   is_whole_by st s a o (drops i) = has_now st.world.db i (st.given s ++ a)
   is_whole_by st s a o (changes old new d) = has_now st.world.db new (st.given s ++ a ++ o ∷ [])
@@ -292,7 +292,7 @@ module _ (h : Service) where
 
 -- a test of the service of the schema, on a run
 abbrev holds : (Service → List Event → State → Bool) → List Event → Option Bool
-holds f es = elim (schema_of_text net) [ Ok n ↦ Some (f (service n) es (beginning (length n.tables))) | Err e ↦ None ]
+holds f es = elim (schema_of_text net) [ Ok n ↦ Some (f (service n) es (beginning 0 100 (length n.tables))) | Err e ↦ None ]
 
 abbrev run_change : List Event
 run_change =
@@ -489,6 +489,27 @@ run_one_id =
     (turn 0) ∷
     []
 
+-- a client that comes back, with a commit between its request and its taking
+abbrev run_resumed : List Event
+run_resumed =
+    (opened 0) ∷
+    (opened 1) ∷
+    (sub 1 1 ((quoted (codes "{'method':'transact','params':['net',{'op':'insert','table':'Bridge','row':{'name':'a'}}],'id':1}")))) ∷
+    (sub 1 2 ((quoted (codes "{'method':'transact','params':['net',{'op':'insert','table':'Bridge','row':{'name':'b'}}],'id':2}")))) ∷
+    (sub 0 0 ((quoted (codes "{'method':'monitor_cond_since','params':['net','m',{'Bridge':[{'columns':['name']}]},'00000000-0000-0000-0000-000000000001'],'id':1}")))) ∷
+    (sub 0 0 ((quoted (codes "{'method':'monitor_cond_since','params':['net','n',{'Bridge':[{'columns':['name']}]},'00000000-0000-0000-0000-000000000000'],'id':2}")))) ∷
+    (sub 1 0 ((quoted (codes "{'method':'transact','params':['net',{'op':'update','table':'Bridge','where':[['name','==','a']],'row':{'name':'c'}}],'id':3}")))) ∷
+    (turn 0) ∷
+    (turn 0) ∷
+    (sub 1 0 ((quoted (codes "{'method':'transact','params':['net',{'op':'delete','table':'Bridge','where':[['name','==','b']]}],'id':4}")))) ∷
+    (sub 0 0 ((quoted (codes "{'method':'monitor_cond_change','params':['m','k',{'Bridge':[{'where':[['name','==','a']]}]}],'id':3}")))) ∷
+    (turn 0) ∷
+    (turn 0) ∷
+    (sub 0 0 ((quoted (codes "{'method':'monitor_cancel','params':['n'],'id':4}")))) ∷
+    (turn 0) ∷
+    (turn 0) ∷
+    []
+
 -- all of them, after each event of a run
 abbrev all_hold : Service → List Event → State → Bool
 all_hold h es st =
@@ -544,6 +565,10 @@ pub one_id_holds : holds all_hold run_one_id ≡ Some true
 unfolding shows
 one_id_holds = refl
 
+pub resumed_holds : holds all_hold run_resumed ≡ Some true
+unfolding shows
+resumed_holds = refl
+
 -- ---- wrong machines: what they would owe right after a request
 
 -- the state in which a request of session 0 was taken in, and this is queued for it
@@ -557,7 +582,7 @@ with_queue d q x st = record {
 -- a test of session 0 in this state
 abbrev queued_after : (Service → State → ℕ → Session → Bool) → List Event → Data → List Item → Option Bool
 queued_after f es d q = elim (schema_of_text net) [
-  | Ok n ↦ elim (run (service n) es (beginning (length n.tables))) [
+  | Ok n ↦ elim (run (service n) es (beginning 0 100 (length n.tables))) [
     | Ok st ↦ elim (get st.world.sessions 0) [
       | Some x ↦ Some (f (service n) (with_queue d q x st) 0 (record { queue = q; monitors = x.monitors }))
       | None ↦ None
@@ -655,7 +680,7 @@ run_two_echoes = (opened 0) ∷ (sub 0 0 ((quoted (codes "{'method':'echo','para
 
 abbrev after_two_echoes : List Item → Option Bool
 after_two_echoes q = elim (schema_of_text net) [
-  | Ok s ↦ elim (run (service s) run_two_echoes (beginning (length s.tables))) [ Ok st ↦ Some (reordered (service s) st an_echo q) | Err e ↦ None ]
+  | Ok s ↦ elim (run (service s) run_two_echoes (beginning 0 100 (length s.tables))) [ Ok st ↦ Some (reordered (service s) st an_echo q) | Err e ↦ None ]
   | Err e ↦ None
 ]
 
@@ -696,7 +721,7 @@ run_modified =
 -- a test of session 0 after a run
 abbrev of_session : (Service → State → Session → Bool) → List Event → Option Bool
 of_session f es = elim (schema_of_text net) [
-  | Ok s ↦ elim (run (service s) es (beginning (length s.tables))) [
+  | Ok s ↦ elim (run (service s) es (beginning 0 100 (length s.tables))) [
     | Ok st ↦ elim (get st.world.sessions 0) [ Some x ↦ Some (f (service s) st x) | None ↦ None ]
     | Err e ↦ None
   ]
@@ -709,7 +734,7 @@ comes_to h st x y = pointwise (λ (k l : Monitor). is_none (delta k.view l.view)
 
 -- what a machine says that the monitors of a session owe, against what they owe with all kinds on, without those that are off
 abbrev owes_cut : Service → State → Session → List Out → Bool
-owes_cut h st x os = same_outs h os (filter_map (λ k. told_of h k.watch.notation k.watch.id k.watch.requests (shown false k.watch.requests (delta k.view (query st.world.db (all_kinds k.watch.requests))))) x.monitors)
+owes_cut h st x os = same_outs h os (filter_map (λ k. told_of h (revision_of st.world) k.watch k.watch.requests (shown false k.watch.requests (delta k.view (query st.world.db (all_kinds k.watch.requests))))) x.monitors)
 
 -- the state in which session 0 is this one
 abbrev with_session : Session → State → State

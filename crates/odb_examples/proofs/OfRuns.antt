@@ -21,7 +21,7 @@ first_message t = elim ((messages t).0) [ [] ↦ null | d ∷ ds ↦ d ]
 abbrev owes : List Event → Option ℕ
 owes es =
     elim (schema_of_text net) [
-      | Ok n ↦ option_and_then (λ st. option_map (λ x. owed_replies (service n) 0 x st.world) (map.get st.world.sessions 0)) (result_ok (run (service n) es (beginning (length n.tables))))
+      | Ok n ↦ option_and_then (λ st. option_map (λ x. owed_replies (service n) 0 x st.world) (map.get st.world.sessions 0)) (result_ok (run (service n) es (beginning 0 100 (length n.tables))))
       | Err e ↦ None
     ]
 
@@ -34,7 +34,7 @@ sub s k t = submitted s (first_message t) (fresh_from k 1) 0
 abbrev was_given : ℕ → List ℕ → List Event → Option (List (List ℕ))
 was_given s text es =
     elim (schema_of_text text) [
-      | Ok n ↦ option_map (λ st. map_list (λ o. (service n).printed o.message) (st.given s)) (result_ok (run (service n) es (beginning (length n.tables))))
+      | Ok n ↦ option_map (λ st. map_list (λ o. (service n).printed o.message) (st.given s)) (result_ok (run (service n) es (beginning 0 100 (length n.tables))))
       | Err e ↦ None
     ]
 

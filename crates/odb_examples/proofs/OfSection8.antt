@@ -1,4 +1,4 @@
--- Transcripts of section 8 of docs/PROTOCOL.md. Made by `tests/examples` from transcripts/: no hand writes here.
+-- Transcripts of section 8 of docs/PROTOCOL.md. Made by `tools/examples` from transcripts/: no hand writes here.
 use Rattle.std.specs.Prelude.{◌∷◌, [], codes, refl}
 use Rattle.odb_examples.proofs.TestSchemas.{empty, net}
 use Rattle.odb_examples.proofs.Transcripts.{Plays, shows}
@@ -163,7 +163,7 @@ pub the_methods_that_need_no_database : Plays net (
     ∷ codes "< A reply [1,{\"a\":0,\"z\":0}] []"
     ∷ codes "> A frob 4 []"
     ∷ codes "< A error 4 unknown method"
-    ∷ codes "> A monitor_cond_since 5 [\"net\",null,{}]"
+    ∷ codes "> A convert 5 [\"net\",null]"
     ∷ codes "< A error 5 unknown method"
     ∷ codes "> A set_db_change_aware 6 [true]"
     ∷ codes "< A error 6 unknown method"
@@ -271,7 +271,7 @@ pub unknown_methods : Plays net (
     ∷ codes "< A error 0 unknown method"
     ∷ codes "> A cancel 1 [1]"
     ∷ codes "< A error 1 unknown method"
-    ∷ codes "> A monitor_cond_since 2 [\"net\",\"m\",{},\"x\"]"
+    ∷ codes "> A monitor_since 2 [\"net\",\"m\",{},\"x\"]"
     ∷ codes "< A error 2 unknown method"
     ∷ codes "> A set_db_change_aware 3 [true]"
     ∷ codes "< A error 3 unknown method"
@@ -295,7 +295,7 @@ pub what_isnt_served_is_refused : Plays net (
     ∷ codes "< A error 2 unknown database"
     ∷ codes "> A echo 3 [1.5]"
     ∷ codes "< A error 3 syntax error"
-    ∷ codes "> A monitor_cond_since 5 [\"net\",\"m\",{},\"V0\"]"
+    ∷ codes "> A get_server_id 5 []"
     ∷ codes "< A error 5 unknown method"
     ∷ [])
 unfolding shows

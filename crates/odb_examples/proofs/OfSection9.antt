@@ -1,4 +1,4 @@
--- Transcripts of section 9 of docs/PROTOCOL.md. Made by `tests/examples` from transcripts/: no hand writes here.
+-- Transcripts of section 9 of docs/PROTOCOL.md. Made by `tools/examples` from transcripts/: no hand writes here.
 use Rattle.std.specs.Prelude.{◌∷◌, [], codes, refl}
 use Rattle.odb_examples.proofs.TestSchemas.{caps, net}
 use Rattle.odb_examples.proofs.Transcripts.{Plays, shows}
@@ -538,3 +538,328 @@ pub a_new_monitor_of_the_same_id_begins_while_the_old_one_is_cancelled : Plays n
     ∷ [])
 unfolding shows
 a_new_monitor_of_the_same_id_begins_while_the_old_one_is_cancelled = refl
+
+-- A change of conditions without a message leaves no commit to name
+pub a_change_of_conditions_without_a_message_leaves_no_commit_to_name : Plays net (
+    codes "> B transact 1 {\"op\":\"insert\",\"table\":\"Bridge\",\"row\":{\"name\":\"a\"}}"
+    ∷ codes "< B reply 1 [{\"uuid\":[\"uuid\",\"U1\"]}]"
+    ∷ codes "> A monitor_cond_since 1 [\"net\",\"m\",{\"Bridge\":[{\"columns\":[\"name\"],\"where\":[[\"name\",\"==\",\"b\"]]}]},\"V0\"]"
+    ∷ codes "< A reply 1 [false,\"V1\",{}]"
+    ∷ codes "> B transact 2 {\"op\":\"delete\",\"table\":\"Bridge\",\"where\":[]}"
+    ∷ codes "< B reply 2 [{\"count\":1}]"
+    ∷ codes "> A monitor_cond_change 2 [\"m\",\"m\",{\"Bridge\":[{\"where\":[[\"name\",\"==\",\"a\"]]}]}]"
+    ∷ codes "< A reply 2 {}"
+    ∷ codes "> C monitor_cond_since 1 [\"net\",\"m\",{\"Bridge\":[{\"columns\":[\"name\"],\"where\":[[\"name\",\"==\",\"a\"]]}]},\"V1\"]"
+    ∷ codes "< C reply 1 [true,\"V2\",{\"Bridge\":{\"U1\":{\"delete\":null}}}]"
+    ∷ [])
+unfolding shows
+a_change_of_conditions_without_a_message_leaves_no_commit_to_name = refl
+
+-- A client that names a commit is told what changed since
+pub a_client_that_names_a_commit_is_told_what_changed_since : Plays net (
+    codes "> B transact 1 {\"op\":\"insert\",\"table\":\"Bridge\",\"row\":{\"name\":\"br0\"}}"
+    ∷ codes "< B reply 1 [{\"uuid\":[\"uuid\",\"U1\"]}]"
+    ∷ codes "> B transact 2 {\"op\":\"insert\",\"table\":\"Bridge\",\"row\":{\"name\":\"br1\"}}"
+    ∷ codes "< B reply 2 [{\"uuid\":[\"uuid\",\"U2\"]}]"
+    ∷ codes "> A monitor_cond_since 1 [\"net\",\"m\",{\"Bridge\":[{\"columns\":[\"name\"]}]},\"V1\"]"
+    ∷ codes "< A reply 1 [true,\"V2\",{\"Bridge\":{\"U2\":{\"insert\":{\"name\":\"br1\"}}}}]"
+    ∷ codes "> B transact 3 {\"op\":\"update\",\"table\":\"Bridge\",\"where\":[[\"name\",\"==\",\"br1\"]],\"row\":{\"name\":\"x\"}}"
+    ∷ codes "< A update3 [\"m\",\"V3\",{\"Bridge\":{\"U2\":{\"modify\":{\"name\":\"x\"}}}}]"
+    ∷ codes "< B reply 3 [{\"count\":1}]"
+    ∷ [])
+unfolding shows
+a_client_that_names_a_commit_is_told_what_changed_since = refl
+
+-- A client that names the newest commit is told nothing
+pub a_client_that_names_the_newest_commit_is_told_nothing : Plays net (
+    codes "> B transact 1 {\"op\":\"insert\",\"table\":\"Bridge\",\"row\":{\"name\":\"br0\"}}"
+    ∷ codes "< B reply 1 [{\"uuid\":[\"uuid\",\"U1\"]}]"
+    ∷ codes "> B transact 2 {\"op\":\"insert\",\"table\":\"Bridge\",\"row\":{\"name\":\"br1\"}}"
+    ∷ codes "< B reply 2 [{\"uuid\":[\"uuid\",\"U2\"]}]"
+    ∷ codes "> A monitor_cond_since 1 [\"net\",\"m\",{\"Bridge\":[{\"columns\":[\"name\"]}]},\"V2\"]"
+    ∷ codes "< A reply 1 [true,\"V2\",{}]"
+    ∷ codes "> B transact 3 {\"op\":\"update\",\"table\":\"Bridge\",\"where\":[[\"name\",\"==\",\"br1\"]],\"row\":{\"name\":\"x\"}}"
+    ∷ codes "< A update3 [\"m\",\"V3\",{\"Bridge\":{\"U2\":{\"modify\":{\"name\":\"x\"}}}}]"
+    ∷ codes "< B reply 3 [{\"count\":1}]"
+    ∷ [])
+unfolding shows
+a_client_that_names_the_newest_commit_is_told_nothing = refl
+
+-- A commit is looked for when the reply is taken
+pub a_commit_is_looked_for_when_the_reply_is_taken : Plays net (
+    codes "> B transact 1 {\"op\":\"insert\",\"table\":\"Bridge\",\"row\":{\"name\":\"a\"}}"
+    ∷ codes "< B reply 1 [{\"uuid\":[\"uuid\",\"U1\"]}]"
+    ∷ codes "> !hold A"
+    ∷ codes "> A monitor_cond_since 1 [\"net\",\"m\",{\"Bridge\":[{\"columns\":[\"name\"]}]},\"V2\"]"
+    ∷ codes "> B transact 2 {\"op\":\"insert\",\"table\":\"Bridge\",\"row\":{\"name\":\"b\"}}"
+    ∷ codes "< B reply 2 [{\"uuid\":[\"uuid\",\"U2\"]}]"
+    ∷ codes "> B transact 3 {\"op\":\"insert\",\"table\":\"Bridge\",\"row\":{\"name\":\"c\"}}"
+    ∷ codes "< B reply 3 [{\"uuid\":[\"uuid\",\"U3\"]}]"
+    ∷ codes "> !take A"
+    ∷ codes "< A reply 1 [true,\"V3\",{\"Bridge\":{\"U3\":{\"insert\":{\"name\":\"c\"}}}}]"
+    ∷ codes "> !hold A"
+    ∷ codes "> B transact 4 {\"op\":\"delete\",\"table\":\"Bridge\",\"where\":[[\"name\",\"==\",\"a\"]]}"
+    ∷ codes "< B reply 4 [{\"count\":1}]"
+    ∷ codes "> B transact 5 {\"op\":\"delete\",\"table\":\"Bridge\",\"where\":[[\"name\",\"==\",\"b\"]]}"
+    ∷ codes "< B reply 5 [{\"count\":1}]"
+    ∷ codes "> !take A"
+    ∷ codes "< A update3 [\"m\",\"V5\",{\"Bridge\":{\"U1\":{\"delete\":null},\"U2\":{\"delete\":null}}}]"
+    ∷ [])
+unfolding shows
+a_commit_is_looked_for_when_the_reply_is_taken = refl
+
+-- A commit of another run isn't found
+pub a_commit_of_another_run_isnt_found : Plays net (
+    codes "> B transact 1 {\"op\":\"insert\",\"table\":\"Bridge\",\"row\":{\"name\":\"br0\"}}"
+    ∷ codes "< B reply 1 [{\"uuid\":[\"uuid\",\"U1\"]}]"
+    ∷ codes "> A monitor_cond_since 1 [\"net\",\"a\",{\"Bridge\":[{\"columns\":[\"name\"]}]},\"00000000-0000-0001-0000-000000000001\"]"
+    ∷ codes "< A reply 1 [false,\"V1\",{\"Bridge\":{\"U1\":{\"initial\":{\"name\":\"br0\"}}}}]"
+    ∷ codes "> A monitor_cond_since 2 [\"net\",\"b\",{\"Bridge\":[{\"columns\":[\"name\"]}]},\"80000000-0000-0000-0000-000000000001\"]"
+    ∷ codes "< A reply 2 [false,\"V1\",{\"Bridge\":{\"U1\":{\"initial\":{\"name\":\"br0\"}}}}]"
+    ∷ codes "> A monitor_cond_since 3 [\"net\",\"c\",{\"Bridge\":[{\"columns\":[\"name\"]}]},\"U1\"]"
+    ∷ codes "< A reply 3 [false,\"V1\",{\"Bridge\":{\"U1\":{\"initial\":{\"name\":\"br0\"}}}}]"
+    ∷ codes "> A monitor_cond_since 4 [\"net\",\"d\",{\"Bridge\":[{\"columns\":[\"name\"]}]},\"V1\"]"
+    ∷ codes "< A reply 4 [true,\"V1\",{}]"
+    ∷ [])
+unfolding shows
+a_commit_of_another_run_isnt_found = refl
+
+-- A commit that is yet to come isn't found
+pub a_commit_that_is_yet_to_come_isnt_found : Plays net (
+    codes "> A monitor_cond_since 1 [\"net\",\"a\",{\"Bridge\":[{\"columns\":[\"name\"]}]},\"V1\"]"
+    ∷ codes "< A reply 1 [false,\"V0\",{}]"
+    ∷ codes "> B transact 1 {\"op\":\"insert\",\"table\":\"Bridge\",\"row\":{\"name\":\"br0\"}}"
+    ∷ codes "< A update3 [\"a\",\"V1\",{\"Bridge\":{\"U1\":{\"insert\":{\"name\":\"br0\"}}}}]"
+    ∷ codes "< B reply 1 [{\"uuid\":[\"uuid\",\"U1\"]}]"
+    ∷ codes "> A monitor_cond_since 2 [\"net\",\"b\",{\"Bridge\":[{\"columns\":[\"name\"]}]},\"V2\"]"
+    ∷ codes "< A reply 2 [false,\"V1\",{\"Bridge\":{\"U1\":{\"initial\":{\"name\":\"br0\"}}}}]"
+    ∷ codes "> A monitor_cond_since 3 [\"net\",\"c\",{\"Bridge\":[{\"columns\":[\"name\"]}]},\"00000000-0000-0000-8000-000000000001\"]"
+    ∷ codes "< A reply 3 [false,\"V1\",{\"Bridge\":{\"U1\":{\"initial\":{\"name\":\"br0\"}}}}]"
+    ∷ [])
+unfolding shows
+a_commit_that_is_yet_to_come_isnt_found = refl
+
+-- A condition is changed and the monitor cancelled after a client came back
+pub a_condition_is_changed_and_the_monitor_cancelled_after_a_client_came_back : Plays net (
+    codes "> B transact 1 {\"op\":\"insert\",\"table\":\"Bridge\",\"row\":{\"name\":\"a\"}}"
+    ∷ codes "< B reply 1 [{\"uuid\":[\"uuid\",\"U1\"]}]"
+    ∷ codes "> B transact 2 {\"op\":\"insert\",\"table\":\"Bridge\",\"row\":{\"name\":\"b\"}}"
+    ∷ codes "< B reply 2 [{\"uuid\":[\"uuid\",\"U2\"]}]"
+    ∷ codes "> A monitor_cond_since 1 [\"net\",\"m\",{\"Bridge\":[{\"columns\":[\"name\"],\"where\":[[\"name\",\"==\",\"a\"]]}]},\"V1\"]"
+    ∷ codes "< A reply 1 [true,\"V2\",{}]"
+    ∷ codes "> A monitor_cond_change 2 [\"m\",\"n\",{\"Bridge\":[{\"where\":[[\"name\",\"==\",\"b\"]]}]}]"
+    ∷ codes "< A update3 [\"m\",\"V2\",{\"Bridge\":{\"U1\":{\"delete\":null},\"U2\":{\"insert\":{\"name\":\"b\"}}}}]"
+    ∷ codes "< A reply 2 {}"
+    ∷ codes "> B transact 3 {\"op\":\"update\",\"table\":\"Bridge\",\"where\":[[\"name\",\"==\",\"a\"]],\"row\":{\"name\":\"c\"}}"
+    ∷ codes "< B reply 3 [{\"count\":1}]"
+    ∷ codes "> B transact 4 {\"op\":\"delete\",\"table\":\"Bridge\",\"where\":[[\"name\",\"==\",\"b\"]]}"
+    ∷ codes "< A update3 [\"n\",\"V4\",{\"Bridge\":{\"U2\":{\"delete\":null}}}]"
+    ∷ codes "< B reply 4 [{\"count\":1}]"
+    ∷ codes "> A monitor_cond_change 3 [\"n\",\"n\",{}]"
+    ∷ codes "< A reply 3 {}"
+    ∷ codes "> !hold A"
+    ∷ codes "> A monitor_cancel 4 [\"n\"]"
+    ∷ codes "> B transact 5 {\"op\":\"insert\",\"table\":\"Bridge\",\"row\":{\"name\":\"b\"}}"
+    ∷ codes "< B reply 5 [{\"uuid\":[\"uuid\",\"U3\"]}]"
+    ∷ codes "> !take A"
+    ∷ codes "< A update3 [\"n\",\"V5\",{\"Bridge\":{\"U3\":{\"insert\":{\"name\":\"b\"}}}}]"
+    ∷ codes "< A reply 4 {}"
+    ∷ codes "> B transact 6 {\"op\":\"delete\",\"table\":\"Bridge\",\"where\":[[\"name\",\"==\",\"b\"]]}"
+    ∷ codes "< B reply 6 [{\"count\":1}]"
+    ∷ codes "> A monitor_cancel 5 [\"n\"]"
+    ∷ codes "< A error 5 unknown monitor"
+    ∷ [])
+unfolding shows
+a_condition_is_changed_and_the_monitor_cancelled_after_a_client_came_back = refl
+
+-- Before there is a commit, the number is 0
+pub before_there_is_a_commit_the_number_is_0 : Plays net (
+    codes "> A monitor_cond_since 1 [\"net\",\"m\",{\"Bridge\":[{\"columns\":[\"name\"]}]},\"V0\"]"
+    ∷ codes "< A reply 1 [false,\"V0\",{}]"
+    ∷ codes "> A monitor_cond_since 2 [\"net\",\"n\",{},\"V0\"]"
+    ∷ codes "< A reply 2 [false,\"V0\",{}]"
+    ∷ codes "> B transact 1 {\"op\":\"insert\",\"table\":\"Bridge\",\"row\":{\"name\":\"br0\"}}"
+    ∷ codes "< A update3 [\"m\",\"V1\",{\"Bridge\":{\"U1\":{\"insert\":{\"name\":\"br0\"}}}}]"
+    ∷ codes "< B reply 1 [{\"uuid\":[\"uuid\",\"U1\"]}]"
+    ∷ [])
+unfolding shows
+before_there_is_a_commit_the_number_is_0 = refl
+
+-- Kinds that are switched off aren't told since a commit
+pub kinds_that_are_switched_off_arent_told_since_a_commit : Plays net (
+    codes "> B transact 1 {\"op\":\"insert\",\"table\":\"Bridge\",\"row\":{\"name\":\"a\"}},{\"op\":\"insert\",\"table\":\"Bridge\",\"row\":{\"name\":\"b\"}}"
+    ∷ codes "< B reply 1 [{\"uuid\":[\"uuid\",\"U1\"]},{\"uuid\":[\"uuid\",\"U2\"]}]"
+    ∷ codes "> B transact 2 {\"op\":\"update\",\"table\":\"Bridge\",\"where\":[[\"name\",\"==\",\"a\"]],\"row\":{\"name\":\"x\"}},{\"op\":\"delete\",\"table\":\"Bridge\",\"where\":[[\"name\",\"==\",\"b\"]]},{\"op\":\"insert\",\"table\":\"Bridge\",\"row\":{\"name\":\"c\"}}"
+    ∷ codes "< B reply 2 [{\"count\":1},{\"count\":1},{\"uuid\":[\"uuid\",\"U3\"]}]"
+    ∷ codes "> A monitor_cond_since 1 [\"net\",\"initial\",{\"Bridge\":[{\"columns\":[\"name\"],\"select\":{\"initial\":false}}]},\"V1\"]"
+    ∷ codes "< A reply 1 [true,\"V2\",{\"Bridge\":{\"U1\":{\"modify\":{\"name\":\"x\"}},\"U2\":{\"delete\":null},\"U3\":{\"insert\":{\"name\":\"c\"}}}}]"
+    ∷ codes "> A monitor_cond_since 2 [\"net\",\"insert\",{\"Bridge\":[{\"columns\":[\"name\"],\"select\":{\"insert\":false}}]},\"V1\"]"
+    ∷ codes "< A reply 2 [true,\"V2\",{\"Bridge\":{\"U1\":{\"modify\":{\"name\":\"x\"}},\"U2\":{\"delete\":null}}}]"
+    ∷ codes "> A monitor_cond_since 3 [\"net\",\"delete\",{\"Bridge\":[{\"columns\":[\"name\"],\"select\":{\"delete\":false}}]},\"V1\"]"
+    ∷ codes "< A reply 3 [true,\"V2\",{\"Bridge\":{\"U1\":{\"modify\":{\"name\":\"x\"}},\"U3\":{\"insert\":{\"name\":\"c\"}}}}]"
+    ∷ codes "> A monitor_cond_since 4 [\"net\",\"modify\",{\"Bridge\":[{\"columns\":[\"name\"],\"select\":{\"modify\":false}}]},\"V1\"]"
+    ∷ codes "< A reply 4 [true,\"V2\",{\"Bridge\":{\"U2\":{\"delete\":null},\"U3\":{\"insert\":{\"name\":\"c\"}}}}]"
+    ∷ codes "> A monitor_cond_since 5 [\"net\",\"none\",{\"Bridge\":[{\"columns\":[\"name\"],\"select\":{\"insert\":false,\"delete\":false,\"modify\":false}}]},\"V1\"]"
+    ∷ codes "< A reply 5 [true,\"V2\",{}]"
+    ∷ codes "> A monitor_cond_since 6 [\"net\",\"zero\",{\"Bridge\":[{\"columns\":[\"name\"],\"select\":{\"initial\":false}}]},\"V0\"]"
+    ∷ codes "< A reply 6 [false,\"V2\",{}]"
+    ∷ [])
+unfolding shows
+kinds_that_are_switched_off_arent_told_since_a_commit = refl
+
+-- Rows that went and came back aren't told
+pub rows_that_went_and_came_back_arent_told : Plays net (
+    codes "> B transact 1 {\"op\":\"insert\",\"table\":\"Bridge\",\"row\":{\"name\":\"br0\"},\"uuid\":\"a0000000-0000-4000-8000-000000000001\"}"
+    ∷ codes "< B reply 1 [{\"uuid\":[\"uuid\",\"a0000000-0000-4000-8000-000000000001\"]}]"
+    ∷ codes "> B transact 2 {\"op\":\"update\",\"table\":\"Bridge\",\"where\":[],\"row\":{\"name\":\"x\"}}"
+    ∷ codes "< B reply 2 [{\"count\":1}]"
+    ∷ codes "> B transact 3 {\"op\":\"delete\",\"table\":\"Bridge\",\"where\":[]}"
+    ∷ codes "< B reply 3 [{\"count\":1}]"
+    ∷ codes "> B transact 4 {\"op\":\"insert\",\"table\":\"Bridge\",\"row\":{\"name\":\"short\"}}"
+    ∷ codes "< B reply 4 [{\"uuid\":[\"uuid\",\"U2\"]}]"
+    ∷ codes "> B transact 5 {\"op\":\"delete\",\"table\":\"Bridge\",\"where\":[]}"
+    ∷ codes "< B reply 5 [{\"count\":1}]"
+    ∷ codes "> B transact 6 {\"op\":\"insert\",\"table\":\"Bridge\",\"row\":{\"name\":\"br0\"},\"uuid\":\"a0000000-0000-4000-8000-000000000001\"}"
+    ∷ codes "< B reply 6 [{\"uuid\":[\"uuid\",\"a0000000-0000-4000-8000-000000000001\"]}]"
+    ∷ codes "> A monitor_cond_since 1 [\"net\",\"m\",{\"Bridge\":[{\"columns\":[\"name\"]}]},\"V1\"]"
+    ∷ codes "< A reply 1 [true,\"V6\",{}]"
+    ∷ codes "> A monitor_cond_since 2 [\"net\",\"n\",{\"Bridge\":[{\"columns\":[\"name\"]}]},\"V2\"]"
+    ∷ codes "< A reply 2 [true,\"V6\",{\"Bridge\":{\"a0000000-0000-4000-8000-000000000001\":{\"modify\":{\"name\":\"br0\"}}}}]"
+    ∷ codes "> A monitor_cond_since 3 [\"net\",\"o\",{\"Bridge\":[{\"columns\":[\"name\"]}]},\"V4\"]"
+    ∷ codes "< A reply 3 [true,\"V6\",{\"Bridge\":{\"U2\":{\"delete\":null},\"a0000000-0000-4000-8000-000000000001\":{\"insert\":{\"name\":\"br0\"}}}}]"
+    ∷ codes "> A monitor_cond_since 4 [\"net\",\"p\",{\"Bridge\":[{\"columns\":[\"_version\"]}]},\"V1\"]"
+    ∷ codes "< A reply 4 [true,\"V6\",{\"Bridge\":{\"a0000000-0000-4000-8000-000000000001\":{\"modify\":{\"_version\":[\"uuid\",\"V6\"]}}}}]"
+    ∷ [])
+unfolding shows
+rows_that_went_and_came_back_arent_told = refl
+
+-- Several commits are told as one difference
+pub several_commits_are_told_as_one_difference : Plays net (
+    codes "> B transact 1 {\"op\":\"insert\",\"table\":\"Bridge\",\"row\":{\"name\":\"br0\",\"ports\":[\"set\",[[\"named-uuid\",\"p\"],[\"named-uuid\",\"q\"]]]}},{\"op\":\"insert\",\"table\":\"Port\",\"row\":{\"name\":\"p\",\"tag\":1,\"opts\":[\"map\",[[\"a\",\"1\"],[\"b\",\"2\"]]]},\"uuid-name\":\"p\"},{\"op\":\"insert\",\"table\":\"Port\",\"row\":{\"name\":\"q\"},\"uuid-name\":\"q\"}"
+    ∷ codes "< B reply 1 [{\"uuid\":[\"uuid\",\"U1\"]},{\"uuid\":[\"uuid\",\"U2\"]},{\"uuid\":[\"uuid\",\"U3\"]}]"
+    ∷ codes "> B transact 2 {\"op\":\"mutate\",\"table\":\"Port\",\"where\":[[\"name\",\"==\",\"p\"]],\"mutations\":[[\"tag\",\"+=\",1],[\"opts\",\"delete\",[\"set\",[\"a\"]]]]}"
+    ∷ codes "< B reply 2 [{\"count\":1}]"
+    ∷ codes "> B transact 3 {\"op\":\"mutate\",\"table\":\"Port\",\"where\":[[\"name\",\"==\",\"p\"]],\"mutations\":[[\"tag\",\"+=\",1],[\"opts\",\"insert\",[\"map\",[[\"c\",\"3\"]]]]]}"
+    ∷ codes "< B reply 3 [{\"count\":1}]"
+    ∷ codes "> B transact 4 {\"op\":\"mutate\",\"table\":\"Bridge\",\"where\":[],\"mutations\":[[\"ports\",\"delete\",[\"set\",[[\"uuid\",\"U3\"]]]]]},{\"op\":\"insert\",\"table\":\"Bridge\",\"row\":{\"name\":\"br1\"}}"
+    ∷ codes "< B reply 4 [{\"count\":1},{\"uuid\":[\"uuid\",\"U4\"]}]"
+    ∷ codes "> A monitor_cond_since 1 [\"net\",\"m\",{\"Bridge\":{\"columns\":[\"name\",\"ports\"]},\"Port\":{\"columns\":[\"name\",\"tag\",\"opts\"]}},\"V1\"]"
+    ∷ codes "< A reply 1 [true,\"V4\",{\"Bridge\":{\"U1\":{\"modify\":{\"ports\":[\"uuid\",\"U3\"]}},\"U4\":{\"insert\":{\"name\":\"br1\"}}},\"Port\":{\"U2\":{\"modify\":{\"opts\":[\"map\",[[\"a\",\"1\"],[\"c\",\"3\"]]],\"tag\":3}},\"U3\":{\"delete\":null}}}]"
+    ∷ [])
+unfolding shows
+several_commits_are_told_as_one_difference = refl
+
+-- The requests are tested as those of monitor_cond
+pub the_requests_are_tested_as_those_of_monitor_cond : Plays net (
+    codes "> A monitor 1 [\"net\",\"m\",{}]"
+    ∷ codes "< A reply 1 {}"
+    ∷ codes "> A monitor_cond_since 2 [\"net\",\"m\",{\"Nope\":1},\"V0\"]"
+    ∷ codes "< A error 2 syntax error"
+    ∷ codes "> A monitor_cond_since 3 [\"net\",\"n\",{\"Bridge\":{\"columns\":[\"zzz\"]},\"Nope\":1},\"V0\"]"
+    ∷ codes "< A error 3 unknown column"
+    ∷ codes "> A monitor_cond_since 4 [\"net\",\"n\",{\"Bridge\":[],\"Nope\":1},\"V0\"]"
+    ∷ codes "< A error 4 syntax error"
+    ∷ codes "> A monitor_cond_since 5 [\"net\",\"n\",{\"Nope\":1},\"V0\"]"
+    ∷ codes "< A error 5 unknown table"
+    ∷ codes "> A monitor_cond_since 6 [\"net\",\"n\",{\"Bridge\":[{\"where\":[[\"name\",\"==\",[\"named-uuid\",\"x\"]]]}]},\"V0\"]"
+    ∷ codes "< A error 6 syntax error"
+    ∷ codes "> A monitor_cond_since 7 [\"net\",\"n\",{\"Bridge\":[{\"where\":[true]}]},\"V0\"]"
+    ∷ codes "< A reply 7 [false,\"V0\",{}]"
+    ∷ codes "> A monitor_cond_since 8 [\"net\",\"n\",{},\"V0\"]"
+    ∷ codes "< A error 8 syntax error"
+    ∷ codes "> A monitor_cond 9 [\"net\",\"n\",{}]"
+    ∷ codes "< A error 9 syntax error"
+    ∷ [])
+unfolding shows
+the_requests_are_tested_as_those_of_monitor_cond = refl
+
+-- The zero identifier names no commit
+pub the_zero_identifier_names_no_commit : Plays net (
+    codes "> B transact 1 {\"op\":\"insert\",\"table\":\"Bridge\",\"row\":{\"name\":\"br0\"}}"
+    ∷ codes "< B reply 1 [{\"uuid\":[\"uuid\",\"U1\"]}]"
+    ∷ codes "> B transact 2 {\"op\":\"insert\",\"table\":\"Bridge\",\"row\":{\"name\":\"br1\"}}"
+    ∷ codes "< B reply 2 [{\"uuid\":[\"uuid\",\"U2\"]}]"
+    ∷ codes "> A monitor_cond_since 1 [\"net\",\"m\",{\"Bridge\":[{\"columns\":[\"name\"]}]},\"V0\"]"
+    ∷ codes "< A reply 1 [false,\"V2\",{\"Bridge\":{\"U1\":{\"initial\":{\"name\":\"br0\"}},\"U2\":{\"initial\":{\"name\":\"br1\"}}}}]"
+    ∷ codes "> B transact 3 {\"op\":\"update\",\"table\":\"Bridge\",\"where\":[[\"name\",\"==\",\"br1\"]],\"row\":{\"name\":\"x\"}}"
+    ∷ codes "< A update3 [\"m\",\"V3\",{\"Bridge\":{\"U2\":{\"modify\":{\"name\":\"x\"}}}}]"
+    ∷ codes "< B reply 3 [{\"count\":1}]"
+    ∷ [])
+unfolding shows
+the_zero_identifier_names_no_commit = refl
+
+-- Transactions that make no commit have no number
+pub transactions_that_make_no_commit_have_no_number : Plays net (
+    codes "> B transact 1 {\"op\":\"insert\",\"table\":\"Bridge\",\"row\":{\"name\":\"br0\"}}"
+    ∷ codes "< B reply 1 [{\"uuid\":[\"uuid\",\"U1\"]}]"
+    ∷ codes "> B transact 2 {\"op\":\"update\",\"table\":\"Bridge\",\"where\":[],\"row\":{\"name\":\"x\"}},{\"op\":\"abort\"}"
+    ∷ codes "< B reply 2 [{\"count\":1},{\"error\":\"aborted\"}]"
+    ∷ codes "> B transact 3 {\"op\":\"insert\",\"table\":\"Bridge\",\"row\":{\"name\":\"br0\"}}"
+    ∷ codes "< B reply 3 [{\"uuid\":[\"uuid\",\"U2\"]},{\"error\":\"constraint violation\"}]"
+    ∷ codes "> B transact 4 {\"op\":\"update\",\"table\":\"Bridge\",\"where\":[],\"row\":{\"name\":\"br0\"}}"
+    ∷ codes "< B reply 4 [{\"count\":1}]"
+    ∷ codes "> A monitor_cond_since 1 [\"net\",\"m\",{\"Bridge\":[{\"columns\":[\"name\"]}]},\"V1\"]"
+    ∷ codes "< A reply 1 [true,\"V1\",{}]"
+    ∷ codes "> B transact 5 {\"op\":\"insert\",\"table\":\"Bridge\",\"row\":{\"name\":\"br1\"}}"
+    ∷ codes "< A update3 [\"m\",\"V2\",{\"Bridge\":{\"U3\":{\"insert\":{\"name\":\"br1\"}}}}]"
+    ∷ codes "< B reply 5 [{\"uuid\":[\"uuid\",\"U3\"]}]"
+    ∷ codes "> C monitor_cond_since 1 [\"net\",\"m\",{\"Bridge\":[{\"columns\":[\"name\"]}]},\"V1\"]"
+    ∷ codes "< C reply 1 [true,\"V2\",{\"Bridge\":{\"U3\":{\"insert\":{\"name\":\"br1\"}}}}]"
+    ∷ [])
+unfolding shows
+transactions_that_make_no_commit_have_no_number = refl
+
+-- What changed since a commit is told under the filters of the request
+pub what_changed_since_a_commit_is_told_under_the_filters_of_the_request : Plays net (
+    codes "> B transact 1 {\"op\":\"insert\",\"table\":\"Bridge\",\"row\":{\"name\":\"b\",\"ports\":[\"set\",[[\"named-uuid\",\"p\"],[\"named-uuid\",\"q\"],[\"named-uuid\",\"r\"],[\"named-uuid\",\"s\"]]]}},{\"op\":\"insert\",\"table\":\"Port\",\"row\":{\"name\":\"p\",\"tag\":1},\"uuid-name\":\"p\"},{\"op\":\"insert\",\"table\":\"Port\",\"row\":{\"name\":\"q\",\"tag\":2},\"uuid-name\":\"q\"},{\"op\":\"insert\",\"table\":\"Port\",\"row\":{\"name\":\"r\",\"tag\":1},\"uuid-name\":\"r\"},{\"op\":\"insert\",\"table\":\"Port\",\"row\":{\"name\":\"s\"},\"uuid-name\":\"s\"}"
+    ∷ codes "< B reply 1 [{\"uuid\":[\"uuid\",\"U1\"]},{\"uuid\":[\"uuid\",\"U2\"]},{\"uuid\":[\"uuid\",\"U3\"]},{\"uuid\":[\"uuid\",\"U4\"]},{\"uuid\":[\"uuid\",\"U5\"]}]"
+    ∷ codes "> B transact 2 {\"op\":\"update\",\"table\":\"Port\",\"where\":[[\"name\",\"==\",\"p\"]],\"row\":{\"tag\":2}},{\"op\":\"update\",\"table\":\"Port\",\"where\":[[\"name\",\"==\",\"q\"]],\"row\":{\"tag\":1}},{\"op\":\"update\",\"table\":\"Port\",\"where\":[[\"name\",\"==\",\"r\"]],\"row\":{\"name\":\"t\"}},{\"op\":\"update\",\"table\":\"Port\",\"where\":[[\"name\",\"==\",\"s\"]],\"row\":{\"name\":\"u\"}}"
+    ∷ codes "< B reply 2 [{\"count\":1},{\"count\":1},{\"count\":1},{\"count\":1}]"
+    ∷ codes "> A monitor_cond_since 1 [\"net\",\"m\",{\"Port\":[{\"columns\":[\"name\"],\"where\":[[\"tag\",\"==\",1]]}]},\"V1\"]"
+    ∷ codes "< A reply 1 [true,\"V2\",{\"Port\":{\"U2\":{\"delete\":null},\"U3\":{\"insert\":{\"name\":\"q\"}},\"U4\":{\"modify\":{\"name\":\"t\"}}}}]"
+    ∷ codes "> A monitor_cond_since 2 [\"net\",\"n\",{\"Port\":[{\"columns\":[\"name\"],\"where\":[false]}]},\"V1\"]"
+    ∷ codes "< A reply 2 [true,\"V2\",{}]"
+    ∷ codes "> B transact 3 {\"op\":\"update\",\"table\":\"Port\",\"where\":[[\"name\",\"==\",\"u\"]],\"row\":{\"tag\":1}}"
+    ∷ codes "< A update3 [\"m\",\"V3\",{\"Port\":{\"U5\":{\"insert\":{\"name\":\"u\"}}}}]"
+    ∷ codes "< B reply 3 [{\"count\":1}]"
+    ∷ [])
+unfolding shows
+what_changed_since_a_commit_is_told_under_the_filters_of_the_request = refl
+
+-- What names a commit is a text of 36 characters
+pub what_names_a_commit_is_a_text_of_36_characters : Plays net (
+    codes "> A monitor_cond_since 1 [\"net\",\"m\",{},0]"
+    ∷ codes "< A error 1 syntax error"
+    ∷ codes "> A monitor_cond_since 2 [\"net\",\"m\",{},null]"
+    ∷ codes "< A error 2 syntax error"
+    ∷ codes "> A monitor_cond_since 3 [\"net\",\"m\",{},[\"uuid\",\"V0\"]]"
+    ∷ codes "< A error 3 syntax error"
+    ∷ codes "> A monitor_cond_since 4 [\"net\",\"m\",{},\"\"]"
+    ∷ codes "< A error 4 syntax error"
+    ∷ codes "> A monitor_cond_since 5 [\"net\",\"m\",{},\"00000000-0000-0000-0000-00000000000\"]"
+    ∷ codes "< A error 5 syntax error"
+    ∷ codes "> A monitor_cond_since 6 [\"net\",\"m\",{},\"00000000-0000-0000-0000-0000000000000\"]"
+    ∷ codes "< A error 6 syntax error"
+    ∷ codes "> A monitor_cond_since 7 [\"net\",\"m\",{},\"00000000-0000-0000-0000-00000000000g\"]"
+    ∷ codes "< A error 7 syntax error"
+    ∷ codes "> A monitor_cond_since 8 [\"net\",\"m\",{},\"000000000000-0000-0000-000000000000\"]"
+    ∷ codes "< A error 8 syntax error"
+    ∷ codes "> A monitor_cond_since 9 [\"net\",\"m\",{}]"
+    ∷ codes "< A error 9 syntax error"
+    ∷ codes "> A monitor_cond_since 10 [\"net\",\"m\",{},\"V0\",1]"
+    ∷ codes "< A error 10 syntax error"
+    ∷ codes "> A monitor_cond_since 11 [\"net\",\"m\",[],\"V0\"]"
+    ∷ codes "< A error 11 syntax error"
+    ∷ codes "> A monitor_cond_since 12 [1,\"m\",{},\"V0\"]"
+    ∷ codes "< A error 12 syntax error"
+    ∷ codes "> A monitor_cond_since 13 [\"x\",\"m\",{},0]"
+    ∷ codes "< A error 13 syntax error"
+    ∷ codes "> A monitor_cond_since 14 [\"x\",\"m\",{\"Nope\":1},\"V0\"]"
+    ∷ codes "< A error 14 unknown database"
+    ∷ codes "> A monitor_cond_since 15 [\"_Server\",\"m\",{},\"V0\"]"
+    ∷ codes "< A error 15 unknown database"
+    ∷ codes "> A monitor_cond_since 16 [\"net\",\"m\",{},\"FFFFFFFF-FFFF-FFFF-FFFF-FFFFFFFFFFFF\"]"
+    ∷ codes "< A reply 16 [false,\"V0\",{}]"
+    ∷ [])
+unfolding shows
+what_names_a_commit_is_a_text_of_36_characters = refl

@@ -11,21 +11,21 @@ use Rattle.odb_service.specs.Run.{Event, Refusal, closed, opened, round, ticked}
 use Rattle.odb_service.specs.Server.{Server, serve}
 
 -- what the contract of a new core says
-pub the_first_is_a_new_server : (schema : Schema) → first_server schema ≡ new_server schema
-the_first_is_a_new_server schema = refl
+pub the_first_is_a_new_server : (schema : Schema) (word most : ℕ) → first_server schema word most ≡ new_server word most schema
+the_first_is_a_new_server schema word most = refl
 
 abbrev took : Event → Server → List (ℕ × Text) → Taken
 took e server sent = record { event = e; server = server; sent = sent }
 
 -- A core that is made, opens a session, takes an event and gives a round: what the contracts of these calls say is such a list.
-pub calls_of_a_core : (schema : Schema) (new opened_one told after : Server) (e : Event) (outs : List (ℕ × Text)) → new ≡ new_server schema → serve (opened 0) new ≡ Ok (opened_one, []) → serve e opened_one ≡ Ok (told, []) → serve (round (0 ∷ [])) told ≡ Ok (after, outs)
-    → AreServed schema (took (round (0 ∷ [])) after outs ∷ took e told [] ∷ took (opened 0) opened_one [] ∷ [])
-calls_of_a_core schema new opened_one told after e outs made opens takes gives = (gives, (takes, (subst (λ (s : Server). serve (opened 0) s ≡ Ok (opened_one, [])) made opens, tt)))
+pub calls_of_a_core : (schema : Schema) (word most : ℕ) (new opened_one told after : Server) (e : Event) (outs : List (ℕ × Text)) → new ≡ new_server word most schema → serve (opened 0) new ≡ Ok (opened_one, []) → serve e opened_one ≡ Ok (told, []) → serve (round (0 ∷ [])) told ≡ Ok (after, outs)
+    → AreServed schema word most (took (round (0 ∷ [])) after outs ∷ took e told [] ∷ took (opened 0) opened_one [] ∷ [])
+calls_of_a_core schema word most new opened_one told after e outs made opens takes gives = (gives, (takes, (subst (λ (s : Server). serve (opened 0) s ≡ Ok (opened_one, [])) made opens, tt)))
 
 -- what a server takes of these events, the newest first: those that it refuses are left out
 abbrev taken_after : Schema → List Event → List Taken → List Taken
 taken_after schema [] ts = ts
-taken_after schema (e ∷ es) ts = elim (serve e (server_after schema ts)) [ Ok p ↦ taken_after schema es (took e p.0 p.1 ∷ ts) | Err r ↦ taken_after schema es ts ]
+taken_after schema (e ∷ es) ts = elim (serve e (server_after schema 0 100 ts)) [ Ok p ↦ taken_after schema es (took e p.0 p.1 ∷ ts) | Err r ↦ taken_after schema es ts ]
 
 abbrev of_net : {A : Type 0} → (Schema → A) → Option A
 of_net f = elim (schema_of_text net) [ Ok n ↦ Some (f n) | Err e ↦ None ]
@@ -86,14 +86,14 @@ answers_silently (Err r) = true
 not_empty : (s t : Server) (o : ℕ × Text) (os : List (ℕ × Text)) → (let a : Answer = Ok (s, []) in a) ≡ Ok (t, o ∷ os) → ⊥
 not_empty s t o os e = true≢false (ap answers_silently e)
 
-pub an_invented_text_is_not_served : (schema : Schema) (after : Server) → AreServed schema (took (ticked 5) after ((0, []) ∷ []) ∷ []) → ⊥
-an_invented_text_is_not_served schema after a = not_empty _ after (0, []) [] a.0
+pub an_invented_text_is_not_served : (schema : Schema) (word most : ℕ) (after : Server) → AreServed schema word most (took (ticked 5) after ((0, []) ∷ []) ∷ []) → ⊥
+an_invented_text_is_not_served schema word most after a = not_empty _ after (0, []) [] a.0
 
 -- all that was taken was served
-pub what_is_taken_was_served : (schema : Schema) (es : List Event) (ts : List Taken) → AreServed schema ts → AreServed schema (taken_after schema es ts)
+pub what_is_taken_was_served : (schema : Schema) (es : List Event) (ts : List Taken) → AreServed schema 0 100 ts → AreServed schema 0 100 (taken_after schema es ts)
 what_is_taken_was_served schema [] ts a = a
 what_is_taken_was_served schema (e ∷ es) ts a =
-    elim (serve e (server_after schema ts)) as (λ r. serve e (server_after schema ts) ≡ r → AreServed schema (elim r [ Ok p ↦ taken_after schema es (took e p.0 p.1 ∷ ts) | Err r ↦ taken_after schema es ts ])) [
+    elim (serve e (server_after schema 0 100 ts)) as (λ r. serve e (server_after schema 0 100 ts) ≡ r → AreServed schema 0 100 (elim r [ Ok p ↦ taken_after schema es (took e p.0 p.1 ∷ ts) | Err r ↦ taken_after schema es ts ])) [
       | Ok p ↦ λ is. what_is_taken_was_served schema es (took e p.0 p.1 ∷ ts) (is, a)
       | Err r ↦ λ _. what_is_taken_was_served schema es ts a
     ] refl

@@ -132,8 +132,8 @@ module _ (h : Service) where
   step_bounded (closed t) st r k is = (step_settles h (closed t) st r k.0 is, subst (λ (p : World × List Sent). AreBounded p.0) is (raised_bounded st.world (close h t st.world) (close_raises h any t st.world) k.1))
   step_bounded (round ss) st r k is = (step_settles h (round ss) st r k.0 is, subst (λ (p : World × List Sent). AreBounded p.0) is (take_each_bounded (once ss) st.world k.1))
 
-  start_bounded : (tables : ℕ) → IsBounded (beginning tables)
-  start_bounded tables = (begins_settled h tables, λ s x found. absurd (true≢false (sym (ap is_some (sym (get-empty s) ∙ found)))))
+  start_bounded : (word most tables : ℕ) → IsBounded (beginning word most tables)
+  start_bounded word most tables = (begins_settled h word most tables, λ s x found. absurd (true≢false (sym (ap is_some (sym (get-empty s) ∙ found)))))
 
   pub counted : HoldsAlways h (IsCounted h)
   counted st r s x found = record { submitted = submitted; most = subst (λ n. n ≤ max_owed) (load_is s x st.world) ((reached_has h IsBounded start_bounded step_bounded st r).1 s x found) }

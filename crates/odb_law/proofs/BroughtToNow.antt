@@ -23,6 +23,7 @@ use Rattle.odb_request.specs.Request.{Notation, Request}
 use Rattle.odb_tables.specs.Database.{Db}
 use Rattle.odb_wire.specs.Message.{at_key}
 use Rattle.odb_atoms.specs.Error.{Error}
+use Rattle.odb_atoms.specs.Uuid.{Uuid}
 
 -- ---- where a message stands in a list
 
@@ -55,8 +56,8 @@ unlabelled d e = cc
 same_request : (c d : Data) → to c ≡ to d → c ≡ d
 same_request c d e = cc
 
-add_drop : (n : Notation) (i r j : Data) → adds n i r ≡ drops j → ⊥
-add_drop n i r j e = cc
+add_drop : (n : Notation) (since : Option Uuid) (i r j : Data) → adds n since i r ≡ drops j → ⊥
+add_drop n since i r j e = cc
 
 change_drop : (old new r j : Data) → changes old new r ≡ drops j → ⊥
 change_drop old new r j e = cc
@@ -64,8 +65,8 @@ change_drop old new r j e = cc
 same_drop : (i j : Data) → drops i ≡ drops j → i ≡ j
 same_drop i j e = cc
 
-add_change : (n : Notation) (i r old new filters : Data) → adds n i r ≡ changes old new filters → ⊥
-add_change n i r old new filters e = cc
+add_change : (n : Notation) (since : Option Uuid) (i r old new filters : Data) → adds n since i r ≡ changes old new filters → ⊥
+add_change n since i r old new filters e = cc
 
 drop_change : (i old new filters : Data) → drops i ≡ changes old new filters → ⊥
 drop_change i old new filters e = cc
@@ -80,10 +81,10 @@ module _ (h : Service) where
   never true false r is granted e = absurd (true≢false (sym granted))
   never false g r is granted e = absurd (true≢false (sym (ap is_some e)))
 
-  said : (l : Answers) (m d : Data) → ((ps : List Picture) → client_step h ps (record { answers = l; message = m }) ≡ Some ps) → l ≡ to d → is_granted m ≡ true → on_granted h (wish_of d) (at_key (codes "result") m) [] ≡ None → ⊥
+  said : (l : Answers) (m d : Data) → ((ps : List Picture) → client_step h ps (record { answers = l; message = m; held = None }) ≡ Some ps) → l ≡ to d → is_granted m ≡ true → on_granted h (wish_of d) None (at_key (codes "result") m) [] ≡ None → ⊥
   said no_request m d heard label granted is = unlabelled d label
   said (to c) m d heard label granted is =
-      never (is_reply_to h c m) (is_granted m) (on_granted h (wish_of c) (at_key (codes "result") m) []) (ap (λ k. on_granted h (wish_of k) (at_key (codes "result") m) []) (same_request c d label) ∙ is) granted (heard [])
+      never (is_reply_to h c m) (is_granted m) (on_granted h (wish_of c) None (at_key (codes "result") m) []) (ap (λ k. on_granted h (wish_of k) None (at_key (codes "result") m) []) (same_request c d label) ∙ is) granted (heard [])
 
   refiltered_none : (old new : Data) (r : Result (List (List ℕ × Filter)) Error) → refiltered h old new r [] ≡ None
   refiltered_none old new (Ok fs) = refl
@@ -96,9 +97,9 @@ module _ (h : Service) where
       by (first_or_rest (update_to h revision m.watch.requests m) (filter_map (λ m. update_to h revision m.watch.requests m) ms) a o b (sym (cons-list (update_to h revision m.watch.requests m) (filter_map (λ m. update_to h revision m.watch.requests m) ms)) ∙ e))
       (λ c is. rest_unlabelled revision ms c o b d is label)
     where
-      update : (c : Bool) → cond c None (Some (message_of h revision.db m.watch.requests m)) ≡ Some o → ⊥
+      update : (c : Bool) → cond c None (Some (message_of h revision m.watch.requests m)) ≡ Some o → ⊥
       update true f = absurd (true≢false (sym (ap is_some f)))
-      update false f = unlabelled d (ap (λ (x : Out). x.answers) (some_is (message_of h revision.db m.watch.requests m) o f) ∙ label)
+      update false f = unlabelled d (ap (λ (x : Out). x.answers) (some_is (message_of h revision m.watch.requests m) o f) ∙ label)
 
       by : ((update_to h revision m.watch.requests m ≡ Some o) × (a ≡ [])) ⊎ InRest (update_to h revision m.watch.requests m) (filter_map (λ m. update_to h revision m.watch.requests m) ms) a o b
           → ((c : List Out) → filter_map (λ m. update_to h revision m.watch.requests m) ms ≡ c ++ o ∷ b → ⊥) → ⊥
@@ -108,9 +109,9 @@ module _ (h : Service) where
   found_unlabelled : (revision : Revision) (q : Monitor → List Request) (j : Data) (ms : List Monitor) (o : Out) (d : Data) → option_and_then (λ m. update_to h revision (q m) m) (find (has_id h j) ms) ≡ Some o → o.answers ≡ to d → ⊥
   found_unlabelled revision q j ms o d e label = by (find (has_id h j) ms) e
     where
-      update : (m : Monitor) (c : Bool) → cond c None (Some (message_of h revision.db (q m) m)) ≡ Some o → ⊥
+      update : (m : Monitor) (c : Bool) → cond c None (Some (message_of h revision (q m) m)) ≡ Some o → ⊥
       update m true f = absurd (true≢false (sym (ap is_some f)))
-      update m false f = unlabelled d (ap (λ (x : Out). x.answers) (some_is (message_of h revision.db (q m) m) o f) ∙ label)
+      update m false f = unlabelled d (ap (λ (x : Out). x.answers) (some_is (message_of h revision (q m) m) o f) ∙ label)
 
       by : (m : Option Monitor) → option_and_then (λ m. update_to h revision (q m) m) m ≡ Some o → ⊥
       by None f = absurd (true≢false (sym (ap is_some f)))
@@ -282,10 +283,10 @@ module _ (h : Service) where
   pub item_dropped : (revision : Revision) (Y : Data → Type 0) (p : Item) (q : List Item) (ms : List Monitor) (os : List Out) (o : Out) (d i : Data) → IsWell h (record { queue = p ∷ q; monitors = ms }) → client h os ≡ Some (map seen ms) → ReadyFor revision.db Y p ms
       → gives h revision p ms ≡ Some o → o.answers ≡ to d → is_granted o.message ≡ true → wish_of d ≡ drops i → Dropped revision.db Y os i
   item_dropped revision Y (say l m) q ms os o d i k c ready e label granted is =
-      let x : (let u : Out = record { answers = l; message = m } in u) ≡ o = some_is _ o e in
-      absurd (said l m d k.items.0.0 (ap (λ (u : Out). u.answers) x ∙ label) (ap (λ (u : Out). is_granted u.message) x ∙ granted) (ap (λ w. on_granted h w (at_key (codes "result") m) []) is))
+      let x : (let u : Out = record { answers = l; message = m; held = None } in u) ≡ o = some_is _ o e in
+      absurd (said l m d k.items.0.0 (ap (λ (u : Out). u.answers) x ∙ label) (ap (λ (u : Out). is_granted u.message) x ∙ granted) (ap (λ w. on_granted h w None (at_key (codes "result") m) []) is))
   item_dropped revision Y (start r w) q ms os o d i k c ready e label granted is =
-      absurd (add_drop w.notation w.id k.items.0.2.0 i (sym k.items.0.2.1 ∙ ap wish_of (labelled (first_out h revision r w) o r d refl e label) ∙ is))
+      absurd (add_drop w.notation w.since w.id k.items.0.2.0 i (sym k.items.0.2.1 ∙ ap wish_of (labelled (first_out h revision r w) o r d refl e label) ∙ is))
   item_dropped revision Y (sync j) q ms os o d i k c ready e label granted is = absurd (found_unlabelled revision (λ m. m.watch.requests) j ms o d e label)
   item_dropped revision Y (shift j fs) q ms os o d i k c ready e label granted is = absurd (found_unlabelled revision (λ m. refilter fs m.watch.requests) j ms o d e label)
   item_dropped revision Y (renamed r old new fs) q ms os o d i k c ready e label granted is =
@@ -324,10 +325,10 @@ module _ (h : Service) where
   pub item_changed : (revision : Revision) (Y : Data → Type 0) (p : Item) (q : List Item) (ms : List Monitor) (os : List Out) (o : Out) (d old new filters : Data) → IsWell h (record { queue = p ∷ q; monitors = ms }) → client h os ≡ Some (map seen ms) → ReadyFor revision.db Y p ms
       → gives h revision p ms ≡ Some o → o.answers ≡ to d → is_granted o.message ≡ true → wish_of d ≡ changes old new filters → Changed revision.db Y (os ++ o ∷ []) old new
   item_changed revision Y (say l m) q ms os o d old new filters k c ready e label granted is =
-      let x : (let u : Out = record { answers = l; message = m } in u) ≡ o = some_is _ o e in
-      absurd (said l m d k.items.0.0 (ap (λ (u : Out). u.answers) x ∙ label) (ap (λ (u : Out). is_granted u.message) x ∙ granted) (ap (λ w. on_granted h w (at_key (codes "result") m) []) is ∙ refiltered_none old new (h.read_filters filters)))
+      let x : (let u : Out = record { answers = l; message = m; held = None } in u) ≡ o = some_is _ o e in
+      absurd (said l m d k.items.0.0 (ap (λ (u : Out). u.answers) x ∙ label) (ap (λ (u : Out). is_granted u.message) x ∙ granted) (ap (λ w. on_granted h w None (at_key (codes "result") m) []) is ∙ refiltered_none old new (h.read_filters filters)))
   item_changed revision Y (start r w) q ms os o d old new filters k c ready e label granted is =
-      absurd (add_change w.notation w.id k.items.0.2.0 old new filters (sym k.items.0.2.1 ∙ ap wish_of (labelled (first_out h revision r w) o r d refl e label) ∙ is))
+      absurd (add_change w.notation w.since w.id k.items.0.2.0 old new filters (sym k.items.0.2.1 ∙ ap wish_of (labelled (first_out h revision r w) o r d refl e label) ∙ is))
   item_changed revision Y (sync j) q ms os o d old new filters k c ready e label granted is = absurd (found_unlabelled revision (λ m. m.watch.requests) j ms o d e label)
   item_changed revision Y (shift j fs) q ms os o d old new filters k c ready e label granted is = absurd (found_unlabelled revision (λ m. refilter fs m.watch.requests) j ms o d e label)
   item_changed revision Y (stopped r j) q ms os o d old new filters k c ready e label granted is =

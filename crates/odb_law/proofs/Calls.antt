@@ -9,6 +9,7 @@ use Rattle.serde_json.specs.Data.{Data, null, boolean, number, string, array, ob
 use Rattle.serde_json.specs.Find.{get_member}
 use Rattle.odb_rpc.specs.Message as message
 use Rattle.odb_atoms.specs.Text.{is_id}
+use Rattle.odb_atoms.specs.Uuid.{Uuid}
 use Rattle.odb_law.specs.Client.{Picture, Wish, adds, answer_id, changes, client_step, drops, nothing_else, on_granted, params_of, wish, wish_of}
 use Rattle.odb_law.specs.Headline.{about, begun_by}
 use Rattle.odb_wire.specs.Message.{is_request}
@@ -17,8 +18,9 @@ use Rattle.odb_service.specs.Session.{to}
 use Rattle.odb_wire.specs.Message.{id_of}
 use Rattle.odb_monitor.proofs.Lists.{bytes_eq-itself}
 use Rattle.odb_monitor.specs.Fold.{is_null}
+use Rattle.odb_monitor.specs.View.{View}
 use Rattle.odb_request.specs.Request.{update, update2}
-use Rattle.odb_rpc.specs.Message.{Call, call_of, failure, fault, has_reply, is_object, of_change, of_db, of_lock, of_monitor, of_none, of_notification, of_one, of_request, of_transact, reply}
+use Rattle.odb_rpc.specs.Message.{Call, call_of, commit_of, failure, fault, has_reply, is_object, of_change, of_db, of_lock, of_monitor, of_monitor_since, of_none, of_notification, of_one, of_request, of_transact, reply}
 use Rattle.odb_schema.specs.Json.{as_array, as_str}
 use Rattle.odb_wire.specs.Message.{at_key, has_left_out, items_list, members_left_out}
 use Rattle.odb_atoms.specs.Error.{syntax_error}
@@ -53,25 +55,25 @@ by_name m name P here away = elim (bytes_eq m name) as (λ b. bytes_eq m name �
 
 module _ (h : Service) where
   -- what the client makes of a reply
-  pub reply_heard : (d e id r : Data) (ps : List Picture) → id ≡ answer_id d
-      → client_step h ps (record { answers = to d; message = message.message e id r }) ≡ (if is_null e then on_granted h (wish_of d) r ps else Some ps)
-  reply_heard d e id r ps same =
-      ap (λ b. cond b (if is_null e then on_granted h (wish_of d) r ps else Some ps) None) (ap (λ k. bytes_eq (h.printed (answer_id d)) (h.printed k)) same ∙ bytes_eq-itself (h.printed (answer_id d)))
+  pub reply_heard : (d e id r : Data) (held : Option View) (ps : List Picture) → id ≡ answer_id d
+      → client_step h ps (record { answers = to d; message = message.message e id r; held = held }) ≡ (if is_null e then on_granted h (wish_of d) held r ps else Some ps)
+  reply_heard d e id r held ps same =
+      ap (λ b. cond b (if is_null e then on_granted h (wish_of d) held r ps else Some ps) None) (ap (λ k. bytes_eq (h.printed (answer_id d)) (h.printed k)) same ∙ bytes_eq-itself (h.printed (answer_id d)))
 
   -- an answer that does nothing to the pictures
   abbrev pub IsHarmless : Data → Data → Type 0
-  IsHarmless d m = ((ps : List Picture) → client_step h ps (record { answers = to d; message = m }) ≡ Some ps) × (about (record { answers = to d; message = m }) ≡ None)
+  IsHarmless d m = ((ps : List Picture) → client_step h ps (record { answers = to d; message = m; held = None }) ≡ Some ps) × (about (record { answers = to d; message = m; held = None }) ≡ None)
 
   -- a request that isn't about monitors, and has the id of its answer
   abbrev pub IsPlain : Data → Type 0
   IsPlain d = (wish_of d ≡ nothing_else) × (answer_id d ≡ id_of d)
 
   pub plain_reply : (d r : Data) → IsPlain d → IsHarmless d (reply (id_of d) r)
-  plain_reply d r p = (λ ps. reply_heard d null (id_of d) r ps (sym p.1) ∙ ap (λ w. on_granted h w r ps) p.0, ap begun_by p.0)
+  plain_reply d r p = (λ ps. reply_heard d null (id_of d) r None ps (sym p.1) ∙ ap (λ w. on_granted h w None r ps) p.0, ap begun_by p.0)
 
   error_harmless : (d e id : Data) → is_null e ≡ false → id ≡ answer_id d → IsHarmless d (message.message e id null)
   error_harmless d e id some same = (
-    λ ps. reply_heard d e id null ps same ∙ ap (λ b. cond b (on_granted h (wish_of d) null ps) (Some ps)) some,
+    λ ps. reply_heard d e id null None ps same ∙ ap (λ b. cond b (on_granted h (wish_of d) None null ps) (Some ps)) some,
     ap (λ b. cond b (begun_by (wish_of d)) None) some,
   )
 
@@ -92,7 +94,7 @@ module _ (h : Service) where
   abbrev pub IsAsked : Data → Call → Type 0
   IsAsked d (message.answered m) = IsHarmless d m
   IsAsked d (message.transact id ops) = Asks d nothing_else
-  IsAsked d (message.monitor id n i requests) = Asks d (adds n i requests)
+  IsAsked d (message.monitor id n i requests since) = Asks d (adds n since i requests)
   IsAsked d (message.change_filters id old new filters) = Asks d (changes old new filters)
   IsAsked d (message.cancel_monitor id i) = Asks d (drops i)
   IsAsked d (message.lock id name) = Asks d nothing_else
@@ -106,7 +108,7 @@ module _ (h : Service) where
   IsQuiet message.passed_over = Unit {0}
   IsQuiet (message.answered m) = ⊥
   IsQuiet (message.transact id ops) = ⊥
-  IsQuiet (message.monitor id n i requests) = ⊥
+  IsQuiet (message.monitor id n i requests since) = ⊥
   IsQuiet (message.change_filters id old new filters) = ⊥
   IsQuiet (message.cancel_monitor id i) = ⊥
   IsQuiet (message.lock id name) = ⊥
@@ -203,7 +205,7 @@ module _ (h : Service) where
     monitors is (a ∷ []) e = faulty (failed syntax_error)
     monitors is (a ∷ b ∷ []) e = faulty (failed syntax_error)
     monitors is (a ∷ b ∷ c ∷ []) e =
-        pick (is_object c) (of_db h.db_name (id_of d) a (message.monitor (id_of d) update b c)) (F (failed syntax_error)) (in_db a (message.monitor (id_of d) update b c) (wished (codes "monitor") (a ∷ b ∷ c ∷ []) is e, own)) (faulty (failed syntax_error))
+        pick (is_object c) (of_db h.db_name (id_of d) a (message.monitor (id_of d) update b c None)) (F (failed syntax_error)) (in_db a (message.monitor (id_of d) update b c None) (wished (codes "monitor") (a ∷ b ∷ c ∷ []) is e, own)) (faulty (failed syntax_error))
     monitors is (a ∷ b ∷ c ∷ x ∷ ds) e = faulty (failed syntax_error)
 
     conditional : m ≡ codes "monitor_cond" → Suits (of_monitor h.db_name (id_of d) update2)
@@ -211,8 +213,23 @@ module _ (h : Service) where
     conditional is (a ∷ []) e = faulty (failed syntax_error)
     conditional is (a ∷ b ∷ []) e = faulty (failed syntax_error)
     conditional is (a ∷ b ∷ c ∷ []) e =
-        pick (is_object c) (of_db h.db_name (id_of d) a (message.monitor (id_of d) update2 b c)) (F (failed syntax_error)) (in_db a (message.monitor (id_of d) update2 b c) (wished (codes "monitor_cond") (a ∷ b ∷ c ∷ []) is e, own)) (faulty (failed syntax_error))
+        pick (is_object c) (of_db h.db_name (id_of d) a (message.monitor (id_of d) update2 b c None)) (F (failed syntax_error)) (in_db a (message.monitor (id_of d) update2 b c None) (wished (codes "monitor_cond") (a ∷ b ∷ c ∷ []) is e, own)) (faulty (failed syntax_error))
     conditional is (a ∷ b ∷ c ∷ x ∷ ds) e = faulty (failed syntax_error)
+
+    resuming_from : (a b c x : Data) (o : Option Uuid) → wish_of d ≡ elim o as (λ _. Wish) [ None ↦ nothing_else | Some v ↦ adds update2 (Some v) b c ]
+        → IsAsked d (elim o as (λ _. Call) [ None ↦ F (failed syntax_error) | Some v ↦ of_db h.db_name (id_of d) a (message.monitor (id_of d) update2 b c (Some v)) ])
+    resuming_from a b c x None e = faulty (failed syntax_error)
+    resuming_from a b c x (Some v) e = in_db a (message.monitor (id_of d) update2 b c (Some v)) (e, own)
+
+    resuming : m ≡ codes "monitor_cond_since" → Suits (of_monitor_since h.db_name (id_of d))
+    resuming is [] e = faulty (failed syntax_error)
+    resuming is (a ∷ []) e = faulty (failed syntax_error)
+    resuming is (a ∷ b ∷ []) e = faulty (failed syntax_error)
+    resuming is (a ∷ b ∷ c ∷ []) e = faulty (failed syntax_error)
+    resuming is (a ∷ b ∷ c ∷ x ∷ []) e =
+        pick (is_object c) (elim (commit_of x) as (λ _. Call) [ None ↦ F (failed syntax_error) | Some v ↦ of_db h.db_name (id_of d) a (message.monitor (id_of d) update2 b c (Some v)) ]) (F (failed syntax_error))
+        (resuming_from a b c x (commit_of x) (wished (codes "monitor_cond_since") (a ∷ b ∷ c ∷ x ∷ []) is e)) (faulty (failed syntax_error))
+    resuming is (a ∷ b ∷ c ∷ x ∷ y ∷ ds) e = faulty (failed syntax_error)
 
     changing : m ≡ codes "monitor_cond_change" → Suits (of_change (id_of d))
     changing is [] e = faulty (failed syntax_error)
@@ -244,8 +261,11 @@ module _ (h : Service) where
     abbrev from_change : Option (List Data → Call)
     from_change = if bytes_eq m (codes "monitor_cond_change") then Some (of_change (id_of d)) else from_cancel
 
+    abbrev from_monitor_cond_since : Option (List Data → Call)
+    from_monitor_cond_since = if bytes_eq m (codes "monitor_cond_since") then Some (of_monitor_since h.db_name (id_of d)) else from_change
+
     abbrev from_monitor_cond : Option (List Data → Call)
-    from_monitor_cond = if bytes_eq m (codes "monitor_cond") then Some (of_monitor h.db_name (id_of d) update2) else from_change
+    from_monitor_cond = if bytes_eq m (codes "monitor_cond") then Some (of_monitor h.db_name (id_of d) update2) else from_monitor_cond_since
 
     abbrev from_monitor : Option (List Data → Call)
     from_monitor = if bytes_eq m (codes "monitor") then Some (of_monitor h.db_name (id_of d) update) else from_monitor_cond
@@ -283,8 +303,11 @@ module _ (h : Service) where
     holds_from_change : P from_change
     holds_from_change = by_name m (codes "monitor_cond_change") (λ b. P (cond b (Some (of_change (id_of d))) from_cancel)) (λ is. suited _ (changing is)) holds_from_cancel
 
+    holds_from_monitor_cond_since : P from_monitor_cond_since
+    holds_from_monitor_cond_since = by_name m (codes "monitor_cond_since") (λ b. P (cond b (Some (of_monitor_since h.db_name (id_of d))) from_change)) (λ is. suited _ (resuming is)) holds_from_change
+
     holds_from_monitor_cond : P from_monitor_cond
-    holds_from_monitor_cond = by_name m (codes "monitor_cond") (λ b. P (cond b (Some (of_monitor h.db_name (id_of d) update2)) from_change)) (λ is. suited _ (conditional is)) holds_from_change
+    holds_from_monitor_cond = by_name m (codes "monitor_cond") (λ b. P (cond b (Some (of_monitor h.db_name (id_of d) update2)) from_monitor_cond_since)) (λ is. suited _ (conditional is)) holds_from_monitor_cond_since
 
     holds_from_monitor : P from_monitor
     holds_from_monitor = by_name m (codes "monitor") (λ b. P (cond b (Some (of_monitor h.db_name (id_of d) update)) from_monitor_cond)) (λ is. suited _ (monitors is)) holds_from_monitor_cond
@@ -334,7 +357,7 @@ module _ (h : Service) where
   pub replies : (b : Bool) (d : Data) (c : Call) → Reads b d c → has_reply c ≡ b
   replies true d (message.answered m) r = refl
   replies true d (message.transact id ops) r = refl
-  replies true d (message.monitor id n i requests) r = refl
+  replies true d (message.monitor id n i requests since) r = refl
   replies true d (message.change_filters id old new filters) r = refl
   replies true d (message.cancel_monitor id i) r = refl
   replies true d (message.lock id name) r = refl
@@ -344,7 +367,7 @@ module _ (h : Service) where
   replies true d message.passed_over r = absurd r
   replies false d (message.answered m) r = absurd r
   replies false d (message.transact id ops) r = absurd r
-  replies false d (message.monitor id n i requests) r = absurd r
+  replies false d (message.monitor id n i requests since) r = absurd r
   replies false d (message.change_filters id old new filters) r = absurd r
   replies false d (message.cancel_monitor id i) r = absurd r
   replies false d (message.lock id name) r = absurd r

@@ -84,8 +84,8 @@ module _ (h : Service) where
       run_carries P goes es x.0 last (subst P n.2 (goes e st n.0 k n.1)) x.2
 
   -- a fact of the beginning that each event keeps holds of every state that is reached
-  pub reached_has : (P : State → Type 0) → ((tables : ℕ) → P (beginning tables)) → ((e : Event) (st : State) (r : World × List Sent) → P st → Stepped e st.world r → P (after h e st r)) → (st : State) → IsReached h st → P st
-  reached_has P begins goes st r = run_carries P goes r.1 (beginning r.0) st (begins r.0) r.2
+  pub reached_has : (P : State → Type 0) → ((word most tables : ℕ) → P (beginning word most tables)) → ((e : Event) (st : State) (r : World × List Sent) → P st → Stepped e st.world r → P (after h e st r)) → (st : State) → IsReached h st → P st
+  reached_has P begins goes st r = run_carries P goes r.3 (beginning r.0 r.1 r.2) st (begins r.0 r.1 r.2) r.4
 
   -- a run that goes on
   pub run_on : (es : List Event) (st mid now : State) (e : Event) → run h es st ≡ Ok mid → next h e mid ≡ Ok now → run h (es ++ e ∷ []) st ≡ Ok now
@@ -95,4 +95,4 @@ module _ (h : Service) where
       ap (if_ok (run h (es ++ e ∷ []))) x.1 ∙ run_on es x.0 mid now e x.2 goes
 
   pub next_reached : (st now : State) (e : Event) → IsReached h st → next h e st ≡ Ok now → IsReached h now
-  next_reached st now e r goes = (r.0, r.1 ++ e ∷ [], run_on r.1 (beginning r.0) st now e r.2 goes)
+  next_reached st now e r goes = (r.0, r.1, r.2, r.3 ++ e ∷ [], run_on r.3 (beginning r.0 r.1 r.2) st now e r.4 goes)

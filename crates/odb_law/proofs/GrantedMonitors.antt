@@ -15,7 +15,7 @@ use Rattle.odb_law.proofs.TakingPictures.{rest_watch}
 use Rattle.odb_law.specs.Law.{IsGranted, asked_by, asked_then}
 use Rattle.odb_service.specs.Run.{Event, Sent, State, after, closed, once, opened, opens, round, submitted, take_each, take_of, ticked}
 use Rattle.odb_service.specs.Service.{Outcome, Service, ended, waiting}
-use Rattle.odb_service.specs.Session.{Item, Monitor, Out, Revision, Session, Watch, asked, asked_after, asks, at_first, changed, drop_first, gives, leaves, no_request, no_result, renamed, same_id, say, shift, start, stop_at, stopped, sync, take, take_from, to, told}
+use Rattle.odb_service.specs.Session.{Item, Monitor, Out, Revision, Session, Watch, asked, asked_after, asks, at_first, changed, drop_first, gives, leaves, no_request, no_result, renamed, same_id, say, shift, start, stop_at, stopped, sync, take, take_from, to, told, with_content}
 use Rattle.odb_wire.specs.Message.{id_of}
 use Rattle.odb_service.specs.World.{Waiting, World, answer, are_monitored, asked_of, at_moment, attempt, cancel_one, change_of, close, end_transaction, fail, handle, is_conditional, is_due, is_of, locked, notice_of, on_cancel_monitor, on_lock, on_monitor, on_outcome, post, post_notices, post_to, push, retry, retry_all, revision_of, run_transaction, shift_with, split_first, start_with, succeed, tick, try_due, try_one, untried, watched, with_waiting}
 use Rattle.odb_locks.specs.Locks.{Answered, Notice, drop_session, lock, steal, unlock}
@@ -115,7 +115,7 @@ module _ (h : Service) where
   ends : (t : ℕ) (d results : Data) (o : Option Db) (w : World) → Same w (end_transaction h t d results o w)
   ends t d results None w = answers t d (reply (id_of d) results) w
   ends t d results (Some db) w =
-      quiet t (map (λ k. sync k.id) (asked_of h (get w.sessions t)) ++ say (to d) (reply (id_of d) results) ∷ []) (record w { db = db; commits = w.commits + 1 }) (syncs_quiet (asked_of h (get w.sessions t)) d (reply (id_of d) results))
+      quiet t (map (λ k. sync k.id) (asked_of h (get w.sessions t)) ++ say (to d) (reply (id_of d) results) ∷ []) (record w { db = db; commits = w.commits + 1; earlier = with_content w.db w.earlier }) (syncs_quiet (asked_of h (get w.sessions t)) d (reply (id_of d) results))
 
   outcomes : (p : Waiting) (o : Outcome) (w : World) → Same w (on_outcome h p o w).0
   outcomes p (ended results changed) w = ends p.session p.request results changed w
@@ -166,22 +166,22 @@ module _ (h : Service) where
   abbrev then_ : Call → Asking
   then_ c ks = asked_then h c ks
 
-  starts : (t : ℕ) (d id : Data) (n : Notation) (i requests : Data) (w : World) (ks : List Watch) → asked_of h (get w.sessions t) ≡ ks → is_some (watched h i ks) ≡ false → (r : Result (List Request) Error) → h.read_requests n requests ≡ r
-      → Asks (at_one t (then_ (message.monitor id n i requests))) w (start_with h t d n i r w)
-  starts t d id n i requests w ks same free (Err e) is =
-      same_at t (then_ (message.monitor id n i requests)) w (fail t d (failed e) w)
-      (same ∙ (λ j. cond (sym free j) ks (elim (sym is j) as (λ _. List Watch) [ Err e ↦ ks | Ok qs ↦ ks ++ record { id = i; notation = n; requests = qs } ∷ [] ])) ∙ ap (then_ (message.monitor id n i requests)) (sym same)) (fails t d (failed e) w)
-  starts t d id n i requests w ks same free (Ok qs) is =
-      own_as t (λ ks. ks ++ record { id = i; notation = n; requests = qs } ∷ []) (then_ (message.monitor id n i requests)) w (post t (start d (record { id = i; notation = n; requests = qs }) ∷ []) w)
-      (ap (λ ks. ks ++ record { id = i; notation = n; requests = qs } ∷ []) same ∙ (λ j. cond (sym free j) ks (elim (sym is j) as (λ _. List Watch) [ Err e ↦ ks | Ok qs ↦ ks ++ record { id = i; notation = n; requests = qs } ∷ [] ])) ∙ ap (then_ (message.monitor id n i requests)) (sym same))
-      (posts t (start d (record { id = i; notation = n; requests = qs }) ∷ []) w)
+  starts : (t : ℕ) (d id : Data) (n : Notation) (i : Data) (since : Option Uuid) (requests : Data) (w : World) (ks : List Watch) → asked_of h (get w.sessions t) ≡ ks → is_some (watched h i ks) ≡ false → (r : Result (List Request) Error) → h.read_requests n requests ≡ r
+      → Asks (at_one t (then_ (message.monitor id n i requests since))) w (start_with h t d n i since r w)
+  starts t d id n i since requests w ks same free (Err e) is =
+      same_at t (then_ (message.monitor id n i requests since)) w (fail t d (failed e) w)
+      (same ∙ (λ j. cond (sym free j) ks (elim (sym is j) as (λ _. List Watch) [ Err e ↦ ks | Ok qs ↦ ks ++ record { id = i; notation = n; requests = qs; since = since } ∷ [] ])) ∙ ap (then_ (message.monitor id n i requests since)) (sym same)) (fails t d (failed e) w)
+  starts t d id n i since requests w ks same free (Ok qs) is =
+      own_as t (λ ks. ks ++ record { id = i; notation = n; requests = qs; since = since } ∷ []) (then_ (message.monitor id n i requests since)) w (post t (start d (record { id = i; notation = n; requests = qs; since = since }) ∷ []) w)
+      (ap (λ ks. ks ++ record { id = i; notation = n; requests = qs; since = since } ∷ []) same ∙ (λ j. cond (sym free j) ks (elim (sym is j) as (λ _. List Watch) [ Err e ↦ ks | Ok qs ↦ ks ++ record { id = i; notation = n; requests = qs; since = since } ∷ [] ])) ∙ ap (then_ (message.monitor id n i requests since)) (sym same))
+      (posts t (start d (record { id = i; notation = n; requests = qs; since = since }) ∷ []) w)
 
-  monitors : (t : ℕ) (d id : Data) (n : Notation) (i requests : Data) (w : World) → Asks (at_one t (then_ (message.monitor id n i requests))) w (on_monitor h t d n i requests w)
-  monitors t d id n i requests w =
+  monitors : (t : ℕ) (d id : Data) (n : Notation) (i : Data) (since : Option Uuid) (requests : Data) (w : World) → Asks (at_one t (then_ (message.monitor id n i requests since))) w (on_monitor h t d n i since requests w)
+  monitors t d id n i since requests w =
       let ks : List Watch = asked_of h (get w.sessions t) in
-      elim (is_some (watched h i ks)) as (λ b. is_some (watched h i ks) ≡ b → Asks (at_one t (then_ (message.monitor id n i requests))) w (cond b (fail t d (failed syntax_error) w) (start_with h t d n i (h.read_requests n requests) w))) [
-        | true ↦ λ is. same_at t (then_ (message.monitor id n i requests)) w (fail t d (failed syntax_error) w) (λ j. cond (sym is j) ks (elim (h.read_requests n requests) as (λ _. List Watch) [ Err e ↦ ks | Ok qs ↦ ks ++ record { id = i; notation = n; requests = qs } ∷ [] ])) (fails t d (failed syntax_error) w)
-        | false ↦ λ free. starts t d id n i requests w ks refl free (h.read_requests n requests) refl
+      elim (is_some (watched h i ks)) as (λ b. is_some (watched h i ks) ≡ b → Asks (at_one t (then_ (message.monitor id n i requests since))) w (cond b (fail t d (failed syntax_error) w) (start_with h t d n i since (h.read_requests n requests) w))) [
+        | true ↦ λ is. same_at t (then_ (message.monitor id n i requests since)) w (fail t d (failed syntax_error) w) (λ j. cond (sym is j) ks (elim (h.read_requests n requests) as (λ _. List Watch) [ Err e ↦ ks | Ok qs ↦ ks ++ record { id = i; notation = n; requests = qs; since = since } ∷ [] ])) (fails t d (failed syntax_error) w)
+        | false ↦ λ free. starts t d id n i since requests w ks refl free (h.read_requests n requests) refl
       ] refl
 
   abbrev with_filters : Data → Data → Watch → List Watch → Bool → Bool → Result (List (List ℕ × Filter)) Error → List Watch
@@ -299,7 +299,7 @@ module _ (h : Service) where
   handles t d fresh (message.transact id ops) w =
       let p : Waiting = record { session = t; request = d; operations = ops; fresh = fresh; arrival = w.now; deadline = None; tried = w.commits } in
       same_law t w (run_transaction h p w) (all_retried w (with_waiting h (λ ps o. ps ++ option_to_list o) w.waiting (attempt h p w)) (attempts p w))
-  handles t d fresh (message.monitor id n i requests) w = monitors t d id n i requests w
+  handles t d fresh (message.monitor id n i requests since) w = monitors t d id n i since requests w
   handles t d fresh (message.change_filters id old new filters) w = changes t d id old new filters w (watched h old (asked_of h (get w.sessions t))) refl
   handles t d fresh (message.cancel_monitor id i) w = stops t d id i (watched h i (asked_of h (get w.sessions t))) w refl
   handles t d fresh (message.lock id name) w = same_law t w (on_lock h t d (locked h) (lock w.locks t name) w) (locks t d (locked h) (lock w.locks t name) w)

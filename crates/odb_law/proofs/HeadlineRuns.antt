@@ -124,8 +124,8 @@ module _ (h : Service) where
       subst (λ (p : World × List Sent). IsGood (after h (closed s) st p)) is (silent (close h s st.world).sessions st.given l.0, l.1)
   step_good named (round ss) st r k is = subst (λ (p : World × List Sent). IsGood (after h (round ss) st p)) is (take_each_held (once ss) st.world st.given k)
 
-  start_good : (tables : ℕ) → IsGood (beginning tables)
-  start_good tables = (λ t y found. absurd (true≢false (sym (ap is_some (sym (get-empty t) ∙ found)))), tt)
+  start_good : (word most tables : ℕ) → IsGood (beginning word most tables)
+  start_good word most tables = (λ t y found. absurd (true≢false (sym (ap is_some (sym (get-empty t) ∙ found)))), tt)
 
   pub reached_good : ReadsNamed h → (st : State) → IsReached h st → IsGood st
   reached_good named st r = reached_has h IsGood start_good (step_good named) st r
@@ -154,7 +154,7 @@ module _ (h : Service) where
       (map seen (rested h st.world.db x.queue x.monitors), owed_client (revision_of st.world) x (st.given s) ((reached_good named st r).0 s x found), rested_now st.world.db x.queue x.monitors)
 
   abbrev watch_of : Picture → Watch
-  watch_of p = record { id = p.id; notation = p.notation; requests = p.requests }
+  watch_of p = record { id = p.id; notation = p.notation; requests = p.requests; since = p.since }
 
   seen_watches : (ms : List Monitor) → map watch_of (map seen ms) ≡ map (λ m. m.watch) ms
   seen_watches [] = refl

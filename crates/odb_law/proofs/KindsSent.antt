@@ -1,5 +1,5 @@
 -- With kinds of change switched off a session is sent what it would be sent with all on, without these.
-use Rattle.std.proofs.Common.{◌≡◌, ℕ, Bool, true, false, cond, List, [], ◌∷◌, ◌++◌, map, Option, Some, None, inl, inr, refl, sym, ◌∙◌, ap, subst, is_some, true≢false}
+use Rattle.std.proofs.Common.{◌≡◌, ℕ, Bool, true, false, cond, List, [], ◌∷◌, ◌++◌, map, Option, Some, None, inl, inr, refl, sym, ◌∙◌, ap, subst, is_some, true≢false, not}
 use Rattle.std.specs.Prelude.{option_and_then, option_map, option_to_list, filter_map, find}
 use Rattle.std.specs.List.{cons_option}
 use Rattle.serde_json.specs.Data.{Data}
@@ -14,10 +14,10 @@ use Rattle.odb_monitor.proofs.Maps.{get-map_entries, same_map}
 use Rattle.odb_monitor.proofs.Views.{some_is}
 use Rattle.odb_monitor.specs.Update.{table_updates}
 use Rattle.odb_monitor.specs.View.{Change, Delta, View, change, comes_in, delta, differs, goes_out, is_none, is_shown, nothing, query, selected, shown}
-use Rattle.odb_request.specs.Request.{Notation, Request, Shape}
-use Rattle.odb_rpc.specs.Message.{notification, reply}
+use Rattle.odb_request.specs.Request.{Request, Shape}
+use Rattle.odb_rpc.specs.Message.{reply}
 use Rattle.odb_service.specs.Service.{Service}
-use Rattle.odb_service.specs.Session.{Item, Monitor, Out, Revision, Watch, asks, begun, brought, changed, first_out, gives, has_id, leaves, method_of, no_request, owed_from, refilter, renamed, rested, say, shapes, shift, start, stopped, sync, to, update_to}
+use Rattle.odb_service.specs.Session.{Item, Monitor, Out, Revision, Watch, asks, begun, brought, changed, content_after, first_out, first_result, first_to, gives, has_id, held_by, leaves, no_request, notified, owed_from, refilter, renamed, rested, say, shapes, shift, start, stopped, sync, to, update_to}
 use Rattle.odb_tables.specs.Database.{Db, table_at}
 use Rattle.odb_wire.specs.Message.{id_of}
 
@@ -81,49 +81,68 @@ last_among (l ∷ ks) k = inr (last_among ks k)
 module _ (h : Service) where
   -- ---- one message
 
-  abbrev told_by : Notation → Data → List Shape → Delta → Option Out
-  told_by n i ss D = cond (is_none D) None (Some (record { answers = no_request; message = notification (method_of h n) (i ∷ table_updates n false ss D ∷ []) }))
+  abbrev told_by : Revision → Watch → List Shape → Delta → Option Out
+  told_by revision k ss D = cond (is_none D) None (Some (record { answers = no_request; message = notified h revision k (table_updates k.notation false ss D); held = None }))
 
   -- towards requests that differ from its own in their filters alone
-  update_cut : (revision : Revision) (ks : List Watch) (qs : List Request) (m : Monitor) → IsAmong m.watch ks → shapes qs ≡ shapes m.watch.requests → ((D : Delta) → shown false qs D ≡ shown false m.watch.requests D) → IsCut h ks (update_to h revision (all_kinds qs) (full_monitor m)) (update_to h revision qs m)
+  update_cut : (revision : Revision) (ks : List Watch) (qs : List Request) (m : Monitor) → IsAmong m.watch ks → shapes qs ≡ shapes m.watch.requests → ((D : Delta) → shown false qs D ≡ shown false m.watch.requests D) → IsCut h revision ks (update_to h revision (all_kinds qs) (full_monitor m)) (update_to h revision qs m)
   update_cut revision ks qs m among alike shows = inr (inr (
     m.watch,
     among,
     delta m.view (query revision.db qs),
-    (λ j. told_by m.watch.notation m.watch.id (shapes_full qs j) (shown false (all_kinds qs) (delta m.view (query_full revision.db qs j)))) ∙ (λ j. told_by m.watch.notation m.watch.id (alike j) (shown_full false revision.db qs m.view j)),
-    (λ j. told_by m.watch.notation m.watch.id (alike j) (shows (delta m.view (query revision.db qs)) j)),
+    (λ j. told_by revision m.watch (shapes_full qs j) (shown false (all_kinds qs) (delta m.view (query_full revision.db qs j)))) ∙ (λ j. told_by revision m.watch (alike j) (shown_full false revision.db qs m.view j)),
+    (λ j. told_by revision m.watch (alike j) (shows (delta m.view (query revision.db qs)) j)),
   ))
 
-  abbrev first_by : Data → Watch → List Shape → Delta → Option Out
-  first_by d k ss D = Some (record { answers = to d; message = reply (id_of d) (table_updates k.notation true ss D) })
+  abbrev first_by : Revision → Data → Watch → Option View → List Shape → Delta → Option Out
+  first_by revision d k held ss D = Some (record { answers = to d; message = reply (id_of d) (first_result h revision k held (table_updates k.notation (not (is_some held)) ss D)); held = held })
 
-  first_cut : (revision : Revision) (ks : List Watch) (d : Data) (k : Watch) → IsCut h (ks ++ k ∷ []) (Some (first_out h revision d (full_watch k))) (Some (first_out h revision d k))
-  first_cut revision ks d k = inr (inl (
+  -- of a client that has a view, or none: the same view, and the same requests but for their kinds
+  first_cut_of : (revision : Revision) (ks : List Watch) (d : Data) (k : Watch) → IsAmong k ks → (held : Option View) → IsCut h revision ks (Some (first_to h revision d (full_watch k) held)) (Some (first_to h revision d k held))
+  first_cut_of revision ks d k among None = inr (inl (
     d,
     k,
-    last_among ks k,
+    among,
+    None,
     delta (nothing k.requests) (query revision.db k.requests),
-    (λ j. first_by d k (shapes_full k.requests j) (shown true (all_kinds k.requests) (delta (nothing_full k.requests j) (query_full revision.db k.requests j)))) ∙ ap (first_by d k (shapes k.requests)) (shown_full true revision.db k.requests (nothing k.requests)),
+    (λ j. first_by revision d k None (shapes_full k.requests j) (shown true (all_kinds k.requests) (delta (nothing_full k.requests j) (query_full revision.db k.requests j)))) ∙ ap (first_by revision d k None (shapes k.requests)) (shown_full true revision.db k.requests (nothing k.requests)),
     refl,
   ))
+  first_cut_of revision ks d k among (Some W) = inr (inl (
+    d,
+    k,
+    among,
+    Some W,
+    delta W (query revision.db k.requests),
+    (λ j. first_by revision d k (Some W) (shapes_full k.requests j) (shown false (all_kinds k.requests) (delta W (query_full revision.db k.requests j)))) ∙ ap (first_by revision d k (Some W) (shapes k.requests)) (shown_full false revision.db k.requests W),
+    refl,
+  ))
+
+  held_full : (revision : Revision) (k : Watch) → held_by h revision (full_watch k) ≡ held_by h revision k
+  held_full revision k = λ j. option_map (λ db. query_full db k.requests j) (option_and_then (content_after revision) k.since)
+
+  first_cut : (revision : Revision) (ks : List Watch) (d : Data) (k : Watch) → IsCut h revision (ks ++ k ∷ []) (Some (first_out h revision d (full_watch k))) (Some (first_out h revision d k))
+  first_cut revision ks d k =
+      subst (λ held. IsCut h revision (ks ++ k ∷ []) (Some (first_to h revision d (full_watch k) held)) (Some (first_out h revision d k))) (sym (held_full revision k))
+      (first_cut_of revision (ks ++ k ∷ []) d k (last_among ks k) (held_by h revision k))
 
   -- of the monitor that was found, if there is one
   found_cut : (revision : Revision) (ks : List Watch) (f g : List Request → List Request) → ((qs : List Request) → all_kinds (f qs) ≡ g (all_kinds qs)) → ((qs : List Request) → shapes (f qs) ≡ shapes qs) → ((qs : List Request) (D : Delta) → shown false (f qs) D ≡ shown false qs D)
       → (o : Option Monitor) → ((m : Monitor) → o ≡ Some m → IsAmong m.watch ks)
-      → IsCut h ks (option_and_then (λ m. update_to h revision (g m.watch.requests) m) (option_map full_monitor o)) (option_and_then (λ m. update_to h revision (f m.watch.requests) m) o)
+      → IsCut h revision ks (option_and_then (λ m. update_to h revision (g m.watch.requests) m) (option_map full_monitor o)) (option_and_then (λ m. update_to h revision (f m.watch.requests) m) o)
   found_cut revision ks f g e alike shows None among = inl refl
   found_cut revision ks f g e alike shows (Some m) among =
-      subst (λ qs. IsCut h ks (update_to h revision qs (full_monitor m)) (update_to h revision (f m.watch.requests) m)) (e m.watch.requests)
+      subst (λ qs. IsCut h revision ks (update_to h revision qs (full_monitor m)) (update_to h revision (f m.watch.requests) m)) (e m.watch.requests)
       (update_cut revision ks (f m.watch.requests) m (among m refl) (alike m.watch.requests) (shows m.watch.requests))
 
-  item_cut : (revision : Revision) (i : Item) (ms : List Monitor) → IsCut h (asks h i (watches ms)) (gives h revision (full_item i) (map full_monitor ms)) (gives h revision i ms)
+  item_cut : (revision : Revision) (i : Item) (ms : List Monitor) → IsCut h revision (asks h i (watches ms)) (gives h revision (full_item i) (map full_monitor ms)) (gives h revision i ms)
   item_cut revision (say a d) ms = inl refl
   item_cut revision (start d k) ms = first_cut revision (watches ms) d k
   item_cut revision (sync i) ms =
-      subst (λ o. IsCut h (watches ms) (option_and_then (λ m. update_to h revision m.watch.requests m) o) (gives h revision (sync i) ms)) (sym (find_map full_monitor (has_id h i) ms))
+      subst (λ o. IsCut h revision (watches ms) (option_and_then (λ m. update_to h revision m.watch.requests m) o) (gives h revision (sync i) ms)) (sym (find_map full_monitor (has_id h i) ms))
       (found_cut revision (watches ms) (λ qs. qs) (λ qs. qs) (λ qs. refl) (λ qs. refl) (λ qs D. refl) (find (has_id h i) ms) (λ m e. found_among (has_id h i) ms m e))
   item_cut revision (shift i fs) ms =
-      subst (λ o. IsCut h (watches ms) (option_and_then (λ m. update_to h revision (refilter fs m.watch.requests) m) o) (gives h revision (shift i fs) ms)) (sym (find_map full_monitor (has_id h i) ms))
+      subst (λ o. IsCut h revision (watches ms) (option_and_then (λ m. update_to h revision (refilter fs m.watch.requests) m) o) (gives h revision (shift i fs) ms)) (sym (find_map full_monitor (has_id h i) ms))
       (found_cut revision (watches ms) (refilter fs) (refilter fs) (refilter_full fs) (shapes-refilter fs) (shown_refiltered false fs) (find (has_id h i) ms) (λ m e. found_among (has_id h i) ms m e))
   item_cut revision (renamed d old new fs) ms = inl refl
   item_cut revision (stopped d i) ms = inl refl
@@ -143,7 +162,7 @@ module _ (h : Service) where
   with_watch f m = record { watch = f m.watch; view = m.view }
 
   changed_full : (new : Data) (fs : List (List ℕ × Filter)) (m : Monitor) → full_monitor (with_watch (changed h new fs) m) ≡ with_watch (changed h new fs) (full_monitor m)
-  changed_full new fs m = λ j. record { watch = record { id = new; notation = m.watch.notation; requests = refilter_full fs m.watch.requests j }; view = m.view }
+  changed_full new fs m = λ j. record { watch = record { id = new; notation = m.watch.notation; requests = refilter_full fs m.watch.requests j; since = m.watch.since }; view = m.view }
 
   leaves_full : (db : Db) (i : Item) (ms : List Monitor) → map full_monitor (leaves h db i ms) ≡ leaves h db (full_item i) (map full_monitor ms)
   leaves_full db (say a d) ms = refl
@@ -156,26 +175,26 @@ module _ (h : Service) where
   -- ---- all messages
 
   -- those that are left in a list of monitors
-  rest_cut : (revision : Revision) (ks : List Watch) (ms : List Monitor) → ((k : Watch) → IsAmong k (watches ms) → IsAmong k ks) → AreCut h [] ks (filter_map (λ m. update_to h revision m.watch.requests m) (map full_monitor ms)) (filter_map (λ m. update_to h revision m.watch.requests m) ms)
+  rest_cut : (revision : Revision) (ks : List Watch) (ms : List Monitor) → ((k : Watch) → IsAmong k (watches ms) → IsAmong k ks) → AreCut h revision [] ks (filter_map (λ m. update_to h revision m.watch.requests m) (map full_monitor ms)) (filter_map (λ m. update_to h revision m.watch.requests m) ms)
   rest_cut revision ks [] among = ([], refl, refl, tt)
   rest_cut revision ks (m ∷ ms) among =
-      let r : AreCut h [] ks (filter_map (λ m. update_to h revision m.watch.requests m) (map full_monitor ms)) (filter_map (λ m. update_to h revision m.watch.requests m) ms) = rest_cut revision ks ms (λ k a. among k (inr a)) in (
+      let r : AreCut h revision [] ks (filter_map (λ m. update_to h revision m.watch.requests m) (map full_monitor ms)) (filter_map (λ m. update_to h revision m.watch.requests m) ms) = rest_cut revision ks ms (λ k a. among k (inr a)) in (
         (update_to h revision (all_kinds m.watch.requests) (full_monitor m), update_to h revision m.watch.requests m) ∷ r.0,
         ap (cons_option (update_to h revision (all_kinds m.watch.requests) (full_monitor m))) r.1,
         ap (cons_option (update_to h revision m.watch.requests m)) r.2,
         (update_cut revision ks m.watch.requests m (among m.watch (inl refl)) refl (λ D. refl), r.3),
       )
 
-  owed_cut : (revision : Revision) (q : List Item) (ms : List Monitor) → AreCut h q (watches ms) (owed_from h revision (map full_item q) (map full_monitor ms)) (owed_from h revision q ms)
+  owed_cut : (revision : Revision) (q : List Item) (ms : List Monitor) → AreCut h revision q (watches ms) (owed_from h revision (map full_item q) (map full_monitor ms)) (owed_from h revision q ms)
   owed_cut revision [] ms = rest_cut revision (watches ms) ms (λ k a. a)
   owed_cut revision (i ∷ is) ms =
-      let r : AreCut h is (watches (leaves h revision.db i ms)) (owed_from h revision (map full_item is) (map full_monitor (leaves h revision.db i ms))) (owed_from h revision is (leaves h revision.db i ms)) = owed_cut revision is (leaves h revision.db i ms) in
+      let r : AreCut h revision is (watches (leaves h revision.db i ms)) (owed_from h revision (map full_item is) (map full_monitor (leaves h revision.db i ms))) (owed_from h revision is (leaves h revision.db i ms)) = owed_cut revision is (leaves h revision.db i ms) in
       let all : Option Out = gives h revision (full_item i) (map full_monitor ms) in
       let some : Option Out = gives h revision i ms in (
         (all, some) ∷ r.0,
         ap (λ ns. option_to_list all ++ owed_from h revision (map full_item is) ns) (sym (leaves_full revision.db i ms)) ∙ ap (λ os. option_to_list all ++ os) r.1 ∙ sym (cons-list all (filter_map (λ p. p.0) r.0)),
         ap (λ os. option_to_list some ++ os) r.2 ∙ sym (cons-list some (filter_map (λ p. p.1) r.0)),
-        (item_cut revision i ms, subst (λ ks. AreEachCut h is ks r.0) (leaves-asks h revision.db i ms) r.3),
+        (item_cut revision i ms, subst (λ ks. AreEachCut h revision is ks r.0) (leaves-asks h revision.db i ms) r.3),
       )
 
   all_brought : (db : Db) (ms : List Monitor) → map full_monitor (map (λ m. brought h db m.watch.requests m) ms) ≡ map (λ m. brought h db m.watch.requests m) (map full_monitor ms)

@@ -23,3 +23,4 @@ pub mod WaitingTried
 pub mod SessionInvariant
 pub mod WholeMessages
 pub mod WorldInvariant
+pub mod FoundAgain

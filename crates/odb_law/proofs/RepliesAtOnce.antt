@@ -75,9 +75,9 @@ fail_posts : (s : ℕ) (d : Data) (name : Failure) (w : World) → Posts s d (fa
 fail_posts s d name w = answer_posts s d (failure (id_of d) name) w
 
 module _ (h : Service) where
-  start_posts : (s : ℕ) (d : Data) (n : Notation) (i : Data) (r : Result (List Request) Error) (w : World) → Posts s d (start_with h s d n i r w)
-  start_posts s d n i (Err e) w = fail_posts s d (failed e) w
-  start_posts s d n i (Ok qs) w = record { world = w; ending = starts (record { id = i; notation = n; requests = qs }); is = refl }
+  start_posts : (s : ℕ) (d : Data) (n : Notation) (i : Data) (since : Option Uuid) (r : Result (List Request) Error) (w : World) → Posts s d (start_with h s d n i since r w)
+  start_posts s d n i since (Err e) w = fail_posts s d (failed e) w
+  start_posts s d n i since (Ok qs) w = record { world = w; ending = starts (record { id = i; notation = n; requests = qs; since = since }); is = refl }
 
   shift_posts : (s : ℕ) (d old new : Data) (k : Watch) (r : Result (List (List ℕ × Filter)) Error) (w : World) → Posts s d (shift_with h s d old new k r w)
   shift_posts s d old new k (Err e) w = fail_posts s d (failed e) w
@@ -103,8 +103,8 @@ module _ (h : Service) where
   handle_posts : (s : ℕ) (d : Data) (fresh : List Uuid) (c : Call) (w : World) → is_replied_at_once c ≡ true → Posts s d (handle h s d fresh c w)
   handle_posts s d fresh (message.answered m) w at_once = answer_posts s d m w
   handle_posts s d fresh (message.transact id operations) w at_once = absurd (true≢false (sym at_once))
-  handle_posts s d fresh (message.monitor id n i requests) w at_once =
-      either_posts s d (is_some (watched h i (asked_of h (get w.sessions s)))) (fail s d (failed syntax_error) w) (start_with h s d n i (h.read_requests n requests) w) (fail_posts s d (failed syntax_error) w) (start_posts s d n i (h.read_requests n requests) w)
+  handle_posts s d fresh (message.monitor id n i requests since) w at_once =
+      either_posts s d (is_some (watched h i (asked_of h (get w.sessions s)))) (fail s d (failed syntax_error) w) (start_with h s d n i since (h.read_requests n requests) w) (fail_posts s d (failed syntax_error) w) (start_posts s d n i since (h.read_requests n requests) w)
   handle_posts s d fresh (message.change_filters id old new filters) w at_once = change_posts s d old new filters (watched h old (asked_of h (get w.sessions s))) w
   handle_posts s d fresh (message.cancel_monitor id i) w at_once = stop_posts s d i (watched h i (asked_of h (get w.sessions s))) w
   handle_posts s d fresh (message.lock id name) w at_once = lock_posts s d (locked h) (lock w.locks s name) w
@@ -138,13 +138,13 @@ module _ (h : Service) where
   notices revision [] = tt
   notices revision (m ∷ ms) = by (is_none (change_to h revision.db m.watch.requests m)) (notices revision ms)
     where
-      by : (b : Bool) → AreNotices (filter_map (λ m. update_to h revision m.watch.requests m) ms) → AreNotices (cons_option (cond b None (Some (message_of h revision.db m.watch.requests m))) (filter_map (λ m. update_to h revision m.watch.requests m) ms))
+      by : (b : Bool) → AreNotices (filter_map (λ m. update_to h revision m.watch.requests m) ms) → AreNotices (cons_option (cond b None (Some (message_of h revision m.watch.requests m))) (filter_map (λ m. update_to h revision m.watch.requests m) ms))
       by true rest = rest
       by false rest = (refl, rest)
 
   -- what an item gives that replies
   replies : (revision : Revision) (d : Data) (e : Ending) (ms : List Monitor) → (o : Out) × (gives h revision (replying d e) ms ≡ Some o) × (o.answers ≡ to d)
-  replies revision d (says m) ms = (record { answers = to d; message = m }, refl, refl)
+  replies revision d (says m) ms = (record { answers = to d; message = m; held = None }, refl, refl)
   replies revision d (starts k) ms = (first_out h revision d k, refl, refl)
   replies revision d (changes_filters old new fs) ms = (session.granted h d, refl, refl)
   replies revision d (stops i) ms = (session.granted h d, refl, refl)

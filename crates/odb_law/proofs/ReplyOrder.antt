@@ -23,7 +23,7 @@ use Rattle.odb_service.proofs.Splits.{Split}
 use Rattle.odb_service.proofs.WhatIsOwed.{change_to, message_of, takes}
 use Rattle.odb_service.specs.Run.{Event, Sent, State, after, closed, given_after, once, opened, opens, round, sent, sent_to, submitted, take_each, take_of, ticked}
 use Rattle.odb_service.specs.Service.{Outcome, Service, ended, waiting}
-use Rattle.odb_service.specs.Session.{Answers, Item, Monitor, Out, Revision, Session, Watch, has_id, label, leaves, no_request, no_result, owed, owed_from, refilter, renamed, same_id, say, shift, start, stopped, sync, take, to, update_to}
+use Rattle.odb_service.specs.Session.{Answers, Item, Monitor, Out, Revision, Session, Watch, has_id, label, leaves, no_request, no_result, owed, owed_from, refilter, renamed, same_id, say, shift, start, stopped, sync, take, to, update_to, with_content}
 use Rattle.odb_service.specs.World.{Waiting, World, answer, are_monitored, asked_of, at_moment, attempt, cancel_one, change_of, close, end_transaction, fail, handle, is_conditional, is_due, is_of, lock_error, locked, notice_of, on_cancel_monitor, on_lock, on_outcome, post, post_notices, post_to, push, retry, retry_all, revision_of, shift_with, split_first, start_with, succeed, tick, try_due, try_one, untried, watched, with_waiting}
 use Rattle.odb_tables.specs.Database.{Db}
 use Rattle.odb_wire.specs.Message.{id_of}
@@ -91,7 +91,7 @@ module _ (h : Service) where
 
   ends : (t : ℕ) (d results : Data) (o : Option Db) (w : World) → Grows w (end_transaction h t d results o w)
   ends t d results None w = answers t d (reply (id_of d) results) w
-  ends t d results (Some db) w = posts t (map (λ k. sync k.id) (asked_of h (get w.sessions t)) ++ say (to d) (reply (id_of d) results) ∷ []) (record w { db = db; commits = w.commits + 1 })
+  ends t d results (Some db) w = posts t (map (λ k. sync k.id) (asked_of h (get w.sessions t)) ++ say (to d) (reply (id_of d) results) ∷ []) (record w { db = db; commits = w.commits + 1; earlier = with_content w.db w.earlier })
 
   outcomes : (p : Waiting) (o : Outcome) (w : World) → Grows w (on_outcome h p o w).0
   outcomes p (ended results changed) w = ends p.session p.request results changed w
@@ -128,9 +128,9 @@ module _ (h : Service) where
 
   -- ---- requests
 
-  starts : (t : ℕ) (d : Data) (n : Notation) (i : Data) (r : Result (List Request) Error) (w : World) → Grows w (start_with h t d n i r w)
-  starts t d n i (Err e) w = fails t d (failed e) w
-  starts t d n i (Ok qs) w = posts t (start d (record { id = i; notation = n; requests = qs }) ∷ []) w
+  starts : (t : ℕ) (d : Data) (n : Notation) (i : Data) (since : Option Uuid) (r : Result (List Request) Error) (w : World) → Grows w (start_with h t d n i since r w)
+  starts t d n i since (Err e) w = fails t d (failed e) w
+  starts t d n i since (Ok qs) w = posts t (start d (record { id = i; notation = n; requests = qs; since = since }) ∷ []) w
 
   shifts : (t : ℕ) (d old new : Data) (k : Watch) (r : Result (List (List ℕ × Filter)) Error) (w : World) → Grows w (shift_with h t d old new k r w)
   shifts t d old new k (Err e) w = fails t d (failed e) w
@@ -160,8 +160,8 @@ module _ (h : Service) where
   handles t d fresh (message.transact id ops) w =
       let p : Waiting = record { session = t; request = d; operations = ops; fresh = fresh; arrival = w.now; deadline = None; tried = w.commits } in
       all_retried w (with_waiting h (λ ps o. ps ++ option_to_list o) w.waiting (attempt h p w)) (attempts p w)
-  handles t d fresh (message.monitor id n i requests) w =
-      either (is_some (watched h i (asked_of h (get w.sessions t)))) w (fail t d (failed syntax_error) w) (start_with h t d n i (h.read_requests n requests) w) (fails t d (failed syntax_error) w) (starts t d n i (h.read_requests n requests) w)
+  handles t d fresh (message.monitor id n i requests since) w =
+      either (is_some (watched h i (asked_of h (get w.sessions t)))) w (fail t d (failed syntax_error) w) (start_with h t d n i since (h.read_requests n requests) w) (fails t d (failed syntax_error) w) (starts t d n i since (h.read_requests n requests) w)
   handles t d fresh (message.change_filters id old new filters) w = changes t d old new filters (watched h old (asked_of h (get w.sessions t))) w
   handles t d fresh (message.cancel_monitor id i) w = stops t d i (watched h i (asked_of h (get w.sessions t))) w
   handles t d fresh (message.lock id name) w = locks t d (locked h) (lock w.locks t name) w
@@ -187,7 +187,7 @@ module _ (h : Service) where
   updates_answer_none : (revision : Revision) (ms : List Monitor) → answered_in (filter_map (λ m. update_to h revision m.watch.requests m) ms) ≡ []
   updates_answer_none revision [] = refl
   updates_answer_none revision (m ∷ ms) =
-      elim (is_none (change_to h revision.db m.watch.requests m)) as (λ b. answered_in (cons_option (cond b None (Some (message_of h revision.db m.watch.requests m))) (filter_map (λ m. update_to h revision m.watch.requests m) ms)) ≡ []) [
+      elim (is_none (change_to h revision.db m.watch.requests m)) as (λ b. answered_in (cons_option (cond b None (Some (message_of h revision m.watch.requests m))) (filter_map (λ m. update_to h revision m.watch.requests m) ms)) ≡ []) [
         | true ↦ updates_answer_none revision ms
         | false ↦ updates_answer_none revision ms
       ]
@@ -195,7 +195,7 @@ module _ (h : Service) where
   update_answers_none : (revision : Revision) (q : Monitor → List Request) (o : Option Monitor) (os : List Out) → answered_in (option_to_list (option_and_then (λ m. update_to h revision (q m) m) o) ++ os) ≡ answered_in os
   update_answers_none revision q None os = refl
   update_answers_none revision q (Some m) os =
-      elim (is_none (change_to h revision.db (q m) m)) as (λ b. answered_in (option_to_list (cond b None (Some (message_of h revision.db (q m) m))) ++ os) ≡ answered_in os) [ true ↦ refl | false ↦ refl ]
+      elim (is_none (change_to h revision.db (q m) m)) as (λ b. answered_in (option_to_list (cond b None (Some (message_of h revision (q m) m))) ++ os) ≡ answered_in os) [ true ↦ refl | false ↦ refl ]
 
   owed_answers : (revision : Revision) (q : List Item) (ms : List Monitor) → answered_in (owed_from h revision q ms) ≡ will_answer q
   owed_answers revision [] ms = updates_answer_none revision ms

@@ -21,7 +21,7 @@ use Rattle.odb_law.specs.Law.{answers_one}
 use Rattle.odb_service.specs.Run.{Event, Sent, State, after, beginning, closed, given_after, once, opened, requests_after, round, sent, sent_to, submitted, take_each, take_of, ticked}
 use Rattle.odb_wire.specs.Message.{is_request}
 use Rattle.odb_service.specs.Service.{Outcome, Service, ended, waiting}
-use Rattle.odb_service.specs.Session.{Answers, Item, Monitor, Out, Revision, Session, Watch, gives, has_id, label, leaves, no_request, no_result, owed_from, refilter, renamed, same_id, say, shift, start, stop_at, stopped, sync, take, take_from, take_rest, to, update_to}
+use Rattle.odb_service.specs.Session.{Answers, Item, Monitor, Out, Revision, Session, Watch, gives, has_id, label, leaves, no_request, no_result, owed_from, refilter, renamed, same_id, say, shift, start, stop_at, stopped, sync, take, take_from, take_rest, to, update_to, with_content}
 use Rattle.odb_wire.specs.Message.{id_of}
 use Rattle.odb_service.specs.World.{Waiting, World, answer, are_monitored, asked_of, at_moment, attempt, cancel_one, change_of, close, end_transaction, fail, handle, is_conditional, is_due, is_of, is_untried, locked, notice_of, on_cancel_monitor, on_lock, on_monitor, on_outcome, post, post_notices, post_to, push, retry, retry_all, revision_of, run_transaction, shift_with, split_first, start_with, succeed, tick, try_due, try_one, untried, watched, with_waiting}
 use Rattle.odb_locks.specs.Locks.{Answered, Notice, drop_session, lock, steal, unlock}
@@ -181,7 +181,7 @@ module _ (h : Service) (q : Data → Bool) where
   end_grows t d results None w = answer_grows t d (reply (id_of d) results) w
   end_grows t d results (Some db) w =
       let is : List Item = map (λ k. sync k.id) (asked_of h (get w.sessions t)) ++ say (to d) (reply (id_of d) results) ∷ [] in
-      item_grows t is d (record w { db = db; commits = w.commits + 1 }) (syncs_queued (asked_of h (get w.sessions t)) d (reply (id_of d) results))
+      item_grows t is d (record w { db = db; commits = w.commits + 1; earlier = with_content w.db w.earlier }) (syncs_queued (asked_of h (get w.sessions t)) d (reply (id_of d) results))
 
   -- a try moves what waits into the queue, or leaves it
   abbrev Moves : Waiting → World → World × Option Waiting → Type 0
@@ -295,14 +295,14 @@ module _ (h : Service) (q : Data → Bool) where
   fail_grows : (t : ℕ) (d : Data) (name : Failure) (w : World) → Grows (own t d) w (fail t d name w)
   fail_grows t d name w = answer_grows t d (failure (id_of d) name) w
 
-  start_grows : (t : ℕ) (d : Data) (n : Notation) (i : Data) (r : Result (List Request) Error) (w : World) → Grows (own t d) w (start_with h t d n i r w)
-  start_grows t d n i (Err e) w = fail_grows t d (failed e) w
-  start_grows t d n i (Ok qs) w = item_grows t (start d (record { id = i; notation = n; requests = qs }) ∷ []) d w (single (q d))
+  start_grows : (t : ℕ) (d : Data) (n : Notation) (i : Data) (since : Option Uuid) (r : Result (List Request) Error) (w : World) → Grows (own t d) w (start_with h t d n i since r w)
+  start_grows t d n i since (Err e) w = fail_grows t d (failed e) w
+  start_grows t d n i since (Ok qs) w = item_grows t (start d (record { id = i; notation = n; requests = qs; since = since }) ∷ []) d w (single (q d))
 
-  monitor_grows : (t : ℕ) (d : Data) (n : Notation) (i requests : Data) (w : World) → Grows (own t d) w (on_monitor h t d n i requests w)
-  monitor_grows t d n i requests w =
-      either (is_some (watched h i (asked_of h (get w.sessions t)))) (own t d) w (fail t d (failed syntax_error) w) (start_with h t d n i (h.read_requests n requests) w)
-      (fail_grows t d (failed syntax_error) w) (start_grows t d n i (h.read_requests n requests) w)
+  monitor_grows : (t : ℕ) (d : Data) (n : Notation) (i : Data) (since : Option Uuid) (requests : Data) (w : World) → Grows (own t d) w (on_monitor h t d n i since requests w)
+  monitor_grows t d n i since requests w =
+      either (is_some (watched h i (asked_of h (get w.sessions t)))) (own t d) w (fail t d (failed syntax_error) w) (start_with h t d n i since (h.read_requests n requests) w)
+      (fail_grows t d (failed syntax_error) w) (start_grows t d n i since (h.read_requests n requests) w)
 
   shift_grows : (t : ℕ) (d old new : Data) (k : Watch) (r : Result (List (List ℕ × Filter)) Error) (w : World) → Grows (own t d) w (shift_with h t d old new k r w)
   shift_grows t d old new k (Err e) w = fail_grows t d (failed e) w
@@ -339,7 +339,7 @@ module _ (h : Service) (q : Data → Bool) where
       let p : Waiting = record { session = t; request = d; operations = ops; fresh = fresh; arrival = w.now; deadline = None; tried = w.commits } in
       raises_as (λ s. count_waiting s (p ∷ [])) (own t d) w (run_transaction h p w) (λ s. let e : bit ((t == s) && q d) ≡ own t d s = bit_and (t == s) (q d) in omega (arith, e))
       (retry_all_raises (λ s. count_waiting s (p ∷ [])) w (with_waiting h (λ ps o. ps ++ option_to_list o) w.waiting (attempt h p w)) (one_more_raises p w))
-  handle_raises t d fresh (message.monitor id n i requests) w = grows_raises (own t d) w (on_monitor h t d n i requests w) (monitors h t d n i requests w) (monitor_grows t d n i requests w)
+  handle_raises t d fresh (message.monitor id n i requests since) w = grows_raises (own t d) w (on_monitor h t d n i since requests w) (monitors h t d n i since requests w) (monitor_grows t d n i since requests w)
   handle_raises t d fresh (message.change_filters id old new filters) w =
       let o : Option Watch = watched h old (asked_of h (get w.sessions t)) in
       grows_raises (own t d) w (change_of h t d old new filters o w) (changes h t d old new filters o w) (change_grows t d old new filters o w)
@@ -384,7 +384,7 @@ module _ (h : Service) (q : Data → Bool) where
     update_unlabelled : (revision : Revision) (qs : List Request) (m : Monitor) → outs (option_to_list (update_to h revision qs m)) ≡ 0
     update_unlabelled revision qs m = by (is_none (change_to h revision.db qs m))
       where
-        by : (b : Bool) → outs (option_to_list (cond b None (Some (message_of h revision.db qs m)))) ≡ 0
+        by : (b : Bool) → outs (option_to_list (cond b None (Some (message_of h revision qs m)))) ≡ 0
         by true = refl
         by false = refl
 
@@ -392,7 +392,7 @@ module _ (h : Service) (q : Data → Bool) where
     found_unlabelled revision f None = refl
     found_unlabelled revision f (Some m) = update_unlabelled revision (f m) m
 
-    said : (a : Answers) (m : Data) → outs (record { answers = a; message = m } ∷ []) ≡ bit (in_label a)
+    said : (a : Answers) (m : Data) → outs (record { answers = a; message = m; held = None } ∷ []) ≡ bit (in_label a)
     said no_request m = refl
     said (to d) m = single (q d)
 
@@ -542,8 +542,8 @@ module _ (h : Service) (q : Data → Bool) where
     step_balanced (round ss) st r k is =
         (step_settles h (round ss) st r k.0 is, subst (λ (p : World × List Sent). AreBalanced p.0 (given_after (round ss) p.1 st.given) st.requests) is (take_each_balanced (once ss) st.world st.given st.requests k.1))
 
-    start_balanced : (tables : ℕ) → IsBalanced (beginning tables)
-    start_balanced tables = (begins_settled h tables, λ s x found. absurd (true≢false (sym (ap is_some (sym (get-empty s) ∙ found)))))
+    start_balanced : (word most tables : ℕ) → IsBalanced (beginning word most tables)
+    start_balanced word most tables = (begins_settled h word most tables, λ s x found. absurd (true≢false (sym (ap is_some (sym (get-empty s) ∙ found)))))
 
     pub reached_balanced : (st : State) → IsReached h st → AreBalanced st.world st.given st.requests
     reached_balanced st r = (reached_has h IsBalanced start_balanced step_balanced st r).1

@@ -11,7 +11,6 @@ use Rattle.odb_service.specs.Service.{Service}
 use Rattle.odb_service.specs.Session.{Out, Revision, Session, take}
 use Rattle.odb_service.specs.World.{World, revision_of}
 use Rattle.odb_service.proofs.SessionMaps.{apart_keys}
-use Rattle.odb_tables.specs.Database.{Db}
 
 -- ---- a round takes once for each session
 
@@ -67,6 +66,11 @@ module _ (h : Service) where
   of_db s None w = refl
   of_db s (Some x) w = refl
 
+  -- a taking leaves what takings look at
+  of_revision : (s : ℕ) (o : Option Session) (w : World) → revision_of (take_of h s o w).0 ≡ revision_of w
+  of_revision s None w = refl
+  of_revision s (Some x) w = refl
+
   pub each_db : (ss : List ℕ) (w : World) → (take_each h ss w).0.db ≡ w.db
   each_db [] w = refl
   each_db (s ∷ ss) w = each_db ss (take_of h s (get w.sessions s) w).0 ∙ of_db s (get w.sessions s) w
@@ -114,7 +118,7 @@ module _ (h : Service) where
       subst (λ os. Got (get w.sessions t) w os p)
       (sym (sent_to-append t (take_of h s (get w.sessions s) w).1 (take_each h ss v).1 ∙ ap (λ os. os ++ sent_to t (take_each h ss v).1) a.1))
       (subst (λ o. Got o w (sent_to t (take_each h ss v).1) p) a.0
-      (subst (λ (db : Db). let revision : Revision = record { db = db } in (sent_to t (take_each h ss v).1 ≡ []) ⊎ ((x : Session) × (get v.sessions t ≡ Some x) × (sent_to t (take_each h ss v).1 ≡ option_to_list (take h revision x).0) × (p ≡ Some (take h revision x).1))) (of_db s (get w.sessions s) w) k))
+      (subst (λ (revision : Revision). (sent_to t (take_each h ss v).1 ≡ []) ⊎ ((x : Session) × (get v.sessions t ≡ Some x) × (sent_to t (take_each h ss v).1 ≡ option_to_list (take h revision x).0) × (p ≡ Some (take h revision x).1))) (of_revision s (get w.sessions s) w) k))
 
   pub take_once : (ss : List ℕ) (w : World) → AreOnce ss → (t : ℕ) → Took ss w t
   take_once [] w a t = inl refl

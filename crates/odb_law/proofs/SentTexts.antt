@@ -72,28 +72,28 @@ parted f (x ∷ xs) (y ∷ ys) z zs e =
 
 -- ---- runs
 
-module _ (schema : Schema) where
+module _ (schema : Schema) (word most : ℕ) where
   abbrev machine : Service
   machine = served_by schema
 
-  same_schema : (ts : List Taken) → AreServed schema ts → (server_after schema ts).schema ≡ schema
+  same_schema : (ts : List Taken) → AreServed schema word most ts → (server_after schema word most ts).schema ≡ schema
   same_schema [] a = refl
   same_schema (t ∷ ts) a =
-      let m : Steps t.event (server_after schema ts) (t.server, t.sent) = step_of t.event (server_after schema ts) (t.server, t.sent) a.0 in
+      let m : Steps t.event (server_after schema word most ts) (t.server, t.sent) = step_of t.event (server_after schema word most ts) (t.server, t.sent) a.0 in
       sym (ap (λ (p : Served). p.0.schema) m.2) ∙ same_schema ts a.1
 
   -- the run goes on with the newest event
   record GoesOn (t : Taken) (ts : List Taken) (st : State) : Type 0 where
     now : State
     goes : next machine t.event st ≡ Ok now
-    is_run : IsRunOf schema (t ∷ ts) now
+    is_run : IsRunOf schema word most (t ∷ ts) now
     fresh : ℕ → List Out
     fresh_texts : (s : ℕ) → map text_of (fresh s) ≡ texts_to s t.sent
     given : (s : ℕ) → opens t.event s ≡ false → now.given s ≡ st.given s ++ fresh s
 
-  goes_on : (t : Taken) (ts : List Taken) → AreServed schema (t ∷ ts) → (st : State) → IsRunOf schema ts st → GoesOn t ts st
+  goes_on : (t : Taken) (ts : List Taken) → AreServed schema word most (t ∷ ts) → (st : State) → IsRunOf schema word most ts st → GoesOn t ts st
   goes_on t ts a st k =
-      let m : Steps t.event (server_after schema ts) (t.server, t.sent) = step_of t.event (server_after schema ts) (t.server, t.sent) a.0 in
+      let m : Steps t.event (server_after schema word most ts) (t.server, t.sent) = step_of t.event (server_after schema word most ts) (t.server, t.sent) a.0 in
       let now : State = after machine t.event st m.0 in
       let stepped : step machine t.event st.world ≡ Ok m.0 = (λ i. step (served_by (sym (same_schema ts a.1) i)) t.event (k.world i)) ∙ m.1 in
       let goes : next machine t.event st ≡ Ok now = ap (if_ok (λ r. Ok (after machine t.event st r))) stepped in
@@ -102,7 +102,7 @@ module _ (schema : Schema) where
         now = now;
         goes = goes;
         is_run = record {
-          is_run = run_on machine (events ts) (beginning (length schema.tables)) st now t.event k.is_run goes;
+          is_run = run_on machine (events ts) (beginning word most (length schema.tables)) st now t.event k.is_run goes;
           world = ap (λ (p : Served). p.0.world) m.2;
           texts = λ s. elim (opens t.event s) as (λ b. map text_of (cond b [] (st.given s ++ sent_to s m.0.1)) ≡ cond b [] (texts_since ts s ++ texts_to s t.sent)) [
             | true ↦ refl
@@ -114,33 +114,33 @@ module _ (schema : Schema) where
         given = λ s quiet. ap (λ b. cond b [] (st.given s ++ sent_to s m.0.1)) quiet;
       }
 
-  pub is_run : IsRun schema
-  is_run [] a = (beginning (length schema.tables), record { is_run = refl; world = refl; texts = λ s. refl })
+  pub is_run : IsRun schema word most
+  is_run [] a = (beginning word most (length schema.tables), record { is_run = refl; world = refl; texts = λ s. refl })
   is_run (t ∷ ts) a =
-      let k : (st : State) × IsRunOf schema ts st = is_run ts a.1 in
+      let k : (st : State) × IsRunOf schema word most ts st = is_run ts a.1 in
       let n : GoesOn t ts k.0 = goes_on t ts a k.0 k.1 in
       (n.now, n.is_run)
 
-  reached : (ts : List Taken) (st : State) → IsRunOf schema ts st → IsReached machine st
-  reached ts st k = (length schema.tables, events ts, k.is_run)
+  reached : (ts : List Taken) (st : State) → IsRunOf schema word most ts st → IsReached machine st
+  reached ts st k = (word, most, length schema.tables, events ts, k.is_run)
 
-  pub holds_of_texts : (P : State → ℕ → Session → Type 0) → HoldsAlways machine P → HoldsOfTexts schema P
+  pub holds_of_texts : (P : State → ℕ → Session → Type 0) → HoldsAlways machine P → HoldsOfTexts schema word most P
   holds_of_texts P always ts a s x found =
-      let k : (st : State) × IsRunOf schema ts st = is_run ts a in
+      let k : (st : State) × IsRunOf schema word most ts st = is_run ts a in
       (k.0, k.1, always k.0 (reached ts k.0 k.1) s x (ap (λ (w : World). get w.sessions s) k.1.world ∙ found))
 
   abbrev Whole : Taken → List Taken → ℕ → List Text → Text → List Text → Type 0
   Whole t ts s before text rest =
-      (before ≡ []) × (rest ≡ []) × HasTurn s t.event × (t.server.world.db ≡ (server_after schema ts).world.db)
-      × ((x : Session) → get t.server.world.sessions s ≡ Some x → (st : State) × IsRunOf schema (t ∷ ts) st × EndsWhole schema st s x text)
+      (before ≡ []) × (rest ≡ []) × HasTurn s t.event × (t.server.world.db ≡ (server_after schema word most ts).world.db)
+      × ((x : Session) → get t.server.world.sessions s ≡ Some x → (st : State) × IsRunOf schema word most (t ∷ ts) st × EndsWhole schema word most st s x text)
 
-  pub texts_bring_whole : TextsBringWhole schema
+  pub texts_bring_whole : TextsBringWhole schema word most
   texts_bring_whole t ts a s before text rest e = by (opens t.event s) refl
     where
       by : (b : Bool) → opens t.event s ≡ b → Whole t ts s before text rest
-      by true opening = absurd (no_empty before text rest (sym (ap (texts_to s) (opening_sends_nothing t.event (server_after schema ts) (t.server, t.sent) a.0 s opening)) ∙ e))
+      by true opening = absurd (no_empty before text rest (sym (ap (texts_to s) (opening_sends_nothing t.event (server_after schema word most ts) (t.server, t.sent) a.0 s opening)) ∙ e))
       by false quiet =
-          let k : (st : State) × IsRunOf schema ts st = is_run ts a.1 in
+          let k : (st : State) × IsRunOf schema word most ts st = is_run ts a.1 in
           let n : GoesOn t ts k.0 = goes_on t ts a k.0 k.1 in
           let p : PartedAs text_of (n.fresh s) before text rest = parted text_of (n.fresh s) before text rest (n.fresh_texts s ∙ e) in
           let given : n.now.given s ≡ k.0.given s ++ (p.0 ++ p.1 ∷ p.2) = n.given s quiet ∙ ap (λ os. k.0.given s ++ os) p.3 in
@@ -163,9 +163,9 @@ module _ (schema : Schema) where
             ),
           )
 
-  pub replies_are_whole : RepliesAreWhole schema
+  pub replies_are_whole : RepliesAreWhole schema word most
   replies_are_whole t ts a s d fresh moment is at_once x found =
-      let k : (st : State) × IsRunOf schema ts st = is_run ts a.1 in
+      let k : (st : State) × IsRunOf schema word most ts st = is_run ts a.1 in
       let n : GoesOn t ts k.0 = goes_on t ts a k.0 k.1 in (
         n.now,
         n.is_run,

@@ -73,7 +73,7 @@ same_filters fs (q ∷ qs) = λ i. (let p : Request = record q { filter = same_f
 
 -- a monitor as its client pictures it
 abbrev pub with_view : Watch → Option View → Picture
-with_view k v = record { id = k.id; notation = k.notation; requests = k.requests; view = v }
+with_view k v = record { id = k.id; notation = k.notation; requests = k.requests; since = k.since; view = v }
 
 abbrev pub picture : Watch → View → Picture
 picture k V = with_view k (if can_follow k.requests then Some V else None)
@@ -178,8 +178,8 @@ module _ (h : Service) where
 
   -- A finished text is no update, and does nothing to a client's pictures. A first reply and a reply that takes effect answer a request that asks for it. A monitor that starts names its columns once.
   abbrev pub IsSound : Item → Type 0
-  IsSound (say a d) = ((ps : List Picture) → client_step h ps (record { answers = a; message = d }) ≡ Some ps) × (about (record { answers = a; message = d }) ≡ None)
-  IsSound (start d k) = AreNamed (shapes k.requests) × (answer_id d ≡ id_of d) × ((r : Data) × (wish_of d ≡ adds k.notation k.id r) × (h.read_requests k.notation r ≡ Ok k.requests))
+  IsSound (say a d) = ((ps : List Picture) → client_step h ps (record { answers = a; message = d; held = None }) ≡ Some ps) × (about (record { answers = a; message = d; held = None }) ≡ None)
+  IsSound (start d k) = AreNamed (shapes k.requests) × (answer_id d ≡ id_of d) × ((r : Data) × (wish_of d ≡ adds k.notation k.since k.id r) × (h.read_requests k.notation r ≡ Ok k.requests))
   IsSound (sync i) = Unit {0}
   IsSound (shift i fs) = Unit {0}
   IsSound (renamed d old new fs) = (answer_id d ≡ id_of d) × ((r : Data) × (wish_of d ≡ changes old new r) × (h.read_filters r ≡ Ok fs))
@@ -198,7 +198,7 @@ module _ (h : Service) where
   with_new new fs m = record m { watch = changed h new fs m.watch }
 
   pub seen-new : (new : Data) (fs : List (List ℕ × Filter)) (m : Monitor) → with_changes h new fs (seen m) ≡ seen (with_new new fs m)
-  seen-new new fs m i = record { id = new; notation = m.watch.notation; requests = same_filters fs m.watch.requests i; view = (ap (λ b. cond b (Some m.view) None) (sym (followed-refilter fs m.watch.requests))) i }
+  seen-new new fs m i = record { id = new; notation = m.watch.notation; requests = same_filters fs m.watch.requests i; since = m.watch.since; view = (ap (λ b. cond b (Some m.view) None) (sym (followed-refilter fs m.watch.requests))) i }
 
   -- what was told follows what was asked
   pub leaves-asks : (db : Db) (i : Item) (ms : List Monitor) → map (λ m. m.watch) (leaves h db i ms) ≡ asks h i (map (λ m. m.watch) ms)

@@ -8,11 +8,11 @@ use Rattle.serde_json.specs.Data.{Data, null}
 use Rattle.odb_cond.specs.Filter.{Filter}
 use Rattle.odb_law.proofs.Calls.{reply_heard}
 use Rattle.odb_law.proofs.SessionInvariant.{IsKept, IsSound, IsThere, IsWell, StayDistinct, each_at_first, each_drop_first, followed-refilter, leaves-asks, map-append, order_rest, seen, seen-new, shapes-refilter, texts, with_new}
-use Rattle.odb_law.proofs.ClientUpdates.{IsLike, begun_kept, brought-followed, brought-unseen, brought_kept, first_heard, update-heard}
+use Rattle.odb_law.proofs.ClientUpdates.{IsLike, begun_kept, brought-followed, brought-unseen, brought_kept, first_heard, follow_of, told_to, update-heard}
 use Rattle.odb_service.proofs.WhatIsOwed.{change_to, message_of}
-use Rattle.odb_law.specs.Client.{Picture, client_from, client_step, follow, is_id_of, on_granted, refiltered, try_drop, try_first, with_changes}
+use Rattle.odb_law.specs.Client.{Picture, client_from, client_step, is_id_of, on_granted, refiltered, try_drop, try_first, with_changes}
 use Rattle.odb_service.specs.Service.{Service}
-use Rattle.odb_service.specs.Session.{Item, Monitor, Out, Revision, Session, at_first, begun, brought, drop_first, gives, has_id, leaves, method_of, no_request, no_result, owed_from, refilter, renamed, rested, say, shapes, shift, start, stop_at, stopped, sync, take_from, take_rest, update_to}
+use Rattle.odb_service.specs.Session.{Item, Monitor, Out, Revision, Session, Watch, at_first, begun, brought, drop_first, gives, has_id, leaves, no_result, owed_from, refilter, renamed, rested, say, shapes, shift, start, stop_at, stopped, sync, take_from, take_rest, update_to}
 use Rattle.odb_wire.specs.Message.{id_of}
 use Rattle.odb_service.specs.World.{watched}
 use Rattle.odb_monitor.proofs.Lists.{bytes_eq-itself}
@@ -20,8 +20,7 @@ use Rattle.odb_monitor.proofs.Views.{IsViewOf}
 use Rattle.odb_monitor.specs.Names.{AreDistinct, AreNamed, IsApart}
 use Rattle.odb_monitor.specs.Update.{table_updates}
 use Rattle.odb_monitor.specs.View.{is_none}
-use Rattle.odb_request.specs.Request.{Notation, Request}
-use Rattle.odb_rpc.specs.Message.{notification}
+use Rattle.odb_request.specs.Request.{Request}
 use Rattle.odb_tables.specs.Database.{Db}
 use Rattle.odb_service.proofs.Each.{Each, each_append}
 
@@ -33,38 +32,39 @@ module _ (h : Service) where
   -- no message, or an update of a monitor whose id isn't printed as t
   abbrev pub IsAway : List ℕ → Option Out → Type 0
   IsAway t None = Unit {0}
-  IsAway t (Some o) = (n : Notation) × (i : Data) × (d : Data) × (o ≡ record { answers = no_request; message = notification (method_of h n) (i ∷ d ∷ []) }) × (bytes_eq (h.printed i) t ≡ false)
+  IsAway t (Some o) = (revision : Revision) × (k : Watch) × (d : Data) × (o ≡ told_to h revision k d) × (bytes_eq (h.printed k.id) t ≡ false)
 
   -- it passes a picture of another id by
   heard-past : (p : Picture) (ps : List Picture) (o : Option Out) → IsAway (h.printed p.id) o → heard o (p ∷ ps) ≡ option_map (λ qs. p ∷ qs) (heard o ps)
   heard-past p ps None a = refl
   heard-past p ps (Some o) a =
       ap (client_step h (p ∷ ps)) a.3 ∙ update-heard h a.0 a.1 a.2 (p ∷ ps)
-      ∙ ap (λ b. cond b (option_map (λ q. q ∷ ps) (follow h a.0 a.2 p)) (option_map (λ qs. p ∷ qs) (try_first (is_id_of h a.1) (follow h a.0 a.2) ps))) a.4
+      ∙ ap (λ b. cond b (option_map (λ q. q ∷ ps) (follow_of h a.1.notation a.1.since a.2 p)) (option_map (λ qs. p ∷ qs) (try_first (is_id_of h a.1.id) (follow_of h a.1.notation a.1.since a.2) ps))) a.4
       ∙ ap (option_map (λ qs. p ∷ qs)) (sym (update-heard h a.0 a.1 a.2 ps) ∙ sym (ap (client_step h ps) a.3))
 
   abbrev out_if : Bool → Out → Option Out
   out_if b o = cond b None (Some o)
 
-  out_away : (t : List ℕ) (db : Db) (qs : List Request) (m : Monitor) → bytes_eq (h.printed m.watch.id) t ≡ false → (b : Bool) → IsAway t (out_if b (message_of h db qs m))
-  out_away t db qs m e true = tt
-  out_away t db qs m e false = (m.watch.notation, m.watch.id, table_updates m.watch.notation false (shapes qs) (change_to h db qs m), refl, e)
+  out_away : (t : List ℕ) (revision : Revision) (qs : List Request) (m : Monitor) → bytes_eq (h.printed m.watch.id) t ≡ false → (b : Bool) → IsAway t (out_if b (message_of h revision qs m))
+  out_away t revision qs m e true = tt
+  out_away t revision qs m e false = (revision, m.watch, table_updates m.watch.notation false (shapes qs) (change_to h revision.db qs m), refl, e)
 
-  out_heard : (db : Db) (qs : List Request) (m : Monitor) (ps : List Picture) → IsKept h m → IsLike h qs m.watch → (b : Bool) → is_none (change_to h db qs m) ≡ b
-      → heard (out_if b (message_of h db qs m)) (seen m ∷ ps) ≡ Some (seen (brought h db qs m) ∷ ps)
-  out_heard db qs m ps kept like true e = ap (λ p. Some (p ∷ ps)) (brought-unseen h db qs m kept like e)
-  out_heard db qs m ps kept like false e =
-      let d : Data = table_updates m.watch.notation false (shapes qs) (change_to h db qs m) in
-      update-heard h m.watch.notation m.watch.id d (seen m ∷ ps)
-      ∙ ap (λ b. cond b (option_map (λ q. q ∷ ps) (follow h m.watch.notation d (seen m))) (option_map (λ qs. seen m ∷ qs) (try_first (is_id_of h m.watch.id) (follow h m.watch.notation d) ps))) (bytes_eq-itself (h.printed m.watch.id))
-      ∙ ap (option_map (λ q. q ∷ ps)) (brought-followed h db qs m kept like e)
+  out_heard : (revision : Revision) (qs : List Request) (m : Monitor) (ps : List Picture) → IsKept h m → IsLike h qs m.watch → (b : Bool) → is_none (change_to h revision.db qs m) ≡ b
+      → heard (out_if b (message_of h revision qs m)) (seen m ∷ ps) ≡ Some (seen (brought h revision.db qs m) ∷ ps)
+  out_heard revision qs m ps kept like true e = ap (λ p. Some (p ∷ ps)) (brought-unseen h revision.db qs m kept like e)
+  out_heard revision qs m ps kept like false e =
+      let d : Data = table_updates m.watch.notation false (shapes qs) (change_to h revision.db qs m) in
+      let follows : Picture → Option Picture = follow_of h m.watch.notation m.watch.since d in
+      update-heard h revision m.watch d (seen m ∷ ps)
+      ∙ ap (λ b. cond b (option_map (λ q. q ∷ ps) (follows (seen m))) (option_map (λ qs. seen m ∷ qs) (try_first (is_id_of h m.watch.id) follows ps))) (bytes_eq-itself (h.printed m.watch.id))
+      ∙ ap (option_map (λ q. q ∷ ps)) (brought-followed h revision.db qs m kept like e)
 
   pub one_heard : (revision : Revision) (qs : List Request) (m : Monitor) (ps : List Picture) → IsKept h m → IsLike h qs m.watch
       → heard (update_to h revision qs m) (seen m ∷ ps) ≡ Some (seen (brought h revision.db qs m) ∷ ps)
-  one_heard revision qs m ps kept like = out_heard revision.db qs m ps kept like (is_none (change_to h revision.db qs m)) refl
+  one_heard revision qs m ps kept like = out_heard revision qs m ps kept like (is_none (change_to h revision.db qs m)) refl
 
   pub one_away : (t : List ℕ) (revision : Revision) (qs : List Request) (m : Monitor) → bytes_eq (h.printed m.watch.id) t ≡ false → IsAway t (update_to h revision qs m)
-  one_away t revision qs m e = out_away t revision.db qs m e (is_none (change_to h revision.db qs m))
+  one_away t revision qs m e = out_away t revision qs m e (is_none (change_to h revision.db qs m))
 
   -- ---- a monitor found by its id
 
@@ -127,13 +127,13 @@ module _ (h : Service) where
   item_heard revision (sync i) ms s there k = found_heard revision (λ m. m.watch.requests) itself_like i ms k
   item_heard revision (shift i fs) ms s there k = found_heard revision (λ m. refilter fs m.watch.requests) (refilter_like fs) i ms k
   item_heard revision (renamed d old new fs) ms s there k =
-      reply_heard h d null (id_of d) no_result (map seen ms) (sym s.0)
-      ∙ ap (λ w. on_granted h w no_result (map seen ms)) s.1.1
+      reply_heard h d null (id_of d) no_result None (map seen ms) (sym s.0)
+      ∙ ap (λ w. on_granted h w None no_result (map seen ms)) s.1.1
       ∙ ap (λ r. refiltered h old new r (map seen ms)) s.1.2
       ∙ try_new old new fs ms there
   item_heard revision (stopped d i) ms s there k =
-      reply_heard h d null (id_of d) no_result (map seen ms) (sym s.0)
-      ∙ ap (λ w. on_granted h w no_result (map seen ms)) s.1
+      reply_heard h d null (id_of d) no_result None (map seen ms) (sym s.0)
+      ∙ ap (λ w. on_granted h w None no_result (map seen ms)) s.1
       ∙ drop_seen i ms there
 
   new_kept : (new : Data) (fs : List (List ℕ × Filter)) (m : Monitor) → IsKept h m → IsKept h (with_new h new fs m)

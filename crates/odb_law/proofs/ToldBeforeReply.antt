@@ -13,7 +13,7 @@ use Rattle.odb_law.specs.Headline.{ReadsNamed}
 use Rattle.odb_law.specs.Law.{IsToldBefore}
 use Rattle.odb_service.specs.Run.{Sent, State, after, submitted}
 use Rattle.odb_service.specs.Service.{Service, ended}
-use Rattle.odb_service.specs.Session.{Item, Monitor, Out, Revision, Session, Watch, asked, asked_after, at_first, brought, gives, has_id, leaves, owed, owed_from, say, sync, to}
+use Rattle.odb_service.specs.Session.{Answers, Item, Monitor, Out, Revision, Session, Watch, asked, asked_after, at_first, brought, gives, has_id, leaves, owed, owed_from, say, sync, to, with_content}
 use Rattle.odb_wire.specs.Message.{id_of}
 use Rattle.odb_service.specs.World.{Waiting, World, asked_of, at_moment, handle, post_to, push, retry_all, revision_of}
 use Rattle.odb_monitor.proofs.Lists.{bytes_eq-itself}
@@ -22,6 +22,7 @@ use Rattle.odb_monitor.specs.Names.{AreDistinct, IsApart}
 use Rattle.odb_rpc.specs.Message.{reply}
 use Rattle.odb_tables.specs.Database.{Db}
 use Rattle.odb_service.proofs.WhatIsOwed.{all_owe_nothing}
+use Rattle.serde_json.specs.Data.{Data}
 
 module _ (h : Service) where
   abbrev pub left : Db → List Item → List Monitor → List Monitor
@@ -66,15 +67,16 @@ module _ (h : Service) where
   Told revision y o = (a : List Out) × (owed h revision y ≡ a ++ o ∷ [])
 
   -- after syncs of all monitors asked for, a reply is the last
-  last : (revision : Revision) (x : Session) (o : Out) → AreDistinct (texts h (asked h x)) → Told revision (push (syncs (asked h x) ++ say o.answers o.message ∷ []) x) o
-  last revision x o d =
+  last : (revision : Revision) (x : Session) (a : Answers) (m : Data) → AreDistinct (texts h (asked h x)) → Told revision (push (syncs (asked h x) ++ say a m ∷ []) x) (record { answers = a; message = m; held = None })
+  last revision x a m d =
+      let o : Out = record { answers = a; message = m; held = None } in
       let ms : List Monitor = left revision.db x.queue x.monitors in
       let same : map (λ m. m.watch) ms ≡ asked h x = left_asked revision.db x.queue x.monitors in
       let synced : left revision.db (syncs (asked h x)) ms ≡ map (as_now revision.db) ms =
       ap (λ ks. left revision.db (syncs ks) ms) (sym same) ∙ all_synced revision.db ms (subst (λ ks. AreDistinct (texts h ks)) (sym same) d) in (
         given revision x.queue x.monitors ++ given revision (syncs (asked h x)) ms,
-        owed_append revision x.queue (syncs (asked h x) ++ say o.answers o.message ∷ []) x.monitors
-            ∙ ap (λ os. given revision x.queue x.monitors ++ os) (owed_append revision (syncs (asked h x)) (say o.answers o.message ∷ []) ms
+        owed_append revision x.queue (syncs (asked h x) ++ say a m ∷ []) x.monitors
+            ∙ ap (λ os. given revision x.queue x.monitors ++ os) (owed_append revision (syncs (asked h x)) (say a m ∷ []) ms
             ∙ ap (λ xs. given revision (syncs (asked h x)) ms ++ (o ∷ owed_from h revision [] xs)) synced
             ∙ ap (λ os. given revision (syncs (asked h x)) ms ++ (o ∷ os)) (all_owe_nothing h revision ms))
             ∙ sym (append_assoc (given revision x.queue x.monitors) (given revision (syncs (asked h x)) ms) (o ∷ [])),
@@ -95,17 +97,17 @@ module _ (h : Service) where
       let x : Session = n.1.0 in
       let w : World = at_moment h moment st.world in
       let p : Waiting = record { session = s; request = d; operations = operations; fresh = fresh; arrival = w.now; deadline = None; tried = w.commits } in
-      let o : Out = record { answers = to d; message = reply (id_of d) results } in
+      let o : Out = record { answers = to d; message = reply (id_of d) results; held = None } in
       let is : List Item = syncs (asked_of h (get w.sessions s)) ++ say (to d) (reply (id_of d) results) ∷ [] in
       let world : now.world ≡ behind h p (ended results (Some db)) w =
       ap (λ (m : State). m.world) (sym n.2) ∙ ap (λ (q : World × List Sent). q.0) (sym n.1.2) ∙ ap (λ c. handle h s d fresh c w) call
       ∙ ap (λ out. retry_all h (behind h p out w)) outcome ∙ all_stays h (behind h p (ended results (Some db)) w) (none_left h p (ended results (Some db)) w none) in
-      let here : get (behind h p (ended results (Some db)) w).sessions s ≡ Some (push is x) = posted (record w { db = db; commits = w.commits + 1 }) s x is n.1.1.0 in
+      let here : get (behind h p (ended results (Some db)) w).sessions s ≡ Some (push is x) = posted (record w { db = db; commits = w.commits + 1; earlier = with_content w.db w.earlier }) s x is n.1.1.0 in
       let same : push is x ≡ y = some_is (push is x) y (sym here ∙ ap (λ (v : World). get v.sessions s) (sym world) ∙ found) in
       let all : asked_of h (get w.sessions s) ≡ asked h x = ap (asked_of h) n.1.1.0 in
-      let revision : Revision = record { db = db } in
-      let own : revision_of (behind h p (ended results (Some db)) w) ≡ revision = post_revision s is (get w.sessions s) (record w { db = db; commits = w.commits + 1 }) in
+      let revision : Revision = record { db = db; commits = w.commits + 1; earlier = with_content w.db w.earlier } in
+      let own : revision_of (behind h p (ended results (Some db)) w) ≡ revision = post_revision s is (get w.sessions s) (record w { db = db; commits = w.commits + 1; earlier = with_content w.db w.earlier }) in
       subst (λ (v : World). Told (revision_of v) y o) (sym world)
       (subst (λ (u : Revision). Told u y o) (sym own)
       (subst (λ (z : Session). Told revision z o) same
-      (subst (λ ks. Told revision (push (syncs ks ++ say (to d) (reply (id_of d) results) ∷ []) x) o) (sym all) (last revision x o (asked_distinct h x ((reached_good h named st reached).0 s x n.1.1.0).0)))))
+      (subst (λ ks. Told revision (push (syncs ks ++ say (to d) (reply (id_of d) results) ∷ []) x) o) (sym all) (last revision x (to d) (reply (id_of d) results) (asked_distinct h x ((reached_good h named st reached).0 s x n.1.1.0).0)))))

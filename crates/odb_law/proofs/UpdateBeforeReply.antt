@@ -8,33 +8,36 @@ use Rattle.odb_service.proofs.WhatIsOwed.{change_to, message_of}
 use Rattle.odb_law.proofs.WorldInvariant.{StandsAfter}
 use Rattle.odb_law.specs.Headline.{WasLast, updated}
 use Rattle.odb_service.specs.Service.{Service}
-use Rattle.odb_service.specs.Session.{Item, Monitor, Out, Revision, Session, gives, has_id, leaves, method_of, refilter, renamed, say, shapes, shift, start, stop_at, stopped, sync, take_from, update_to}
+use Rattle.odb_service.specs.Session.{Item, Monitor, Out, Revision, Session, Watch, gives, has_id, leaves, notified, refilter, renamed, say, shapes, shift, start, stop_at, stopped, sync, take_from, update_to}
 use Rattle.odb_monitor.proofs.Views.{some_is}
 use Rattle.odb_monitor.specs.Update.{table_updates}
 use Rattle.odb_monitor.specs.View.{is_none}
 use Rattle.odb_request.specs.Request.{Notation, Request, update, update2}
-use Rattle.odb_rpc.specs.Message.{notification}
-use Rattle.odb_tables.specs.Database.{Db}
+use Rattle.odb_atoms.specs.Uuid.{Uuid}
 
 module _ (h : Service) where
-  pub update_about : (n : Notation) (i d : Data) → updated (notification (method_of h n) (i ∷ d ∷ [])) ≡ Some i
-  update_about update i d = refl
-  update_about update2 i d = refl
+  pub update_about : (revision : Revision) (k : Watch) (d : Data) → updated (notified h revision k d) ≡ Some k.id
+  update_about revision k d = by k.notation k.since
+    where
+      by : (n : Notation) (o : Option Uuid) → updated (notified h revision (record k { notation = n; since = o }) d) ≡ Some k.id
+      by update None = refl
+      by update2 None = refl
+      by n (Some v) = refl
 
   -- an update of the monitor of an id
   abbrev pub IsUpdateOf : Data → Out → Type 0
   IsUpdateOf i o = (j : Data) × (updated o.message ≡ Some j) × (bytes_eq (h.printed i) (h.printed j) ≡ true)
 
-  one_update : (db : Db) (qs : List Request) (i : Data) (m : Monitor) (o : Out) → has_id h i m ≡ true → (b : Bool) → cond b None (Some (message_of h db qs m)) ≡ Some o → IsUpdateOf i o
-  one_update db qs i m o same true e = absurd (true≢false (sym (ap is_some e)))
-  one_update db qs i m o same false e =
-      subst (IsUpdateOf i) (some_is (message_of h db qs m) o e) (m.watch.id, update_about m.watch.notation m.watch.id (table_updates m.watch.notation false (shapes qs) (change_to h db qs m)), same)
+  one_update : (revision : Revision) (qs : List Request) (i : Data) (m : Monitor) (o : Out) → has_id h i m ≡ true → (b : Bool) → cond b None (Some (message_of h revision qs m)) ≡ Some o → IsUpdateOf i o
+  one_update revision qs i m o same true e = absurd (true≢false (sym (ap is_some e)))
+  one_update revision qs i m o same false e =
+      subst (IsUpdateOf i) (some_is (message_of h revision qs m) o e) (m.watch.id, update_about revision m.watch (table_updates m.watch.notation false (shapes qs) (change_to h revision.db qs m)), same)
 
   found_update : (revision : Revision) (q : Monitor → List Request) (i : Data) (ms : List Monitor) (o : Out) → option_and_then (λ m. update_to h revision (q m) m) (find (has_id h i) ms) ≡ Some o → IsUpdateOf i o
   found_update revision q i [] o e = absurd (true≢false (sym (ap is_some e)))
   found_update revision q i (m ∷ ms) o e =
       elim (has_id h i m) as (λ b. has_id h i m ≡ b → option_and_then (λ m. update_to h revision (q m) m) (cond b (Some m) (find (has_id h i) ms)) ≡ Some o → IsUpdateOf i o) [
-        | true ↦ λ same e. one_update revision.db (q m) i m o same (is_none (change_to h revision.db (q m) m)) e
+        | true ↦ λ same e. one_update revision (q m) i m o same (is_none (change_to h revision.db (q m) m)) e
         | false ↦ λ _ e. found_update revision q i ms o e
       ] refl e
 

@@ -13,7 +13,7 @@ use Rattle.odb_law.specs.Headline.{IsReached}
 use Rattle.odb_law.specs.Law.{AllAreTried, AllHadToWait}
 use Rattle.odb_service.specs.Run.{Event, Sent, State, after, beginning, closed, once, opened, round, submitted, ticked}
 use Rattle.odb_service.specs.Service.{Outcome, Service, ended, waiting}
-use Rattle.odb_service.specs.Session.{no_result}
+use Rattle.odb_service.specs.Session.{no_result, with_content}
 use Rattle.odb_wire.specs.Message.{id_of}
 use Rattle.odb_service.specs.World.{Waiting, World, asked_of, at_moment, attempt, cancel_one, close, end_transaction, handle, is_due, is_of, is_untried, locked, on_outcome, retry, retry_all, split_first, tick, try_due, try_one, untried, watched, with_waiting}
 use Rattle.odb_locks.specs.Locks.{drop_session, lock, owns, steal, unlock}
@@ -66,7 +66,7 @@ module _ (h : Service) where
   ends : (s : ℕ) (d results : Data) (o : Option Db) (w : World) (ps : List Waiting) → AllSoFar w ps → AllSoFar (end_transaction h s d results o w) ps
   ends s d results None w ps k = subst (RestSoFar ps) (sym (answers h s d (reply (id_of d) results) w)) k
   ends s d results (Some db) w ps k =
-      subst (RestSoFar ps) (sym (posts h s _ (record w { db = db; commits = w.commits + 1 }))) (all_after_commit w.db db w.commits w.now (opens w) ps k)
+      subst (RestSoFar ps) (sym (posts h s _ (record w { db = db; commits = w.commits + 1; earlier = with_content w.db w.earlier }))) (all_after_commit w.db db w.commits w.now (opens w) ps k)
 
   at_most : (n : ℕ) → n ≤ n
   at_most n = omega arith
@@ -147,7 +147,7 @@ module _ (h : Service) where
   handles s d fresh (message.transact id ops) w is_open k =
       let p : Waiting = record { session = s; request = d; operations = ops; fresh = fresh; arrival = w.now; deadline = None; tried = w.commits } in
       settles (with_waiting h (λ ps o. ps ++ option_to_list o) w.waiting (attempt h p w)) (parks p w is_open k.0)
-  handles s d fresh (message.monitor id n i requests) w is_open k = subst Settled (sym (monitors h s d n i requests w)) k
+  handles s d fresh (message.monitor id n i requests since) w is_open k = subst Settled (sym (monitors h s d n i since requests w)) k
   handles s d fresh (message.change_filters id old new filters) w is_open k = subst Settled (sym (changes h s d old new filters (watched h old (asked_of h (get w.sessions s))) w)) k
   handles s d fresh (message.cancel_monitor id i) w is_open k = subst Settled (sym (cancels h s d i (watched h i (asked_of h (get w.sessions s))) w)) k
   handles s d fresh (message.lock id name) w is_open k = subst Settled (sym (locks h s d (locked h) (lock w.locks s name) w)) k
@@ -189,8 +189,8 @@ module _ (h : Service) where
   step_settles (closed s) st r k is = subst (λ (p : World × List Sent). Settled (rest p.0)) is (closes s st.world k)
   step_settles (round ss) st r k is = subst (λ (p : World × List Sent). Settled (rest p.0)) is (subst Settled (sym (takes_each h (once ss) st.world)) k)
 
-  pub begins_settled : (tables : ℕ) → IsSettled (beginning tables)
-  begins_settled tables = (tt, refl)
+  pub begins_settled : (word most tables : ℕ) → IsSettled (beginning word most tables)
+  begins_settled word most tables = (tt, refl)
 
   reached_settled : (st : State) → IsReached h st → IsSettled st
   reached_settled st r = reached_has h IsSettled begins_settled step_settles st r

@@ -50,23 +50,23 @@ module _ (h : Service) where
   IsFound G None ms = Unit {0}
   IsFound G (Some o) ms = IsFoundFor G o ms
 
-  message_about : (db : Db) (qs : List Request) (m : Monitor) → about (message_of h db qs m) ≡ Some m.watch.id
-  message_about db qs m = update_about h m.watch.notation m.watch.id (table_updates m.watch.notation false (shapes qs) (change_to h db qs m))
+  message_about : (revision : Revision) (qs : List Request) (m : Monitor) → about (message_of h revision qs m) ≡ Some m.watch.id
+  message_about revision qs m = update_about h revision m.watch (table_updates m.watch.notation false (shapes qs) (change_to h revision.db qs m))
 
   is_here : (j : Data) (ms : List Monitor) (b : Monitor) → Some b.watch.id ≡ Some j → find (has_id h j) (b ∷ ms) ≡ Some b
   is_here j ms b e = ap (λ t. cond t (Some b) (find (has_id h j) ms)) (ap (λ k. bytes_eq (h.printed k) (h.printed b.watch.id)) (sym (some_is b.watch.id j e)) ∙ bytes_eq-itself (h.printed b.watch.id))
 
   -- an update under these requests, at the head
-  head_found : (G : Monitor → Type 0) (db : Db) (qs : List Request) (m : Monitor) (ms : List Monitor) → G (brought h db qs m) → (b : Bool) → IsFound G (cond b None (Some (message_of h db qs m))) (brought h db qs m ∷ ms)
-  head_found G db qs m ms g true = tt
-  head_found G db qs m ms g false = λ i e. (brought h db qs m, is_here i ms (brought h db qs m) (sym (message_about db qs m) ∙ e), g)
+  head_found : (G : Monitor → Type 0) (revision : Revision) (qs : List Request) (m : Monitor) (ms : List Monitor) → G (brought h revision.db qs m) → (b : Bool) → IsFound G (cond b None (Some (message_of h revision qs m))) (brought h revision.db qs m ∷ ms)
+  head_found G revision qs m ms g true = tt
+  head_found G revision qs m ms g false = λ i e. (brought h revision.db qs m, is_here i ms (brought h revision.db qs m) (sym (message_about revision qs m) ∙ e), g)
 
   one_found : (G : Monitor → Type 0) (revision : Revision) (qs : List Request) (m : Monitor) (ms : List Monitor) → G (brought h revision.db qs m) → IsFound G (update_to h revision qs m) (brought h revision.db qs m ∷ ms)
-  one_found G revision qs m ms g = head_found G revision.db qs m ms g (is_none (change_to h revision.db qs m))
+  one_found G revision qs m ms g = head_found G revision qs m ms g (is_none (change_to h revision.db qs m))
 
   away_id : (t : List ℕ) (o : Out) (i : Data) → IsAway h t (Some o) → about o ≡ Some i → bytes_eq (h.printed i) t ≡ false
   away_id t o i a e =
-      ap (λ k. bytes_eq (h.printed k) t) (some_is i a.1 (sym e ∙ ap about a.3 ∙ update_about h a.0 a.1 a.2)) ∙ a.4
+      ap (λ k. bytes_eq (h.printed k) t) (some_is i a.1.id (sym e ∙ ap about a.3 ∙ update_about h a.0 a.1 a.2)) ∙ a.4
 
   -- a message that is about another monitor than the first
   past_found : (G : Monitor → Type 0) (m : Monitor) (ms : List Monitor) (o : Option Out) → IsAway h (h.printed m.watch.id) o → IsFound G o ms → IsFound G o (m ∷ ms)

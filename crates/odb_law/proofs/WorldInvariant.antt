@@ -15,7 +15,7 @@ use Rattle.odb_service.proofs.Splits.{Split, split_parts}
 use Rattle.odb_law.specs.Client.{Picture, adds, answer_id, changes, client, client_step, drops}
 use Rattle.odb_law.specs.Headline.{ReadsNamed, WasLast, about}
 use Rattle.odb_service.specs.Service.{Outcome, Service, ended, waiting}
-use Rattle.odb_service.specs.Session.{Item, Out, Session, Watch, asked, asked_after, asks, at_first, changed, drop_first, no_request, no_result, renamed, same_id, say, shift, start, stopped, sync, to, told}
+use Rattle.odb_service.specs.Session.{Item, Out, Session, Watch, asked, asked_after, asks, at_first, changed, drop_first, no_request, no_result, renamed, same_id, say, shift, start, stopped, sync, to, told, with_content}
 use Rattle.odb_wire.specs.Message.{id_of}
 use Rattle.odb_service.specs.World.{Waiting, World, answer, are_monitored, asked_of, at_moment, attempt, cancel_one, change_of, close, end_transaction, fail, handle, is_conditional, is_due, is_of, is_untried, locked, notice_of, on_cancel_monitor, on_lock, on_monitor, on_outcome, post, post_notices, post_to, push, retry, retry_all, run_transaction, shift_with, split_first, start_with, succeed, tick, try_due, try_one, untried, watched, with_waiting}
 use Rattle.odb_locks.specs.Locks.{Answered, Notice, drop_session, lock, steal, unlock}
@@ -169,11 +169,11 @@ module _ (h : Service) where
   answer_keeps : (s : ℕ) (d m : Data) (w : World) → IsHarmless h d m → Keeps w (answer s d m w)
   answer_keeps s d m w harmless = say_keeps s (say (to d) m) w harmless tt tt (λ ks a. (a, tt, a))
 
-  notice_sound : (b : Bool) (name : List ℕ) (ps : List Picture) → client_step h ps (record { answers = no_request; message = notification (cond b (codes "stolen") (codes "locked")) (string name ∷ []) }) ≡ Some ps
+  notice_sound : (b : Bool) (name : List ℕ) (ps : List Picture) → client_step h ps (record { answers = no_request; message = notification (cond b (codes "stolen") (codes "locked")) (string name ∷ []); held = None }) ≡ Some ps
   notice_sound true name ps = refl
   notice_sound false name ps = refl
 
-  notice_about : (b : Bool) (name : List ℕ) → about (record { answers = no_request; message = notification (cond b (codes "stolen") (codes "locked")) (string name ∷ []) }) ≡ None
+  notice_about : (b : Bool) (name : List ℕ) → about (record { answers = no_request; message = notification (cond b (codes "stolen") (codes "locked")) (string name ∷ []); held = None }) ≡ None
   notice_about true name = refl
   notice_about false name = refl
 
@@ -212,7 +212,7 @@ module _ (h : Service) where
   end_keeps s d results None w plain = succeed_keeps s d results w plain
   end_keeps s d results (Some db) w plain =
       let all : List Watch = asked_of h (get w.sessions s) in
-      post_keeps s (syncs all (say (to d) (reply (id_of d) results))) (record w { db = db; commits = w.commits + 1 })
+      post_keeps s (syncs all (say (to d) (reply (id_of d) results))) (record w { db = db; commits = w.commits + 1; earlier = with_content w.db w.earlier })
       (λ x e k. (
         syncs_sound all d (reply (id_of d) results) (plain_reply h d results plain),
         syncs_stay (asked h x) all d (reply (id_of d) results) (asked_distinct x k),
@@ -283,18 +283,18 @@ module _ (h : Service) where
   start_stays : (ks : List Watch) (d : Data) (k : Watch) → AreDistinct (texts h ks) → is_some (watched h k.id ks) ≡ false → StayDistinct h (start d k ∷ []) ks
   start_stays ks d k a e = (a, tt, subst AreDistinct (sym (map-append (λ k. h.printed k.id) ks (k ∷ []))) (distinct_append (texts h ks) (h.printed k.id) a (is_free k.id ks e)))
 
-  start_keeps : ReadsNamed h → (s : ℕ) (d : Data) (n : Notation) (i requests : Data) → Asks h d (adds n i requests) → (r : Result (List Request) Error) → h.read_requests n requests ≡ r → (w : World) → is_some (watched h i (asked_of h (get w.sessions s))) ≡ false → Keeps w (start_with h s d n i r w)
-  start_keeps reads s d n i requests a (Err e) is w free = fail_keeps s d (failed e) w a.1
-  start_keeps reads s d n i requests a (Ok qs) is w free =
-      let k : Watch = record { id = i; notation = n; requests = qs } in
+  start_keeps : ReadsNamed h → (s : ℕ) (d : Data) (n : Notation) (i : Data) (since : Option Uuid) (requests : Data) → Asks h d (adds n since i requests) → (r : Result (List Request) Error) → h.read_requests n requests ≡ r → (w : World) → is_some (watched h i (asked_of h (get w.sessions s))) ≡ false → Keeps w (start_with h s d n i since r w)
+  start_keeps reads s d n i since requests a (Err e) is w free = fail_keeps s d (failed e) w a.1
+  start_keeps reads s d n i since requests a (Ok qs) is w free =
+      let k : Watch = record { id = i; notation = n; requests = qs; since = since } in
       post_keeps s (start d k ∷ []) w
       (λ x e well. (((reads.named n requests qs is, a.1, (requests, a.0, is)), tt), start_stays (asked h x) d k (asked_distinct x well) (ap (λ o. is_some (watched h i (asked_of h o))) (sym e) ∙ free), tt, tt))
 
-  monitor_keeps : ReadsNamed h → (s : ℕ) (d : Data) (n : Notation) (i requests : Data) (w : World) → Asks h d (adds n i requests) → Keeps w (on_monitor h s d n i requests w)
-  monitor_keeps reads s d n i requests w a =
-      elim (is_some (watched h i (asked_of h (get w.sessions s)))) as (λ b. is_some (watched h i (asked_of h (get w.sessions s))) ≡ b → Keeps w (cond b (fail s d (failed syntax_error) w) (start_with h s d n i (h.read_requests n requests) w))) [
+  monitor_keeps : ReadsNamed h → (s : ℕ) (d : Data) (n : Notation) (i : Data) (since : Option Uuid) (requests : Data) (w : World) → Asks h d (adds n since i requests) → Keeps w (on_monitor h s d n i since requests w)
+  monitor_keeps reads s d n i since requests w a =
+      elim (is_some (watched h i (asked_of h (get w.sessions s)))) as (λ b. is_some (watched h i (asked_of h (get w.sessions s))) ≡ b → Keeps w (cond b (fail s d (failed syntax_error) w) (start_with h s d n i since (h.read_requests n requests) w))) [
         | true ↦ λ _. fail_keeps s d (failed syntax_error) w a.1
-        | false ↦ λ free. start_keeps reads s d n i requests a (h.read_requests n requests) refl w free
+        | false ↦ λ free. start_keeps reads s d n i since requests a (h.read_requests n requests) refl w free
       ] refl
 
   texts-rename : (d old new : Data) (fs : List (List ℕ × Filter)) (ks : List Watch) → texts h (asks h (renamed d old new fs) ks) ≡ at_first (bytes_eq (h.printed old)) (λ t. h.printed new) (texts h ks)
@@ -358,7 +358,7 @@ module _ (h : Service) where
   pub handle_keeps : ReadsNamed h → (s : ℕ) (d : Data) (fresh : List Uuid) (c : Call) (b : Bool) → Reads h b d c → (w : World) → Keeps w (handle h s d fresh c w)
   handle_keeps reads s d fresh (message.answered m) true r w = answer_keeps s d m w r
   handle_keeps reads s d fresh (message.transact id ops) true r w = run_keeps (record { session = s; request = d; operations = ops; fresh = fresh; arrival = w.now; deadline = None; tried = w.commits }) w r
-  handle_keeps reads s d fresh (message.monitor id n i requests) true r w = monitor_keeps reads s d n i requests w r
+  handle_keeps reads s d fresh (message.monitor id n i requests since) true r w = monitor_keeps reads s d n i since requests w r
   handle_keeps reads s d fresh (message.change_filters id old new filters) true r w = change_keeps s d old new filters (watched h old (asked_of h (get w.sessions s))) w r refl
   handle_keeps reads s d fresh (message.cancel_monitor id i) true r w = stop_keeps s d i (watched h i (asked_of h (get w.sessions s))) w r refl
   handle_keeps reads s d fresh (message.lock id name) true r w = lock_keeps s d (locked h) (lock w.locks s name) w r
@@ -368,7 +368,7 @@ module _ (h : Service) where
   handle_keeps reads s d fresh message.passed_over true r w = absurd r
   handle_keeps reads s d fresh (message.answered m) false r w = absurd r
   handle_keeps reads s d fresh (message.transact id ops) false r w = absurd r
-  handle_keeps reads s d fresh (message.monitor id n i requests) false r w = absurd r
+  handle_keeps reads s d fresh (message.monitor id n i requests since) false r w = absurd r
   handle_keeps reads s d fresh (message.change_filters id old new filters) false r w = absurd r
   handle_keeps reads s d fresh (message.cancel_monitor id i) false r w = absurd r
   handle_keeps reads s d fresh (message.lock id name) false r w = absurd r

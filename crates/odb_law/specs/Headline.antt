@@ -1,5 +1,5 @@
 -- The headline: what a client folds from the messages that it is given is what its monitors select.
--- Of the view of a monitor with a kind of change switched off nothing is claimed.
+-- Of the view of a monitor with a kind of change switched off nothing is claimed. A client that named a commit which was found is taken to have held what its monitor selected after that commit.
 use Rattle.std.specs.Prelude.{◌≡◌, ◌||◌, ◌==◌, ◌⊎◌, Bool, true, false, if◌then◌else◌, bytes_eq, codes, ℕ, List, [], ◌∷◌, ◌++◌, map, find, Option, Some, None, is_some, IsTrue, option_map, option_and_then, Ok}
 use Rattle.std.specs.List.{list_any}
 use Rattle.serde_json.specs.Data.{Data}
@@ -33,14 +33,14 @@ first_of (d ∷ ds) = Some d
 
 -- the monitor of a notification of table updates
 abbrev pub updated : Data → Option Data
-updated m = if bytes_eq (method_in m) (codes "update") || bytes_eq (method_in m) (codes "update2") then first_of (params_of m) else None
+updated m = if bytes_eq (method_in m) (codes "update") || (bytes_eq (method_in m) (codes "update2") || bytes_eq (method_in m) (codes "update3")) then first_of (params_of m) else None
 
 -- a reply without error
 abbrev pub is_granted : Data → Bool
 is_granted m = is_null (at_key (codes "error") m)
 
 abbrev pub begun_by : Wish → Option Data
-begun_by (adds n i requests) = Some i
+begun_by (adds n since i requests) = Some i
 begun_by (changes old new filters) = None
 begun_by (drops i) = None
 begun_by nothing_else = None
@@ -64,7 +64,7 @@ HasTurn s (closed t) = ⊥
 module _ (h : Service) where
   -- some run ends here
   abbrev pub IsReached : State → Type 0
-  IsReached st = (tables : ℕ) × (events : List Event) × (run h events (beginning tables) ≡ Ok st)
+  IsReached st = (word : ℕ) × (most : ℕ) × (tables : ℕ) × (events : List Event) × (run h events (beginning word most tables) ≡ Ok st)
 
   -- at every open session, after every run
   abbrev pub HoldsAlways : (State → ℕ → Session → Type 0) → Type 0
@@ -89,7 +89,7 @@ module _ (h : Service) where
   -- The monitors that it then has, with their notations and filters, are those that the server counts as asked for.
   abbrev pub IsKnown : State → ℕ → Session → Type 0
   IsKnown st s x =
-      option_map (map {B = Watch} (λ p. record { id = p.id; notation = p.notation; requests = p.requests })) (client h (st.given s ++ owed h (revision_of st.world) x)) ≡ Some (asked h x)
+      option_map (map {B = Watch} (λ p. record { id = p.id; notation = p.notation; requests = p.requests; since = p.since })) (client h (st.given s ++ owed h (revision_of st.world) x)) ≡ Some (asked h x)
 
   -- No message is refused: each is non-empty and names only rows and columns that differ.
   abbrev pub IsMinimal : State → ℕ → Session → Type 0

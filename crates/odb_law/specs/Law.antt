@@ -1,14 +1,14 @@
 -- What is said of the service beside the headline: refusals, rounds, what is owed, answers, and waiting.
-use Rattle.std.specs.Prelude.{◌≡◌, ◌≤◌, ◌+◌, ◌==◌, ◌&&◌, ◌||◌, Bool, true, false, not, nat_lt, if◌then◌else◌, ℕ, List, [], ◌∷◌, ◌++◌, map, length, replicate, count_by, Option, Some, None, is_some, IsTrue, option_to_list, Ok, Err}
+use Rattle.std.specs.Prelude.{◌≡◌, ◌≤◌, ◌<◌, ◌+◌, ◌-◌, ◌^◌, ◌==◌, ◌&&◌, ◌||◌, Bool, true, false, not, nat_lt, if◌then◌else◌, ℕ, List, [], ◌∷◌, ◌++◌, map, length, replicate, count_by, Option, Some, None, is_some, IsTrue, option_to_list, Ok, Err}
 use Rattle.std.specs.Result.{result_err}
 use Rattle.serde_json.specs.Data.{Data}
 use Rattle.odb_rpc.specs.Message as message
 use Rattle.odb_atoms.specs.FinMap.{get, insert, len}
 use Rattle.odb_law.specs.Headline.{IsReached}
-use Rattle.odb_service.specs.Run.{Event, Refusal, State, busy, closed, gone, in_use, max_owed, max_sessions, next, once, opened, opens, round, run, submitted, ticked, too_many}
+use Rattle.odb_service.specs.Run.{Event, Refusal, State, beginning, busy, closed, gone, in_use, max_owed, max_sessions, next, once, opened, opens, round, run, submitted, ticked, too_many}
 use Rattle.odb_wire.specs.Message.{is_request}
 use Rattle.odb_service.specs.Service.{Outcome, Service, ended, waiting}
-use Rattle.odb_service.specs.Session.{Answers, Out, Session, Watch, asked, at_first, changed, drop_first, no_request, owed, same_id, take, to}
+use Rattle.odb_service.specs.Session.{Answers, Out, Revision, Session, Watch, asked, at_first, changed, content_after, drop_first, newest_number, no_request, owed, same_id, take, to, with_content}
 use Rattle.odb_wire.specs.Message.{id_of}
 use Rattle.odb_service.specs.World.{Waiting, World, are_monitored, at_moment, is_conditional, owed_replies, revision_of, untried, watched}
 use Rattle.odb_locks.specs.Locks.{owns}
@@ -71,9 +71,9 @@ module _ (h : Service) where
 
   -- What a request makes of the monitors that its session asked for: one more, if its id is new and its requests can be read; new filters and a new id of one, if it is conditional and monitors the tables named, and the new id is its own or new; one fewer.
   abbrev pub asked_then : Call → List Watch → List Watch
-  asked_then (message.monitor id n i requests) ks =
+  asked_then (message.monitor id n i requests since) ks =
       if is_some (watched h i ks) then ks
-      else elim (h.read_requests n requests) [ Err e ↦ ks | Ok qs ↦ ks ++ record { id = i; notation = n; requests = qs } ∷ [] ]
+      else elim (h.read_requests n requests) [ Err e ↦ ks | Ok qs ↦ ks ++ record { id = i; notation = n; requests = qs; since = since } ∷ [] ]
   asked_then (message.change_filters id old new filters) ks = elim (watched h old ks) [
     | None ↦ ks
     | Some k ↦ elim (h.read_filters filters) [
@@ -96,24 +96,24 @@ module _ (h : Service) where
 
   -- ---- the database
 
-  -- the database and the number of commits, after a transaction
-  abbrev pub with_outcome : Outcome → Db × ℕ → Db × ℕ
-  with_outcome (ended results None) p = p
-  with_outcome (ended results (Some db)) p = (db, p.1 + 1)
-  with_outcome (waiting deadline) p = p
+  -- the database, the number of commits, and what can be found of earlier contents, after a transaction
+  abbrev pub with_outcome : Outcome → Revision → Revision
+  with_outcome (ended results None) r = r
+  with_outcome (ended results (Some db)) r = record { db = db; commits = r.commits + 1; earlier = with_content r.db r.earlier }
+  with_outcome (waiting deadline) r = r
 
-  abbrev pub run_at_once : ℕ → List Uuid → Call → World → Db × ℕ
+  abbrev pub run_at_once : ℕ → List Uuid → Call → World → Revision
   run_at_once s fresh (message.transact id operations) w =
-      with_outcome (h.transact w.db (w.commits + 1) operations (record { fresh = fresh; arrival = w.now; now = w.now; owns = owns w.locks s })) (w.db, w.commits)
-  run_at_once s fresh _ w = (w.db, w.commits)
+      with_outcome (h.transact w.db (w.commits + 1) operations (record { fresh = fresh; arrival = w.now; now = w.now; owns = owns w.locks s })) (revision_of w)
+  run_at_once s fresh _ w = revision_of w
 
-  abbrev pub committed_by : Event → World → Db × ℕ
+  abbrev pub committed_by : Event → World → Revision
   committed_by (submitted s d fresh now) w = run_at_once s fresh (call_of h.db_name h.schema h.serves d) (at_moment h now w)
-  committed_by _ w = (w.db, w.commits)
+  committed_by _ w = revision_of w
 
   -- Where no transaction waits, one that is submitted is run at once, and nothing else changes the database.
   abbrev pub IsCommitted : Type 0
-  IsCommitted = (st now : State) (e : Event) → next h e st ≡ Ok now → st.world.waiting ≡ [] → (now.world.db, now.world.commits) ≡ committed_by e st.world
+  IsCommitted = (st now : State) (e : Event) → next h e st ≡ Ok now → st.world.waiting ≡ [] → revision_of now.world ≡ committed_by e st.world
 
   -- Where no transaction waits, the reply to one that changed the database has its results, and is the last that its session is then owed: what the transaction changed is told before.
   abbrev pub IsToldBefore : Type 0
@@ -121,7 +121,13 @@ module _ (h : Service) where
       (st now : State) → IsReached h st → (s : ℕ) (d : Data) (fresh : List Uuid) (moment : ℕ) → next h (submitted s d fresh moment) st ≡ Ok now → st.world.waiting ≡ []
       → (id : Data) (operations : List Data) → call_of h.db_name h.schema h.serves d ≡ message.transact id operations
       → (results : Data) (db : Db) → (let w = at_moment h moment st.world in h.transact w.db (w.commits + 1) operations (record { fresh = fresh; arrival = w.now; now = w.now; owns = owns w.locks s }) ≡ ended results (Some db))
-      → (y : Session) → get now.world.sessions s ≡ Some y → (a : List Out) × (owed h (revision_of now.world) y ≡ a ++ record { answers = to d; message = reply (id_of d) results } ∷ [])
+      → (y : Session) → get now.world.sessions s ≡ Some y → (a : List Out) × (owed h (revision_of now.world) y ≡ a ++ record { answers = to d; message = reply (id_of d) results; held = None } ∷ [])
+
+  -- What is found for a commit is the database as it was after it, as long as it is one of the last: `most` is how many contents can be found.
+  abbrev pub IsFoundAgain : Type 0
+  IsFoundAgain =
+      (word most tables : ℕ) (first later : List Event) (old now : State) → run h first (beginning word most tables) ≡ Ok old → run h later old ≡ Ok now → word < 2 ^ 64 → now.world.commits < 2 ^ 64
+      → 1 ≤ old.world.commits → now.world.commits - old.world.commits < most → content_after (revision_of now.world) (newest_number (revision_of old.world)) ≡ Some old.world.db
 
   -- ---- answers
 

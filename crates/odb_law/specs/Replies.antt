@@ -31,7 +31,7 @@ answered_in (o ∷ os) = with_request o.answers (answered_in os)
 abbrev pub is_replied_at_once : Call → Bool
 is_replied_at_once (message.answered text) = true
 is_replied_at_once (message.transact id operations) = false
-is_replied_at_once (message.monitor id n i requests) = true
+is_replied_at_once (message.monitor id n i requests since) = true
 is_replied_at_once (message.change_filters id old new filters) = true
 is_replied_at_once (message.cancel_monitor id i) = true
 is_replied_at_once (message.lock id name) = true

@@ -42,13 +42,13 @@ abbrev pub texts_since : List Taken → ℕ → List Text
 texts_since [] s = []
 texts_since (t ∷ ts) s = if opens t.event s then [] else texts_since ts s ++ texts_to s t.sent
 
--- a server of the schema with empty tables and no session
-abbrev pub first_server : Schema → Server
-first_server schema = record { schema = schema; world = (beginning (length schema.tables)).world; opened = 0 }
+-- a server of the schema with empty tables and no session, in a run with this word, of which so many contents can be found
+abbrev pub first_server : Schema → (word most : ℕ) → Server
+first_server schema word most = record { schema = schema; world = (beginning word most (length schema.tables)).world; opened = 0 }
 
-module _ (schema : Schema) where
+module _ (schema : Schema) (word most : ℕ) where
   abbrev pub server_after : List Taken → Server
-  server_after [] = first_server schema
+  server_after [] = first_server schema word most
   server_after (t ∷ ts) = t.server
 
   -- each event was served by the server as it was then
@@ -58,7 +58,7 @@ module _ (schema : Schema) where
 
   -- the machine's run over the same events: it ends as the server did, and what each session was sent are the texts of the messages that it was given
   pub record IsRunOf (ts : List Taken) (st : State) : Type 0 where
-    pub is_run : run (served_by schema) (events ts) (beginning (length schema.tables)) ≡ Ok st
+    pub is_run : run (served_by schema) (events ts) (beginning word most (length schema.tables)) ≡ Ok st
     pub world : st.world ≡ (server_after ts).world
     pub texts : (s : ℕ) → map text_of (st.given s) ≡ texts_since ts s
 

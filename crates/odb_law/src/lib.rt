@@ -7,7 +7,7 @@ ghost use Rattle.odb_monitor.specs.Law.{NoOtherLeads};
 ghost use Rattle.odb_schema.specs.Schema.{Schema};
 ghost use Rattle.odb_law.specs.Headline.{BringsWhole, HoldsAlways, IsBroughtToNow, IsChangedWhole, IsDroppedWhole, IsKnown, IsMinimal};
 ghost use Rattle.odb_law.specs.Kinds.{SendsKinds};
-ghost use Rattle.odb_law.specs.Law.{AllAreTried, IsAnsweredOnce, IsCommitted, IsCounted, IsGranted, IsToldBefore, OwedIsTaken, RoundsTake, TakesEvents};
+ghost use Rattle.odb_law.specs.Law.{AllAreTried, IsAnsweredOnce, IsCommitted, IsCounted, IsFoundAgain, IsGranted, IsToldBefore, OwedIsTaken, RoundsTake, TakesEvents};
 ghost use Rattle.odb_law.specs.Replies.{KeepsOrder, RepliesAtOnce};
 ghost use Rattle.odb_law.specs.Sent.{HoldsOfTexts, IsRun, RepliesAreWhole, TextsBringWhole};
 ghost use Rattle.odb_service.specs.Server.{served_by};
@@ -45,6 +45,8 @@ pub fn law()
     ensures granted { (serves : List ℕ → Bool) (s : Schema) → IsGranted (service_of serves s) }
     // Where no transaction waits, one that is submitted is run at once, and nothing else changes the database.
     ensures committed { (serves : List ℕ → Bool) (s : Schema) → IsCommitted (service_of serves s) }
+    // What is found for a commit is the database as it was after it.
+    ensures found_again { (serves : List ℕ → Bool) (s : Schema) → IsFoundAgain (service_of serves s) }
     // What a transaction changed is told before its reply, which has its results.
     ensures told_before { (serves : List ℕ → Bool) (s : Schema) → IsToldBefore (service_of serves s) }
     // Each request is answered once, is owed its answer, or waits.
@@ -55,24 +57,24 @@ pub fn law()
     ensures tried { (serves : List ℕ → Bool) (s : Schema) → AllAreTried (service_of serves s) }
 {}
 
-/// The monitor law of what a server sent: for every schema, whatever events a new server of it took, and the texts that it sent by them. A call of a server says of itself that it is such a step. The call does nothing.
+/// The monitor law of what a server sent: for every schema, every word of the run and number of contents to be found, whatever events a new server of it took, and the texts that it sent by them. A call of a server says of itself that it is such a step. The call does nothing.
 pub fn law_of_texts()
     // What was sent are the texts of the messages that the machine gives by the same events, and the server ends as the machine does.
-    ensures is_run { (s : Schema) → IsRun s }
+    ensures is_run { (s : Schema) (word most : ℕ) → IsRun s word most }
     // A client that takes these, and then what it is still owed, has just what its newest filters select from the server's database.
-    ensures brought_to_now { (s : Schema) → HoldsOfTexts s (IsBroughtToNow (served_by s)) }
+    ensures brought_to_now { (s : Schema) (word most : ℕ) → HoldsOfTexts s word most (IsBroughtToNow (served_by s)) }
     // The monitors that it then has are those that it asked for.
-    ensures known { (s : Schema) → HoldsOfTexts s (IsKnown (served_by s)) }
+    ensures known { (s : Schema) (word most : ℕ) → HoldsOfTexts s word most (IsKnown (served_by s)) }
     // A strict client refuses none of them: each is non-empty and names only what differs.
-    ensures minimal { (s : Schema) → HoldsOfTexts s (IsMinimal (served_by s)) }
+    ensures minimal { (s : Schema) (word most : ℕ) → HoldsOfTexts s word most (IsMinimal (served_by s)) }
     // A monitor goes when its client has what the filters select.
-    ensures dropped_whole { (s : Schema) → HoldsOfTexts s (IsDroppedWhole (served_by s)) }
+    ensures dropped_whole { (s : Schema) (word most : ℕ) → HoldsOfTexts s word most (IsDroppedWhole (served_by s)) }
     // New filters hold when its client has what they select.
-    ensures changed_whole { (s : Schema) → HoldsOfTexts s (IsChangedWhole (served_by s)) }
+    ensures changed_whole { (s : Schema) (word most : ℕ) → HoldsOfTexts s word most (IsChangedWhole (served_by s)) }
     // Each request is answered once, is owed its answer, or waits.
-    ensures answered_once { (s : Schema) → HoldsOfTexts s (IsAnsweredOnce (served_by s)) }
+    ensures answered_once { (s : Schema) (word most : ℕ) → HoldsOfTexts s word most (IsAnsweredOnce (served_by s)) }
     // Right after a request that never waits its reply is the last that is owed, and with a cancel or a change of filters the client then has what is selected.
-    ensures replies_at_once { (s : Schema) → RepliesAreWhole s }
+    ensures replies_at_once { (s : Schema) (word most : ℕ) → RepliesAreWhole s word most }
     // Texts come by rounds alone, one at most to a session, and each brings the monitor that it is about whole to its taking.
-    ensures bring_whole { (s : Schema) → TextsBringWhole s }
+    ensures bring_whole { (s : Schema) (word most : ℕ) → TextsBringWhole s word most }
 {}

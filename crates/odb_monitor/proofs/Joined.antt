@@ -6,7 +6,7 @@ use Rattle.json.specs.Token.{begin_object, end_object}
 use Rattle.json.specs.Tree.{members_tokens}
 use Rattle.serde_json.specs.Written.{compact_text, members_outline}
 use Rattle.serde_json.proofs.Texts.{print-outline}
-use Rattle.odb_monitor.specs.Job.{Job, reply_of, Part, requests_of, shown_of, updates_of}
+use Rattle.odb_monitor.specs.Job.{Job, Part, requests_of, shown_of, updates_of}
 use Rattle.odb_monitor.specs.Represented.Part.{changes_shown, is_silent, part_tokens}
 use Rattle.odb_monitor.specs.Represented.Tokens.{tokens_of}
 use Rattle.odb_monitor.specs.Update.{members, table_parts, table_update, table_updates}
@@ -47,20 +47,17 @@ job_shown j = ap (λ D. not (is_none D)) (shown_parts j.first j.parts) ∙ some_
 pub job_text : (j : Job) → print (begin_object ∷ (flat_map (part_tokens j.notation j.first) j.parts ++ end_object ∷ [])) ≡ compact_text (table_updates j.notation j.first (shapes (requests_of j)) (shown_of j))
 job_text j = ap print (sym (updates_tokens j.notation j.first j.parts)) ∙ print-outline (table_updates j.notation j.first (shapes (requests_of j)) (shown_of j))
 
-pub reply_text : (j : Job) (text : List ℕ) → text ≡ print (begin_object ∷ (flat_map (part_tokens j.notation j.first) j.parts ++ end_object ∷ [])) → text ≡ compact_text (reply_of j)
-reply_text j text printed = printed ∙ job_text j
+pub none_sent : (j : Job) (found : Bool) → found ≡ list_any (λ p. not (is_silent j.first p)) j.parts → (j.reply || found) ≡ false → None ≡ option_map compact_text (updates_of j)
+none_sent j found is stays = ap (λ b. option_map compact_text (if b then Some (table_updates j.notation j.first (shapes (requests_of j)) (shown_of j)) else None)) (sym stays ∙ ap (λ b. j.reply || b) (is ∙ sym (job_shown j)))
 
-pub none_sent : (j : Job) (found : Bool) → found ≡ list_any (λ p. not (is_silent j.first p)) j.parts → (j.first || found) ≡ false → None ≡ option_map compact_text (updates_of j)
-none_sent j found is stays = ap (λ b. option_map compact_text (if b then Some (table_updates j.notation j.first (shapes (requests_of j)) (shown_of j)) else None)) (sym stays ∙ ap (λ b. j.first || b) (is ∙ sym (job_shown j)))
-
-pub some_sent : (j : Job) (found : Bool) (text : List ℕ) → found ≡ list_any (λ p. not (is_silent j.first p)) j.parts → (j.first || found) ≡ true
+pub some_sent : (j : Job) (found : Bool) (text : List ℕ) → found ≡ list_any (λ p. not (is_silent j.first p)) j.parts → (j.reply || found) ≡ true
     → text ≡ print (begin_object ∷ (flat_map (part_tokens j.notation j.first) j.parts ++ end_object ∷ [])) → Some text ≡ option_map compact_text (updates_of j)
 some_sent j found text is goes printed =
-    ap Some (printed ∙ job_text j) ∙ ap (λ b. option_map compact_text (if b then Some (table_updates j.notation j.first (shapes (requests_of j)) (shown_of j)) else None)) (sym goes ∙ ap (λ b. j.first || b) (is ∙ sym (job_shown j)))
+    ap Some (printed ∙ job_text j) ∙ ap (λ b. option_map compact_text (if b then Some (table_updates j.notation j.first (shapes (requests_of j)) (shown_of j)) else None)) (sym goes ∙ ap (λ b. j.reply || b) (is ∙ sym (job_shown j)))
 
 -- where something is sent
-pub is_sent : (j : Job) (found : Bool) → found ≡ list_any (λ p. not (is_silent j.first p)) j.parts → (j.first || found) ≡ is_some (updates_of j)
-is_sent j found is = ap (λ b. j.first || b) (is ∙ sym (job_shown j)) ∙ by (j.first || not (is_none (shown_of j)))
+pub is_sent : (j : Job) (found : Bool) → found ≡ list_any (λ p. not (is_silent j.first p)) j.parts → (j.reply || found) ≡ is_some (updates_of j)
+is_sent j found is = ap (λ b. j.reply || b) (is ∙ sym (job_shown j)) ∙ by (j.reply || not (is_none (shown_of j)))
   where
     by : (b : Bool) → b ≡ is_some (if b then Some (table_updates j.notation j.first (shapes (requests_of j)) (shown_of j)) else None)
     by true = refl

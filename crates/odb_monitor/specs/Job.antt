@@ -11,9 +11,11 @@ pub record Part : Type 0 where
   pub told : Contents
   pub asked : Contents
 
+-- in which notation, whether its rows come first, and whether it is a reply, which is sent whatever is left of it
 pub record Job : Type 0 where
   pub notation : Notation
   pub first : Bool
+  pub reply : Bool
   pub parts : List Part
 
 abbrev pub requests_of : Job → List Request
@@ -23,10 +25,6 @@ requests_of j = map (λ p. p.request) j.parts
 abbrev pub shown_of : Job → Delta
 shown_of j = shown j.first (requests_of j) (delta (map (λ p. p.told) j.parts) (map (λ p. p.asked) j.parts))
 
--- what is sent: nothing where nothing of the difference is left, but that a first reply always is
+-- what is sent: nothing where nothing of the difference is left, but that a reply always is
 abbrev pub updates_of : Job → Option Data
-updates_of j = if j.first || not (is_none (shown_of j)) then Some (table_updates j.notation j.first (shapes (requests_of j)) (shown_of j)) else None
-
--- what is sent as a reply that is due, whatever is left of the difference
-abbrev pub reply_of : Job → Data
-reply_of j = table_updates j.notation j.first (shapes (requests_of j)) (shown_of j)
+updates_of j = if j.reply || not (is_none (shown_of j)) then Some (table_updates j.notation j.first (shapes (requests_of j)) (shown_of j)) else None

@@ -1,10 +1,10 @@
 //! What is owed to the client of a monitor, composed (RFC 7047, sections 4.1.5 and 4.1.6;
 //! ovsdb-server(7), 4.1.12 to 4.1.14). [P 9.3]
-ghost use Rattle.std.specs.Prelude.{◌≡◌, ◌++◌, ◌∷◌, [], IfOk, OnOk, flat_map, is_some, not, option_map};
+ghost use Rattle.std.specs.Prelude.{◌≡◌, ◌++◌, ◌∷◌, [], IfOk, OnOk, false, flat_map, is_some, not, option_map, true};
 ghost use Rattle.std.specs.List.{list_any};
 ghost use Rattle.json.specs.Token.{begin_object, end_object};
 ghost use Rattle.serde_json.specs.Written.{compact_text};
-ghost use Rattle.odb_monitor.specs.Job.{reply_of, updates_of};
+ghost use Rattle.odb_monitor.specs.Job.{updates_of};
 ghost use Rattle.odb_monitor.specs.Represented.Part.{is_silent, part_tokens};
 ghost use Rattle.odb_request.specs.Represented.Kind.{notation_of};
 
@@ -20,6 +20,7 @@ use std::marker::Model;
 pub struct Job<'a> {
     kind: Kind,
     first: bool,
+    reply: bool,
     parts: Vec<Part<'a>>,
 }
 
@@ -35,6 +36,7 @@ impl<'a> Model for Job<'a> {
     ghost view = { λ j. record {
       notation = notation_of j.kind;
       first = j.first;
+      reply = j.reply;
       parts = j.parts.items;
     } };
 }
@@ -42,20 +44,37 @@ impl<'a> Model for Job<'a> {
 impl<'a> Job<'a> {
     /// What is owed by these parts, in a first reply or later. O(1).
     pub fn new(kind: Kind, first: bool, parts: Vec<Part<'a>>) -> Job<'a>
-        ensures { result ≡ record { notation = notation_of kind; first = first; parts = parts.entry.items } }
+        ensures { result ≡ record { notation = notation_of kind; first = first; reply = first; parts = parts.entry.items } }
     {
-        Job { kind, first, parts }
+        Job {
+            kind,
+            first,
+            reply: first,
+            parts,
+        }
     }
 
-    /// Whether something is sent: some row is shown, or this is a first reply. It stops at the first row that
-    /// is shown.
+    /// Makes a reply of what is owed by these parts to a client that resumes (ovsdb-server(7), 4.1.15): it had rows
+    /// already. O(1).
+    pub fn resumed(kind: Kind, parts: Vec<Part<'a>>) -> Job<'a>
+        ensures { result ≡ record { notation = notation_of kind; first = false; reply = true; parts = parts.entry.items } }
+    {
+        Job {
+            kind,
+            first: false,
+            reply: true,
+            parts,
+        }
+    }
+
+    /// Whether something is sent: some row is shown, or this is a reply. It stops at the first row that is shown.
     ///
     /// O(the rows changed) where the filter stayed, and O(the table) where nothing was told yet or another filter
     /// was asked.
     pub fn has_updates(&self, alloc: Global) -> Result<bool, AllocError>
         ensures { IfOk result (λ has. has ≡ is_some (updates_of self.now)) }
     {
-        if self.first {
+        if self.reply {
             return Ok(true);
         }
         has_lines(alloc, self.first, &self.parts)
@@ -112,8 +131,8 @@ fn put_object(
 
 /// What is sent of the job, as compact JSON text (RFC 8259): the table updates (RFC 7047, section
 /// 4.1.6) of `monitor`, or those of `monitor_cond` (ovsdb-server(7), 4.1.14), without the kinds of
-/// change that are switched off; `None` where nothing of them is left, but that a first reply is
-/// always sent.
+/// change that are switched off; `None` where nothing of them is left, but that a reply is always
+/// sent.
 ///
 /// O(the bytes printed) and, of n rows to be compared, O(n log n): the rows changed where the filter stayed, and
 /// the rows of the table where nothing was told yet or another filter was asked.
@@ -122,19 +141,9 @@ pub fn compose(alloc: Global, job: &Job<'_>) -> Result<Option<Vec<u8>>, AllocErr
 {
     let mut out = Printer::new(alloc);
     let shown = put_object(alloc, job.kind, job.first, &job.parts, &mut out)?;
-    let is_sent = job.first || shown;
+    let is_sent = job.reply || shown;
     if !is_sent {
         return Ok(None);
     }
     Ok(Some(out.finish()))
-}
-
-/// Makes what is sent of a job whose reply is due whatever is left of it: the text that `compose` has, and `{}` where that
-/// has none. It costs as much.
-pub(crate) fn compose_reply(alloc: Global, job: &Job<'_>) -> Result<Vec<u8>, AllocError>
-    ensures { IfOk result (λ text. text.items ≡ compact_text (reply_of job.now)) }
-{
-    let mut out = Printer::new(alloc);
-    let _shown = put_object(alloc, job.kind, job.first, &job.parts, &mut out)?;
-    Ok(out.finish())
 }

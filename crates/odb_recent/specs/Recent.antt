@@ -1,4 +1,4 @@
--- The last commits, and which of them an identifier names.
+-- The last commits, and which of them an identifier names. [P 9.8]
 use Rattle.std.specs.Prelude.{ℕ, ◌+◌, ◌-◌, ◌*◌, ◌/◌, ◌%◌, ◌^◌, ◌==◌, ◌&&◌, nat_le, nat_lt, cond, take, List, [], ◌∷◌, Option, Some, None}
 use Rattle.odb_atoms.specs.Uuid.{Uuid, uuid_from}
 use Rattle.odb_recent.specs.Undo.{Undo, undo_of}

@@ -1,4 +1,4 @@
-//! The last commits.
+//! The last commits. [P 9.8]
 ghost use Rattle.std.specs.Prelude.{◌≡◌, ◌-◌, ◌<◌, ◌≤◌, ◌^◌, [], ◌∷◌, length, slice_get, take, unwrap_or, IfErr, IfOk, IfSome, OnOk};
 ghost use Rattle.std.specs.VecDeque.{deque_capacity};
 ghost use Rattle.odb_atoms.specs.FinMap as finite;

@@ -4,10 +4,11 @@ use Rattle.serde_json.specs.Data.{Data, null, boolean, number, string, array, ob
 use Rattle.serde_json.specs.Find.{as_array}
 use Rattle.odb_atoms.specs.Error.{syntax_error}
 use Rattle.odb_atoms.specs.Text.{is_id}
+use Rattle.odb_atoms.specs.Uuid.{Uuid}
 use Rattle.odb_schema.specs.Json.{array_of, items_list}
 use Rattle.odb_request.specs.Request.{Notation, update, update2}
 use Rattle.odb_wire.specs.Message.{id_of, is_notification, is_null, method_of, params_of, has_left_out}
-use Rattle.odb_rpc.specs.Message.{Call, answered, by_method, call_of, cancel, cancel_monitor, change_filters, failed, fault, has_reply, is_object, lock, monitor, of_cancel, of_change, of_db, of_lock, of_monitor, of_none, of_notification, of_one, of_request, of_transact, passed_over, reply, reply_id, steal, transact, unknown_database, unknown_method, unlock, with_params}
+use Rattle.odb_rpc.specs.Message.{Call, answered, by_method, call_of, cancel, cancel_monitor, change_filters, commit_of, failed, fault, has_reply, is_object, lock, monitor, of_cancel, of_change, of_db, of_lock, of_monitor, of_monitor_since, of_none, of_notification, of_one, of_request, of_transact, passed_over, reply, reply_id, steal, transact, unknown_database, unknown_method, unlock, with_params}
 
 abbrev Replies : Call → Type 0
 Replies c = has_reply c ≡ true
@@ -54,8 +55,20 @@ module _ (id : Data) where
     monitors n [] = refl
     monitors n (a ∷ []) = refl
     monitors n (a ∷ b ∷ []) = refl
-    monitors n (a ∷ b ∷ c ∷ []) = pick (is_object c) (of_db db id a (monitor id n b c)) (fault id (failed syntax_error)) (in_db (monitor id n b c) refl a) refl
+    monitors n (a ∷ b ∷ c ∷ []) = pick (is_object c) (of_db db id a (monitor id n b c None)) (fault id (failed syntax_error)) (in_db (monitor id n b c None) refl a) refl
     monitors n (a ∷ b ∷ c ∷ d ∷ ds) = refl
+
+    resuming : (o : Option Uuid) (a b c : Data) → Replies (elim o as (λ _. Call) [ None ↦ fault id (failed syntax_error) | Some v ↦ of_db db id a (monitor id update2 b c (Some v)) ])
+    resuming None a b c = refl
+    resuming (Some v) a b c = in_db (monitor id update2 b c (Some v)) refl a
+
+    resumes : (ds : List Data) → Replies (of_monitor_since db id ds)
+    resumes [] = refl
+    resumes (a ∷ []) = refl
+    resumes (a ∷ b ∷ []) = refl
+    resumes (a ∷ b ∷ c ∷ []) = refl
+    resumes (a ∷ b ∷ c ∷ d ∷ []) = pick (is_object c) (elim (commit_of d) as (λ _. Call) [ None ↦ fault id (failed syntax_error) | Some v ↦ of_db db id a (monitor id update2 b c (Some v)) ]) (fault id (failed syntax_error)) (resuming (commit_of d) a b c) refl
+    resumes (a ∷ b ∷ c ∷ d ∷ e ∷ ds) = refl
 
     transacts : (ds : List Data) → Replies (of_transact db id ds)
     transacts [] = refl
@@ -77,12 +90,13 @@ module _ (id : Data) where
       (either (bytes_eq m (codes "transact")) _ _ (transacts db)
       (either (bytes_eq m (codes "monitor")) _ _ (monitors db update)
       (either (bytes_eq m (codes "monitor_cond")) _ _ (monitors db update2)
+      (either (bytes_eq m (codes "monitor_cond_since")) _ _ (resumes db)
       (either (bytes_eq m (codes "monitor_cond_change")) _ _ changing
       (either (bytes_eq m (codes "monitor_cancel")) _ _ (with_one (cancel_monitor id) (λ _. refl))
       (either (bytes_eq m (codes "lock")) _ _ (with_one (of_lock id (lock id)) (locks (lock id) (λ _. refl)))
       (either (bytes_eq m (codes "steal")) _ _ (with_one (of_lock id (steal id)) (locks (steal id) (λ _. refl)))
       (either (bytes_eq m (codes "unlock")) _ _ (with_one (of_lock id (unlock id)) (locks (unlock id) (λ _. refl)))
-      (either (bytes_eq m (codes "echo")) (Some (λ params. answered (reply id (array_of params)))) None (λ _. refl) tt))))))))))
+      (either (bytes_eq m (codes "echo")) (Some (λ params. answered (reply id (array_of params)))) None (λ _. refl) tt)))))))))))
 
   params_read : (call : List Data → Call) → ((ds : List Data) → Replies (call ds)) → (params : Data) → Replies (with_params id call params)
   params_read call x null = refl

@@ -4,10 +4,11 @@ use Rattle.serde_json.specs.Data.{Data, null, boolean, number, string, array, ob
 use Rattle.serde_json.specs.Find.{as_array}
 use Rattle.odb_atoms.specs.Error.{syntax_error}
 use Rattle.odb_atoms.specs.Text.{is_id}
+use Rattle.odb_atoms.specs.Uuid.{Uuid}
 use Rattle.odb_schema.specs.Json.{array_of, items_list}
 use Rattle.odb_request.specs.Request.{Notation, update, update2}
 use Rattle.odb_wire.specs.Message.{id_of, is_null, method_of, params_of, has_left_out}
-use Rattle.odb_rpc.specs.Message.{Call, answered, by_method, call_of, cancel, cancel_monitor, change_filters, failed, fault, is_object, lock, monitor, of_cancel, of_change, of_db, of_lock, of_monitor, of_none, of_notification, of_one, of_request, of_transact, operations_of, passed_over, reply, reply_id, steal, transact, unknown_database, unknown_method, unlock, with_params}
+use Rattle.odb_rpc.specs.Message.{Call, answered, by_method, call_of, cancel, cancel_monitor, change_filters, commit_of, failed, fault, is_object, lock, monitor, of_cancel, of_change, of_db, of_lock, of_monitor, of_monitor_since, of_none, of_notification, of_one, of_request, of_transact, operations_of, passed_over, reply, reply_id, steal, transact, unknown_database, unknown_method, unlock, with_params}
 use Rattle.odb_rpc.proofs.LeftOut.{whole-at_key}
 
 -- the message has no left-out number, and its id is that of the call
@@ -17,7 +18,7 @@ IsWholeUnder d id = (has_left_out d ≡ false) × (id ≡ id_of d)
 -- a `transact` has the message's operations, too
 abbrev pub Asks : Data → Call → Type 0
 Asks d (transact id operations) = (operations ≡ operations_of d) × IsWholeUnder d id
-Asks d (monitor id n i requests) = IsWholeUnder d id
+Asks d (monitor id n i requests since) = IsWholeUnder d id
 Asks d (change_filters id old new filters) = IsWholeUnder d id
 Asks d (cancel_monitor id i) = IsWholeUnder d id
 Asks d (lock id name) = IsWholeUnder d id
@@ -68,8 +69,20 @@ module _ (d : Data) where
       monitors n [] = tt
       monitors n (a ∷ []) = tt
       monitors n (a ∷ b ∷ []) = tt
-      monitors n (a ∷ b ∷ c ∷ []) = pick (is_object c) (of_db db (id_of d) a (monitor (id_of d) n b c)) (fault (id_of d) (failed syntax_error)) (in_db (monitor (id_of d) n b c) (whole, refl) a) tt
+      monitors n (a ∷ b ∷ c ∷ []) = pick (is_object c) (of_db db (id_of d) a (monitor (id_of d) n b c None)) (fault (id_of d) (failed syntax_error)) (in_db (monitor (id_of d) n b c None) (whole, refl) a) tt
       monitors n (a ∷ b ∷ c ∷ e ∷ ds) = tt
+
+      resuming : (o : Option Uuid) (a b c : Data) → Asks d (elim o as (λ _. Call) [ None ↦ fault (id_of d) (failed syntax_error) | Some v ↦ of_db db (id_of d) a (monitor (id_of d) update2 b c (Some v)) ])
+      resuming None a b c = tt
+      resuming (Some v) a b c = in_db (monitor (id_of d) update2 b c (Some v)) (whole, refl) a
+
+      resumes : (ds : List Data) → Asks d (of_monitor_since db (id_of d) ds)
+      resumes [] = tt
+      resumes (a ∷ []) = tt
+      resumes (a ∷ b ∷ []) = tt
+      resumes (a ∷ b ∷ c ∷ []) = tt
+      resumes (a ∷ b ∷ c ∷ e ∷ []) = pick (is_object c) (elim (commit_of e) as (λ _. Call) [ None ↦ fault (id_of d) (failed syntax_error) | Some v ↦ of_db db (id_of d) a (monitor (id_of d) update2 b c (Some v)) ]) (fault (id_of d) (failed syntax_error)) (resuming (commit_of e) a b c) tt
+      resumes (a ∷ b ∷ c ∷ e ∷ f ∷ ds) = tt
 
       transacts : (ds : List Data) → drop 1 ds ≡ operations_of d → Asks d (of_transact db (id_of d) ds)
       transacts [] are = tt
@@ -92,12 +105,13 @@ module _ (d : Data) where
         (either (bytes_eq m (codes "transact")) _ _ (transacts db)
         (either (bytes_eq m (codes "monitor")) _ _ (λ ds _. monitors db update ds)
         (either (bytes_eq m (codes "monitor_cond")) _ _ (λ ds _. monitors db update2 ds)
+        (either (bytes_eq m (codes "monitor_cond_since")) _ _ (λ ds _. resumes db ds)
         (either (bytes_eq m (codes "monitor_cond_change")) _ _ (λ ds _. changing ds)
         (either (bytes_eq m (codes "monitor_cancel")) _ _ (λ ds _. with_one (cancel_monitor id) (λ _. (whole, refl)) ds)
         (either (bytes_eq m (codes "lock")) _ _ (λ ds _. with_one (of_lock id (lock id)) (locks (lock id) (λ _. (whole, refl))) ds)
         (either (bytes_eq m (codes "steal")) _ _ (λ ds _. with_one (of_lock id (steal id)) (locks (steal id) (λ _. (whole, refl))) ds)
         (either (bytes_eq m (codes "unlock")) _ _ (λ ds _. with_one (of_lock id (unlock id)) (locks (unlock id) (λ _. (whole, refl))) ds)
-        (either (bytes_eq m (codes "echo")) (Some (λ params. answered (reply id (array_of params)))) None (λ _ _. tt) tt))))))))))
+        (either (bytes_eq m (codes "echo")) (Some (λ params. answered (reply id (array_of params)))) None (λ _ _. tt) tt)))))))))))
 
     params_read : (call : List Data → Call) → AllAsk (Some call) → (o : Option Items) → o ≡ as_array (params_of d) → Asks d (elim o as (λ _. Call) [ None ↦ fault (id_of d) (failed syntax_error) | Some ds ↦ call (items_list ds) ])
     params_read call x None is = tt
@@ -147,8 +161,8 @@ module _ (db : List ℕ) (schema : Data) (serves : List ℕ → Bool) (d : Data)
   pub transact-asked : (id : Data) (operations : List Data) → call_of db schema serves d ≡ transact id operations → IsWholeUnder d id
   transact-asked id operations e = (subst (Asks d) e asked).1
 
-  pub monitor-asked : (id : Data) (n : Notation) (i requests : Data) → call_of db schema serves d ≡ monitor id n i requests → IsWholeUnder d id
-  monitor-asked id n i requests e = subst (Asks d) e asked
+  pub monitor-asked : (id : Data) (n : Notation) (i requests : Data) (since : Option Uuid) → call_of db schema serves d ≡ monitor id n i requests since → IsWholeUnder d id
+  monitor-asked id n i requests since e = subst (Asks d) e asked
 
   pub change-asked : (id old new filters : Data) → call_of db schema serves d ≡ change_filters id old new filters → IsWholeUnder d id
   change-asked id old new filters e = subst (Asks d) e asked

@@ -1,5 +1,5 @@
 -- What `monitor_cond_since` asks, and its texts, computed.
-use Rattle.std.specs.Prelude.{◌≡◌, true, [], ◌∷◌, codes, Ok, Err}
+use Rattle.std.specs.Prelude.{◌≡◌, true, [], ◌∷◌, codes, Some}
 use mathlib.Core.Path.{refl}
 use Rattle.json.specs.Print.{escape_byte}
 use Rattle.serde_json.specs.Written.{compact_text}
@@ -7,28 +7,29 @@ use Rattle.odb_atoms.proofs.Examples.{values_compute}
 use Rattle.odb_atoms.specs.Error.{syntax_error}
 use Rattle.odb_atoms.specs.Uuid.{uuid_from}
 use Rattle.odb_schema.specs.Json.{Data, no_members, null, object, string}
-use Rattle.odb_rpc.specs.Message.{failed, reply, unknown_database}
-use Rattle.odb_rpc.specs.Since.{of_since, since_result, update3}
+use Rattle.odb_request.specs.Request.{update2}
+use Rattle.odb_rpc.specs.Message.{failed, fault, monitor, of_monitor_since, reply, unknown_database}
+use Rattle.odb_rpc.specs.Since.{since_result, update3}
 
 none : Data
 none = object no_members
 
-a_commit_is_named : of_since (codes "net") (string (codes "net") ∷ null ∷ none ∷ string (codes "00000000-0000-0007-0000-000000000003") ∷ []) ≡ Ok (record { id = null; requests = none; last = uuid_from 129127208515966861315 })
+a_commit_is_named : of_monitor_since (codes "net") null (string (codes "net") ∷ null ∷ none ∷ string (codes "00000000-0000-0007-0000-000000000003") ∷ []) ≡ monitor null update2 null none (Some (uuid_from 129127208515966861315))
 unfolding values_compute none
 a_commit_is_named = refl
 
-a_shorter_text_is_none : of_since (codes "net") (string (codes "net") ∷ null ∷ none ∷ string (codes "3") ∷ []) ≡ Err (failed syntax_error)
+a_shorter_text_is_none : of_monitor_since (codes "net") null (string (codes "net") ∷ null ∷ none ∷ string (codes "3") ∷ []) ≡ fault null (failed syntax_error)
 unfolding values_compute none
 a_shorter_text_is_none = refl
 
-nothing_is_left_out : of_since (codes "net") (string (codes "net") ∷ null ∷ none ∷ []) ≡ Err (failed syntax_error)
+nothing_is_left_out : of_monitor_since (codes "net") null (string (codes "net") ∷ null ∷ none ∷ []) ≡ fault null (failed syntax_error)
 nothing_is_left_out = refl
 
-kinds_come_before_the_database : of_since (codes "net") (string (codes "other") ∷ null ∷ none ∷ null ∷ []) ≡ Err (failed syntax_error)
+kinds_come_before_the_database : of_monitor_since (codes "net") null (string (codes "other") ∷ null ∷ none ∷ null ∷ []) ≡ fault null (failed syntax_error)
 unfolding values_compute none
 kinds_come_before_the_database = refl
 
-of_another_database : of_since (codes "net") (string (codes "other") ∷ null ∷ none ∷ string (codes "00000000-0000-0000-0000-000000000000") ∷ []) ≡ Err unknown_database
+of_another_database : of_monitor_since (codes "net") null (string (codes "other") ∷ null ∷ none ∷ string (codes "00000000-0000-0000-0000-000000000000") ∷ []) ≡ fault null unknown_database
 unfolding values_compute none
 of_another_database = refl
 

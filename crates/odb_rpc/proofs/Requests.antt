@@ -9,12 +9,12 @@ use Rattle.odb_atoms.specs.Error.{syntax_error}
 use Rattle.odb_schema.specs.Json.{array_of, items_list, items_of}
 use Rattle.odb_request.specs.Request.{update, update2}
 use Rattle.odb_wire.specs.Message.{id_of, is_notification, is_null, method_of, params_of, has_left_out}
-use Rattle.odb_rpc.specs.Message.{Call, answered, reply, passed_over, of_cancel, by_method, call_of, cancel_monitor, failed, fault, of_change, of_db, of_lock, of_monitor, of_none, of_notification, of_one, of_request, of_transact, lock, steal, unlock, reply_id, unknown_method, with_params}
+use Rattle.odb_rpc.specs.Message.{Call, answered, reply, passed_over, of_cancel, by_method, call_of, cancel_monitor, failed, fault, of_change, of_db, of_lock, of_monitor, of_monitor_since, of_none, of_notification, of_one, of_request, of_transact, lock, steal, unlock, reply_id, unknown_method, with_params}
 use Rattle.odb_rpc.specs.Served.{served}
 use Rattle.odb_rpc.specs.Represented.Call.{name_of, called}
 use Rattle.odb_rpc.specs.declared.call.Call.TheVariants as call
 use Rattle.odb_rpc.specs.declared.call.Method.{Method}
-use Rattle.odb_rpc.specs.declared.call.Method.TheVariants.{ListDatabases, GetSchema, Transact, Monitor, MonitorCond, MonitorCondChange, MonitorCancel, Lock, Steal, Unlock, Echo}
+use Rattle.odb_rpc.specs.declared.call.Method.TheVariants.{ListDatabases, GetSchema, Transact, Monitor, MonitorCond, MonitorCondSince, MonitorCondChange, MonitorCancel, Lock, Steal, Unlock, Echo}
 use Rattle.odb_rpc.proofs.Answered.{call_of-method, is_null-method, requested}
 use Rattle.odb_rpc.proofs.Asked.{own_id}
 
@@ -67,6 +67,7 @@ by_name db schema id GetSchema = of_one id (λ name. of_db db id name (called db
 by_name db schema id Transact = of_transact db id
 by_name db schema id Monitor = of_monitor db id update
 by_name db schema id MonitorCond = of_monitor db id update2
+by_name db schema id MonitorCondSince = of_monitor_since db id
 by_name db schema id MonitorCondChange = of_change id
 by_name db schema id MonitorCancel = of_one id (cancel_monitor id)
 by_name db schema id Lock = of_one id (of_lock id (lock id))
@@ -85,6 +86,7 @@ module _ (db : List ℕ) (schema id : Data) where
   of_method Transact params = refl
   of_method Monitor params = refl
   of_method MonitorCond params = refl
+  of_method MonitorCondSince params = refl
   of_method MonitorCondChange params = refl
   of_method MonitorCancel params = refl
   of_method Lock params = refl

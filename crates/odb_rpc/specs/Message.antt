@@ -1,7 +1,8 @@
 -- Replies, notifications and calls of JSON-RPC 1.0 (RFC 7047, section 4). [P 7.3, 8.1, 8.2, 8.3]
-use Rattle.std.specs.Prelude.{ℕ, Bool, true, false, if◌then◌else◌, List, [], ◌∷◌, Option, Some, None, codes, bytes_eq, drop}
+use Rattle.std.specs.Prelude.{ℕ, Bool, true, false, if◌then◌else◌, List, [], ◌∷◌, Option, Some, None, option_and_then, codes, bytes_eq, drop}
 use Rattle.odb_atoms.specs.Error.{Error, error_name, syntax_error}
 use Rattle.odb_atoms.specs.Text.{is_id}
+use Rattle.odb_atoms.specs.Uuid.{Uuid, uuid_of_text}
 use Rattle.odb_schema.specs.Json.{Data, null, boolean, number, string, array, object, no_members, member, array_of, items_list, as_str, as_array}
 use Rattle.odb_request.specs.Request.{Notation, update, update2}
 use Rattle.odb_wire.specs.Message.{is_null, method_of, params_of, id_of, has_left_out}
@@ -41,11 +42,11 @@ notification method params = object (member (codes "id") null (member (codes "me
 
 -- ---- calls
 
--- what a request asks; the first argument is the id of its reply
+-- what a request asks; the first argument is the id of its reply. A monitor may name a commit, of which its client has the content
 pub data Call : Type 0 where
   answered : Data → Call
   transact : Data → List Data → Call
-  monitor : Data → Notation → Data → Data → Call
+  monitor : Data → Notation → Data → Data → (since : Option Uuid) → Call
   change_filters : Data → Data → Data → Data → Call
   cancel_monitor : Data → Data → Call
   lock : Data → List ℕ → Call
@@ -100,14 +101,26 @@ of_notification m params =
     then elim (as_array params) [ None ↦ passed_over | Some ds ↦ of_cancel (items_list ds) ]
     else passed_over
 
+-- the identifier of a commit: a text of 36 characters
+abbrev pub commit_of : Data → Option Uuid
+commit_of d = option_and_then uuid_of_text (as_str d)
+
 -- for the database of this name
 module _ (db : List ℕ) where
   abbrev pub of_db : Data → Data → Call → Call
   of_db id name call = elim (as_str name) [ None ↦ fault id (failed syntax_error) | Some s ↦ (if bytes_eq s db then call else fault id unknown_database) ]
 
   abbrev pub of_monitor : Data → Notation → List Data → Call
-  of_monitor id n (name ∷ i ∷ requests ∷ []) = if is_object requests then of_db id name (monitor id n i requests) else fault id (failed syntax_error)
+  of_monitor id n (name ∷ i ∷ requests ∷ []) = if is_object requests then of_db id name (monitor id n i requests None) else fault id (failed syntax_error)
   of_monitor id n _ = fault id (failed syntax_error)
+
+  -- `monitor_cond_since` [ovsdb-server(7), 4.1.15 Monitor_cond_since]
+  abbrev pub of_monitor_since : Data → List Data → Call
+  of_monitor_since id (name ∷ i ∷ requests ∷ last ∷ []) =
+      if is_object requests
+      then elim (commit_of last) [ None ↦ fault id (failed syntax_error) | Some v ↦ of_db id name (monitor id update2 i requests (Some v)) ]
+      else fault id (failed syntax_error)
+  of_monitor_since id _ = fault id (failed syntax_error)
 
   abbrev pub of_transact : Data → List Data → Call
   of_transact id [] = fault id (failed syntax_error)
@@ -122,13 +135,14 @@ module _ (db : List ℕ) (schema : Data) where
       else (if bytes_eq m (codes "transact") then Some (of_transact db id)
       else (if bytes_eq m (codes "monitor") then Some (of_monitor db id update)
       else (if bytes_eq m (codes "monitor_cond") then Some (of_monitor db id update2)
+      else (if bytes_eq m (codes "monitor_cond_since") then Some (of_monitor_since db id)
       else (if bytes_eq m (codes "monitor_cond_change") then Some (of_change id)
       else (if bytes_eq m (codes "monitor_cancel") then Some (of_one id (cancel_monitor id))
       else (if bytes_eq m (codes "lock") then Some (of_one id (of_lock id (lock id)))
       else (if bytes_eq m (codes "steal") then Some (of_one id (of_lock id (steal id)))
       else (if bytes_eq m (codes "unlock") then Some (of_one id (of_lock id (unlock id)))
       else (if bytes_eq m (codes "echo") then Some (λ params. answered (reply id (array_of params)))
-      else None))))))))))
+      else None)))))))))))
 
 -- and these methods are served
 module _ (db : List ℕ) (schema : Data) (serves : List ℕ → Bool) where

@@ -12,11 +12,11 @@ ghost use Rattle.odb_rpc.specs.Served.{served};
 ghost use Rattle.odb_rpc.specs.Represented.Call.{call_view, called, name_of, number_of};
 ghost use Rattle.odb_rpc.specs.Represented.Call.{of_name, outcome, unless};
 ghost use Rattle.odb_rpc.specs.Represented.Printable.{printable_data};
-ghost use Rattle.odb_rpc.specs.Represented.Since.{since_unless};
-ghost use Rattle.odb_rpc.specs.Since.{Since, since_in};
 
 use crate::error::Failure;
-use crate::monitor::{MonitorCall, read_monitor, read_monitor_cancel, read_monitor_change};
+use crate::monitor::{
+    MonitorCall, read_monitor, read_monitor_cancel, read_monitor_change, read_monitor_since,
+};
 use crate::printable::Printable;
 use odb_atoms::Error;
 use odb_request::Kind;
@@ -35,7 +35,7 @@ pub enum Call<'a> {
     Echo(Printable<'a>),
     /// `transact` on the database (RFC 7047, section 4.1.3): these are its operations.
     Transact(&'a [Value]),
-    /// One of the four methods of monitors.
+    /// One of the five methods of monitors.
     Monitor(MonitorCall<'a>),
     /// `lock` of this name (RFC 7047, section 4.1.8), which is an id (3.1).
     Lock(&'a str),
@@ -73,6 +73,7 @@ enum Method {
     Transact,
     Monitor,
     MonitorCond,
+    MonitorCondSince,
     MonitorCondChange,
     MonitorCancel,
     Lock,
@@ -184,6 +185,7 @@ impl Method {
             "transact" => Some(Method::Transact),
             "monitor" => Some(Method::Monitor),
             "monitor_cond" => Some(Method::MonitorCond),
+            "monitor_cond_since" => Some(Method::MonitorCondSince),
             "monitor_cond_change" => Some(Method::MonitorCondChange),
             "monitor_cancel" => Some(Method::MonitorCancel),
             "lock" => Some(Method::Lock),
@@ -208,6 +210,7 @@ impl Method {
             Method::Transact => transact(items.as_slice(), database),
             Method::Monitor => read_monitor(items.as_slice(), database, Kind::Monitor),
             Method::MonitorCond => read_monitor(items.as_slice(), database, Kind::MonitorCond),
+            Method::MonitorCondSince => read_monitor_since(items.as_slice(), database),
             Method::MonitorCondChange => read_monitor_change(items.as_slice()),
             Method::MonitorCancel => read_monitor_cancel(items.as_slice()),
             Method::Lock => lock(items.as_slice()),
@@ -313,9 +316,8 @@ fn id_in(name: &Value) -> Result<&str, CallFault>
 
 /// Whether the database is that of this name.
 pub(crate) fn check_database(name: &Value, database: &str) -> Result<(), CallFault>
-    ensures call { (id : Data) → (c : message.Call)
+    ensures { (id : Data) → (c : message.Call)
         → unless id c result ≡ of_db database.now id (view name.now) c }
-    ensures since { (s : Since) → since_unless s result ≡ since_in database.now (view name.now) s }
 {
     match name.as_str() {
         None => Err(CallFault::Syntax),

@@ -236,7 +236,7 @@ lines_of (c ∷ cs) = if c == 10 then [] ∷ lines_of cs else joined c (lines_of
 
 -- a server of the schema with empty tables and no session
 abbrev pub fresh_script : Schema → Script
-fresh_script s = record { world = (beginning (length s.tables)).world; sessions = []; opened_so_far = 0; inserts = 0; moment = 0 }
+fresh_script s = record { world = (beginning 0 100 (length s.tables)).world; sessions = []; opened_so_far = 0; inserts = 0; moment = 0 }
 
 -- what a script on it prints, and the number of the first line that is no command
 abbrev pub script_of : Schema → List ℕ → List ℕ × Option ℕ

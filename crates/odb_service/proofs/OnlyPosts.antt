@@ -1,4 +1,4 @@
--- What only posts to sessions changes nothing else: not the database, not the commits, not the moment, not who is open, not what waits.
+-- What only posts to sessions changes nothing else: not the database, not the commits, not the moment, not who is open, not what waits, not what can be found of earlier contents.
 use Rattle.std.proofs.Common.{◌≡◌, ℕ, Bool, true, false, cond, not, ◌&&◌, List, [], ◌∷◌, Option, Some, None, Result, Ok, Err, is_some, refl, sym, ◌∙◌, ap}
 use Rattle.std.specs.Ordering.{nat_cmp, eq_by_cmp}
 use Rattle.serde_json.specs.Data.{Data}
@@ -7,7 +7,7 @@ use Rattle.odb_cond.specs.Filter.{Filter}
 use Rattle.odb_service.proofs.SessionMaps.{get-insert, same_key}
 use Rattle.odb_service.specs.Run.{take_each, take_of}
 use Rattle.odb_service.specs.Service.{Service}
-use Rattle.odb_service.specs.Session.{Item, Session, Watch, no_request, renamed, same_id, say, shift, start, stopped, sync, take, to}
+use Rattle.odb_service.specs.Session.{Earlier, Item, Session, Watch, no_request, renamed, same_id, say, shift, start, stopped, sync, take, to}
 use Rattle.odb_wire.specs.Message.{id_of}
 use Rattle.odb_service.specs.World.{Waiting, World, answer, are_monitored, asked_of, change_of, fail, is_conditional, notice_of, on_cancel_monitor, on_lock, on_monitor, post, post_notices, post_to, push, revision_of, shift_with, start_with, watched}
 use Rattle.odb_locks.specs.Locks.{Answered, Notice}
@@ -16,14 +16,15 @@ use Rattle.odb_rpc.specs.Message.{failure, reply}
 use Rattle.odb_tables.specs.Database.{Db}
 use Rattle.odb_service.specs.World.{lock_error}
 use Rattle.odb_atoms.specs.Error.{Error, syntax_error}
+use Rattle.odb_atoms.specs.Uuid.{Uuid}
 use Rattle.odb_rpc.specs.Message.{Failure, failed, unknown_monitor}
 
 -- what a waiting transaction sees of the world
 abbrev pub Rest : Type 0
-Rest = Db × ℕ × ℕ × (ℕ → Bool) × List Waiting
+Rest = Db × ℕ × ℕ × (ℕ → Bool) × List Waiting × Earlier
 
 abbrev pub rest : World → Rest
-rest w = (w.db, w.commits, w.now, (λ s. is_some (get w.sessions s)), w.waiting)
+rest w = (w.db, w.commits, w.now, (λ s. is_some (get w.sessions s)), w.waiting, w.earlier)
 
 -- who is open stays so where a session is replaced
 replaced : (ss : FinMap nat_cmp Session) (s : ℕ) (x y : Session) → get ss s ≡ Some x → (t : ℕ) → is_some (get (insert ss s y) t) ≡ is_some (get ss t)
@@ -48,7 +49,7 @@ module _ (h : Service) where
     where
       by : (o : Option Session) → get w.sessions s ≡ o → rest (post_to s is o w) ≡ rest w
       by None e = refl
-      by (Some x) e = λ i. (w.db, w.commits, w.now, (λ t. replaced w.sessions s x (push is x) e t i), w.waiting)
+      by (Some x) e = λ i. (w.db, w.commits, w.now, (λ t. replaced w.sessions s x (push is x) e t i), w.waiting, w.earlier)
 
   pub notes : (ns : List Notice) (w : World) → rest (post_notices ns w) ≡ rest w
   notes [] w = refl
@@ -64,14 +65,14 @@ module _ (h : Service) where
   either true x y w e f = e
   either false x y w e f = f
 
-  pub starts : (s : ℕ) (d : Data) (n : Notation) (i : Data) (r : Result (List Request) Error) (w : World) → rest (start_with h s d n i r w) ≡ rest w
-  starts s d n i (Err e) w = fails s d (failed e) w
-  starts s d n i (Ok qs) w = posts s (start d (record { id = i; notation = n; requests = qs }) ∷ []) w
+  pub starts : (s : ℕ) (d : Data) (n : Notation) (i : Data) (since : Option Uuid) (r : Result (List Request) Error) (w : World) → rest (start_with h s d n i since r w) ≡ rest w
+  starts s d n i since (Err e) w = fails s d (failed e) w
+  starts s d n i since (Ok qs) w = posts s (start d (record { id = i; notation = n; requests = qs; since = since }) ∷ []) w
 
-  pub monitors : (s : ℕ) (d : Data) (n : Notation) (i requests : Data) (w : World) → rest (on_monitor h s d n i requests w) ≡ rest w
-  monitors s d n i requests w =
-      either (is_some (watched h i (asked_of h (get w.sessions s)))) (fail s d (failed syntax_error) w) (start_with h s d n i (h.read_requests n requests) w) w
-      (fails s d (failed syntax_error) w) (starts s d n i (h.read_requests n requests) w)
+  pub monitors : (s : ℕ) (d : Data) (n : Notation) (i : Data) (since : Option Uuid) (requests : Data) (w : World) → rest (on_monitor h s d n i since requests w) ≡ rest w
+  monitors s d n i since requests w =
+      either (is_some (watched h i (asked_of h (get w.sessions s)))) (fail s d (failed syntax_error) w) (start_with h s d n i since (h.read_requests n requests) w) w
+      (fails s d (failed syntax_error) w) (starts s d n i since (h.read_requests n requests) w)
 
   pub shifts : (s : ℕ) (d old new : Data) (k : Watch) (r : Result (List (List ℕ × Filter)) Error) (w : World) → rest (shift_with h s d old new k r w) ≡ rest w
   shifts s d old new k (Err e) w = fails s d (failed e) w
@@ -98,7 +99,7 @@ module _ (h : Service) where
 
   takes_one : (s : ℕ) (o : Option Session) (w : World) → get w.sessions s ≡ o → rest (take_of h s o w).0 ≡ rest w
   takes_one s None w e = refl
-  takes_one s (Some x) w e = λ i. (w.db, w.commits, w.now, (λ t. replaced w.sessions s x (take h (revision_of w) x).1 e t i), w.waiting)
+  takes_one s (Some x) w e = λ i. (w.db, w.commits, w.now, (λ t. replaced w.sessions s x (take h (revision_of w) x).1 e t i), w.waiting, w.earlier)
 
   pub takes_each : (ss : List ℕ) (w : World) → rest (take_each h ss w).0 ≡ rest w
   takes_each [] w = refl

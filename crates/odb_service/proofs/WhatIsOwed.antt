@@ -12,8 +12,7 @@ use Rattle.odb_monitor.specs.View.{Cells, Change, Delta, View, change, delta, di
 use Rattle.odb_request.specs.Request.{Request}
 use Rattle.odb_tables.specs.Database.{Db}
 use Rattle.odb_atoms.specs.Uuid.{Uuid, uuid_cmp}
-use Rattle.odb_service.specs.Session.{method_of, no_request, shapes}
-use Rattle.odb_rpc.specs.Message.{notification}
+use Rattle.odb_service.specs.Session.{no_request, notified, shapes}
 use Rattle.odb_monitor.specs.Update.{table_updates}
 
 -- ---- a view doesn't differ from itself
@@ -61,8 +60,8 @@ module _ (h : Service) where
   change_to db qs m = shown false qs (delta m.view (query db qs))
 
   -- the message about a monitor, with its id as told
-  abbrev pub message_of : Db → List Request → Monitor → Out
-  message_of db qs m = record { answers = no_request; message = notification (method_of h m.watch.notation) (m.watch.id ∷ table_updates m.watch.notation false (shapes qs) (change_to db qs m) ∷ []) }
+  abbrev pub message_of : Revision → List Request → Monitor → Out
+  message_of revision qs m = record { answers = no_request; message = notified h revision m.watch (table_updates m.watch.notation false (shapes qs) (change_to revision.db qs m)); held = None }
 
   abbrev now : Db → Monitor → Monitor
   now db m = brought h db m.watch.requests m
@@ -73,7 +72,7 @@ module _ (h : Service) where
   -- a monitor that was brought to now owes nothing
   owes_nothing : (revision : Revision) (m : Monitor) → owes revision (now revision.db m) ≡ None
   owes_nothing revision m =
-      ap (λ b. cond b None (Some (message_of revision.db m.watch.requests (now revision.db m)))) (shown_none false m.watch.requests (delta (query revision.db m.watch.requests) (query revision.db m.watch.requests)) (delta-itself (query revision.db m.watch.requests)))
+      ap (λ b. cond b None (Some (message_of revision m.watch.requests (now revision.db m)))) (shown_none false m.watch.requests (delta (query revision.db m.watch.requests) (query revision.db m.watch.requests)) (delta-itself (query revision.db m.watch.requests)))
 
   pub all_owe_nothing : (revision : Revision) (ms : List Monitor) → filter_map (owes revision) (map (now revision.db) ms) ≡ []
   all_owe_nothing revision [] = refl

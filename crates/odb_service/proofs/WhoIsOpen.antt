@@ -9,7 +9,7 @@ use Rattle.odb_atoms.specs.FinMap.{get, remove}
 use Rattle.odb_service.proofs.SessionMaps.{get-remove, same_key}
 use Rattle.odb_service.proofs.Splits.{Split}
 use Rattle.odb_service.specs.Service.{Outcome, Service, ended, waiting}
-use Rattle.odb_service.specs.Session.{no_result, say, sync, to}
+use Rattle.odb_service.specs.Session.{no_result, say, sync, to, with_content}
 use Rattle.odb_wire.specs.Message.{id_of}
 use Rattle.odb_service.specs.World.{Waiting, World, asked_of, at_moment, attempt, cancel_one, close, end_transaction, handle, is_due, is_of, locked, on_outcome, retry, retry_all, split_first, tick, try_due, try_one, untried, watched, with_waiting}
 use Rattle.odb_locks.specs.Locks.{drop_session, lock, steal, unlock}
@@ -32,7 +32,7 @@ module _ (h : Service) where
   ends : (s : ℕ) (d results : Data) (o : Option Db) (w : World) → Same w (end_transaction h s d results o w)
   ends s d results None w = (λ u. ap (λ (r : Rest). r.3 u) (answers h s d (reply (id_of d) results) w))
   ends s d results (Some db) w =
-      (λ u. ap (λ (r : Rest). r.3 u) (posts h s (map (λ k. sync k.id) (asked_of h (get w.sessions s)) ++ say (to d) (reply (id_of d) results) ∷ []) (record w { db = db; commits = w.commits + 1 })))
+      (λ u. ap (λ (r : Rest). r.3 u) (posts h s (map (λ k. sync k.id) (asked_of h (get w.sessions s)) ++ say (to d) (reply (id_of d) results) ∷ []) (record w { db = db; commits = w.commits + 1; earlier = with_content w.db w.earlier })))
 
   outcomes : (p : Waiting) (o : Outcome) (w : World) → Same w (on_outcome h p o w).0
   outcomes p (ended results changed) w = ends p.session p.request results changed w
@@ -72,7 +72,7 @@ module _ (h : Service) where
   handles s d fresh (message.transact id ops) w =
       let p : Waiting = record { session = s; request = d; operations = ops; fresh = fresh; arrival = w.now; deadline = None; tried = w.commits } in
       λ t. retries_all (with_waiting h (λ ps o. ps ++ option_to_list o) w.waiting (attempt h p w)) t ∙ attempts p w t
-  handles s d fresh (message.monitor id n i requests) w = (λ u. ap (λ (r : Rest). r.3 u) (monitors h s d n i requests w))
+  handles s d fresh (message.monitor id n i requests since) w = (λ u. ap (λ (r : Rest). r.3 u) (monitors h s d n i since requests w))
   handles s d fresh (message.change_filters id old new filters) w = (λ u. ap (λ (r : Rest). r.3 u) (changes h s d old new filters (watched h old (asked_of h (get w.sessions s))) w))
   handles s d fresh (message.cancel_monitor id i) w = (λ u. ap (λ (r : Rest). r.3 u) (cancels h s d i (watched h i (asked_of h (get w.sessions s))) w))
   handles s d fresh (message.lock id name) w = (λ u. ap (λ (r : Rest). r.3 u) (locks h s d (locked h) (lock w.locks s name) w))

@@ -5,7 +5,7 @@ use Rattle.serde_json.specs.Data.{Data}
 use Rattle.odb_atoms.specs.FinMap as map
 use Rattle.odb_atoms.specs.FinMap.{FinMap, get, insert, len}
 use Rattle.odb_service.specs.Service.{Service}
-use Rattle.odb_service.specs.Session.{Out, Session, take}
+use Rattle.odb_service.specs.Session.{Out, Session, nothing_earlier, take}
 use Rattle.odb_service.specs.World.{World, at_moment, close, handle, owed_replies, revision_of, tick}
 use Rattle.odb_rpc.specs.Message.{call_of, has_reply}
 use Rattle.odb_atoms.specs.Uuid.{Uuid}
@@ -102,10 +102,10 @@ requests_after (ticked now) f s = f s
 requests_after (closed t) f s = f s
 requests_after (round ss) f s = f s
 
--- the state with empty tables and no session
-abbrev pub beginning : ℕ → State
-beginning tables = record {
-  world = record { db = replicate tables map.empty; commits = 0; now = 0; waiting = []; locks = map.empty; sessions = map.empty };
+-- the state with empty tables and no session, in a run with this word, of which so many contents can be found
+abbrev pub beginning : (run most tables : ℕ) → State
+beginning run most tables = record {
+  world = record { db = replicate tables map.empty; commits = 0; earlier = nothing_earlier run most; now = 0; waiting = []; locks = map.empty; sessions = map.empty };
   given = λ s. [];
   requests = λ s. [];
 }

@@ -1,24 +1,53 @@
--- A session: what is queued for it, its monitors as they were told, and what a taking gives. [P 7.3, 8.2, 9.5, 9.6, 10.1, 10.2, 10.3, 10.4]
+-- A session: what is queued for it, its monitors as they were told, and what a taking gives. [P 7.3, 8.2, 9.5, 9.6, 9.8, 10.1, 10.2, 10.3, 10.4]
 use Rattle.odb_wire.specs.Message.{id_of}
-use Rattle.std.specs.Prelude.{ℕ, Bool, true, false, if◌then◌else◌, List, [], ◌∷◌, ◌++◌, map, find, Option, Some, None, option_and_then, option_to_list, filter_map, codes, bytes_eq, count_by}
+use Rattle.std.specs.Prelude as prelude
+use Rattle.std.specs.Prelude.{ℕ, ◌-◌, Bool, true, false, if◌then◌else◌, List, [], ◌∷◌, ◌++◌, map, find, slice_get, Option, Some, None, is_some, option_and_then, option_map, option_to_list, filter_map, codes, bytes_eq, count_by}
 use Rattle.serde_json.specs.Data.{Data, object, no_members}
+use Rattle.odb_atoms.specs.Uuid.{Uuid}
 use Rattle.odb_cond.specs.Filter.{Filter}
 use Rattle.odb_service.specs.Service.{Service}
 use Rattle.odb_monitor.specs.Update.{table_updates}
 use Rattle.odb_monitor.specs.View.{Delta, View, delta, is_none, nothing, query, shown}
+use Rattle.odb_recent.specs.Recent.{commits_ago, number_of}
 use Rattle.odb_request.specs.Request.{Notation, Request, Shape, update, update2}
 use Rattle.odb_rpc.specs.Message.{notification, reply}
+use Rattle.odb_rpc.specs.Since.{since_result, update3}
 use Rattle.odb_tables.specs.Database.{Db}
 
--- what takings look at: the database as it is now
+-- what can be found of earlier contents: the word of the run, how many contents can be found at most, and what the database was before the newest commits, the newest first
+pub record Earlier : Type 0 where
+  pub run : ℕ
+  pub most : ℕ
+  pub contents : List Db
+
+-- before there is a commit
+abbrev pub nothing_earlier : ℕ → ℕ → Earlier
+nothing_earlier run most = record { run = run; most = most; contents = [] }
+
+-- after a commit, before which the database was this
+abbrev pub with_content : Db → Earlier → Earlier
+with_content db e = record e { contents = prelude.take (e.most - 1) (db ∷ e.contents) }
+
+-- what takings look at: the database as it is now, how many commits there were, and what can be found of earlier contents
 pub record Revision : Type 0 where
   pub db : Db
+  pub commits : ℕ
+  pub earlier : Earlier
 
--- what a monitor watches: its id, its notation, and its requests with their filters
+-- the identifier of the newest commit
+abbrev pub newest_number : Revision → Uuid
+newest_number r = number_of r.earlier.run r.commits
+
+-- the content that the commit of this identifier made, if it can be found
+abbrev pub content_after : Revision → Uuid → Option Db
+content_after r v = option_and_then (λ ago. slice_get (r.db ∷ r.earlier.contents) ago) (commits_ago r.earlier.most r.earlier.run r.commits v)
+
+-- what a monitor watches: its id, its notation, its requests with their filters, and the commit that was named when it was asked for, if it was asked for so that its messages name commits
 pub record Watch : Type 0 where
   pub id : Data
   pub notation : Notation
   pub requests : List Request
+  pub since : Option Uuid
 
 -- a monitor whose first reply was taken, as it was told, with the client's view
 pub record Monitor : Type 0 where
@@ -30,9 +59,11 @@ pub data Answers : Type 0 where
   no_request : Answers
   to : Data → Answers
 
+-- a message; and, where it is what changed since the commit that a client named, what this client is taken to have: the view that the monitor had after that commit
 pub record Out : Type 0 where
   pub answers : Answers
   pub message : Data
+  pub held : Option View
 
 -- A finished text; the first reply of a monitor; the monitor of an id brought to now; the same towards other filters; the replies to a change of filters and to a cancel.
 -- A change stands in the queue as `shift` and `renamed`, a cancel as `sync` and `stopped`, side by side. The id and the filters change, or the monitor goes, when the reply is taken: no other taking of the session comes between, so each message is the same as if they did before it.
@@ -101,41 +132,63 @@ module _ (h : Service) where
 
   -- a watch under its new id and filters
   abbrev pub changed : Data → List (List ℕ × Filter) → Watch → Watch
-  changed new fs k = record { id = new; notation = k.notation; requests = refilter fs k.requests }
+  changed new fs k = record k { id = new; requests = refilter fs k.requests }
 
   -- a notification of the difference, if anything of it is shown
   abbrev pub method_of : Notation → List ℕ
   method_of update = codes "update"
   method_of update2 = codes "update2"
 
-  abbrev pub told_of : Notation → Data → List Request → Delta → Option Out
-  told_of n i qs D = if is_none D then None else Some (record { answers = no_request; message = notification (method_of n) (i ∷ table_updates n false (shapes qs) D ∷ []) })
+  -- with the number of the newest commit, where a commit was named
+  abbrev pub notified : Revision → Watch → Data → Data
+  notified revision k updates = elim k.since [ None ↦ notification (method_of k.notation) (k.id ∷ updates ∷ []) | Some v ↦ update3 k.id (newest_number revision) updates ]
+
+  abbrev pub told_of : Revision → Watch → List Request → Delta → Option Out
+  told_of revision k qs D = if is_none D then None else Some (record { answers = no_request; message = notified revision k (table_updates k.notation false (shapes qs) D); held = None })
 
   -- a monitor whose client has what these requests select now
   abbrev pub brought : Db → List Request → Monitor → Monitor
   brought db qs m = record m { view = query db qs }
 
   abbrev pub update_to : Revision → List Request → Monitor → Option Out
-  update_to revision qs m = told_of m.watch.notation m.watch.id qs (shown false qs (delta m.view (query revision.db qs)))
+  update_to revision qs m = told_of revision m.watch qs (shown false qs (delta m.view (query revision.db qs)))
 
   abbrev pub begun : Db → Watch → Monitor
   begun db k = record { watch = k; view = query db k.requests }
 
-  abbrev pub first_out : Revision → Data → Watch → Out
-  first_out revision d k = record {
+  -- what its client had after the commit that it named, if that can be found
+  abbrev pub held_by : Revision → Watch → Option View
+  held_by revision k = option_map (λ db. query db k.requests) (option_and_then (content_after revision) k.since)
+
+  -- all that it selects, or, of a client that has this view, what changed
+  abbrev pub first_updates : Watch → Option View → View → Data
+  first_updates k None V = table_updates k.notation true (shapes k.requests) (shown true k.requests (delta (nothing k.requests) V))
+  first_updates k (Some W) V = table_updates k.notation false (shapes k.requests) (shown false k.requests (delta W V))
+
+  -- where a commit was named, whether it was found comes first, and the number of the newest commit
+  abbrev pub first_result : Revision → Watch → Option View → Data → Data
+  first_result revision k held updates = elim k.since [ None ↦ updates | Some v ↦ since_result (is_some held) (newest_number revision) updates ]
+
+  -- the first reply to a client that has this view, or none
+  abbrev pub first_to : Revision → Data → Watch → Option View → Out
+  first_to revision d k held = record {
     answers = to d;
-    message = reply (id_of d) (table_updates k.notation true (shapes k.requests) (shown true k.requests (delta (nothing k.requests) (query revision.db k.requests))));
+    message = reply (id_of d) (first_result revision k held (first_updates k held (query revision.db k.requests)));
+    held = held;
   }
 
+  abbrev pub first_out : Revision → Data → Watch → Out
+  first_out revision d k = first_to revision d k (held_by revision k)
+
   abbrev pub granted : Data → Out
-  granted d = record { answers = to d; message = reply (id_of d) no_result }
+  granted d = record { answers = to d; message = reply (id_of d) no_result; held = None }
 
   abbrev pub has_id : Data → Monitor → Bool
   has_id i m = same_id i m.watch.id
 
   -- what one item gives, and the monitors after it. An item of a monitor that is gone gives nothing
   abbrev pub gives : Revision → Item → List Monitor → Option Out
-  gives revision (say a d) ms = Some (record { answers = a; message = d })
+  gives revision (say a d) ms = Some (record { answers = a; message = d; held = None })
   gives revision (start d k) ms = Some (first_out revision d k)
   gives revision (sync i) ms = option_and_then (λ m. update_to revision m.watch.requests m) (find (has_id i) ms)
   gives revision (shift i fs) ms = option_and_then (λ m. update_to revision (refilter fs m.watch.requests) m) (find (has_id i) ms)

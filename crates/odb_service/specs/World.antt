@@ -1,4 +1,4 @@
--- The service as a machine: requests, transactions that wait, moments, and sessions that close. [P 6.3, 7.3, 9.1, 9.5, 9.6, 10.1, 10.5, 11.2, 12.1, 12.2, 12.3, 12.4, 13.2]
+-- The service as a machine: requests, transactions that wait, moments, and sessions that close. [P 6.3, 7.3, 9.1, 9.5, 9.6, 9.8, 10.1, 10.5, 11.2, 12.1, 12.2, 12.3, 12.4, 13.2]
 use Rattle.std.specs.Prelude.{ℕ, zero, suc, ◌+◌, ◌*◌, ◌==◌, max, nat_le, length, Bool, true, false, not, ◌&&◌, if◌then◌else◌, List, [], ◌∷◌, ◌++◌, map, filter, find, count_by, Option, Some, None, is_some, option_map, option_to_list, Result, Ok, Err, codes, bytes_eq}
 use Rattle.std.specs.List.{list_any, list_all}
 use Rattle.std.specs.Ordering.{nat_cmp}
@@ -7,7 +7,7 @@ use Rattle.odb_rpc.specs.Message as message
 use Rattle.odb_atoms.specs.FinMap.{FinMap, get, insert, remove}
 use Rattle.odb_cond.specs.Filter.{Filter}
 use Rattle.odb_service.specs.Service.{Outcome, Service, ended, waiting}
-use Rattle.odb_service.specs.Session.{Item, Revision, Session, Watch, asked, no_request, no_result, renamed, replies_in, same_id, say, shift, start, stopped, sync, to}
+use Rattle.odb_service.specs.Session.{Earlier, Item, Revision, Session, Watch, asked, no_request, no_result, renamed, replies_in, same_id, say, shift, start, stopped, sync, to, with_content}
 use Rattle.odb_wire.specs.Message.{id_of}
 use Rattle.odb_locks.specs.Locks.{Answered, Locks, Notice, drop_session, lock, owns, steal, unlock}
 use Rattle.odb_monitor.specs.Update.{one}
@@ -32,6 +32,7 @@ pub record Waiting : Type 0 where
 pub record World : Type 0 where
   pub db : Db
   pub commits : ℕ
+  pub earlier : Earlier
   pub now : ℕ
   pub waiting : List Waiting
   pub locks : Locks
@@ -39,7 +40,7 @@ pub record World : Type 0 where
 
 -- as its takings look at it
 abbrev pub revision_of : World → Revision
-revision_of w = record { db = w.db }
+revision_of w = record { db = w.db; commits = w.commits; earlier = w.earlier }
 
 -- items go to the end of an open session's queue
 abbrev pub push : List Item → Session → Session
@@ -101,7 +102,7 @@ module _ (h : Service) where
   abbrev pub end_transaction : ℕ → Data → Data → Option Db → World → World
   end_transaction s d results None w = succeed s d results w
   end_transaction s d results (Some db) w =
-      post s (map (λ k. sync k.id) (asked_of (get w.sessions s)) ++ say (to d) (reply (id_of d) results) ∷ []) (record w { db = db; commits = w.commits + 1 })
+      post s (map (λ k. sync k.id) (asked_of (get w.sessions s)) ++ say (to d) (reply (id_of d) results) ∷ []) (record w { db = db; commits = w.commits + 1; earlier = with_content w.db w.earlier })
 
   abbrev pub on_outcome : Waiting → Outcome → World → World × Option Waiting
   on_outcome p (ended results changed) w = (end_transaction p.session p.request results changed w, None)
@@ -160,14 +161,14 @@ module _ (h : Service) where
 
   -- ---- monitors
 
-  abbrev pub start_with : ℕ → Data → Notation → Data → Result (List Request) Error → World → World
-  start_with s d n i (Err e) w = fail s d (failed e) w
-  start_with s d n i (Ok qs) w = post s (start d (record { id = i; notation = n; requests = qs }) ∷ []) w
+  abbrev pub start_with : ℕ → Data → Notation → Data → Option Uuid → Result (List Request) Error → World → World
+  start_with s d n i since (Err e) w = fail s d (failed e) w
+  start_with s d n i since (Ok qs) w = post s (start d (record { id = i; notation = n; requests = qs; since = since }) ∷ []) w
 
-  abbrev pub on_monitor : ℕ → Data → Notation → Data → Data → World → World
-  on_monitor s d n i requests w =
+  abbrev pub on_monitor : ℕ → Data → Notation → Data → Option Uuid → Data → World → World
+  on_monitor s d n i since requests w =
       if is_some (watched i (asked_of (get w.sessions s))) then fail s d (failed syntax_error) w
-      else start_with s d n i (h.read_requests n requests) w
+      else start_with s d n i since (h.read_requests n requests) w
 
   -- every table that is named is one of the monitor's
   abbrev pub are_monitored : List (List ℕ × Filter) → List Request → Bool
@@ -209,7 +210,7 @@ module _ (h : Service) where
   abbrev pub handle : ℕ → Data → List Uuid → Call → World → World
   handle s d fresh (message.answered text) w = answer s d text w
   handle s d fresh (message.transact id ops) w = run_transaction (record { session = s; request = d; operations = ops; fresh = fresh; arrival = w.now; deadline = None; tried = w.commits }) w
-  handle s d fresh (message.monitor id n i requests) w = on_monitor s d n i requests w
+  handle s d fresh (message.monitor id n i requests since) w = on_monitor s d n i since requests w
   handle s d fresh (message.change_filters id old new filters) w = change_of s d old new filters (watched old (asked_of (get w.sessions s))) w
   handle s d fresh (message.cancel_monitor id i) w = on_cancel_monitor s d i (watched i (asked_of (get w.sessions s))) w
   handle s d fresh (message.lock id name) w = on_lock s d locked (lock w.locks s name) w

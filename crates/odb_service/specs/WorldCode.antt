@@ -16,7 +16,7 @@ use Rattle.odb_schema.specs.Json.{Data}
 use Rattle.odb_schema.specs.JsonCode.{data_code}
 use Rattle.odb_schema.specs.Represented.Codes.{text_code}
 use Rattle.odb_tables.specs.Database.{Db, db_code}
-use Rattle.odb_service.specs.Session.{Answers, no_request, to, Item, say, start, sync, shift, renamed, stopped, Monitor, Session, Watch}
+use Rattle.odb_service.specs.Session.{Answers, no_request, to, Earlier, Item, say, start, sync, shift, renamed, stopped, Monitor, Session, Watch}
 use Rattle.odb_service.specs.World.{Waiting, World}
 
 abbrev Text : Type 0
@@ -26,8 +26,8 @@ Text = List ℕ
 
 abbrev pub watch_code : Coded Watch
 watch_code =
-    code_by (Data × (Notation × List Request)) (coded× data_code (coded× notation_code (coded_list request_code)))
-    (λ k. (k.id, (k.notation, k.requests))) (λ p. record { id = p.0; notation = p.1.0; requests = p.1.1 }) (λ k. refl)
+    code_by (Data × (Notation × (List Request × Option Uuid))) (coded× data_code (coded× notation_code (coded× (coded_list request_code) (coded_option uuid_code))))
+    (λ k. (k.id, (k.notation, (k.requests, k.since)))) (λ p. record { id = p.0; notation = p.1.0; requests = p.1.1.0; since = p.1.1.1 }) (λ k. refl)
 
 abbrev pub view_code : Coded View
 view_code = coded_list (map.code uuid_code (coded_list value_code))
@@ -103,9 +103,14 @@ waiting_code =
     (λ p. (p.session, (p.request, (p.operations, (p.fresh, (p.arrival, (p.deadline, p.tried)))))))
     (λ q. record { session = q.0; request = q.1.0; operations = q.1.1.0; fresh = q.1.1.1.0; arrival = q.1.1.1.1.0; deadline = q.1.1.1.1.1.0; tried = q.1.1.1.1.1.1 }) (λ p. refl)
 
+abbrev pub earlier_code : Coded Earlier
+earlier_code =
+    code_by (ℕ × (ℕ × List Db)) (coded× coded_ℕ (coded× coded_ℕ (coded_list db_code)))
+    (λ e. (e.run, (e.most, e.contents))) (λ p. record { run = p.0; most = p.1.0; contents = p.1.1 }) (λ e. refl)
+
 abbrev pub world_code : Coded World
 world_code =
-    code_by (Db × (ℕ × (ℕ × (List Waiting × (Locks × map.FinMap nat_cmp Session)))))
-    (coded× db_code (coded× coded_ℕ (coded× coded_ℕ (coded× (coded_list waiting_code) (coded× locks_code (map.code coded_ℕ session_code))))))
-    (λ w. (w.db, (w.commits, (w.now, (w.waiting, (w.locks, w.sessions))))))
-    (λ p. record { db = p.0; commits = p.1.0; now = p.1.1.0; waiting = p.1.1.1.0; locks = p.1.1.1.1.0; sessions = p.1.1.1.1.1 }) (λ w. refl)
+    code_by (Db × (ℕ × (Earlier × (ℕ × (List Waiting × (Locks × map.FinMap nat_cmp Session))))))
+    (coded× db_code (coded× coded_ℕ (coded× earlier_code (coded× coded_ℕ (coded× (coded_list waiting_code) (coded× locks_code (map.code coded_ℕ session_code)))))))
+    (λ w. (w.db, (w.commits, (w.earlier, (w.now, (w.waiting, (w.locks, w.sessions)))))))
+    (λ p. record { db = p.0; commits = p.1.0; earlier = p.1.1.0; now = p.1.1.1.0; waiting = p.1.1.1.1.0; locks = p.1.1.1.1.1.0; sessions = p.1.1.1.1.1.1 }) (λ w. refl)

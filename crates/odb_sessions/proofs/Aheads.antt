@@ -45,7 +45,7 @@ same_marks (x ∷ xs) zero d y low is = ap (λ z. marks_in z ++ marks_ahead xs) 
 same_marks (x ∷ xs) (suc i) d y low is = ap (λ ms. marks_in x.held ++ ms) (same_marks xs i d y (omega (arith, low)) is)
 
 abbrev nobody : Ahead
-nobody = as_told (record { id = null; notation = update; tables = [] })
+nobody = as_told (record { id = null; notation = update; tables = []; since = None })
 
 -- ---- positions
 

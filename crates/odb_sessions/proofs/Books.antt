@@ -12,7 +12,7 @@ abbrev pub back_one : ℕ → Book → Book
 back_one s b = record b { sessions = at_number without_last b.sessions s }
 
 pub back-append : (ss : List ℕ) (s : ℕ) (b : Book) → back (ss ++ s ∷ []) b ≡ back ss (back_one s b)
-back-append ss s b = λ i. record { db = b.db; sessions = unposted-append ss s b.sessions i }
+back-append ss s b = λ i. record b { sessions = unposted-append ss s b.sessions i }
 
 -- where something is said to be there
 pub there_is : {X : Type 0} (o : Option X) → is_some o ≡ true → (x : X) × (o ≡ Some x)

@@ -1,5 +1,6 @@
 -- What a client has once it was brought to now, and a list whose elements are changed from the front on.
-use Rattle.std.proofs.Common.{◌≡◌, ℕ, zero, suc, ◌+◌, ◌<◌, ◌≤◌, arith, List, [], ◌∷◌, get_or, length, map, slice_get, slice_set, unwrap_or, refl, ap, ◌∙◌}
+use Rattle.std.proofs.Common.{◌≡◌, ℕ, zero, suc, ◌+◌, ◌<◌, ◌≤◌, arith, List, [], ◌∷◌, get_or, length, map, slice_get, slice_set, unwrap_or, Option, refl, ap, ◌∙◌}
+use Rattle.odb_atoms.specs.Uuid.{Uuid}
 use Rattle.odb_chain.specs.Chains.{Chains, Mark, mark_of}
 use Rattle.odb_monitor.specs.View.{query, selected}
 use Rattle.odb_request.specs.Request.{Notation}
@@ -46,22 +47,22 @@ pub brought_marks : (k : Chains) (ws : List Watched) → table_marks (map (broug
 brought_marks k [] = refl
 brought_marks k (w ∷ ws) = ap (λ ms. mark_of k w.mark.table ∷ ms) (brought_marks k ws)
 
-abbrev held : Data → Notation → List Watched → Held
-held i n ws = record { id = i; notation = n; tables = ws }
+abbrev held : Data → Notation → Option Uuid → List Watched → Held
+held i n since ws = record { id = i; notation = n; tables = ws; since = since }
 
 pub brought_asked : (k : Chains) (ws : List Watched) → asked_of (map (brought_to k) ws) ≡ asked_of ws
 brought_asked k ws = mapped_twice (λ (w : Watched). w.request) (brought_to k) ws
 
-brought_view : (k : Chains) (i : Data) (n : Notation) (ws : List Watched) → AreTheirs ws → view_of (held i n (map (brought_to k) ws)) ≡ query k.db (asked_of ws)
-brought_view k i n [] a = refl
-brought_view k i n (w ∷ ws) a = λ j. selected w.request (table_at k.db (a.0 j)) ∷ brought_view k i n ws a.1 j
+brought_view : (k : Chains) (i : Data) (n : Notation) (since : Option Uuid) (ws : List Watched) → AreTheirs ws → view_of (held i n since (map (brought_to k) ws)) ≡ query k.db (asked_of ws)
+brought_view k i n since [] a = refl
+brought_view k i n since (w ∷ ws) a = λ j. selected w.request (table_at k.db (a.0 j)) ∷ brought_view k i n since ws a.1 j
 
 -- the machine sees a monitor that is brought to now
-pub brought_seen : (h : Service) (k : Chains) (i : Data) (n : Notation) (ws : List Watched) → AreTheirs ws
-    → told_so i n (map (brought_to k) ws) ≡ brought h k.db (asked_of ws) (told_so i n ws)
-brought_seen h k i n ws a = λ j. record {
-  watch = record { id = i; notation = n; requests = brought_asked k ws j };
-  view = brought_view k i n ws a j;
+pub brought_seen : (h : Service) (k : Chains) (i : Data) (n : Notation) (since : Option Uuid) (ws : List Watched) → AreTheirs ws
+    → told_so i n since (map (brought_to k) ws) ≡ brought h k.db (asked_of ws) (told_so i n since ws)
+brought_seen h k i n since ws a = λ j. record {
+  watch = record { id = i; notation = n; requests = brought_asked k ws j; since = since };
+  view = brought_view k i n since ws a j;
 }
 
 -- ---- under filters, table by table

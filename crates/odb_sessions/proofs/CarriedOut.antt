@@ -7,7 +7,8 @@ use Rattle.odb_chain.specs.Chains.{Chains}
 use Rattle.odb_schema.specs.Schema.{Schema}
 use Rattle.odb_service.specs.Server.{served_by}
 use Rattle.odb_service.specs.Session.{Session}
-use Rattle.odb_sessions.specs.Book.{Book}
+use Rattle.odb_recent.specs.Recent.{Recent}
+use Rattle.odb_sessions.specs.Book.{book_with}
 use Rattle.odb_sessions.specs.Carried.{Carries, IsCarriedOut, last_finished, used_by}
 use Rattle.odb_sessions.specs.Held.{Kept, Sessions, all_seen, marks_of, seen}
 use Rattle.odb_sessions.specs.Posts.{at_number}
@@ -37,22 +38,20 @@ module _ (k new : Chains) (m then : Sessions) (s n j : ℕ) (f : IsCarriedOut k 
           let one : (y : Kept) × (then ≡ finite.insert m s y) × Carries k new (marks_of x) (marks_of y) × ((schema : Schema) → seen y ≡ used_by (served_by schema) k.db n j (seen x)) = f.0 x is in
           subst (IsTied new) (sym one.1) (tied_carried k new m s x one.0 h is one.2)
 
-  abbrev book : Chains → Sessions → Book
-  book c o = record { db = c.db; sessions = all_seen o }
-
-  pub seen_after : (schema : Schema) → book new then ≡ (let b : Book = record { db = k.db; sessions = at_number (used_by (served_by schema) k.db n j) (all_seen m) s } in b)
-  seen_after schema = by (finite.get m s) refl
+  -- with these last commits
+  pub seen_after : (r : Recent) (schema : Schema) → book_with new.db r (all_seen then) ≡ book_with k.db r (at_number (used_by (served_by schema) k.db n j) (all_seen m) s)
+  seen_after r schema = by (finite.get m s) refl
     where
       g : Session → Session
       g = used_by (served_by schema) k.db n j
 
-      by : (o : Option Kept) → finite.get m s ≡ o → book new then ≡ (let b : Book = record { db = k.db; sessions = at_number g (all_seen m) s } in b)
+      by : (o : Option Kept) → finite.get m s ≡ o → book_with new.db r (all_seen then) ≡ book_with k.db r (at_number g (all_seen m) s)
       by None is =
           let none : (then ≡ m) × (new ≡ k) = f.1 is in
-          (λ i. book (none.1 i) (none.0 i)) ∙ ap (λ o. let b : Book = record { db = k.db; sessions = o } in b) (sym (at_shut g (all_seen m) s (get-seen m s ∙ ap (option_map seen) is)))
+          (λ i. book_with (none.1 i).db r (all_seen (none.0 i))) ∙ ap (book_with k.db r) (sym (at_shut g (all_seen m) s (get-seen m s ∙ ap (option_map seen) is)))
       by (Some x) is =
           let one : (y : Kept) × (then ≡ finite.insert m s y) × Carries k new (marks_of x) (marks_of y) × ((schema : Schema) → seen y ≡ used_by (served_by schema) k.db n j (seen x)) = f.0 x is in
-          (λ i. let b : Book = record { db = one.2.0 i; sessions = (ap all_seen one.1 ∙ seen-insert m s one.0 ∙ ap (finite.insert (all_seen m) s) (one.3 schema) ∙ sym (at_open g (all_seen m) s (seen x) (get-seen m s ∙ ap (option_map seen) is))) i } in b)
+          (λ i. book_with (one.2.0 i) r ((ap all_seen one.1 ∙ seen-insert m s one.0 ∙ ap (finite.insert (all_seen m) s) (one.3 schema) ∙ sym (at_open g (all_seen m) s (seen x) (get-seen m s ∙ ap (option_map seen) is))) i))
 
 pub text_seen : (n s : ℕ) (m : Sessions) → option_and_then (λ (x : Kept). last_finished n (seen x).queue) (finite.get m s) ≡ option_and_then (λ (x : Session). last_finished n x.queue) (finite.get (all_seen m) s)
 text_seen n s m = by (finite.get m s) ∙ sym (ap (option_and_then (λ (x : Session). last_finished n x.queue)) (get-seen m s))

@@ -13,6 +13,7 @@ use Rattle.odb_sessions.proofs.monitor.Watching.TheSendSync as watching
 use Rattle.odb_sessions.proofs.origin.Origin.TheSendSync as origin
 use Rattle.odb_sessions.proofs.past.Past.TheSendSync as past
 use Rattle.odb_interest.proofs.Crossing.{Interest-send}
+use Rattle.odb_recent.proofs.Crossing.{Recent-send}
 use Rattle.odb_queue.proofs.finished.Finished.TheSendSync as finished
 use Rattle.odb_queue.specs.contracts.finished.Finished as Finished
 use Rattle.odb_sessions.specs.contracts.granted.Granted as Granted
@@ -103,4 +104,4 @@ Numbered-send : IsSend (Numbered.the_field).row
 Numbered-send = search (Session-send, sendable, heap.crosses, maps.crosses) depth 20
 
 pub Sessions-send : IsSend (Sessions.the_field).row
-Sessions-send = search (Past-send, Numbered-send, Interest-send, Refreshing-send, sendable, heap.crosses, maps.crosses) depth 20
+Sessions-send = search (Past-send, Recent-send, Numbered-send, Interest-send, Refreshing-send, sendable, heap.crosses, maps.crosses) depth 20

@@ -23,6 +23,7 @@ of_now db x way.First e = ap (first_job db x.notation) (requests_in db (asked_of
 of_now db x way.Asked e = absurd (true≢false (sym e))
 of_now db x (way.Changed u) e = absurd (true≢false (sym e))
 of_now db x (way.Again told u) e = absurd (true≢false (sym e))
+of_now db x (way.Since r n) e = absurd (true≢false (sym e))
 
 -- what is composed of a job of a first reply is told first of the database that it is of
 pub told_first : (db then : Db) (n : Notation) (qs : List Request) (j : Job) (text : List ℕ) → j ≡ first_job then n qs → Some text ≡ composition j → IsOfNow db j → composition (first_job db n qs) ≡ Some text

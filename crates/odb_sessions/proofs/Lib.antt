@@ -9,6 +9,7 @@ mod Composed
 mod Copies
 mod Counted
 pub mod Crossing
+mod Earlier
 mod Endings
 mod FirstTexts
 mod Firsts
@@ -17,6 +18,7 @@ mod Leading
 mod Loops
 mod Moved
 mod Moves
+mod NamedCommits
 mod NamedReplays
 mod Newest
 mod Numbers

@@ -13,7 +13,7 @@ use Rattle.odb_interest.specs.Keys.{Interests, asked_at}
 use Rattle.odb_interest.specs.Represented.Lists.{Asks, IsSame}
 use Rattle.odb_service.specs.Session.{Item, Session}
 use Rattle.odb_service.proofs.SessionMaps.{get-empty, get-insert, get-remove, other, same_key, turned_about}
-use Rattle.odb_sessions.specs.Book.{Book, book_of, fresh_session, revision_in}
+use Rattle.odb_sessions.specs.Book.{Book, book_of, fresh_session}
 use Rattle.odb_sessions.specs.Held as held
 use Rattle.odb_sessions.specs.Owed.{AreAtRest, AreNoted, AreOwed, HangTogether, IsAtRest, KeepsOthers, addressed, book_seen, interest_if, is_among}
 use Rattle.odb_sessions.specs.Posts.{all_posted, at_number, unposted}
@@ -34,7 +34,7 @@ rest_owed o i b rest q out = (rest q out).0
 same_rest : (i j : Interests) (b c : Book) (q : ℕ) → c.db ≡ b.db → asked_at j q ≡ asked_at i q → get c.sessions q ≡ get b.sessions q → IsAtRest i b q → IsAtRest j c q
 same_rest i j b c q db said same rest = (quiet_same b c q db same rest.0, said ∙ rest.1 ∙ ap interest_if (sym same))
 
-pub none_rest : (o : BTreeSet ℕ) (i : Interests) (db : Db) → ((s : ℕ) → asked_at i s ≡ []) → AreAtRest o i (book_of db)
+pub none_rest : (o : BTreeSet ℕ) (i : Interests) (db : Db) → ((s : ℕ) → asked_at i s ≡ []) → AreAtRest o i (book_of 0 0 db)
 none_rest o i db none q out = (λ x there. absurd (none-some x (sym (get-empty q) ∙ there)), none q ∙ ap interest_if (sym (get-empty q)))
 
 -- a session that was just opened is owed nothing, and asks nothing
@@ -47,7 +47,7 @@ opened_rest o i b s shut before q out = by (eq_by_cmp nat_cmp q s) refl
     by : (t : Bool) → eq_by_cmp nat_cmp q s ≡ t → IsAtRest i c q
     by true is =
         let there : get c.sessions q ≡ Some fresh_session = get-insert b.sessions s fresh_session q ∙ ap (λ t. cond t (Some fresh_session) (get b.sessions q)) is in (
-          λ x e. subst (IsQuiet (revision_in b)) (same_Some fresh_session x (sym there ∙ e)) (quiet_fresh (revision_in b)),
+          λ x e. subst (IsQuiet b.db) (same_Some fresh_session x (sym there ∙ e)) (quiet_fresh b.db),
           (before q out).1 ∙ ap interest_if (ap (get b.sessions) (same_key q s is) ∙ shut) ∙ ap interest_if (sym there),
         )
     by false is = same_rest i i b c q refl refl (get-insert b.sessions s fresh_session q ∙ ap (λ t. cond t (Some fresh_session) (get b.sessions q)) is) (before q out)
@@ -147,9 +147,9 @@ kept_noted first old now s before changed q out = before q (out_before old now s
 -- ---- what changes no session that is at rest
 
 pub unposted_rest : (o : BTreeSet ℕ) (i : Interests) (b : Book) (ss : List ℕ) → AreAtRest o i b → AreAtRest o i (record b { sessions = unposted ss b.sessions })
-unposted_rest o i b ss before q out = same_rest i i b (record b { sessions = unposted ss b.sessions }) q refl refl (same_unposted (revision_in b) b.sessions ss q (before q out).0) (before q out)
+unposted_rest o i b ss before q out = same_rest i i b (record b { sessions = unposted ss b.sessions }) q refl refl (same_unposted b.db b.sessions ss q (before q out).0) (before q out)
 
 -- what leaves a session as it is that is owed nothing
-pub used_rest : (o : BTreeSet ℕ) (i : Interests) (b : Book) (s : ℕ) (f : Session → Session) → ((x : Session) → get b.sessions s ≡ Some x → IsQuiet (revision_in b) x → f x ≡ x) → AreAtRest o i b → AreAtRest o i (record b { sessions = at_number f b.sessions s })
+pub used_rest : (o : BTreeSet ℕ) (i : Interests) (b : Book) (s : ℕ) (f : Session → Session) → ((x : Session) → get b.sessions s ≡ Some x → IsQuiet b.db x → f x ≡ x) → AreAtRest o i b → AreAtRest o i (record b { sessions = at_number f b.sessions s })
 used_rest o i b s f same before q out =
     same_rest i i b (record b { sessions = at_number f b.sessions s }) q refl refl (same_at f b.sessions s q (λ x there e. same x there ((before q out).0 x (ap (get b.sessions) e ∙ there)))) (before q out)

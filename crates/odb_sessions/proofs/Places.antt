@@ -6,6 +6,7 @@ use Rattle.std.specs.declared.sync.Arc.{Arc}
 use Rattle.std.proofs.lemmas.List.{length-map}
 use Rattle.std.proofs.lemmas.Option.{none-some, same_Some}
 use Rattle.serde_json.specs.Written.{compact_text}
+use Rattle.odb_atoms.specs.Uuid.{Uuid}
 use Rattle.odb_chain.specs.Chains.{Chains}
 use Rattle.odb_monitor.specs.Job.{Job, updates_of}
 use Rattle.odb_request.specs.Request.{Notation, Request}
@@ -96,15 +97,15 @@ serves_for k js d y alike decided live all kept = decided.1 all kept ∙ ap (opt
 -- ---- messages
 
 -- nothing is told
-pub none_told : (n : Notation) (i : Data) (o : Option Data) → None ≡ option_map certainly (option_map compact_text o) → None ≡ option_map (notified_text n i) o
-none_told n i None e = refl
-none_told n i (Some d) e = absurd (none-some (certainly (compact_text d)) e)
+pub none_told : (number : Uuid) (x : Held) (o : Option Data) → None ≡ option_map certainly (option_map compact_text o) → None ≡ option_map (notified_text number x) o
+none_told number x None e = refl
+none_told number x (Some d) e = absurd (none-some (certainly (compact_text d)) e)
 
 -- this is told, with this text around it
-pub some_told : (n : Notation) (i : Data) (body : Option (List ℕ)) (text : List ℕ) (o : Option Data) → Some body ≡ option_map certainly (option_map compact_text o)
-    → ((d : Data) → body ≡ Some (compact_text d) → text ≡ notified_text n i d) → Some text ≡ option_map (notified_text n i) o
-some_told n i body text None e around = absurd (none-some body (sym e))
-some_told n i body text (Some d) e around = ap Some (around d (same_Some body (certainly (compact_text d)) e))
+pub some_told : (number : Uuid) (x : Held) (body : Option (List ℕ)) (text : List ℕ) (o : Option Data) → Some body ≡ option_map certainly (option_map compact_text o)
+    → ((d : Data) → body ≡ Some (compact_text d) → text ≡ notified_text number x d) → Some text ≡ option_map (notified_text number x) o
+some_told number x body text None e around = absurd (none-some body (sym e))
+some_told number x body text (Some d) e around = ap Some (around d (same_Some body (certainly (compact_text d)) e))
 
 -- what is composed of the job of a first reply
 pub first_composition : (db : Db) (n : Notation) (qs : List Request) → composition (first_job db n qs) ≡ Some (compact_text (first_updates db n qs))

@@ -11,7 +11,7 @@ use Rattle.odb_chain.specs.Chains.{Chains}
 use Rattle.odb_service.specs.Server.{served_by}
 use Rattle.odb_service.specs.Service.{Service}
 use Rattle.odb_service.specs.Session.{Monitor, Out, Revision, Session, brought, stop_at, take_from, take_rest}
-use Rattle.odb_sessions.specs.Book.{Book, revision_in}
+use Rattle.odb_sessions.specs.Book.{Book}
 use Rattle.odb_sessions.specs.Composed.{AreNow}
 use Rattle.odb_sessions.specs.Held.{Held, Kept, Queued, Sessions, all_seen, item_seen, marks_in, monitor_of, seen}
 use Rattle.odb_sessions.specs.Quiet.{IsQuiet, IsQuietAt}
@@ -19,6 +19,7 @@ use Rattle.odb_sessions.specs.Tied.{AreLive}
 use Rattle.odb_sessions.proofs.Quiet.{brought_same, nothing_sent}
 use Rattle.odb_sessions.proofs.Releases.{live-left, live-right}
 use Rattle.odb_sessions.proofs.Ties.{get-seen}
+use Rattle.odb_tables.specs.Database.{Db}
 
 pub on_true : (b : Bool) (P : Type 0) → (b ≡ true → P) → OnTrue b P
 on_true true P f = f refl
@@ -49,13 +50,13 @@ rest_quiet h revision (x ∷ xs) now =
     ap (λ (o : Option Out). let r : Rest = stop_at o (b ∷ map monitor_of xs) (rest.0, b ∷ rest.1) in r) (nothing_sent h revision x now.0)
     ∙ (λ i. let r : Rest = ((later i).0, sym same i ∷ (later i).1) in r)
 
-pub session_quiet : (revision : Revision) (x : Kept) → x.queue ≡ [] → All (λ (m : Held). AreNow revision.db m.tables) x.monitors → IsQuiet revision (seen x)
-session_quiet revision x none now = (
+pub session_quiet : (db : Db) (x : Kept) → x.queue ≡ [] → All (λ (m : Held). AreNow db m.tables) x.monitors → IsQuiet db (seen x)
+session_quiet db x none now = (
   ap (map item_seen) none,
-  λ s.
+  λ s revision is.
       let h : Service = served_by s in
       let ms : List Monitor = map monitor_of x.monitors in
-      let rest : take_rest h revision ms ≡ (None, ms) = rest_quiet h revision x.monitors (recursion_from_All (λ (m : Held). AreNow revision.db m.tables) x.monitors now) in
+      let rest : take_rest h revision ms ≡ (None, ms) = rest_quiet h revision x.monitors (recursion_from_All (λ (m : Held). AreNow revision.db m.tables) x.monitors (subst (λ (d : Db). All (λ (m : Held). AreNow d m.tables) x.monitors) (sym is) now)) in
       ap (λ (q : List Queued). let r : Taken = take_from h revision (map item_seen q) ms in r) none
       ∙ (λ i. let r : Taken = ((rest i).0, record { queue = []; monitors = (rest i).1 }) in r)
       ∙ ap (λ (q : List Queued). let r : Taken = (None, record { queue = map item_seen q; monitors = ms }) in r) (sym none),
@@ -70,5 +71,5 @@ seen_at b m s y is there = sym (get-seen m s) ∙ ap (λ (n : finite.FinMap nat_
 pub quiet_shut : (b : Book) (m : Sessions) (s : ℕ) → all_seen m ≡ b.sessions → finite.get m s ≡ None → IsQuietAt b s
 quiet_shut b m s is none y there = absurd (none-some y (sym (ap (option_map seen) none) ∙ seen_at b m s y is there))
 
-pub quiet_open : (b : Book) (m : Sessions) (s : ℕ) (x : Kept) → all_seen m ≡ b.sessions → finite.get m s ≡ Some x → IsQuiet (revision_in b) (seen x) → IsQuietAt b s
-quiet_open b m s x is found quiet y there = subst (IsQuiet (revision_in b)) (same_Some (seen x) y (sym (ap (option_map seen) found) ∙ seen_at b m s y is there)) quiet
+pub quiet_open : (b : Book) (m : Sessions) (s : ℕ) (x : Kept) → all_seen m ≡ b.sessions → finite.get m s ≡ Some x → IsQuiet b.db (seen x) → IsQuietAt b s
+quiet_open b m s x is found quiet y there = subst (IsQuiet b.db) (same_Some (seen x) y (sym (ap (option_map seen) found) ∙ seen_at b m s y is there)) quiet

@@ -4,9 +4,9 @@ use Rattle.std.proofs.lemmas.Option.{none-some}
 use Rattle.odb_chain.specs.Chains.{Chains}
 use Rattle.odb_service.specs.Server.{served_by}
 use Rattle.odb_service.specs.Service.{Service}
-use Rattle.odb_service.specs.Session.{Item, Monitor, Out, Revision, Session, brought, stop_at, take_from, take_rest, update_to}
+use Rattle.odb_service.specs.Session.{Item, Monitor, Out, Revision, Session, brought, nothing_earlier, stop_at, take_from, take_rest, update_to}
 use Rattle.odb_service.proofs.SessionMaps.{same_map}
-use Rattle.odb_sessions.specs.Book.{Book, revision_at}
+use Rattle.odb_sessions.specs.Book.{Book}
 use Rattle.odb_sessions.specs.Carried.{used_by}
 use Rattle.odb_sessions.specs.Held.{Sessions, all_seen}
 use Rattle.odb_sessions.specs.Owed.{book_seen}
@@ -48,8 +48,8 @@ used_same h revision n x queue taken =
     let same : (take_rest h revision x.monitors).1 ≡ x.monitors = ap (λ (p : Option Out × Session). p.1.monitors) t in
     λ i. record { queue = x.queue; monitors = first_same h revision n x.monitors none same i }
 
-pub refreshed : (k : Chains) (m : Sessions) (s n : ℕ) → IsQuietAt (book_seen k m) s → (let b : Book = record { db = k.db; sessions = at_number (used_by (served_by no_schema) k.db 0 n) (all_seen m) s } in b) ≡ book_seen k m
+pub refreshed : (k : Chains) (m : Sessions) (s n : ℕ) → IsQuietAt (book_seen k m) s → (let b : Book = record (book_seen k m) { sessions = at_number (used_by (served_by no_schema) k.db 0 n) (all_seen m) s } in b) ≡ book_seen k m
 refreshed k m s n quiet =
     let same = same_map (at_number (used_by (served_by no_schema) k.db 0 n) (all_seen m) s) (all_seen m)
-    (λ q. same_at (used_by (served_by no_schema) k.db 0 n) (all_seen m) s q (λ x there here. let h : IsQuiet (revision_at k) x = quiet x there in used_same (served_by no_schema) (revision_at k) n x h.0 (h.1 no_schema))) in
-    λ i. record { db = k.db; sessions = same i }
+    (λ q. same_at (used_by (served_by no_schema) k.db 0 n) (all_seen m) s q (λ x there here. let h : IsQuiet k.db x = quiet x there in let r : Revision = record { db = k.db; commits = 0; earlier = nothing_earlier 0 0 } in used_same (served_by no_schema) r n x h.0 (h.1 no_schema r refl))) in
+    λ i. record (book_seen k m) { sessions = same i }

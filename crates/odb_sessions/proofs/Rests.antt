@@ -3,6 +3,7 @@ use Rattle.std.proofs.Common.{◌≡◌, ℕ, suc, ◌+◌, ◌≤◌, arith, tr
 use Rattle.std.specs.Prelude.{option_map}
 use Rattle.std.proofs.lemmas.List.{drop_all}
 use Rattle.odb_chain.specs.Chains.{Chains}
+use Rattle.odb_recent.specs.Recent.{Recent}
 use Rattle.odb_request.specs.Request.{Request}
 use Rattle.odb_service.specs.Service.{Service}
 use Rattle.odb_service.specs.Session.{Monitor, Revision, refilter}
@@ -31,10 +32,10 @@ abbrev pub text_to : Service → Revision → Ahead → Option (List ℕ)
 text_to h revision x = update_text h revision (watch_of x.held).requests (seen_ahead revision.db x)
 
 -- the same text, at the same chains, as it is found out under no other filters
-pub text_at : (h : Service) (k n : Chains) (x : Ahead) → k ≡ n → update_text h (revision_at k) (refilter [] (watch_of x.held).requests) (seen_ahead k.db x) ≡ text_to h (revision_at n) x
-text_at h k n x same =
-    ap (λ (m : Chains). update_text h (revision_at m) (refilter [] (watch_of x.held).requests) (seen_ahead m.db x)) same
-    ∙ ap (λ (qs : List Request). update_text h (revision_at n) qs (seen_ahead n.db x)) (refilter_none (watch_of x.held).requests)
+pub text_at : (h : Service) (r : Recent) (k n : Chains) (x : Ahead) → k ≡ n → update_text h (revision_at k r) (refilter [] (watch_of x.held).requests) (seen_ahead k.db x) ≡ text_to h (revision_at n r) x
+text_at h r k n x same =
+    ap (λ (m : Chains). update_text h (revision_at m r) (refilter [] (watch_of x.held).requests) (seen_ahead m.db x)) same
+    ∙ ap (λ (qs : List Request). update_text h (revision_at n r) qs (seen_ahead n.db x)) (refilter_none (watch_of x.held).requests)
 
 pub is_mapped : {A B : Type 0} (f : A → B) (o : Option A) → is_some (option_map f o) ≡ is_some o
 is_mapped f None = refl

@@ -2,7 +2,7 @@
 use Rattle.std.proofs.Common.{◌≡◌, ℕ, Bool, true, false, cond, ◌||◌, List, [], ◌∷◌, Option, Some, None, refl, sym, ap, subst, ◌∙◌}
 use Rattle.std.specs.Ordering.{eq_by_cmp, nat_cmp}
 use Rattle.odb_atoms.specs.FinMap.{get, insert}
-use Rattle.odb_service.specs.Session.{Item, Revision, Session}
+use Rattle.odb_service.specs.Session.{Item, Session}
 use Rattle.odb_service.specs.World.{push}
 use Rattle.odb_service.proofs.SessionMaps.{get-insert, same_key}
 use Rattle.odb_sessions.specs.Book.{Book, Sessions, fresh_session}
@@ -38,20 +38,20 @@ same_at f m s q same = by (get m s) refl
 
 -- the same session in the same database
 pub quiet_same : (b c : Book) (q : ℕ) → c.db ≡ b.db → get c.sessions q ≡ get b.sessions q → IsQuietAt b q → IsQuietAt c q
-quiet_same b c q db same quiet x there = subst (λ (d : Db). let r : Revision = record { db = d } in IsQuiet r x) (sym db) (quiet x (sym same ∙ there))
+quiet_same b c q db same quiet x there = subst (λ (d : Db). IsQuiet d x) (sym db) (quiet x (sym same ∙ there))
 
-pub quiet_fresh : (revision : Revision) → IsQuiet revision fresh_session
-quiet_fresh revision = (refl, λ s. refl)
+pub quiet_fresh : (db : Db) → IsQuiet db fresh_session
+quiet_fresh db = (refl, λ s revision is. refl)
 
 -- nothing can be taken back
-none_back : (revision : Revision) (x : Session) → IsQuiet revision x → without_last x ≡ x
-none_back revision x quiet = (λ i. without_last (record { queue = quiet.0 i; monitors = x.monitors })) ∙ (λ i. record { queue = sym quiet.0 i; monitors = x.monitors })
+none_back : (db : Db) (x : Session) → IsQuiet db x → without_last x ≡ x
+none_back db x quiet = (λ i. without_last (record { queue = quiet.0 i; monitors = x.monitors })) ∙ (λ i. record { queue = sym quiet.0 i; monitors = x.monitors })
 
-pub same_unposted : (revision : Revision) (m : Sessions) (ss : List ℕ) (q : ℕ) → ((x : Session) → get m q ≡ Some x → IsQuiet revision x) → get (unposted ss m) q ≡ get m q
-same_unposted revision m [] q quiet = refl
-same_unposted revision m (s ∷ ss) q quiet =
-    let rest : get (unposted ss m) q ≡ get m q = same_unposted revision m ss q quiet in
-    same_at without_last (unposted ss m) s q (λ x there here. none_back revision x (quiet x (sym rest ∙ ap (get (unposted ss m)) here ∙ there))) ∙ rest
+pub same_unposted : (db : Db) (m : Sessions) (ss : List ℕ) (q : ℕ) → ((x : Session) → get m q ≡ Some x → IsQuiet db x) → get (unposted ss m) q ≡ get m q
+same_unposted db m [] q quiet = refl
+same_unposted db m (s ∷ ss) q quiet =
+    let rest : get (unposted ss m) q ≡ get m q = same_unposted db m ss q quiet in
+    same_at without_last (unposted ss m) s q (λ x there here. none_back db x (quiet x (sym rest ∙ ap (get (unposted ss m)) here ∙ there))) ∙ rest
 
 -- to whom nothing is posted
 either_false : (a b : Bool) → (a || b) ≡ false → (a ≡ false) × (b ≡ false)

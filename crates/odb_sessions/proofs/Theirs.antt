@@ -34,9 +34,9 @@ as_many fs [] = refl
 as_many fs (w ∷ ws) = ap suc (as_many fs ws)
 
 -- a monitor that is brought to now, as the machine sees it
-pub monitor_brought : (h : Service) (k : Chains) (x y : Held) → y.id ≡ x.id → y.notation ≡ x.notation → y.tables ≡ map (brought_to k) x.tables → AreTheirs x.tables
+pub monitor_brought : (h : Service) (k : Chains) (x y : Held) → y.id ≡ x.id → y.notation ≡ x.notation → y.since ≡ x.since → y.tables ≡ map (brought_to k) x.tables → AreTheirs x.tables
     → monitor_of y ≡ brought h k.db (watch_of x).requests (monitor_of x)
-monitor_brought h k x y id notation tables theirs = (λ i. told_so (id i) (notation i) (tables i)) ∙ brought_seen h k x.id x.notation x.tables theirs
+monitor_brought h k x y id notation since tables theirs = (λ i. told_so (id i) (notation i) (since i) (tables i)) ∙ brought_seen h k x.id x.notation x.since x.tables theirs
 
 pub marks_brought : (k : Chains) (x : Held) (ws : List Watched) → ws ≡ map (brought_to k) x.tables → table_marks ws ≡ all_now k (marks_in x)
 marks_brought k x ws tables = ap table_marks tables ∙ brought_marks k x.tables

@@ -17,12 +17,12 @@ use Rattle.odb_monitor.specs.View.{View, cut, delta, query, selected, shown}
 use Rattle.odb_request.specs.Request.{Request}
 use Rattle.odb_service.specs.Server.{served_by}
 use Rattle.odb_service.specs.Service.{Service}
-use Rattle.odb_service.specs.Session.{Item, Monitor, Out, Revision, Session, stop_at, take_from, take_rest, told_of}
+use Rattle.odb_service.specs.Session.{Item, Monitor, Out, Revision, Session, stop_at, take, take_from, take_rest, told_of}
 use Rattle.odb_service.proofs.SessionMaps.{other}
 use Rattle.odb_tables.specs.Change.{Changes, after, all_changed_by, before, changed_by}
 use Rattle.odb_tables.specs.Database.{Db, table_at}
 use Rattle.odb_tables.specs.Installing.{IsChangeOf}
-use Rattle.odb_sessions.specs.Book.{Book, revision_in}
+use Rattle.odb_sessions.specs.Book.{Book}
 use Rattle.odb_sessions.specs.Held.{Sessions}
 use Rattle.odb_sessions.specs.Owed.{AreAtRest, AreNoted, IsAtRest, book_seen, interest_if, interest_in, interest_of, is_among}
 use Rattle.odb_sessions.specs.Quiet.{IsQuiet}
@@ -78,7 +78,7 @@ module _ (revision : Revision) (cs : List Changes) (is : IsChangeOf revision.db 
   abbrev taken_by : Service → Monitor → View → List Monitor → Rest → Rest
   taken_by h m v ms rest =
       let n : Monitor = record m { view = v } in
-      stop_at (told_of h m.watch.notation m.watch.id m.watch.requests (shown false m.watch.requests (delta m.view v))) (n ∷ ms) (rest.0, n ∷ rest.1)
+      stop_at (told_of h revision m.watch m.watch.requests (shown false m.watch.requests (delta m.view v))) (n ∷ ms) (rest.0, n ∷ rest.1)
 
   abbrev interest_all : List Monitor → List Asked
   interest_all ms = flat_map (λ m. interest_in m.watch.requests) ms
@@ -90,7 +90,7 @@ module _ (revision : Revision) (cs : List Changes) (is : IsChangeOf revision.db 
 
   -- after the change
   abbrev later : Revision
-  later = record { db = all_changed_by revision.db cs }
+  later = record revision { db = all_changed_by revision.db cs }
 
   rest_stays : (h : Service) (ms : List Monitor) → is_touched cs (interest_all ms) ≡ false → take_rest h later ms ≡ take_rest h revision ms
   rest_stays h [] e = refl
@@ -98,18 +98,24 @@ module _ (revision : Revision) (cs : List Changes) (is : IsChangeOf revision.db 
       let f : (is_touched cs (interest_in m.watch.requests) ≡ false) × (is_touched cs (interest_all ms) ≡ false) = one_by_one m ms e in
       λ i. taken_by h m (query_stays m.watch.requests f.0 i) ms (rest_stays h ms f.1 i)
 
-  still_quiet : (x : Session) → is_touched cs (interest_of x) ≡ false → IsQuiet revision x → IsQuiet later x
-  still_quiet x e quiet = (
-    quiet.0,
-    λ s.
-        let h : Service = served_by s in
-        let ms : List Monitor = x.monitors in
-        let rest : take_rest h later ms ≡ take_rest h revision ms = rest_stays h ms e in
-        ap (λ (is : List Item). let r : Taken = take_from h later is ms in r) quiet.0
-        ∙ (λ i. let r : Taken = ((rest i).0, record { queue = []; monitors = (rest i).1 }) in r)
-        ∙ sym (ap (λ (is : List Item). let r : Taken = take_from h revision is ms in r) quiet.0)
-        ∙ quiet.1 s,
-  )
+  takes_nothing : (h : Service) (x : Session) → is_touched cs (interest_of x) ≡ false → x.queue ≡ [] → take h revision x ≡ (None, x) → take h later x ≡ (None, x)
+  takes_nothing h x e empty none =
+      let ms : List Monitor = x.monitors in
+      let rest : take_rest h later ms ≡ take_rest h revision ms = rest_stays h ms e in
+      ap (λ (is : List Item). let r : Taken = take_from h later is ms in r) empty
+      ∙ (λ i. let r : Taken = ((rest i).0, record { queue = []; monitors = (rest i).1 }) in r)
+      ∙ sym (ap (λ (is : List Item). let r : Taken = take_from h revision is ms in r) empty)
+      ∙ none
+
+still_quiet : (db : Db) (cs : List Changes) → IsChangeOf db cs → (x : Session) → is_touched cs (interest_of x) ≡ false → IsQuiet db x → IsQuiet (all_changed_by db cs) x
+still_quiet db cs is x e quiet = (
+  quiet.0,
+  λ s revision now.
+      let h : Service = served_by s in
+      let before : Revision = record revision { db = db } in
+      ap (λ (d : Db). let v : Revision = record revision { db = d } in take h v x) now
+      ∙ takes_nothing before cs is h x e quiet.0 (quiet.1 s before refl),
+)
 
 -- ---- those that aren't named
 
@@ -128,7 +134,7 @@ untouched_rest : (i : Interests) (b : Book) (cs : List Changes) (ss : List ℕ) 
 untouched_rest i b cs ss is touched s out rest = (
   λ x there.
       let miss : is_touched cs (interest_of x) ≡ false = ap (is_touched cs) (sym (rest.1 ∙ ap interest_if there)) ∙ sym (touched s) ∙ not_among s ss out in
-      still_quiet (revision_in b) cs is x miss (rest.0 x there),
+      still_quiet b.db cs is x miss (rest.0 x there),
   rest.1,
 )
 

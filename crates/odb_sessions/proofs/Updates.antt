@@ -5,7 +5,7 @@ use Rattle.odb_monitor.specs.Job.{Part, updates_of}
 use Rattle.odb_monitor.specs.View.{query, selected}
 use Rattle.odb_request.specs.Request.{Request}
 use Rattle.odb_service.specs.Service.{Service}
-use Rattle.odb_service.specs.Session.{Revision, refilter}
+use Rattle.odb_service.specs.Session.{Revision, newest_number, refilter}
 use Rattle.odb_sessions.specs.Composed.{asked_of, later_job, notified_text, part_to}
 use Rattle.odb_sessions.specs.Foreseen.{Ahead, Filters, all_parts_again, asked_under, seen_ahead, update_text}
 use Rattle.odb_sessions.specs.Held.{Held, Watched, monitor_of, view_of, watch_of}
@@ -20,17 +20,17 @@ refilter_none (q ∷ qs) = ap (λ (rs : List Request). q ∷ rs) (refilter_none 
 -- ---- nothing was foreseen
 
 pub sent_asked : (h : Service) (revision : Revision) (x : Held)
-    → option_map (notified_text x.notation x.id) (updates_of (later_job x.notation (map (part_to revision.db) x.tables))) ≡ update_text h revision (watch_of x).requests (monitor_of x)
+    → option_map (notified_text (newest_number revision) x) (updates_of (later_job x.notation (map (part_to revision.db) x.tables))) ≡ update_text h revision (watch_of x).requests (monitor_of x)
 sent_asked h revision x =
-    parts_sent h revision x.id x.notation (watch_of x).requests (asked_of x.tables) (view_of x) (map (part_to revision.db) x.tables)
-    (parts_asked revision.db x.tables) (parts_told revision.db x.id x.notation x.tables) (parts_now revision.db x.tables)
+    parts_sent h revision x (asked_of x.tables) (view_of x) (map (part_to revision.db) x.tables)
+    (parts_asked revision.db x.tables) (parts_told revision.db x) (parts_now revision.db x.tables)
 
 pub sent_under : (h : Service) (revision : Revision) (fs : Filters) (x : Held)
-    → option_map (notified_text x.notation x.id) (updates_of (later_job x.notation (map (part_to revision.db) (under fs x.tables)))) ≡ update_text h revision (refilter fs (watch_of x).requests) (monitor_of x)
+    → option_map (notified_text (newest_number revision) x) (updates_of (later_job x.notation (map (part_to revision.db) (under fs x.tables)))) ≡ update_text h revision (refilter fs (watch_of x).requests) (monitor_of x)
 sent_under h revision fs x =
     let vs : List Watched = under fs x.tables in
-    parts_sent h revision x.id x.notation (watch_of x).requests (refilter fs (asked_of x.tables)) (view_of x) (map (part_to revision.db) vs)
-    (parts_asked revision.db vs ∙ same_asked fs x.tables) (parts_told revision.db x.id x.notation vs ∙ same_view x.id x.id x.notation fs x.tables) (parts_now revision.db vs ∙ ap (query revision.db) (same_asked fs x.tables))
+    parts_sent h revision x (refilter fs (asked_of x.tables)) (view_of x) (map (part_to revision.db) vs)
+    (parts_asked revision.db vs ∙ same_asked fs x.tables) (parts_told revision.db (record x { tables = vs }) ∙ same_view x.id x.id x.notation x.since fs x.tables) (parts_now revision.db vs ∙ ap (query revision.db) (same_asked fs x.tables))
 
 -- ---- the client was told of its tables as they are now
 
@@ -50,7 +50,7 @@ abbrev pub told_as : Held → Filters → Ahead
 told_as x gs = record { held = x; told = Some gs }
 
 pub sent_again : (h : Service) (revision : Revision) (gs fs : Filters) (x : Held)
-    → option_map (notified_text x.notation x.id) (updates_of (later_job x.notation (all_parts_again revision.db gs x.tables (refilter fs (asked_of x.tables))))) ≡ update_text h revision (refilter fs (watch_of x).requests) (seen_ahead revision.db (told_as x gs))
+    → option_map (notified_text (newest_number revision) x) (updates_of (later_job x.notation (all_parts_again revision.db gs x.tables (refilter fs (asked_of x.tables))))) ≡ update_text h revision (refilter fs (watch_of x).requests) (seen_ahead revision.db (told_as x gs))
 sent_again h revision gs fs x =
-    parts_sent h revision x.id x.notation (watch_of x).requests (refilter fs (asked_of x.tables)) (query revision.db (refilter gs (asked_of x.tables))) (all_parts_again revision.db gs x.tables (refilter fs (asked_of x.tables)))
+    parts_sent h revision x (refilter fs (asked_of x.tables)) (query revision.db (refilter gs (asked_of x.tables))) (all_parts_again revision.db gs x.tables (refilter fs (asked_of x.tables)))
     (again_asked revision.db gs fs x.tables) (again_told revision.db gs fs x.tables) (again_now revision.db gs fs x.tables)

@@ -1,18 +1,23 @@
--- What is composed for the client of a monitor, from the marks for what it was told. [P 9.2, 9.3, 10.1]
-use Rattle.std.specs.Prelude.{◌≡◌, ℕ, Bool, true, false, List, [], ◌∷◌, map, Option, option_map}
+-- What is composed for the client of a monitor, from the marks for what it was told. [P 9.2, 9.3, 9.8, 10.1]
+use Rattle.std.specs.Prelude.{◌≡◌, ℕ, Bool, true, false, List, [], ◌∷◌, map, take, Option, Some, None, option_map}
 use Rattle.serde_json.specs.Written.{compact_text}
 use Rattle.odb_atoms.specs.FinMap.{empty}
+use Rattle.odb_atoms.specs.Uuid.{Uuid}
 use Rattle.odb_chain.specs.Chains.{Chains, IsLive}
 use Rattle.odb_monitor.specs.Job.{Job, Part, updates_of}
 use Rattle.odb_monitor.specs.Update.{table_updates}
 use Rattle.odb_monitor.specs.View.{delta, nothing, query, selected, shown}
+use Rattle.odb_recent.specs.Recent.{Recent, commits_ago, number_of}
+use Rattle.odb_recent.specs.Undo.{Undo, table_ago}
 use Rattle.odb_request.specs.Request.{Notation, Request}
-use Rattle.odb_rpc.specs.Message.{notification}
+use Rattle.odb_rpc.specs.Message.{notification, reply}
 use Rattle.odb_rpc.specs.Represented.Shared.{update_method}
+use Rattle.odb_rpc.specs.Since.{since_result, update3}
 use Rattle.odb_schema.specs.Json.{Data}
 use Rattle.odb_service.specs.Session.{Monitor, shapes}
 use Rattle.odb_sessions.specs.Held.{Held, Watched, monitor_of}
 use Rattle.odb_tables.specs.Database.{Db, table_at}
+use Rattle.odb_wire.specs.Message.{id_of}
 
 -- what the client was told is kept, and it is a content of the table that is asked for
 abbrev pub IsKnown : Chains → Watched → Type 0
@@ -28,8 +33,8 @@ abbrev pub asked_of : List Watched → List Request
 asked_of ws = map (λ w. w.request) ws
 
 -- the monitor whose client was told so
-abbrev pub told_so : Data → Notation → List Watched → Monitor
-told_so i n ws = monitor_of (record { id = i; notation = n; tables = ws })
+abbrev pub told_so : Data → Notation → Option Uuid → List Watched → Monitor
+told_so i n since ws = monitor_of (record { id = i; notation = n; tables = ws; since = since })
 
 -- of a table what the client has and what it is to have
 abbrev pub part_to : Db → Watched → Part
@@ -54,7 +59,7 @@ part_in false db = part_to db
 
 -- the job of these parts, of a client that had its first reply
 abbrev pub later_job : Notation → List Part → Job
-later_job n ps = record { notation = n; first = false; parts = ps }
+later_job n ps = record { notation = n; first = false; reply = false; parts = ps }
 
 -- the text of the table updates that the client of this monitor is owed, without its id, if something is sent
 abbrev pub updates_for : Db → Held → Option (List ℕ)
@@ -62,18 +67,39 @@ updates_for db x = option_map compact_text (updates_of (later_job x.notation (ma
 
 -- the job of a client's own tables: of its first reply, or of what it lacks
 abbrev pub own_job : Bool → Db → Held → Job
-own_job first db x = record { notation = x.notation; first = first; parts = map (part_in first db) x.tables }
+own_job first db x = record { notation = x.notation; first = first; reply = first; parts = map (part_in first db) x.tables }
 
 abbrev pub first_job : Db → Notation → List Request → Job
-first_job db n qs = record { notation = n; first = true; parts = map (first_part db) qs }
+first_job db n qs = record { notation = n; first = true; reply = true; parts = map (first_part db) qs }
+
+-- of a table what a client has that was told of it as it was before these commits, and what it is to have
+abbrev pub part_since : List Undo → Db → Request → Part
+part_since us db q = record { request = q; told = selected q (table_ago q.place us (table_at db q.place)); asked = selected q (table_at db q.place) }
+
+-- the job of the reply to a client that has what these requests selected before these commits
+abbrev pub resumed_job : List Undo → Db → Notation → List Request → Job
+resumed_job us db n qs = record { notation = n; first = false; reply = true; parts = map (part_since us db) qs }
 
 -- what a first reply tells
 abbrev pub first_updates : Db → Notation → List Request → Data
 first_updates db n qs = table_updates n true (shapes qs) (shown true qs (delta (nothing qs) (query db qs)))
 
--- the text of the notification with these table updates
-abbrev pub notified_text : Notation → Data → Data → List ℕ
-notified_text n i d = compact_text (notification (update_method n) (i ∷ d ∷ []))
+-- what a client is told that has what these requests selected before these commits
+abbrev pub resumed_updates : List Undo → Db → Notation → List Request → Data
+resumed_updates us db n qs = table_updates n false (shapes qs) (shown false qs (delta (map (λ q. selected q (table_ago q.place us (table_at db q.place))) qs) (query db qs)))
+
+-- the result of a first reply to who named a commit, where it was found so many commits ago, or not at all
+abbrev pub result_since : Recent → Db → Held → Option ℕ → Data
+result_since r db x None = since_result false (number_of r.run r.commits) (first_updates db x.notation (asked_of x.tables))
+result_since r db x (Some ago) = since_result true (number_of r.run r.commits) (resumed_updates (take ago r.undos) db x.notation (asked_of x.tables))
+
+-- the text of the first reply to the request d, where this commit was named
+abbrev pub text_since : Recent → Chains → Data → Held → Uuid → List ℕ
+text_since r k d x v = compact_text (reply (id_of d) (result_since r k.db x (commits_ago r.most r.run r.commits v)))
+
+-- the text of the notification with these table updates, where this is the newest commit
+abbrev pub notified_text : Uuid → Held → Data → List ℕ
+notified_text number x d = compact_text (elim x.since [ None ↦ notification (update_method x.notation) (x.id ∷ d ∷ []) | Some v ↦ update3 x.id number d ])
 
 -- ---- under other requests
 

@@ -1,7 +1,8 @@
 -- What is kept of sessions: marks in place of what clients have.
-use Rattle.std.specs.Prelude.{ℕ, List, [], ◌++◌, map, flat_map}
+use Rattle.std.specs.Prelude.{ℕ, List, [], ◌++◌, map, flat_map, Option}
 use Rattle.std.specs.Ordering.{nat_cmp}
 use Rattle.odb_atoms.specs.FinMap.{FinMap, entries_of, from_entries}
+use Rattle.odb_atoms.specs.Uuid.{Uuid}
 use Rattle.odb_chain.specs.Chains.{Mark}
 use Rattle.odb_cond.specs.Filter.{Filter}
 use Rattle.odb_monitor.specs.View.{View, selected}
@@ -19,6 +20,7 @@ pub record Held : Type 0 where
   pub id : Data
   pub notation : Notation
   pub tables : List Watched
+  pub since : Option Uuid
 
 -- what is queued: an item without marks; or, for the request d, a monitor whose first reply is due, with its marks
 pub data Queued : Type 0 where
@@ -35,7 +37,7 @@ Sessions = FinMap nat_cmp Kept
 -- ---- what the machine sees of it
 
 abbrev pub watch_of : Held → Watch
-watch_of h = record { id = h.id; notation = h.notation; requests = map (λ w. w.request) h.tables }
+watch_of h = record { id = h.id; notation = h.notation; requests = map (λ w. w.request) h.tables; since = h.since }
 
 abbrev pub view_of : Held → View
 view_of h = map (λ w. selected (record (w.request) { filter = w.told }) w.mark.content) h.tables

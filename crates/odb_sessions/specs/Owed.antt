@@ -8,7 +8,8 @@ use Rattle.odb_chain.specs.Chains.{Chains}
 use Rattle.odb_interest.specs.Keys.{Asked, Interests, asked_at}
 use Rattle.odb_request.specs.Request.{Request}
 use Rattle.odb_service.specs.Session.{Item, Session}
-use Rattle.odb_sessions.specs.Book.{Book}
+use Rattle.odb_recent.specs.Recent.{recent_of}
+use Rattle.odb_sessions.specs.Book.{Book, book_with}
 use Rattle.odb_sessions.specs.Held.{Held, Sessions, Watched, all_seen}
 use Rattle.odb_sessions.specs.Quiet.{IsQuietAt}
 use Rattle.odb_sessions.specs.Tied.{IsTied}
@@ -29,9 +30,9 @@ addressed ps = map (λ p. p.0) ps
 abbrev pub AreNoted : BTreeSet ℕ → BTreeSet ℕ → List ℕ → Type 0
 AreNoted old new ss = (s : ℕ) → contains nat_cmp new s ≡ false → (contains nat_cmp old s ≡ false) × (is_among s ss ≡ false)
 
--- what the machine sees of the chains and of what is kept of the sessions
+-- what the machine sees of the chains and of what is kept of the sessions, as if there were no commits
 abbrev pub book_seen : Chains → Sessions → Book
-book_seen k m = record { db = k.db; sessions = all_seen m }
+book_seen k m = book_with k.db (recent_of 0 0) (all_seen m)
 
 -- ---- what sessions ask
 

@@ -6,11 +6,10 @@ use Rattle.odb_atoms.specs.FinMap.{FinMap, get}
 use Rattle.odb_monitor.specs.Update.{table_updates}
 use Rattle.odb_monitor.specs.View.{Delta, delta, is_none, query, shown}
 use Rattle.odb_request.specs.Request.{Request}
-use Rattle.odb_rpc.specs.Message.{notification}
 use Rattle.odb_schema.specs.Json.{Data}
 use Rattle.odb_service.specs.Run.{Sent, sent}
 use Rattle.odb_service.specs.Service.{Service}
-use Rattle.odb_service.specs.Session.{Answers, Item, Monitor, Out, Revision, Session, Watch, brought, first_out, granted, has_id, leaves, method_of, no_request, refilter, renamed, say, shapes, shift, start, stopped, sync}
+use Rattle.odb_service.specs.Session.{Answers, Item, Monitor, Out, Revision, Session, Watch, brought, first_out, granted, has_id, leaves, no_request, notified, refilter, renamed, say, shapes, shift, start, stopped, sync}
 use Rattle.odb_sessions.specs.Posts.{at_number}
 use Rattle.odb_tables.specs.Database.{Db}
 
@@ -51,13 +50,13 @@ module _ (h : Service) where
   abbrev pub change_to : Db → List Request → Monitor → Delta
   change_to db qs m = shown false qs (delta m.view (query db qs))
 
-  abbrev pub notified : Revision → List Request → Monitor → Out
-  notified revision qs m = record { answers = no_request; message = notification (method_of h m.watch.notation) (m.watch.id ∷ table_updates m.watch.notation false (shapes qs) (change_to revision.db qs m) ∷ []) }
+  abbrev pub update_out : Revision → List Request → Monitor → Out
+  update_out revision qs m = record { answers = no_request; message = notified h revision m.watch (table_updates m.watch.notation false (shapes qs) (change_to revision.db qs m)); held = None }
 
   abbrev pub out_of : Revision → Due → Out
-  out_of revision (text_due a d) = record { answers = a; message = d }
+  out_of revision (text_due a d) = record { answers = a; message = d; held = None }
   out_of revision (first_due d k) = first_out h revision d k
-  out_of revision (update_due m qs) = notified revision qs m
+  out_of revision (update_due m qs) = update_out revision qs m
   out_of revision (grant_due d) = granted h d
 
   -- an update, if anything of it is shown

@@ -4,12 +4,13 @@ use Rattle.odb_atoms.specs.FinMap.{get}
 use Rattle.odb_schema.specs.Schema.{Schema}
 use Rattle.odb_service.specs.Server.{served_by}
 use Rattle.odb_service.specs.Session.{Revision, Session, take}
-use Rattle.odb_sessions.specs.Book.{Book, revision_in}
+use Rattle.odb_sessions.specs.Book.{Book}
+use Rattle.odb_tables.specs.Database.{Db}
 
--- nothing is queued, and a taking gives nothing and changes nothing
-abbrev pub IsQuiet : Revision → Session → Type 0
-IsQuiet revision x = (x.queue ≡ []) × ((s : Schema) → take (served_by s) revision x ≡ (None, x))
+-- nothing is queued, and a taking from this database gives nothing and changes nothing
+abbrev pub IsQuiet : Db → Session → Type 0
+IsQuiet db x = (x.queue ≡ []) × ((s : Schema) (revision : Revision) → revision.db ≡ db → take (served_by s) revision x ≡ (None, x))
 
 -- the same of the session at a number, if one is open
 abbrev pub IsQuietAt : Book → ℕ → Type 0
-IsQuietAt b s = (x : Session) → get b.sessions s ≡ Some x → IsQuiet (revision_in b) x
+IsQuietAt b s = (x : Session) → get b.sessions s ≡ Some x → IsQuiet b.db x

@@ -68,9 +68,13 @@ abbrev pub counted_in : List Live → ℕ
 counted_in [] = 0
 counted_in (l ∷ ls) = counted_at l + counted_in ls
 
--- a list of places for each table, and fewer than n marks at all of them together
+-- a list of places for each table
+abbrev pub HasLists : Chains → Type 0
+HasLists k = length k.live ≡ length k.db
+
+-- the same, and fewer than n marks at all of them together
 abbrev pub HasRoom : Chains → ℕ → Type 0
-HasRoom k n = (length k.live ≡ length k.db) × (counted_in k.live < n)
+HasRoom k n = HasLists k × (counted_in k.live < n)
 
 -- as many lists of places, and as many marks at all of them together
 abbrev pub KeepsRoom : Chains → Chains → Type 0

@@ -1,21 +1,22 @@
-//! What is owed to the client of a monitor, by parts, from the marks for what it was told; and its messages. [P 9.2, 9.3, 10.1]
-ghost use Rattle.std.specs.Prelude.{◌≡◌, IfOk, List, Some, map};
+//! What is owed to the client of a monitor, by parts, from the marks for what it was told; and its messages. [P 9.2, 9.3, 9.8, 10.1]
+ghost use Rattle.std.specs.Prelude.{◌≡◌, ◌++◌, IfOk, List, Some, map};
 ghost use Rattle.std.specs.List.{All};
 ghost use Rattle.serde_json.specs.Data.{Data};
 ghost use Rattle.serde_json.specs.Written.{compact_text};
+ghost use Rattle.odb_atoms.specs.Represented.Atom.{uuid_of};
 ghost use Rattle.odb_monitor.specs.Job as model_job;
-ghost use Rattle.odb_request.specs.Represented.Kind.{notation_of};
+ghost use Rattle.odb_rpc.specs.Represented.Shared.{after_updates};
 ghost use Rattle.odb_sessions.specs.Composed.{IsKnown, notified_text, part_in};
 ghost use Rattle.odb_sessions.specs.Jobs.{composition_at};
 ghost use Rattle.odb_sessions.specs.Represented.Composed.{text_under};
 
-use crate::id::Id;
+use crate::monitor::Monitor;
 use crate::owed::Owed;
 use odb_chain::Chains;
 use odb_monitor::Part;
-use odb_request::Kind;
-use odb_rpc::{after_updates, before_updates};
+use odb_rpc::{after_updates, before_update3, before_updates};
 use std::alloc::{AllocError, Global};
+use uuid::Uuid;
 
 /// The parts of these tables; in a first reply the client was told nothing of them. For each the costs are those of
 /// `odb_chain::Chains::since`.
@@ -44,17 +45,31 @@ pub(crate) struct Message {
     pub(crate) after: Vec<u8>,
 }
 
-/// The notification of a monitor, with the table updates that are composed of the job. O(n) for an id of n bytes.
-pub(crate) fn around_updates(
-    alloc: Global,
-    kind: Kind,
-    monitor: &Id,
-    job: usize,
-) -> Result<Message, AllocError>
-    ensures { IfOk result (λ message. (all : List model_job.Job) (d : Data) → composition_at all job ≡ Some (compact_text d)
-        → text_under all message ≡ notified_text (notation_of kind) monitor.now d) }
-{
-    let before = before_updates(alloc, kind, monitor.printable())?;
-    let after = Vec::from_slice(alloc, after_updates())?;
-    Ok(Message { before, job, after })
+impl Monitor {
+    /// Makes the notification to its client, with the table updates that are composed of the job, where this is the number of
+    /// the newest commit. O(n) for an id of n bytes.
+    pub(crate) fn around_updates(
+        &self,
+        alloc: Global,
+        number: Uuid,
+        job: usize,
+    ) -> Result<Message, AllocError>
+        ensures { IfOk result (λ message. (all : List model_job.Job) (d : Data) → composition_at all job ≡ Some (compact_text d)
+            → text_under all message ≡ notified_text (uuid_of number) self.now d) }
+    {
+        let before = self.before_updates(alloc, number)?;
+        let after = Vec::from_slice(alloc, after_updates())?;
+        Ok(Message { before, job, after })
+    }
+
+    /// Makes what stands before table updates in a notification to its client.
+    fn before_updates(&self, alloc: Global, number: Uuid) -> Result<Vec<u8>, AllocError>
+        ensures { IfOk result (λ text. (d : Data)
+            → text.items ++ (compact_text d ++ after_updates) ≡ notified_text (uuid_of number) self.now d) }
+    {
+        match self.since {
+            None => before_updates(alloc, self.kind, self.id.printable()),
+            Some(_) => before_update3(alloc, self.id.printable(), number),
+        }
+    }
 }

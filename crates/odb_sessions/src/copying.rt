@@ -50,6 +50,7 @@ impl Clone for Monitor {
             id,
             kind: self.kind,
             tables,
+            since: self.since,
         })
     }
 }

@@ -13,7 +13,7 @@ ghost use Rattle.odb_sessions.specs.Planned.{due, plan_rest};
 ghost use Rattle.odb_sessions.specs.Jobs.{Keeps};
 ghost use Rattle.odb_sessions.specs.Represented.Composed.{Tells};
 ghost use Rattle.odb_sessions.specs.Represented.Under.{filters_in, item_in};
-ghost use Rattle.odb_sessions.specs.Tied.{AreLive};
+ghost use Rattle.odb_sessions.specs.Tied.{AreLive, HasLists};
 ghost use Rattle.odb_sessions.specs.Book.{revision_at};
 
 use crate::composing::Message;
@@ -24,6 +24,7 @@ use crate::monitor::Monitor;
 use crate::under::Under;
 use crate::wanted::Wanted;
 use odb_chain::Chains;
+use odb_recent::Recent;
 use std::alloc::{AllocError, Global};
 use std::marker::Model;
 
@@ -65,17 +66,18 @@ impl<'a> Ahead<'a> {
         &self,
         wanted: &mut Wanted<'a>,
         under: Under<'a>,
+        recent: &Recent,
     ) -> Result<Option<Message>, AllocError>
         requires { AreLive wanted.old.chains (marks_in self.now.held) }
         ensures text { IfOk result (λ message. (h : Service) → Tells wanted.new.jobs message
-            (update_text h (revision_at wanted.old.chains) (refilter (filters_in under.entry) (watch_of self.now.held).requests) (seen_ahead wanted.old.chains.db self.now))) }
+            (update_text h (revision_at wanted.old.chains recent.now) (refilter (filters_in under.entry) (watch_of self.now.held).requests) (seen_ahead wanted.old.chains.db self.now))) }
         ensures jobs { Keeps wanted.old.jobs wanted.new.jobs }
         ensures chains { wanted.new.chains ≡ wanted.old.chains }
     {
         let monitor = self.monitor;
         match self.told {
-            None => monitor.update(wanted, under),
-            Some(told) => monitor.update_again(wanted, told, under),
+            None => monitor.update(wanted, under, recent),
+            Some(told) => monitor.update_again(wanted, told, under, recent),
         }
     }
 
@@ -121,10 +123,11 @@ fn pass<'a>(
     monitors: &mut Vec<Ahead<'a>>,
     id: &Id,
     under: Under<'a>,
+    recent: &Recent,
 ) -> Result<Option<Message>, AllocError>
     requires { AreLive wanted.old.chains (marks_ahead monitors.old.items) }
     ensures text { IfOk result (λ message. (s : Schema) → Tells wanted.new.jobs message
-        (option_map (due_text (served_by s) (revision_at wanted.old.chains)) (due (served_by s) wanted.old.chains.db (item_in id.now under.entry) (map (seen_ahead wanted.old.chains.db) monitors.old.items)))) }
+        (option_map (due_text (served_by s) (revision_at wanted.old.chains recent.now)) (due (served_by s) wanted.old.chains.db (item_in id.now under.entry) (map (seen_ahead wanted.old.chains.db) monitors.old.items)))) }
     ensures passed { OnOk result ((s : Schema) → map (seen_ahead wanted.old.chains.db) monitors.new.items
         ≡ leaves (served_by s) wanted.old.chains.db (item_in id.now under.entry) (map (seen_ahead wanted.old.chains.db) monitors.old.items)) }
     ensures jobs { Keeps wanted.old.jobs wanted.new.jobs }
@@ -134,7 +137,7 @@ fn pass<'a>(
     let Some(place) = place_of(monitors.as_slice(), id) else {
         return Ok(None);
     };
-    let message = monitors[place].update(wanted, under)?;
+    let message = monitors[place].update(wanted, under, recent)?;
     monitors[place] = monitors[place].brought(under);
     Ok(message)
 }
@@ -149,17 +152,21 @@ pub(crate) struct Rest {
 
 /// What these monitors have due. The costs are those of `Ahead::update` for each monitor up to the first that is
 /// owed something.
-fn rest_due<'a>(wanted: &mut Wanted<'a>, monitors: &[Ahead<'a>]) -> Result<Rest, AllocError>
+fn rest_due<'a>(
+    wanted: &mut Wanted<'a>,
+    monitors: &[Ahead<'a>],
+    recent: &Recent,
+) -> Result<Rest, AllocError>
     requires { AreLive wanted.old.chains (marks_ahead monitors.now) }
     ensures monitors { IfOk result (λ rest. (h : Service)
         → rest.monitors ≡ (plan_rest h wanted.old.chains.db (map (seen_ahead wanted.old.chains.db) monitors.now)).monitors) }
     ensures text { IfOk result (λ rest. (h : Service) → Tells wanted.new.jobs rest.message
-        (option_map (due_text h (revision_at wanted.old.chains)) (plan_rest h wanted.old.chains.db (map (seen_ahead wanted.old.chains.db) monitors.now)).out)) }
+        (option_map (due_text h (revision_at wanted.old.chains recent.now)) (plan_rest h wanted.old.chains.db (map (seen_ahead wanted.old.chains.db) monitors.now)).out)) }
     ensures jobs { Keeps wanted.old.jobs wanted.new.jobs }
     ensures chains { wanted.new.chains ≡ wanted.old.chains }
 {
     for place in 0..monitors.len() {
-        let message = monitors[place].update(wanted, Under::Asked)?;
+        let message = monitors[place].update(wanted, Under::Asked, recent)?;
         if message.is_some() {
             return Ok(Rest {
                 monitors: place + 1,
@@ -184,7 +191,7 @@ impl<'a> Model for Planner<'a> {
     ghost use Rattle.odb_sessions.specs.Foreseen as model;
     ghost use Rattle.odb_sessions.specs.Foreseen.{marks_ahead, seen_ahead};
     ghost use Rattle.odb_sessions.specs.Represented.Codes.{foreseen_code};
-    ghost use Rattle.odb_sessions.specs.Tied.{AreLive};
+    ghost use Rattle.odb_sessions.specs.Tied.{AreLive, HasLists};
 
     ghost Value = { model.Foreseen };
 
@@ -192,13 +199,14 @@ impl<'a> Model for Planner<'a> {
 
     ghost view = { λ p. record { chains = p.wanted.chains; jobs = p.wanted.jobs; monitors = map (seen_ahead p.wanted.chains.db) p.monitors.items } };
 
-    ghost invariant = { λ p. AreLive p.wanted.chains (marks_ahead p.monitors.items) };
+    ghost invariant = { λ p. AreLive p.wanted.chains (marks_ahead p.monitors.items) × HasLists p.wanted.chains };
 }
 
 impl<'a> Planner<'a> {
     /// No jobs, and no monitors. O(1).
     pub(crate) fn new(alloc: Global, chains: &'a Chains, firsts: &'a FirstTexts) -> Planner<'a>
-        requires { AreFirstTexts chains.now.db firsts.now }
+        requires firsts { AreFirstTexts chains.now.db firsts.now }
+        requires lists { HasLists chains.now }
         ensures { result ≡ record { chains = chains.now; jobs = []; monitors = [] } }
     {
         Planner {
@@ -221,28 +229,33 @@ impl<'a> Planner<'a> {
 
     /// What the client of the monitor with this id is sent to be brought to now under these filters; `None` where
     /// that is nothing. From then on it is foreseen so. The costs are those of `Monitor::update`.
-    pub(crate) fn pass(&mut self, id: &Id, under: Under<'a>) -> Result<Option<Message>, AllocError>
+    pub(crate) fn pass(
+        &mut self,
+        id: &Id,
+        under: Under<'a>,
+        recent: &Recent,
+    ) -> Result<Option<Message>, AllocError>
         ensures text { IfOk result (λ message. (s : Schema) → Tells self.new.jobs message
-            (option_map (due_text (served_by s) (revision_at self.old.chains)) (due (served_by s) self.old.chains.db (item_in id.now under.entry) self.old.monitors))) }
+            (option_map (due_text (served_by s) (revision_at self.old.chains recent.now)) (due (served_by s) self.old.chains.db (item_in id.now under.entry) self.old.monitors))) }
         ensures passed { OnOk result ((s : Schema) → self.new.monitors
             ≡ leaves (served_by s) self.old.chains.db (item_in id.now under.entry) self.old.monitors) }
         ensures jobs { Keeps self.old.jobs self.new.jobs }
         ensures chains { self.new.chains ≡ self.old.chains }
     {
-        pass(&mut self.wanted, &mut self.monitors, id, under)
+        pass(&mut self.wanted, &mut self.monitors, id, under, recent)
     }
 
     /// What its monitors have due once the queue is empty. The costs are those of `Monitor::update` for each
     /// monitor up to the first that is owed something.
-    pub(crate) fn rest(&mut self) -> Result<Rest, AllocError>
+    pub(crate) fn rest(&mut self, recent: &Recent) -> Result<Rest, AllocError>
         ensures monitors { IfOk result (λ rest. (h : Service)
             → rest.monitors ≡ (plan_rest h self.old.chains.db self.old.monitors).monitors) }
         ensures text { IfOk result (λ rest. (h : Service) → Tells self.new.jobs rest.message
-            (option_map (due_text h (revision_at self.old.chains)) (plan_rest h self.old.chains.db self.old.monitors).out)) }
+            (option_map (due_text h (revision_at self.old.chains recent.now)) (plan_rest h self.old.chains.db self.old.monitors).out)) }
         ensures jobs { Keeps self.old.jobs self.new.jobs }
         ensures chains { self.new.chains ≡ self.old.chains }
     {
-        rest_due(&mut self.wanted, self.monitors.as_slice())
+        rest_due(&mut self.wanted, self.monitors.as_slice(), recent)
     }
 
     /// The jobs.

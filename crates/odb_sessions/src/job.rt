@@ -1,7 +1,7 @@
-//! Jobs: what is to be composed for the client of a monitor. [P 9.2, 9.3, 9.5]
-ghost use Rattle.std.specs.Prelude.{◌≡◌, IfOk, IfSome, Some, is_some, map};
+//! Jobs: what is to be composed for the client of a monitor. [P 9.2, 9.3, 9.5, 9.8]
+ghost use Rattle.std.specs.Prelude.{◌≡◌, IfOk, IfSome, Some, is_some, map, take};
 ghost use Rattle.odb_monitor.specs.Job.{updates_of};
-ghost use Rattle.odb_sessions.specs.Composed.{all_asked_as, later_job, own_job, part_to};
+ghost use Rattle.odb_sessions.specs.Composed.{all_asked_as, asked_of, later_job, own_job, part_to, resumed_job};
 ghost use Rattle.odb_sessions.specs.Foreseen.{all_parts_again};
 ghost use Rattle.odb_sessions.specs.FirstTexts.{IsFirstText, IsOfNow};
 ghost use Rattle.odb_sessions.specs.Held.{marks_in};
@@ -18,10 +18,12 @@ use crate::composing::parts_of;
 use crate::first_texts::FirstText;
 use crate::monitor::Monitor;
 use crate::planning::parts_under;
+use crate::resuming::parts_since;
 use crate::under::{Under, requests_under};
 use crate::way::Way;
 use odb_chain::Chains;
 use odb_monitor::compose;
+use odb_recent::Recent;
 use odb_request::Request;
 use std::alloc::{AllocError, Global};
 use std::marker::Model;
@@ -165,6 +167,7 @@ impl<'a> Job<'a> {
             Way::Asked => Ok(None),
             Way::Changed(_) => Ok(None),
             Way::Again(_, _) => Ok(None),
+            Way::Since(_, _) => Ok(None),
         }
     }
 
@@ -180,6 +183,7 @@ impl<'a> Job<'a> {
             Way::Asked => monitor.own_job(alloc, chains, false),
             Way::Changed(_) => monitor.changed_job(alloc, chains, requests),
             Way::Again(told, _) => monitor.again_job(alloc, chains, told, requests),
+            Way::Since(recent, ago) => monitor.resumed_job(alloc, chains, recent, ago),
         }
     }
 }
@@ -242,5 +246,21 @@ impl Monitor {
     {
         let parts = parts_again(alloc, chains, self.tables.as_slice(), told, requests)?;
         Ok(odb_monitor::Job::new(self.kind, false, parts))
+    }
+
+    /// Makes the job of the reply to a client that has what it selected so many commits ago.
+    fn resumed_job<'a>(
+        &'a self,
+        alloc: Global,
+        chains: &'a Chains,
+        recent: &Recent,
+        ago: usize,
+    ) -> Result<odb_monitor::Job<'a>, AllocError>
+        requires { AreLive chains.now (marks_in self.now) }
+        ensures { IfOk result (λ job. job
+            ≡ resumed_job (take ago recent.now.undos) chains.now.db self.now.notation (asked_of self.now.tables)) }
+    {
+        let parts = parts_since(alloc, chains, self.tables.as_slice(), recent, ago)?;
+        Ok(odb_monitor::Job::resumed(self.kind, parts))
     }
 }

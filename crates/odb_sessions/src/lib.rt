@@ -35,6 +35,7 @@ mod queue;
 mod ready;
 mod refreshing;
 mod resting;
+mod resuming;
 mod round;
 mod session;
 mod sessions;

@@ -16,6 +16,7 @@ use odb_request::{Kind, Request};
 use std::alloc::{AllocError, Global};
 use std::marker::Model;
 use std::sync::Arc;
+use uuid::Uuid;
 
 /// One table of a monitor. What the client was told of it is the content of the mark, under the filter told,
 /// or the request's where there is none.
@@ -69,15 +70,19 @@ impl Watching {
     }
 }
 
-/// A monitor: one whose first reply was taken, or is due.
+/// A monitor: one whose first reply was taken, or is due. Where a commit was named when it was asked for, its messages
+/// name commits.
 pub(crate) struct Monitor {
     pub(crate) id: Arc<Id>,
     pub(crate) kind: Kind,
     pub(crate) tables: Vec<Watching>,
+    pub(crate) since: Option<Uuid>,
 }
 
 impl Model for Monitor {
+    ghost use Rattle.std.specs.Prelude.{option_map};
     ghost use Rattle.std.specs.Arc.{arc_value};
+    ghost use Rattle.odb_atoms.specs.Represented.Atom.{uuid_of};
     ghost use Rattle.odb_request.specs.Represented.Kind.{notation_of};
     ghost use Rattle.odb_sessions.specs.Composed.{AreTheirs, asked_of};
     ghost use Rattle.odb_sessions.specs.Held as model;
@@ -88,7 +93,7 @@ impl Model for Monitor {
 
     ghost coded = { held_code };
 
-    ghost view = { λ m. record { id = arc_value m.id; notation = notation_of m.kind; tables = m.tables.items } };
+    ghost view = { λ m. record { id = arc_value m.id; notation = notation_of m.kind; tables = m.tables.items; since = option_map uuid_of m.since } };
 
     ghost invariant = { λ m. AreTheirs m.tables.items × AreApart (asked_of m.tables.items) };
 }
@@ -117,6 +122,7 @@ impl Monitor {
             id: _,
             kind: _,
             tables,
+            since: _,
         } = self;
         release_all(tables, past);
     }
@@ -167,6 +173,7 @@ impl Drop for Monitor {
             id: _,
             kind: _,
             tables: _,
+            since: _,
         } = self;
     }
 }

@@ -1,9 +1,11 @@
-//! Replies that are begun, and wait for their results. [P 7.3, 10.1]
+//! Replies that are begun, and wait for their results. [P 7.3, 9.8, 10.1]
 ghost use Rattle.std.specs.Prelude.{◌≡◌, false, IfOk, List, Some};
 ghost use Rattle.serde_json.specs.Data.{Data};
 ghost use Rattle.serde_json.specs.Written.{compact_text};
+ghost use Rattle.odb_atoms.specs.Represented.Atom.{uuid_of};
 ghost use Rattle.odb_monitor.specs.Job as model_job;
 ghost use Rattle.odb_rpc.specs.Message.{reply};
+ghost use Rattle.odb_rpc.specs.Since.{since_result};
 ghost use Rattle.odb_sessions.specs.Jobs.{composition_at};
 ghost use Rattle.odb_sessions.specs.Represented.Composed.{text_under};
 ghost use Rattle.odb_wire.specs.Message.{has_left_out, id_of};
@@ -11,10 +13,11 @@ ghost use Rattle.odb_wire.specs.Shown.{request_data};
 
 use crate::composing::Message;
 use crate::granted::Granted;
-use odb_rpc::{after_result, before_result, reply_id};
+use odb_rpc::{after_result, after_updates, before_result, before_since, reply_id};
 use odb_wire::Request;
 use std::alloc::{AllocError, Global};
 use std::marker::Model;
+use uuid::Uuid;
 
 /// A request whose reply is due, with the text with which that begins. Contracts see the request.
 pub(crate) struct Origin {
@@ -54,6 +57,23 @@ impl Origin {
     {
         let before = self.before.clone()?;
         let after = Vec::from_slice(alloc, after_result())?;
+        Ok(Message { before, job, after })
+    }
+
+    /// Makes the reply to who named a commit: whether that was found, the number of the newest commit, and what is
+    /// composed of the job. O(n) for an id of n bytes.
+    pub(crate) fn numbered_reply(
+        &self,
+        alloc: Global,
+        found: bool,
+        number: Uuid,
+        job: usize,
+    ) -> Result<Message, AllocError>
+        ensures { IfOk result (λ message. (all : List model_job.Job) (d : Data) → composition_at all job ≡ Some (compact_text d)
+            → text_under all message ≡ compact_text (reply (id_of self.now) (since_result found (uuid_of number) d))) }
+    {
+        let before = before_since(self.before.clone()?, found, number)?;
+        let after = Vec::from_slice(alloc, after_updates())?;
         Ok(Message { before, job, after })
     }
 

@@ -1,8 +1,9 @@
-//! What is due to the client of a monitor, as it is planned. [P 9.5, 10.1]
+//! What is due to the client of a monitor, as it is planned. [P 9.5, 9.8, 10.1]
 ghost use Rattle.std.specs.Prelude.{◌≡◌, true, IfOk, List, Option, Some, length, map, option_map};
 ghost use Rattle.std.specs.List.{All};
 ghost use Rattle.serde_json.specs.Data.{Data};
 ghost use Rattle.serde_json.specs.Written.{compact_text};
+ghost use Rattle.odb_atoms.specs.Represented.Atom.{uuid_of};
 ghost use Rattle.odb_chain.specs.Chains as model;
 ghost use Rattle.odb_monitor.specs.Job as model_job;
 ghost use Rattle.odb_service.specs.Service.{Service};
@@ -16,7 +17,7 @@ ghost use Rattle.odb_sessions.specs.Represented.Under.{filters_in};
 ghost use Rattle.odb_sessions.specs.Tied.{AreLive};
 ghost use Rattle.odb_sessions.specs.Book.{revision_at};
 
-use crate::composing::{Message, around_updates, parts_of};
+use crate::composing::{Message, parts_of};
 use crate::monitor::{Monitor, Watching};
 use crate::owed::{Owed, all_owed, all_owed_as};
 use crate::under::Under;
@@ -24,8 +25,10 @@ use crate::wanted::Wanted;
 use crate::way::Way;
 use odb_chain::Chains;
 use odb_monitor::Part;
+use odb_recent::Recent;
 use odb_request::Request;
 use std::alloc::{AllocError, Global};
+use uuid::Uuid;
 
 impl Monitor {
     /// Its tables, under what is asked of each. O(n) for n tables.
@@ -43,24 +46,29 @@ impl Monitor {
         &'a self,
         wanted: &mut Wanted<'a>,
         under: Under<'a>,
+        recent: &Recent,
     ) -> Result<Option<Message>, AllocError>
         requires { AreLive wanted.old.chains (marks_in self.now) }
         ensures text { IfOk result (λ message. (h : Service) → Tells wanted.new.jobs message
-            (update_text h (revision_at wanted.old.chains) (refilter (filters_in under.entry) (watch_of self.now).requests) (seen_ahead wanted.old.chains.db (as_told self.now)))) }
+            (update_text h (revision_at wanted.old.chains recent.now) (refilter (filters_in under.entry) (watch_of self.now).requests) (seen_ahead wanted.old.chains.db (as_told self.now)))) }
         ensures jobs { Keeps wanted.old.jobs wanted.new.jobs }
         ensures chains { wanted.new.chains ≡ wanted.old.chains }
     {
         match under {
-            Under::Asked => self.update_asked(wanted),
-            Under::Changed(_) => self.update_under(wanted, under),
+            Under::Asked => self.update_asked(wanted, recent),
+            Under::Changed(_) => self.update_under(wanted, under, recent),
         }
     }
 
     /// The update that its client is owed.
-    fn update_asked<'a>(&'a self, wanted: &mut Wanted<'a>) -> Result<Option<Message>, AllocError>
+    fn update_asked<'a>(
+        &'a self,
+        wanted: &mut Wanted<'a>,
+        recent: &Recent,
+    ) -> Result<Option<Message>, AllocError>
         requires { AreLive wanted.old.chains (marks_in self.now) }
         ensures text { IfOk result (λ message. (h : Service) → Tells wanted.new.jobs message
-            (update_text h (revision_at wanted.old.chains) (watch_of self.now).requests (monitor_of self.now))) }
+            (update_text h (revision_at wanted.old.chains recent.now) (watch_of self.now).requests (monitor_of self.now))) }
         ensures jobs { Keeps wanted.old.jobs wanted.new.jobs }
         ensures chains { wanted.new.chains ≡ wanted.old.chains }
     {
@@ -68,7 +76,7 @@ impl Monitor {
             return Ok(None);
         }
         let place = wanted.updates(self)?;
-        self.notification(wanted.alloc(), place)
+        self.notification(wanted.alloc(), recent.number(), place)
     }
 
     /// The update that its client is owed under these filters.
@@ -76,15 +84,16 @@ impl Monitor {
         &'a self,
         wanted: &mut Wanted<'a>,
         under: Under<'a>,
+        recent: &Recent,
     ) -> Result<Option<Message>, AllocError>
         requires { AreLive wanted.old.chains (marks_in self.now) }
         ensures text { IfOk result (λ message. (h : Service) → Tells wanted.new.jobs message
-            (update_text h (revision_at wanted.old.chains) (refilter (filters_in under.entry) (watch_of self.now).requests) (monitor_of self.now))) }
+            (update_text h (revision_at wanted.old.chains recent.now) (refilter (filters_in under.entry) (watch_of self.now).requests) (monitor_of self.now))) }
         ensures jobs { Keeps wanted.old.jobs wanted.new.jobs }
         ensures chains { wanted.new.chains ≡ wanted.old.chains }
     {
         let place = wanted.want(self, Way::Changed(under))?;
-        self.notification(wanted.alloc(), place)
+        self.notification(wanted.alloc(), recent.number(), place)
     }
 
     /// The update that its client is owed under these filters, where it was told of its tables as they are now
@@ -94,31 +103,34 @@ impl Monitor {
         wanted: &mut Wanted<'a>,
         told: Under<'a>,
         under: Under<'a>,
+        recent: &Recent,
     ) -> Result<Option<Message>, AllocError>
         requires { AreLive wanted.old.chains (marks_in self.now) }
         ensures text { IfOk result (λ message. (h : Service) → Tells wanted.new.jobs message
-            (update_text h (revision_at wanted.old.chains) (refilter (filters_in under.entry) (watch_of self.now).requests) (seen_ahead wanted.old.chains.db (record { held = self.now; told = Some (filters_in told.entry) })))) }
+            (update_text h (revision_at wanted.old.chains recent.now) (refilter (filters_in under.entry) (watch_of self.now).requests) (seen_ahead wanted.old.chains.db (record { held = self.now; told = Some (filters_in told.entry) })))) }
         ensures jobs { Keeps wanted.old.jobs wanted.new.jobs }
         ensures chains { wanted.new.chains ≡ wanted.old.chains }
     {
         let place = wanted.want(self, Way::Again(told, under))?;
-        self.notification(wanted.alloc(), place)
+        self.notification(wanted.alloc(), recent.number(), place)
     }
 
-    /// The notification to its client with what is composed of the job at this place; none where there is no place.
+    /// The notification to its client with what is composed of the job at this place, where this is the number of the
+    /// newest commit; none where there is no place.
     fn notification(
         &self,
         alloc: Global,
+        number: Uuid,
         place: Option<usize>,
     ) -> Result<Option<Message>, AllocError>
         ensures { IfOk result (λ message. (all : List model_job.Job) (o : Option Data)
             → option_map (composition_at all) place ≡ option_map certainly (option_map compact_text o)
-            → option_map (text_under all) message ≡ option_map (notified_text self.now.notation self.now.id) o) }
+            → option_map (text_under all) message ≡ option_map (notified_text (uuid_of number) self.now) o) }
     {
         let Some(job) = place else {
             return Ok(None);
         };
-        Ok(Some(around_updates(alloc, self.kind, &self.id, job)?))
+        Ok(Some(self.around_updates(alloc, number, job)?))
     }
 }
 

@@ -53,7 +53,7 @@ impl Session {
     /// the filters that are asked. `false` says nothing.
     pub(crate) fn rests(&self, chains: &Chains) -> bool
         requires { AreLive chains.now (marks_of self.now) }
-        ensures { result ≡ true → IsQuiet (revision_at chains.now) (seen self.now) }
+        ensures { result ≡ true → IsQuiet chains.now.db (seen self.now) }
     {
         if !self.queue.is_empty() {
             return false;

@@ -19,7 +19,7 @@ ghost use Rattle.odb_sessions.specs.Represented.Ready.{pending_of, ready_of};
 ghost use Rattle.odb_sessions.specs.Represented.Taking.{pending_by, ready_by};
 ghost use Rattle.odb_sessions.specs.Taken.{AreOf, AreReady, IsReadyFor, given_by, sessions_in, text_taken};
 ghost use Rattle.odb_sessions.specs.Tied.{AreAllLive};
-ghost use Rattle.odb_sessions.specs.Book.{revision_at, revision_in};
+ghost use Rattle.odb_sessions.specs.Book.{book_with, revision_at, revision_in};
 
 use crate::first_texts::FirstText;
 use crate::foreseen::Planner;
@@ -29,6 +29,7 @@ use crate::out::Out;
 use crate::ready::{Coming, Ready, finished};
 use crate::sessions::Sessions;
 use odb_locks::SessionId;
+use odb_recent::Recent;
 use std::alloc::{AllocError, Global};
 
 /// A round that is composed, and the text of a first reply of it that is to be kept.
@@ -44,18 +45,19 @@ fn taking_at<'a>(
     sessions: &'a Numbered,
     session: SessionId,
     planner: &mut Planner<'a>,
+    recent: &'a Recent,
 ) -> Result<Planned, AllocError>
     requires { AreAllLive planner.old.chains sessions.now }
     ensures session { IfOk result (λ planned. planned.session ≡ session) }
     ensures ready { IfOk result (λ planned. (s : Schema) (all : List model_job.Job) → Keeps planner.new.jobs all
-        → IsReadyFor s (revision_at planner.old.chains) (option_map seen (finite.get sessions.now session)) (ready_by all planned.taking)) }
+        → IsReadyFor s (revision_at planner.old.chains recent.now) (option_map seen (finite.get sessions.now session)) (ready_by all planned.taking)) }
     ensures jobs { Keeps planner.old.jobs planner.new.jobs }
     ensures chains { planner.new.chains ≡ planner.old.chains }
 {
     let Some(of) = sessions.get(session) else {
         return Ok(Planned::none(session));
     };
-    let taking = of.taking(planner)?;
+    let taking = of.taking(planner, recent)?;
     Ok(Planned { session, taking })
 }
 
@@ -65,16 +67,17 @@ fn takings_at<'a>(
     sessions: &'a Numbered,
     listed: &[SessionId],
     planner: &mut Planner<'a>,
+    recent: &'a Recent,
 ) -> Result<Vec<Planned>, AllocError>
     requires { AreAllLive planner.old.chains sessions.now }
     ensures sessions { IfOk result (λ planned. map (λ p. p.session) planned.items ≡ listed.now) }
     ensures ready { IfOk result (λ planned. (s : Schema) (all : List model_job.Job) → Keeps planner.new.jobs all
-        → AreReady s (record { db = planner.old.chains.db; sessions = all_seen sessions.now }) (map (pending_by all) planned.items)) }
+        → AreReady s (book_with planner.old.chains.db recent.now (all_seen sessions.now)) (map (pending_by all) planned.items)) }
     ensures chains { OnOk result (planner.new.chains ≡ planner.old.chains) }
 {
     let mut takings = Vec::with_capacity(alloc, listed.len())?;
     for session in listed {
-        takings.push_reserved(taking_at(sessions, *session, planner)?);
+        takings.push_reserved(taking_at(sessions, *session, planner, recent)?);
     }
     Ok(takings)
 }
@@ -89,7 +92,13 @@ impl Sessions {
         ensures now { IfOk result (λ jobs. All (IsOfNow self.now.db) jobs.jobs) }
     {
         let mut planner = Planner::new(self.alloc, self.past.chains(), self.past.firsts());
-        let takings = takings_at(self.alloc, &self.sessions, listed, &mut planner)?;
+        let takings = takings_at(
+            self.alloc,
+            &self.sessions,
+            listed,
+            &mut planner,
+            &self.recent,
+        )?;
         Ok(Jobs::new(self.alloc, planner.into_jobs(), takings))
     }
 
@@ -146,7 +155,7 @@ impl Sessions {
         requires room { length takings.items ≤ vec_capacity outs }
         ensures round { (schema : Schema) (w : World) → revision_of w ≡ revision_in self.old → w.sessions ≡ self.old.sessions
             → (let r = take_each (served_by schema) (sessions_in (map pending_of takings.items)) w in (r.0 ≡ record w { sessions = self.new.sessions }) × (map printed r.1 ≡ map sent_in result.items)) }
-        ensures database { self.new.db ≡ self.old.db }
+        ensures revision { revision_in self.new ≡ revision_in self.old }
     {
         let mut sent = outs;
         for ready in takings {
@@ -165,7 +174,7 @@ impl Sessions {
         ensures round { (schema : Schema) (w : World) → revision_of w ≡ revision_in self.old → w.sessions ≡ self.old.sessions
             → (let r = take_each (served_by schema) (sessions_in prepared) w in (r.0 ≡ record w { sessions = self.new.sessions }) × (map printed r.1 ≡ map sent_in result.items)) }
         ensures texts { map sent_in result.items ≡ flat_map (given_by self.old) prepared }
-        ensures database { self.new.db ≡ self.old.db }
+        ensures revision { revision_in self.new ≡ revision_in self.old }
     {
         let Prepared { takings, outs } = prepared;
         self.take_all(takings, outs)
@@ -177,7 +186,7 @@ impl Sessions {
         requires { AreOnce listed.now }
         ensures ok { IfOk result (λ outs. (schema : Schema) (w : World) → revision_of w ≡ revision_in self.old → w.sessions ≡ self.old.sessions
             → (let r = take_each (served_by schema) listed.now w in (r.0 ≡ record w { sessions = self.new.sessions }) × (map printed r.1 ≡ map sent_in outs.items))) }
-        ensures database { self.new.db ≡ self.old.db }
+        ensures revision { revision_in self.new ≡ revision_in self.old }
         ensures err { OnErr result (self.new ≡ self.old) }
     {
         let Composed { prepared, first } = self.composed(listed)?;

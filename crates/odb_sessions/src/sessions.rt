@@ -1,4 +1,4 @@
-//! The database with its past, and the open sessions. [P 9.1, 9.5, 9.6, 10.1, 10.2, 10.3]
+//! The database with its past and its last commits, and the open sessions. [P 9.1, 9.5, 9.6, 10.1, 10.2, 10.3]
 ghost use Rattle.std.specs.Prelude.{◌≡◌, ◌+◌, ◌&&◌, [], false, is_some, not, nat_lt, map, option_and_then, option_map, None, IfOk, OnErr, OnOk};
 ghost use Rattle.odb_atoms.specs.FinMap as finite;
 ghost use Rattle.odb_queue.specs.Represented.Answer.{call_at};
@@ -15,14 +15,13 @@ ghost use Rattle.odb_service.specs.World.{asked_of, watched};
 ghost use Rattle.odb_sessions.specs.Asked.{ended_in};
 ghost use Rattle.odb_sessions.specs.Book.{book_of, fresh_session};
 ghost use Rattle.odb_sessions.specs.Carried.{last_finished, used_by};
-ghost use Rattle.odb_sessions.specs.Committed.{ended_with, posted_with};
+ghost use Rattle.odb_sessions.specs.Committed.{changed_with, ended_with, posted_with};
 ghost use Rattle.odb_sessions.specs.Named.{named};
 ghost use Rattle.odb_sessions.specs.Owed.{AreNoted, AreOwed, addressed};
 ghost use Rattle.odb_sessions.specs.Posts.{all_posted, at_number, posted, unposted};
 ghost use Rattle.odb_sessions.specs.Started.{AreApart, AreOfTables, started};
 ghost use Rattle.odb_sessions.specs.Stopped.{changed_in, stopped_in};
 ghost use Rattle.odb_sessions.specs.Taken.{UsesUp};
-ghost use Rattle.odb_tables.specs.Change.{all_changed_by};
 ghost use Rattle.odb_tables.specs.Installing.{IsChangeOf};
 ghost use Rattle.odb_wire.specs.Message.{has_left_out, id_of};
 ghost use Rattle.odb_wire.specs.Shown.{request_data};
@@ -42,6 +41,7 @@ use crate::starting::Starting;
 use odb_interest::Interest;
 use odb_locks::SessionId;
 use odb_queue::{Finished, Post};
+use odb_recent::Recent;
 use odb_rpc::Printable;
 use odb_tables::{ChangeSet, Db};
 use odb_wire::Request;
@@ -50,12 +50,13 @@ use std::collections::BTreeSet;
 use std::hash::RandomState;
 use std::marker::Model;
 
-/// The database, the open sessions with what is kept of the past for these, which of them may be owed
-/// something, and what the others ask of tables. Contracts see the database and the machine's sessions
-/// (`specs/Book.antt`).
+/// The database, its last commits, the open sessions with what is kept of the past for these, which of them may be owed
+/// something, and what the others ask of tables. Contracts see the database, how many commits there were, what can be
+/// found of earlier contents, and the machine's sessions (`specs/Book.antt`).
 pub struct Sessions {
     pub(crate) alloc: Global,
     pub(crate) past: Past,
+    pub(crate) recent: Recent,
     pub(crate) sessions: Numbered,
     pub(crate) owed: BTreeSet<SessionId>,
     pub(crate) interest: Interest,
@@ -65,25 +66,35 @@ pub struct Sessions {
 impl Model for Sessions {
     ghost use Rattle.odb_sessions.specs.Book.{Book};
     ghost use Rattle.odb_sessions.specs.Represented.Codes.{book_code};
-    ghost use Rattle.odb_sessions.specs.Owed.{HangTogether, book_seen};
+    ghost use Rattle.odb_sessions.specs.Book.{book_with};
+    ghost use Rattle.odb_sessions.specs.Held.{all_seen};
+    ghost use Rattle.odb_sessions.specs.Owed.{HangTogether};
 
     ghost Value = { Book };
 
     ghost coded = { book_code };
 
-    ghost view = { λ s. book_seen s.past s.sessions };
+    ghost view = { λ s. book_with s.past.db s.recent (all_seen s.sessions) };
 
     ghost invariant = { λ s. HangTogether s.past s.sessions s.owed s.interest };
 }
 
 impl Sessions {
-    /// The database, and no session. O(tables).
-    pub fn new(alloc: Global, db: Db, hashing: RandomState) -> Result<Sessions, AllocError>
-        ensures { IfOk result (λ sessions. sessions ≡ book_of db) }
+    /// The database, and no session and no commit, in a run with this word, of which so many contents can be found.
+    /// O(tables), and O(`most`) in memory.
+    pub fn new(
+        alloc: Global,
+        db: Db,
+        hashing: RandomState,
+        run: u64,
+        most: usize,
+    ) -> Result<Sessions, AllocError>
+        ensures { IfOk result (λ sessions. sessions ≡ book_of run most db) }
     {
         Ok(Sessions {
             alloc,
             past: Past::new(alloc, db, hashing)?,
+            recent: Recent::new(alloc, run, most, hashing)?,
             sessions: Numbered::new(alloc),
             owed: BTreeSet::new(alloc),
             interest: Interest::new(alloc),
@@ -96,6 +107,13 @@ impl Sessions {
         ensures { result.now ≡ self.now.db }
     {
         self.past.db()
+    }
+
+    /// How many commits there were. O(1).
+    pub fn commits(&self) -> u64
+        ensures { result ≡ self.now.commits }
+    {
+        self.recent.commits()
     }
 
     /// How many sessions are open. O(1).
@@ -316,21 +334,25 @@ impl Sessions {
         Ok(())
     }
 
-    /// Makes the whole change of the database, or none; what clients have stays. Where memory is refused
-    /// nothing changed; so it does after 2^64 - 1 changes of one table. Marks of sessions to which nothing was owed
+    /// Makes the whole change of the database, as one commit more, or none; what clients have stays. Where memory is
+    /// refused nothing changed; so it does after 2^64 - 1 commits, or changes of one table. Marks of sessions to which nothing was owed
     /// move to now: those of the sessions that the change concerns before it, so that what they will be owed is this
     /// change alone, and those of a few others after it.
     fn install(&mut self, change: ChangeSet) -> Result<(), AllocError>
         requires { IsChangeOf self.old.db change }
-        ensures ok { OnOk result (self.new ≡ record (self.old) { db = all_changed_by self.old.db change }) }
+        ensures ok { OnOk result (self.new ≡ changed_with change self.old) }
         ensures err { OnErr result (self.new ≡ self.old) }
     {
+        let Ok(undo) = self.recent.prepare(&change) else {
+            return Err(AllocError);
+        };
         let touched = self.interest.touched(&change)?;
         let concerned = touched.as_slice();
         forget_owed(&mut self.interest, &self.owed, concerned);
         refresh_each(&mut self.sessions, &mut self.past, &self.owed, concerned);
         note_each(&mut self.owed, concerned)?;
         self.past.absorb(change)?;
+        self.recent.note(undo);
         self.refreshing
             .go_on(&mut self.sessions, &mut self.past, &self.owed);
         Ok(())
@@ -368,17 +390,19 @@ impl Sessions {
             .carry_out(session, items, monitors, &mut self.past)
     }
 
-    /// An equal book. O(rows), O(old rows), O(bytes queued), and what `odb_interest::Interest::try_copy` costs.
+    /// An equal book. O(rows), O(old rows), O(the rows that the last commits replaced), O(bytes queued), and what `odb_interest::Interest::try_copy` costs.
     pub fn try_copy(&self) -> Result<Sessions, AllocError>
         ensures { IfOk result (λ copy. copy ≡ self.now) }
     {
         let past = self.past.try_copy(self.alloc)?;
+        let recent = self.recent.try_copy()?;
         let sessions = self.sessions.try_copy()?;
         let owed = self.owed.clone()?;
         let interest = self.interest.try_copy()?;
         Ok(Sessions {
             alloc: self.alloc,
             past,
+            recent,
             sessions,
             owed,
             interest,
@@ -415,6 +439,7 @@ impl Drop for Sessions {
         let Sessions {
             alloc: _,
             past: _,
+            recent: _,
             sessions: _,
             owed: _,
             interest: _,

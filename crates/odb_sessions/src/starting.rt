@@ -1,5 +1,7 @@
-//! Monitors that are asked for. [P 9.1]
-ghost use Rattle.std.specs.Prelude.{◌≡◌, false, IfOk, OnErr};
+//! Monitors that are asked for. [P 9.1, 9.8]
+ghost use Rattle.std.specs.Prelude.{◌≡◌, false, IfOk, OnErr, option_map};
+ghost use Rattle.odb_atoms.specs.Represented.Atom.{uuid_of};
+ghost use Rattle.odb_atoms.specs.Uuid.{uuid_from};
 ghost use Rattle.odb_chain.specs.Chains.{IsNow};
 ghost use Rattle.odb_request.specs.Represented.Kind.{notation_of};
 ghost use Rattle.odb_rpc.specs.Represented.Printable.{printable_data};
@@ -15,10 +17,11 @@ use crate::monitor::Monitor;
 use crate::origin::Origin;
 use crate::past::Past;
 use odb_request::{Kind, Request};
-use odb_rpc::Printable;
+use odb_rpc::MonitorStart;
 use std::alloc::{AllocError, Global};
 use std::marker::Model;
 use std::sync::Arc;
+use uuid::Uuid;
 
 /// A monitor that is asked for, and the reply to the request for it, as far as it is known. It is what
 /// `Sessions::start` takes.
@@ -27,10 +30,13 @@ pub struct Starting {
     id: Arc<Id>,
     kind: Kind,
     requests: Vec<Request>,
+    since: Option<Uuid>,
 }
 
 impl Model for Starting {
+    ghost use Rattle.std.specs.Prelude.{option_map};
     ghost use Rattle.std.specs.Arc.{arc_value};
+    ghost use Rattle.odb_atoms.specs.Represented.Atom.{uuid_of};
     ghost use Rattle.odb_request.specs.Represented.Kind.{notation_of};
     ghost use Rattle.odb_sessions.specs.Represented.Codes.{starting_code};
     ghost use Rattle.odb_sessions.specs.Started as model;
@@ -41,33 +47,33 @@ impl Model for Starting {
 
     ghost view = { λ s. record {
       request = s.origin;
-      watch = record { id = arc_value s.id; notation = notation_of s.kind; requests = s.requests.items };
+      watch = record { id = arc_value s.id; notation = notation_of s.kind; requests = s.requests.items; since = option_map uuid_of s.since };
     } };
 }
 
 impl Starting {
-    /// The monitor for which the request asks: under this id, in this notation, of these tables. O(n) for ids
-    /// of n bytes.
+    /// Makes the monitor for which the request asks, of which these are the requests as they were read: under the id that
+    /// is asked, in its notation, since the commit that it names. O(n) for ids of n bytes.
     pub fn new(
         alloc: Global,
         request: &odb_wire::Request,
-        id: Printable<'_>,
-        kind: Kind,
+        asked: MonitorStart<'_>,
         requests: Vec<Request>,
     ) -> Result<Starting, AllocError>
         requires { has_left_out (id_of (request_data request.now)) ≡ false }
         ensures { IfOk result (λ made. made ≡ record {
           request = request_data request.now;
-          watch = record { id = printable_data id.entry; notation = notation_of kind; requests = requests.items };
+          watch = record { id = printable_data asked.entry.id; notation = notation_of asked.entry.kind; requests = requests.items; since = option_map uuid_from asked.entry.since };
         }) }
     {
         let origin = Origin::new(alloc, request)?;
-        let id = Arc::new(alloc, Id::new(alloc, id)?)?;
+        let id = Arc::new(alloc, Id::new(alloc, asked.id)?)?;
         Ok(Starting {
             origin,
             id,
-            kind,
+            kind: asked.kind,
             requests,
+            since: identifier_of(asked.since),
         })
     }
 
@@ -85,10 +91,26 @@ impl Starting {
             id,
             kind,
             requests,
+            since,
         } = self;
         let tables = past.watch(alloc, requests)?;
-        let monitor = Monitor { id, kind, tables };
+        let monitor = Monitor {
+            id,
+            kind,
+            tables,
+            since,
+        };
         Ok(Start { origin, monitor })
+    }
+}
+
+/// Returns the identifier that the number is, if there is one.
+fn identifier_of(number: Option<u128>) -> Option<Uuid>
+    ensures { option_map uuid_of result ≡ option_map uuid_from number }
+{
+    match number {
+        Some(number) => Some(Uuid::from_u128(number)),
+        None => None,
     }
 }
 
@@ -100,6 +122,7 @@ impl Drop for Starting {
             id: _,
             kind: _,
             requests: _,
+            since: _,
         } = self;
     }
 }

@@ -1,12 +1,17 @@
-//! Takings as they are planned: what they use up, and the text that comes. Nothing changes by them. [P 10.1]
-ghost use Rattle.std.specs.Prelude.{◌≡◌, true, false, IfOk, IfSome, List, OnOk, Option, Some, flat_map, is_some, map, option_map};
+//! Takings as they are planned: what they use up, and the text that comes. Nothing changes by them. [P 9.8, 10.1]
+ghost use Rattle.std.specs.Prelude.{◌≡◌, ◌≤◌, true, false, IfOk, IfSome, List, OnOk, Option, Some, flat_map, is_some, length, map, option_map, take};
+ghost use Rattle.odb_atoms.specs.Represented.Atom.{uuid_of};
 ghost use Rattle.serde_json.specs.Written.{compact_text};
 ghost use Rattle.odb_monitor.specs.Job as model_job;
+ghost use Rattle.odb_recent.specs.Recent.{commits_ago, number_of};
+ghost use Rattle.odb_rpc.specs.Message.{reply};
+ghost use Rattle.odb_rpc.specs.Since.{since_result};
 ghost use Rattle.odb_schema.specs.Schema.{Schema};
 ghost use Rattle.odb_service.specs.Server.{served_by};
 ghost use Rattle.odb_service.specs.Service.{Service};
 ghost use Rattle.odb_service.specs.Session as machine;
 ghost use Rattle.odb_service.specs.Session.{first_out, leaves};
+ghost use Rattle.odb_sessions.specs.Composed.{asked_of, first_updates, resumed_updates, text_since};
 ghost use Rattle.odb_sessions.specs.Foreseen.{due_text, finished_text};
 ghost use Rattle.odb_sessions.specs.Held.{item_seen, marks_due, marks_in, marks_of, seen, watch_of};
 ghost use Rattle.odb_sessions.specs.Planned.{due, first_due, plan, plan_from};
@@ -15,9 +20,10 @@ ghost use Rattle.odb_sessions.specs.Represented.Composed.{text_under};
 ghost use Rattle.odb_sessions.specs.Represented.Queued.{queued_of};
 ghost use Rattle.odb_sessions.specs.Represented.Taking.{Comes, Gives, coming_text, taking_text};
 ghost use Rattle.odb_sessions.specs.Represented.Under.{item_in};
-ghost use Rattle.odb_sessions.specs.Tied.{AreLive};
+ghost use Rattle.odb_sessions.specs.Tied.{AreLive, HasLists};
 ghost use Rattle.odb_tables.specs.Database as model_db;
 ghost use Rattle.odb_sessions.specs.Book.{revision_at};
+ghost use Rattle.odb_wire.specs.Message.{id_of};
 
 use crate::composing::Message;
 use crate::foreseen::Planner;
@@ -27,8 +33,10 @@ use crate::queue::Queue;
 use crate::session::Session;
 use crate::under::Under;
 use crate::wanted::Wanted;
+use odb_recent::Recent;
 use std::alloc::AllocError;
 use std::collections::VecDeque;
+use uuid::Uuid;
 
 /// What comes of a taking.
 #[derive(Drop)]
@@ -60,16 +68,86 @@ fn composed(message: Option<Message>) -> Option<Coming>
 }
 
 impl Start {
-    /// The first reply. The costs are those of `Wanted::first_reply` and, for an id of n bytes, O(n).
-    fn first_reply<'a>(&'a self, wanted: &mut Wanted<'a>) -> Result<Message, AllocError>
-        requires { AreLive wanted.old.chains (marks_in self.now.monitor) }
+    /// The first reply. The costs are those of `Wanted::first_reply` or `Wanted::resume` and, for an id of n bytes, O(n).
+    fn first_reply<'a>(
+        &'a self,
+        wanted: &mut Wanted<'a>,
+        recent: &'a Recent,
+    ) -> Result<Message, AllocError>
+        requires live { AreLive wanted.old.chains (marks_in self.now.monitor) }
+        requires lists { HasLists wanted.old.chains }
         ensures text { IfOk result (λ message. (h : Service) (all : List model_job.Job) → Keeps wanted.new.jobs all
-            → text_under all message ≡ compact_text (first_out h (revision_at wanted.old.chains) self.now.origin (watch_of self.now.monitor)).message) }
+            → text_under all message ≡ compact_text (first_out h (revision_at wanted.old.chains recent.now) self.now.origin (watch_of self.now.monitor)).message) }
+        ensures jobs { Keeps wanted.old.jobs wanted.new.jobs }
+        ensures chains { wanted.new.chains ≡ wanted.old.chains }
+    {
+        match self.monitor.since {
+            None => self.whole_reply(wanted),
+            Some(since) => self.reply_since(wanted, recent, since),
+        }
+    }
+
+    /// The first reply, where no commit was named.
+    fn whole_reply<'a>(&'a self, wanted: &mut Wanted<'a>) -> Result<Message, AllocError>
+        requires { AreLive wanted.old.chains (marks_in self.now.monitor) }
+        ensures text { IfOk result (λ message. (all : List model_job.Job) → Keeps wanted.new.jobs all
+            → text_under all message ≡ compact_text (reply (id_of self.now.origin) (first_updates wanted.old.chains.db self.now.monitor.notation (asked_of self.now.monitor.tables)))) }
         ensures jobs { Keeps wanted.old.jobs wanted.new.jobs }
         ensures chains { wanted.new.chains ≡ wanted.old.chains }
     {
         let job = wanted.first_reply(&self.monitor)?;
         self.origin.reply(wanted.alloc(), job)
+    }
+
+    /// The first reply, where this commit was named.
+    fn reply_since<'a>(
+        &'a self,
+        wanted: &mut Wanted<'a>,
+        recent: &'a Recent,
+        since: Uuid,
+    ) -> Result<Message, AllocError>
+        requires { AreLive wanted.old.chains (marks_in self.now.monitor) }
+        ensures text { IfOk result (λ message. (all : List model_job.Job) → Keeps wanted.new.jobs all
+            → text_under all message ≡ text_since recent.now wanted.old.chains self.now.origin self.now.monitor (uuid_of since)) }
+        ensures kept { IfSome (commits_ago recent.now.most recent.now.run recent.now.commits (uuid_of since)) (λ ago. ago ≤ length recent.now.undos) }
+        ensures jobs { Keeps wanted.old.jobs wanted.new.jobs }
+        ensures chains { wanted.new.chains ≡ wanted.old.chains }
+    {
+        match recent.find(since) {
+            None => self.not_found(wanted, recent.number()),
+            Some(ago) => self.found(wanted, recent, ago),
+        }
+    }
+
+    /// The first reply, where the commit that was named can't be found, and this is the number of the newest.
+    fn not_found<'a>(&'a self, wanted: &mut Wanted<'a>, number: Uuid) -> Result<Message, AllocError>
+        requires { AreLive wanted.old.chains (marks_in self.now.monitor) }
+        ensures text { IfOk result (λ message. (all : List model_job.Job) → Keeps wanted.new.jobs all
+            → text_under all message ≡ compact_text (reply (id_of self.now.origin) (since_result false (uuid_of number) (first_updates wanted.old.chains.db self.now.monitor.notation (asked_of self.now.monitor.tables))))) }
+        ensures jobs { Keeps wanted.old.jobs wanted.new.jobs }
+        ensures chains { wanted.new.chains ≡ wanted.old.chains }
+    {
+        let job = wanted.first_reply(&self.monitor)?;
+        self.origin
+            .numbered_reply(wanted.alloc(), false, number, job)
+    }
+
+    /// The first reply, where the commit that was named is found so many commits ago.
+    fn found<'a>(
+        &'a self,
+        wanted: &mut Wanted<'a>,
+        recent: &'a Recent,
+        ago: usize,
+    ) -> Result<Message, AllocError>
+        requires { AreLive wanted.old.chains (marks_in self.now.monitor) }
+        ensures text { IfOk result (λ message. (all : List model_job.Job) → Keeps wanted.new.jobs all
+            → text_under all message ≡ compact_text (reply (id_of self.now.origin) (since_result true (number_of recent.now.run recent.now.commits) (resumed_updates (take ago recent.now.undos) wanted.old.chains.db self.now.monitor.notation (asked_of self.now.monitor.tables))))) }
+        ensures jobs { Keeps wanted.old.jobs wanted.new.jobs }
+        ensures chains { wanted.new.chains ≡ wanted.old.chains }
+    {
+        let job = wanted.resume(&self.monitor, recent, ago)?;
+        self.origin
+            .numbered_reply(wanted.alloc(), true, recent.number(), job)
     }
 }
 
@@ -91,41 +169,46 @@ impl Item {
 
 impl<'a> Planner<'a> {
     /// The first reply, which comes.
-    fn begin(&mut self, start: &'a Start) -> Result<Option<Coming>, AllocError>
+    fn begin(&mut self, start: &'a Start, recent: &'a Recent) -> Result<Option<Coming>, AllocError>
         requires { AreLive self.old.chains (marks_in start.now.monitor) }
         ensures comes { IfOk result (λ coming. is_some coming ≡ true) }
         ensures text { IfOk result (λ coming. (h : Service) (last : Option machine.Item) → Comes self.new.jobs coming last
-            (Some (due_text h (revision_at self.old.chains) (first_due start.now.origin (watch_of start.now.monitor))))) }
+            (Some (due_text h (revision_at self.old.chains recent.now) (first_due start.now.origin (watch_of start.now.monitor))))) }
         ensures jobs { Keeps self.old.jobs self.new.jobs }
         ensures chains { self.new.chains ≡ self.old.chains }
     {
-        let message = start.first_reply(&mut self.wanted)?;
+        let message = start.first_reply(&mut self.wanted, recent)?;
         Ok(composed(Some(message)))
     }
 
     /// What the client of the monitor with this id lacks under these filters comes, if it lacks something.
-    fn bring(&mut self, id: &Id, under: Under<'a>) -> Result<Option<Coming>, AllocError>
+    fn bring(
+        &mut self,
+        id: &Id,
+        under: Under<'a>,
+        recent: &Recent,
+    ) -> Result<Option<Coming>, AllocError>
         ensures comes { IfOk result (λ coming. (s : Schema) → is_some coming
             ≡ is_some (due (served_by s) self.old.chains.db (item_in id.now under.entry) self.old.monitors)) }
         ensures text { IfOk result (λ coming. (s : Schema) (last : Option machine.Item) → Comes self.new.jobs coming last
-            (option_map (due_text (served_by s) (revision_at self.old.chains)) (due (served_by s) self.old.chains.db (item_in id.now under.entry) self.old.monitors))) }
+            (option_map (due_text (served_by s) (revision_at self.old.chains recent.now)) (due (served_by s) self.old.chains.db (item_in id.now under.entry) self.old.monitors))) }
         ensures passed { OnOk result ((s : Schema)
             → self.new.monitors ≡ leaves (served_by s) self.old.chains.db (item_in id.now under.entry) self.old.monitors) }
         ensures jobs { Keeps self.old.jobs self.new.jobs }
         ensures chains { self.new.chains ≡ self.old.chains }
     {
-        let message = self.pass(id, under)?;
+        let message = self.pass(id, under, recent)?;
         Ok(composed(message))
     }
 
     /// What the item gives the client. Where that is nothing the monitors are foreseen as they are after it. The
     /// costs are those of `Planner::pass` and of `Start::first_reply`.
-    fn give(&mut self, item: &'a Item) -> Result<Option<Coming>, AllocError>
+    fn give(&mut self, item: &'a Item, recent: &'a Recent) -> Result<Option<Coming>, AllocError>
         requires { AreLive self.old.chains (marks_due (queued_of item.now)) }
         ensures comes { IfOk result (λ coming. (s : Schema) → is_some coming
             ≡ is_some (due (served_by s) self.old.chains.db (item_seen (queued_of item.now)) self.old.monitors)) }
         ensures text { IfOk result (λ coming. (s : Schema) → Comes self.new.jobs coming (Some (item_seen (queued_of item.now)))
-            (option_map (due_text (served_by s) (revision_at self.old.chains)) (due (served_by s) self.old.chains.db (item_seen (queued_of item.now)) self.old.monitors))) }
+            (option_map (due_text (served_by s) (revision_at self.old.chains recent.now)) (due (served_by s) self.old.chains.db (item_seen (queued_of item.now)) self.old.monitors))) }
         ensures passed { IfOk result (λ coming. is_some coming ≡ false → (s : Schema)
             → self.new.monitors ≡ leaves (served_by s) self.old.chains.db (item_seen (queued_of item.now)) self.old.monitors) }
         ensures jobs { Keeps self.old.jobs self.new.jobs }
@@ -133,9 +216,9 @@ impl<'a> Planner<'a> {
     {
         match item {
             Item::Say(_) => Ok(Some(Coming::Queued)),
-            Item::Start(start) => self.begin(start),
-            Item::Sync(id) => self.bring(id, Under::Asked),
-            Item::Shift(shift) => self.bring(&shift.id, Under::Changed(&shift.changes)),
+            Item::Start(start) => self.begin(start, recent),
+            Item::Sync(id) => self.bring(id, Under::Asked, recent),
+            Item::Shift(shift) => self.bring(&shift.id, Under::Changed(&shift.changes), recent),
             Item::Renamed(_) => Ok(Some(Coming::Queued)),
             Item::Stopped(_) => Ok(Some(Coming::Queued)),
         }
@@ -165,20 +248,24 @@ fn at_once(items: &VecDeque<Item>) -> Option<Taking>
 
 /// What a taking of these items uses up, and what comes. The costs are those of `Planner::give` for each item up to
 /// the first that gives something and, where none does, of `Planner::rest`.
-fn taking_of<'a>(items: &'a VecDeque<Item>, planner: &mut Planner<'a>) -> Result<Taking, AllocError>
+fn taking_of<'a>(
+    items: &'a VecDeque<Item>,
+    planner: &mut Planner<'a>,
+    recent: &'a Recent,
+) -> Result<Taking, AllocError>
     requires { AreLive planner.old.chains (flat_map marks_due (map queued_of items.now.items)) }
     ensures items { IfOk result (λ taking. (s : Schema) → taking.items
         ≡ (plan_from (served_by s) planner.old.chains.db (map item_seen (map queued_of items.now.items)) planner.old.monitors).items) }
     ensures monitors { IfOk result (λ taking. (s : Schema) → taking.monitors
         ≡ (plan_from (served_by s) planner.old.chains.db (map item_seen (map queued_of items.now.items)) planner.old.monitors).monitors) }
     ensures text { IfOk result (λ taking. (s : Schema) → Gives planner.new.jobs taking (map item_seen (map queued_of items.now.items))
-        (option_map (due_text (served_by s) (revision_at planner.old.chains))
+        (option_map (due_text (served_by s) (revision_at planner.old.chains recent.now))
         (plan_from (served_by s) planner.old.chains.db (map item_seen (map queued_of items.now.items)) planner.old.monitors).out)) }
     ensures jobs { Keeps planner.old.jobs planner.new.jobs }
     ensures chains { planner.new.chains ≡ planner.old.chains }
 {
     for place in 0..items.len() {
-        let coming = planner.give(&items[place])?;
+        let coming = planner.give(&items[place], recent)?;
         if coming.is_some() {
             return Ok(Taking {
                 items: place + 1,
@@ -187,7 +274,7 @@ fn taking_of<'a>(items: &'a VecDeque<Item>, planner: &mut Planner<'a>) -> Result
             });
         }
     }
-    let rest = planner.rest()?;
+    let rest = planner.rest(recent)?;
     Ok(Taking {
         items: items.len(),
         monitors: rest.monitors,
@@ -198,14 +285,18 @@ fn taking_of<'a>(items: &'a VecDeque<Item>, planner: &mut Planner<'a>) -> Result
 impl Session {
     /// What a taking of the session uses up, and what comes. The costs are those of `Planner::turn_to` and
     /// `taking_of`.
-    pub(crate) fn taking<'a>(&'a self, planner: &mut Planner<'a>) -> Result<Taking, AllocError>
+    pub(crate) fn taking<'a>(
+        &'a self,
+        planner: &mut Planner<'a>,
+        recent: &'a Recent,
+    ) -> Result<Taking, AllocError>
         requires { AreLive planner.old.chains (marks_of self.now) }
         ensures items { IfOk result (λ taking. (s : Schema)
             → taking.items ≡ (plan (served_by s) planner.old.chains.db (seen self.now)).items) }
         ensures monitors { IfOk result (λ taking. (s : Schema)
             → taking.monitors ≡ (plan (served_by s) planner.old.chains.db (seen self.now)).monitors) }
         ensures text { IfOk result (λ taking. (s : Schema) → Gives planner.new.jobs taking (seen self.now).queue
-            (option_map (due_text (served_by s) (revision_at planner.old.chains)) (plan (served_by s) planner.old.chains.db (seen self.now)).out)) }
+            (option_map (due_text (served_by s) (revision_at planner.old.chains recent.now)) (plan (served_by s) planner.old.chains.db (seen self.now)).out)) }
         ensures jobs { Keeps planner.old.jobs planner.new.jobs }
         ensures chains { planner.new.chains ≡ planner.old.chains }
     {
@@ -213,7 +304,7 @@ impl Session {
             return Ok(taking);
         }
         planner.turn_to(self.monitors.as_slice())?;
-        self.queue.taking(planner)
+        self.queue.taking(planner, recent)
     }
 }
 
@@ -233,18 +324,22 @@ impl Queue {
     }
 
     /// What a taking of a session with this queue uses up, and what comes. The costs are those of `taking_of`.
-    fn taking<'a>(&'a self, planner: &mut Planner<'a>) -> Result<Taking, AllocError>
+    fn taking<'a>(
+        &'a self,
+        planner: &mut Planner<'a>,
+        recent: &'a Recent,
+    ) -> Result<Taking, AllocError>
         requires { AreLive planner.old.chains (flat_map marks_due self.now) }
         ensures items { IfOk result (λ taking. (s : Schema)
             → taking.items ≡ (plan_from (served_by s) planner.old.chains.db (map item_seen self.now) planner.old.monitors).items) }
         ensures monitors { IfOk result (λ taking. (s : Schema)
             → taking.monitors ≡ (plan_from (served_by s) planner.old.chains.db (map item_seen self.now) planner.old.monitors).monitors) }
         ensures text { IfOk result (λ taking. (s : Schema) → Gives planner.new.jobs taking (map item_seen self.now)
-            (option_map (due_text (served_by s) (revision_at planner.old.chains))
+            (option_map (due_text (served_by s) (revision_at planner.old.chains recent.now))
             (plan_from (served_by s) planner.old.chains.db (map item_seen self.now) planner.old.monitors).out)) }
         ensures jobs { Keeps planner.old.jobs planner.new.jobs }
         ensures chains { planner.new.chains ≡ planner.old.chains }
     {
-        taking_of(&self.items, planner)
+        taking_of(&self.items, planner, recent)
     }
 }

@@ -1,10 +1,10 @@
 //! The compositions that a round needs: clients that are owed the same are told it by one of them. [P 10.1, 10.3]
-ghost use Rattle.std.specs.Prelude.{◌≡◌, [], IfOk, IfSome, List, Some, slice_get};
+ghost use Rattle.std.specs.Prelude.{◌≡◌, [], IfOk, IfSome, List, Some, slice_get, take};
 ghost use Rattle.std.specs.Bool.{OnTrue};
 ghost use Rattle.odb_monitor.specs.Job as model_job;
 ghost use Rattle.odb_sessions.specs.Alike.{AreAlike};
 ghost use Rattle.std.specs.List.{All};
-ghost use Rattle.odb_sessions.specs.Composed.{updates_for};
+ghost use Rattle.odb_sessions.specs.Composed.{asked_of, resumed_job, updates_for};
 ghost use Rattle.odb_sessions.specs.FirstTexts.{AreFirstTexts, IsOfNow};
 ghost use Rattle.odb_sessions.specs.Held.{marks_in};
 ghost use Rattle.odb_sessions.specs.Jobs.{IsFor, Keeps, composition, composition_at};
@@ -17,6 +17,7 @@ use crate::job::Job;
 use crate::monitor::Monitor;
 use crate::way::Way;
 use odb_chain::Chains;
+use odb_recent::Recent;
 use std::alloc::{AllocError, Global};
 use std::marker::Model;
 
@@ -208,6 +209,24 @@ impl<'a> Wanted<'a> {
     {
         let text = self.firsts.find(monitor);
         let job = Job::first(self.alloc, self.chains, monitor, text);
+        self.add(job)
+    }
+
+    /// The place of a new job for the client of a monitor: the reply to it, if it has what the monitor selected so many
+    /// commits ago. O(1).
+    pub(crate) fn resume(
+        &mut self,
+        monitor: &'a Monitor,
+        recent: &'a Recent,
+        ago: usize,
+    ) -> Result<usize, AllocError>
+        requires { AreLive self.old.chains (marks_in monitor.now) }
+        ensures place { IfOk result (λ place. (all : List model_job.Job) → Keeps self.new.jobs all
+            → composition_at all place ≡ composition (resumed_job (take ago recent.now.undos) self.old.chains.db monitor.now.notation (asked_of monitor.now.tables))) }
+        ensures jobs { Keeps self.old.jobs self.new.jobs }
+        ensures chains { self.new.chains ≡ self.old.chains }
+    {
+        let job = Job::new(self.alloc, self.chains, monitor, Way::Since(recent, ago))?;
         self.add(job)
     }
 

@@ -1,9 +1,10 @@
-//! In which ways something is composed for the client of a monitor. [P 9.2, 9.5, 10.1]
+//! In which ways something is composed for the client of a monitor. [P 9.2, 9.5, 9.8, 10.1]
 ghost use Rattle.std.specs.Prelude.{◌≡◌, option_map};
 ghost use Rattle.odb_sessions.specs.Represented.Job.{filters_by};
 ghost use Rattle.odb_sessions.specs.Represented.Under.{filters_in};
 
 use crate::under::Under;
+use odb_recent::Recent;
 
 /// What is composed for the client of a monitor.
 #[derive(Clone, Copy)]
@@ -17,6 +18,8 @@ pub(crate) enum Way<'a> {
     /// What the client lacks under the second filters, where it was told of its tables as they are now under the
     /// first.
     Again(Under<'a>, Under<'a>),
+    /// What the client lacks that has what the monitor selected so many commits ago: its first reply.
+    Since(&'a Recent, usize),
 }
 
 impl<'a> Way<'a> {
@@ -29,6 +32,7 @@ impl<'a> Way<'a> {
             Way::Asked => None,
             Way::Changed(under) => Some(under),
             Way::Again(_, under) => Some(under),
+            Way::Since(_, _) => None,
         }
     }
 }

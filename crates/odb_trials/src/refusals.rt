@@ -17,7 +17,7 @@ use on_core::play_to_core;
 use on_hub::play_to_hub;
 use on_script::{input, lines_of, play_to_script};
 use refusing::{refuse, was_refused};
-use scripts::{DELETED, MERGED, SHIFTED, WAITS, WEAK, flood};
+use scripts::{DELETED, MERGED, RESUMED, SHIFTED, WAITS, WEAK, flood};
 use sent::Sent;
 use std::alloc::{AllocError, Global};
 use std::hash::RandomState;
@@ -134,7 +134,15 @@ fn are_sent(alloc: Global, hashing: RandomState, script: &[&str]) -> Result<bool
 fn each_request_for_memory_is_refused(rt: HostRuntime) -> Result<(), Fail> {
     let alloc = rt.alloc();
     let flood = flood(alloc)?;
-    let scripts: [&[&str]; 6] = [&DELETED, &WEAK, &MERGED, &SHIFTED, &WAITS, flood.as_slice()];
+    let scripts: [&[&str]; 7] = [
+        &DELETED,
+        &WEAK,
+        &MERGED,
+        &SHIFTED,
+        &RESUMED,
+        &WAITS,
+        flood.as_slice(),
+    ];
     let hashing = RandomState::new(&rt)?;
     for (place, script) in scripts.iter().enumerate() {
         assert!(rt;

@@ -16,11 +16,14 @@ mod piece;
 mod serve;
 
 use crate::daemon::Patience;
-use crate::serve::{Terms, begin, serve_all};
+use crate::serve::{Memory, Terms, begin, serve_all};
 use clap::builder::ValueParser;
 use clap::{Arg, ArgAction, ArgMatches, Command, Error};
 use odb_schema::{Schema, SchemaFault};
 use odb_script::{RunFault, Watched, run_script};
+use rand::make_rng;
+use rand::rngs::StdRng;
+use rand_core::Rng;
 use std::alloc::Global;
 use std::hash::RandomState;
 use std::io::{self, BufReader};
@@ -96,6 +99,12 @@ const ADDRESS: &str = "127.0.0.1:6640";
 /// How many milliseconds a client may be waited for at most: a day.
 const LONGEST: u64 = 86_400_000;
 
+/// Of how many of the last commits the contents can be found if nothing else is asked for.
+const KEPT: u64 = 100;
+
+/// Of how many at most.
+const MOST_KEPT: u64 = 1_000_000;
+
 /// What the help ends with: an example, exit statuses, and the numbers of schema faults. [P 1.4, 15.1, 15.2]
 const AFTER_HELP: &str = "Example:
   ovsdbd serve --schema net.json
@@ -166,7 +175,8 @@ fn serve_command<'a>(alloc: Global) -> Result<Command<'a>, Error> {
         .arg(listen_word(alloc))?
         .arg(sessions_word(alloc))?
         .arg(probe_word(alloc))?
-        .arg(stall_word(alloc))?;
+        .arg(stall_word(alloc))?
+        .arg(kept_word(alloc))?;
     Ok(serve)
 }
 
@@ -211,6 +221,17 @@ fn stall_word<'a>(alloc: Global) -> Arg<'a> {
         .action(ArgAction::Set)
 }
 
+fn kept_word<'a>(alloc: Global) -> Arg<'a> {
+    Arg::new(alloc, "kept")
+        .long("kept")
+        .value_name("N")
+        .help(
+            "A client that comes back and names one of the last N commits is told what changed since; 100 if absent, none if 0",
+        )
+        .value_parser(ValueParser::Unsigned(0, MOST_KEPT))
+        .action(ArgAction::Set)
+}
+
 fn schema_word<'a>(alloc: Global) -> Arg<'a> {
     Arg::new(alloc, "schema")
         .long("schema")
@@ -252,10 +273,21 @@ fn listen<
     let local = listener.local_addr().map_err(|_| Failure::NotListening)?;
     println!(rt; "listening {local}").map_err(|_| Failure::Run(RunFault::Write))?;
     let hashing = RandomState::new(rt).map_err(|_| Failure::Run(RunFault::Memory))?;
-    match begin(rt, alloc, schema, hashing) {
+    let memory = Memory {
+        run: run_word(rt)?,
+        kept: words.get_one("kept").unwrap_or(KEPT) as usize,
+    };
+    match begin(rt, alloc, schema, hashing, memory) {
         Ok(begun) => serve_all(rt, begun, &listener, terms(words)).map_err(Failure::Run),
         Err(fault) => Err(Failure::Run(fault)),
     }
+}
+
+/// Draws the word by which identifiers of commits are told apart from those of other runs.
+fn run_word<R: RandomSource>(rt: &R) -> Result<u64, Failure> {
+    let rng: Result<StdRng, io::Error> = make_rng(rt);
+    let mut rng = rng.map_err(|_| Failure::Run(RunFault::Memory))?;
+    Ok(rng.next_u64())
 }
 
 /// Whom the daemon is to serve.

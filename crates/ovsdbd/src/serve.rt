@@ -33,16 +33,26 @@ pub(crate) struct Terms {
     pub(crate) patience: Patience,
 }
 
+/// By what clients that come back are known to have held the content that a commit made.
+#[derive(Clone, Copy)]
+pub(crate) struct Memory {
+    /// The word of this run, which stands in its commits' identifiers.
+    pub(crate) run: u64,
+    /// Of how many of the last commits the contents can be found.
+    pub(crate) kept: usize,
+}
+
 /// A core for the schema, with empty tables. Moments are counted from now.
 pub(crate) fn begin<R: Clock>(
     rt: &R,
     alloc: Global,
     schema: Schema,
     hashing: RandomState,
+    memory: Memory,
 ) -> Result<Begun, RunFault>
     ensures { IfOk result (λ begun. (begun.core.world.sessions ≡ empty) × (begun.core.opened ≡ 0)) }
 {
-    let Ok(core) = Core::new(alloc, schema, hashing) else {
+    let Ok(core) = Core::with_run(alloc, schema, hashing, memory.run, memory.kept) else {
         return Err(RunFault::Memory);
     };
     let Ok(start) = Instant::now(rt) else {

@@ -5,7 +5,7 @@ use Rattle.std.specs.BTreeSet.{BTreeSet, contains}
 use Rattle.odb_atoms.specs.FinMap as finite
 use Rattle.odb_service.specs.Server.{Server, served_by}
 use Rattle.odb_service.specs.Service.{Service}
-use Rattle.odb_service.specs.Session.{Session, take}
+use Rattle.odb_service.specs.Session.{Session, nothing_earlier, take}
 use Rattle.odb_service.specs.World.{World, revision_of, untried}
 use Rattle.odb_schema.specs.Schema.{Schema}
 use Rattle.odb_commit.specs.Sound.{IsSound}
@@ -18,20 +18,21 @@ AreUnused s opened = (q : ℕ) → opened ≤ q → finite.get s q ≡ None
 abbrev pub IsValid : Schema → World → ℕ → Type 0
 IsValid s w opened = IsSound s w.db × ((h : Service) → untried h w ≡ None) × AreUnused w.sessions opened
 
--- empty tables, no commit, no waiting transaction, no lock and no session
-abbrev pub empty_world : ℕ → World
-empty_world tables = record {
+-- empty tables, no commit, no waiting transaction, no lock and no session, in a run with this word, of which so many contents can be found
+abbrev pub empty_world : (run most tables : ℕ) → World
+empty_world run most tables = record {
   db = replicate tables finite.empty;
   commits = 0;
+  earlier = nothing_earlier run most;
   now = 0;
   waiting = [];
   locks = finite.empty;
   sessions = finite.empty;
 }
 
--- a server of the schema with no session
-abbrev pub new_server : Schema → Server
-new_server schema = record { schema = schema; world = empty_world (length schema.tables); opened = 0 }
+-- a server of the schema with no session, in such a run
+abbrev pub new_server : (run most : ℕ) → Schema → Server
+new_server run most schema = record { schema = schema; world = empty_world run most (length schema.tables); opened = 0 }
 
 -- a taking of an open session that isn't in the set gives nothing and changes nothing
 abbrev pub IsQuietBut : BTreeSet ℕ → Server → Type 0

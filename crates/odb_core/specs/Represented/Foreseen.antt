@@ -15,7 +15,7 @@ use Rattle.odb_schema.specs.Json.{array_of}
 use Rattle.odb_schema.specs.Schema.{Schema}
 use Rattle.odb_service.specs.Server.{served_by}
 use Rattle.odb_service.specs.Service.{ended, max_rows, outcome_of, waiting}
-use Rattle.odb_service.specs.Session.{Item, say, to}
+use Rattle.odb_service.specs.Session.{Item, say, to, with_content}
 use Rattle.odb_service.specs.World.{Waiting, World, is_untried, retry_all, split_first}
 use Rattle.odb_sessions.specs.Posts.{all_posted}
 use Rattle.odb_tables.specs.Change.{Changes, all_changed_by}
@@ -40,7 +40,7 @@ with_sides t (e ∷ es) = with_sides (with_side t e.0 e.1.1) es
 
 -- the world with the change as its next commit
 abbrev pub committed : List Changes → World → World
-committed cs w = record w { db = all_changed_by w.db cs; commits = w.commits + 1 }
+committed cs w = record w { db = all_changed_by w.db cs; commits = w.commits + 1; earlier = with_content w.db w.earlier }
 
 -- the world with another database, at any number of commits
 abbrev pub over : Db → ℕ → World → World

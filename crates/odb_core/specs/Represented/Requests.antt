@@ -6,7 +6,7 @@ use Rattle.odb_rpc.specs.Message.{Call, answered, cancel, cancel_monitor, change
 abbrev pub asks_transaction : Call → Bool
 asks_transaction (transact id ops) = true
 asks_transaction (answered d) = false
-asks_transaction (monitor id n i requests) = false
+asks_transaction (monitor id n i requests since) = false
 asks_transaction (change_filters id old new filters) = false
 asks_transaction (cancel_monitor id i) = false
 asks_transaction (lock id name) = false

@@ -6,9 +6,9 @@ use Rattle.odb_service.specs.World.{World}
 use Rattle.odb_sessions.specs.Book.{Book}
 use Rattle.odb_sessions.specs.Taken.{AreOf, Pending, sessions_in}
 
--- the database and the sessions
+-- the database, its commits and the sessions
 abbrev pub book_in : World → Book
-book_in w = record { db = w.db; sessions = w.sessions }
+book_in w = record { db = w.db; commits = w.commits; earlier = w.earlier; sessions = w.sessions }
 
 -- the takings are those of the round of these sessions, each once, as the server is
 abbrev pub AreRoundOf : List ℕ → Server → List Pending → Type 0

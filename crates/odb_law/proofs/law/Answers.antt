@@ -5,6 +5,7 @@ use Rattle.odb_law.proofs.HeadlineRuns as runs
 use Rattle.odb_law.proofs.BroughtToNow as dropped
 use Rattle.odb_law.proofs.RefusedEvents as events
 use Rattle.odb_law.proofs.Committed as committed
+use Rattle.odb_law.proofs.FoundAgain as found
 use Rattle.odb_law.proofs.ToldBeforeReply as last
 use Rattle.odb_law.proofs.GrantedMonitors as granted
 use Rattle.odb_law.proofs.OwedByRounds as owed
@@ -49,6 +50,9 @@ returns-clause-granted c = λ serves s. granted.is_granted (service_of serves s)
 
 pub returns-clause-committed : goal.returns-clause-committed
 returns-clause-committed c = λ serves s. committed.is_committed (service_of serves s)
+
+pub returns-clause-found_again : goal.returns-clause-found_again
+returns-clause-found_again c = λ serves s. found.is_found_again (service_of serves s)
 
 pub returns-clause-told_before : goal.returns-clause-told_before
 returns-clause-told_before c = λ serves s. last.told_before (service_of serves s) (reads_named serves s)

@@ -28,8 +28,8 @@ part_code =
 
 abbrev pub job_code : Coded Job
 job_code =
-    code_by (Notation × (Bool × List Part)) (coded× notation_code (coded× coded_bool (coded_list part_code)))
-    (λ j. (j.notation, (j.first, j.parts))) (λ p. record { notation = p.0; first = p.1.0; parts = p.1.1 }) (λ j. refl)
+    code_by (Notation × (Bool × (Bool × List Part))) (coded× notation_code (coded× coded_bool (coded× coded_bool (coded_list part_code))))
+    (λ j. (j.notation, (j.first, (j.reply, j.parts)))) (λ p. record { notation = p.0; first = p.1.0; reply = p.1.1.0; parts = p.1.1.1 }) (λ j. refl)
 
 -- of a table with these rows, which changed so since the client was told
 abbrev pub part_of : Request → Told → Table → Option Changes → Part

@@ -15,7 +15,7 @@ call_at s d = call_of (served_by s).db_name (served_by s).schema (served_by s).s
 abbrev pub at_once : Call → Option (Option Data)
 at_once (answered d) = Some (Some d)
 at_once (transact id ops) = None
-at_once (monitor id n i requests) = None
+at_once (monitor id n i requests since) = None
 at_once (change_filters id old new filters) = None
 at_once (cancel_monitor id i) = None
 at_once (lock id name) = None

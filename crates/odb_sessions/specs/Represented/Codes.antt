@@ -4,6 +4,7 @@ use mathlib.Core.Logic.{inl, inr}
 use Rattle.std.specs.Ordering.{nat_cmp}
 use Rattle.std.specs.Coded.{Coded, code_by, coded×, coded⊎, coded_ℕ, coded_list, coded_option}
 use Rattle.odb_atoms.specs.FinMap as map
+use Rattle.odb_atoms.specs.Uuid.{Uuid, uuid_code}
 use Rattle.odb_chain.specs.Chains.{Chains, Mark}
 use Rattle.odb_chain.specs.Represented.Codes.{chains_code, mark_code}
 use Rattle.odb_cond.specs.Filter.{Filter}
@@ -13,8 +14,8 @@ use Rattle.odb_request.specs.Request.{Notation, Request, Shape}
 use Rattle.odb_request.specs.Represented.Codes.{filter_code, notation_code, request_code, shape_code}
 use Rattle.odb_schema.specs.Json.{Data}
 use Rattle.odb_schema.specs.JsonCode.{data_code}
-use Rattle.odb_service.specs.Session.{Item, Monitor, Session, Watch}
-use Rattle.odb_service.specs.WorldCode.{item_code, monitor_code, session_code, watch_code}
+use Rattle.odb_service.specs.Session.{Earlier, Item, Monitor, Session, Watch}
+use Rattle.odb_service.specs.WorldCode.{earlier_code, item_code, monitor_code, session_code, watch_code}
 use Rattle.odb_tables.specs.Database.{Db, db_code}
 use Rattle.odb_sessions.specs.Book.{Book}
 use Rattle.odb_sessions.specs.FirstTexts.{FirstText}
@@ -30,7 +31,7 @@ abbrev pub watched_code : Coded Watched
 watched_code = code_by (Request × (Filter × Mark)) (coded× request_code (coded× filter_code mark_code)) (λ w. (w.request, (w.told, w.mark))) (λ p. record { request = p.0; told = p.1.0; mark = p.1.1 }) (λ w. refl)
 
 abbrev pub held_code : Coded Held
-held_code = code_by (Data × (Notation × List Watched)) (coded× data_code (coded× notation_code (coded_list watched_code))) (λ h. (h.id, (h.notation, h.tables))) (λ p. record { id = p.0; notation = p.1.0; tables = p.1.1 }) (λ h. refl)
+held_code = code_by (Data × (Notation × (List Watched × Option Uuid))) (coded× data_code (coded× notation_code (coded× (coded_list watched_code) (coded_option uuid_code)))) (λ h. (h.id, (h.notation, (h.tables, h.since)))) (λ p. record { id = p.0; notation = p.1.0; tables = p.1.1.0; since = p.1.1.1 }) (λ h. refl)
 
 abbrev queued_parts : Queued → Item ⊎ (Data × Held)
 queued_parts (plain i) = inl i
@@ -54,7 +55,7 @@ abbrev pub sessions_code : Coded Sessions
 sessions_code = map.code coded_ℕ kept_code
 
 abbrev pub book_code : Coded Book
-book_code = code_by (Db × map.FinMap nat_cmp Session) (coded× db_code (map.code coded_ℕ session_code)) (λ b. (b.db, b.sessions)) (λ p. record { db = p.0; sessions = p.1 }) (λ b. refl)
+book_code = code_by (Db × (ℕ × (Earlier × map.FinMap nat_cmp Session))) (coded× db_code (coded× coded_ℕ (coded× earlier_code (map.code coded_ℕ session_code)))) (λ b. (b.db, (b.commits, (b.earlier, b.sessions)))) (λ p. record { db = p.0; commits = p.1.0; earlier = p.1.1.0; sessions = p.1.1.1 }) (λ b. refl)
 
 abbrev pub starting_code : Coded Starting
 starting_code = code_by (Data × Watch) (coded× data_code watch_code) (λ s. (s.request, s.watch)) (λ p. record { request = p.0; watch = p.1 }) (λ s. refl)

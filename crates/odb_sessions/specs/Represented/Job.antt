@@ -1,9 +1,9 @@
 -- What a job stands for: what is composed for the client of a monitor, in each of the ways.
-use Rattle.std.specs.Prelude.{◌≡◌, List, [], map, Option, Some, None}
+use Rattle.std.specs.Prelude.{◌≡◌, List, [], map, take, Option, Some, None}
 use Rattle.odb_monitor.specs.Job.{Job}
 use Rattle.odb_request.specs.Request.{Request}
 use Rattle.odb_service.specs.Session.{refilter}
-use Rattle.odb_sessions.specs.Composed.{all_asked_as, asked_of, first_job, later_job, part_to}
+use Rattle.odb_sessions.specs.Composed.{all_asked_as, asked_of, first_job, later_job, part_to, resumed_job}
 use Rattle.odb_sessions.specs.Foreseen.{Filters, all_parts_again}
 use Rattle.odb_sessions.specs.Held.{Held, Watched}
 use Rattle.odb_sessions.specs.Represented.Under.{filters_in}
@@ -17,6 +17,7 @@ filters_by way.First = None
 filters_by way.Asked = None
 filters_by (way.Changed u) = Some (filters_in u)
 filters_by (way.Again told u) = Some (filters_in u)
+filters_by (way.Since r n) = None
 
 -- what is asked of the tables under these filters, where there are some
 abbrev pub asked_by : List Watched → Option Filters → List Request
@@ -31,4 +32,5 @@ abbrev pub job_in : Db → Held → Way → Job
 job_in db x way.First = first_job db x.notation (asked_of x.tables)
 job_in db x way.Asked = later_job x.notation (map (part_to db) x.tables)
 job_in db x (way.Changed u) = later_job x.notation (map (part_to db) (all_asked_as x.tables (refilter (filters_in u) (asked_of x.tables))))
+job_in db x (way.Since r n) = resumed_job (take n r.now.undos) db x.notation (asked_of x.tables)
 job_in db x (way.Again told u) = later_job x.notation (all_parts_again db (filters_in told) x.tables (refilter (filters_in u) (asked_of x.tables)))

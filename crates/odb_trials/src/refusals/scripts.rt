@@ -50,6 +50,19 @@ pub(crate) const SHIFTED: [&str; 7] = [
     "!take A",
 ];
 
+/// Clients that come back: with a commit that is found, with one that isn't, and a commit before they are told.
+pub(crate) const RESUMED: [&str; 9] = [
+    r#"B {"method":"transact","params":["net",{"op":"insert","table":"Bridge","row":{"name":"br0"}}],"id":1}"#,
+    r#"B {"method":"transact","params":["net",{"op":"insert","table":"Bridge","row":{"name":"br1"}}],"id":2}"#,
+    "!hold A",
+    r#"A {"method":"monitor_cond_since","params":["net","m",{"Bridge":[{"columns":["name"]}]},"00000000-0000-0000-0000-000000000001"],"id":1}"#,
+    r#"A {"method":"monitor_cond_since","params":["net","n",{"Bridge":[{"columns":["name"]}]},"00000000-0000-0000-0000-000000000000"],"id":2}"#,
+    r#"B {"method":"transact","params":["net",{"op":"update","table":"Bridge","where":[["name","==","br1"]],"row":{"name":"x"}}],"id":3}"#,
+    "!take A",
+    r#"B {"method":"transact","params":["net",{"op":"delete","table":"Bridge","where":[["name","==","br0"]]}],"id":4}"#,
+    r#"B {"method":"monitor_cond_since","params":["net","m",{"Bridge":[{"columns":["name"]}]},"00000000-0000-0000-0000-000000000002"],"id":5}"#,
+];
+
 /// A lock that another session waits for, transactions that wait for a commit, for a moment and for ever, and calls that
 /// are refused.
 pub(crate) const WAITS: [&str; 10] = [

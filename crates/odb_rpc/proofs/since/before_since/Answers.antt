@@ -3,16 +3,14 @@ use Rattle.serde_json.specs.Data.{string}
 use Rattle.serde_json.specs.Written.{compact_text}
 use Rattle.odb_atoms.specs.Represented.Atom.{uuid_of}
 use Rattle.odb_atoms.specs.Uuid.{uuid_text}
-use Rattle.odb_rpc.specs.Represented.Printable.{printable_data}
 use Rattle.odb_rpc.specs.Represented.Shared.{after_updates}
 use Rattle.odb_rpc.specs.Represented.Since.{before_found}
 use Rattle.odb_rpc.proofs.Texts.{since_around}
 use Rattle.odb_rpc.proofs.since.before_since.Goals as goal
 
 pub returns : goal.returns
-returns c d =
-    let id = printable_data c.args.id in
-    let before : List ℕ = c.in_ok-text.text.items in
+returns c id d begins =
+    let before : List ℕ = c.args.before.items in
     let n : List ℕ = uuid_text (uuid_of c.args.number) in
     let built : c.push.new.self.items ≡ ((before ++ before_found c.args.found) ++ compact_text (string n)) ++ codes "," = search rules in
-    ap (λ t. t ++ (compact_text d ++ after_updates)) built ∙ since_around before id c.args.found n d c.in_ok-text.ensures
+    ap (λ t. t ++ (compact_text d ++ after_updates)) built ∙ since_around before id c.args.found n d begins

@@ -34,7 +34,7 @@ update-requires c =
 
 pub loop-place-preserved : goal.loop-place-preserved
 loop-place-preserved c =
-    let revision = revision_at c.args.wanted.now.chains in
+    let revision = revision_at c.args.wanted.now.chains c.args.recent.now in
     let xs : List Ahead = c.args.monitors.now in
     let i = c.loop-place.place in
     let x : Ahead = c.index-monitors-place.result in
@@ -49,12 +49,12 @@ loop-place-preserved c =
       jobs = keeps_on c.args.wanted.now.jobs c.loop-place.wanted.jobs js c.loop-place.invariant.jobs c.update.ensures.jobs;
       within = omega (arith, low);
       rest = λ h. c.loop-place.invariant.rest h
-          ∙ rest_none h revision xs i x step text (c.in_ok-message.ensures.text h js (keeps_itself js) ∙ text_at h c.loop-place.wanted.chains c.args.wanted.now.chains x c.loop-place.invariant.chains) (is_mapped (text_under js) c.in_ok-message.message ∙ none);
+          ∙ rest_none h revision xs i x step text (c.in_ok-message.ensures.text h js (keeps_itself js) ∙ text_at h c.args.recent.now c.loop-place.wanted.chains c.args.wanted.now.chains x c.loop-place.invariant.chains) (is_mapped (text_under js) c.in_ok-message.message ∙ none);
     }
 
 pub returns-then-is_some-clause-monitors : goal.returns-then-is_some-clause-monitors
 returns-then-is_some-clause-monitors c = λ h.
-    let revision = revision_at c.args.wanted.now.chains in
+    let revision = revision_at c.args.wanted.now.chains c.args.recent.now in
     let xs : List Ahead = c.args.monitors.now in
     let i = c.loop-place.place in
     let x : Ahead = c.index-monitors-place.result in
@@ -65,11 +65,11 @@ returns-then-is_some-clause-monitors c = λ h.
     let text = option_map (text_under js) c.in_ok-message.message in
     let some : is_some c.in_ok-message.message ≡ true = search rules in
     sym (ap (λ (p : Plan). p.monitors) (c.loop-place.invariant.rest h)
-    ∙ found_monitors h revision xs i x step text (c.in_ok-message.ensures.text h js (keeps_itself js) ∙ text_at h c.loop-place.wanted.chains c.args.wanted.now.chains x c.loop-place.invariant.chains) (is_mapped (text_under js) c.in_ok-message.message ∙ some))
+    ∙ found_monitors h revision xs i x step text (c.in_ok-message.ensures.text h js (keeps_itself js) ∙ text_at h c.args.recent.now c.loop-place.wanted.chains c.args.wanted.now.chains x c.loop-place.invariant.chains) (is_mapped (text_under js) c.in_ok-message.message ∙ some))
 
 pub returns-then-is_some-clause-text : goal.returns-then-is_some-clause-text
 returns-then-is_some-clause-text c = λ h all kept.
-    let revision = revision_at c.args.wanted.now.chains in
+    let revision = revision_at c.args.wanted.now.chains c.args.recent.now in
     let xs : List Ahead = c.args.monitors.now in
     let i = c.loop-place.place in
     let x : Ahead = c.index-monitors-place.result in
@@ -79,7 +79,7 @@ returns-then-is_some-clause-text c = λ h all kept.
     let text = option_map (text_under all) c.in_ok-message.message in
     let some : is_some c.in_ok-message.message ≡ true = search rules in
     sym (ap (λ (p : Plan). option_map (due_text h revision) p.out) (c.loop-place.invariant.rest h)
-    ∙ found_out h revision xs i x step text (c.in_ok-message.ensures.text h all kept ∙ text_at h c.loop-place.wanted.chains c.args.wanted.now.chains x c.loop-place.invariant.chains) (is_mapped (text_under all) c.in_ok-message.message ∙ some))
+    ∙ found_out h revision xs i x step text (c.in_ok-message.ensures.text h all kept ∙ text_at h c.args.recent.now c.loop-place.wanted.chains c.args.wanted.now.chains x c.loop-place.invariant.chains) (is_mapped (text_under all) c.in_ok-message.message ∙ some))
 
 pub returns-then-is_some-clause-jobs : goal.returns-then-is_some-clause-jobs
 returns-then-is_some-clause-jobs c = keeps_on c.args.wanted.now.jobs c.loop-place.wanted.jobs c.update.new.wanted.jobs c.loop-place.invariant.jobs c.update.ensures.jobs
@@ -101,7 +101,7 @@ returns-clause-text c = λ h all kept.
     let xs : List Ahead = c.args.monitors.now in
     let past : length xs ≤ c.loop-place.place = search rules in
     let within : c.loop-place.place ≤ length xs = c.loop-place.invariant.within in
-    sym (ap (λ (p : Plan). option_map (due_text h (revision_at c.args.wanted.now.chains)) p.out) (c.loop-place.invariant.rest h ∙ rest_done h c.args.wanted.now.chains.db xs c.loop-place.place c.loop-place.place past within (omega (arith, past, within))))
+    sym (ap (λ (p : Plan). option_map (due_text h (revision_at c.args.wanted.now.chains c.args.recent.now)) p.out) (c.loop-place.invariant.rest h ∙ rest_done h c.args.wanted.now.chains.db xs c.loop-place.place c.loop-place.place past within (omega (arith, past, within))))
 
 pub returns-clause-jobs : goal.returns-clause-jobs
 returns-clause-jobs c = c.loop-place.invariant.jobs

@@ -2,6 +2,7 @@ use Rattle.std.proofs.Common.{rules, ◌≡◌, false, ◌∙◌}
 use Rattle.std.specs.BTreeSet.{contains}
 use Rattle.std.specs.Ordering.{nat_cmp}
 use Rattle.odb_chain.specs.Chains.{Chains}
+use Rattle.odb_recent.specs.Recent.{recent_of}
 use Rattle.odb_sessions.specs.Held.{Sessions}
 use Rattle.odb_sessions.proofs.Carried.{ready_at}
 use Rattle.odb_sessions.proofs.CarriedOut.{seen_after, tied_after}
@@ -21,4 +22,4 @@ returns-clause-seen c =
     let m : Sessions = c.args.sessions.now in
     let s = c.args.session in
     let out : contains nat_cmp c.args.owed.now s ≡ false = search rules in
-    seen_after k c.carry_out.new.past m c.carry_out.new.self s 0 c.monitors-monitors.result c.carry_out.ensures.carried no_schema ∙ refreshed k m s c.monitors-monitors.result (c.requires.owed s out)
+    seen_after k c.carry_out.new.past m c.carry_out.new.self s 0 c.monitors-monitors.result c.carry_out.ensures.carried (recent_of 0 0) no_schema ∙ refreshed k m s c.monitors-monitors.result (c.requires.owed s out)

@@ -11,7 +11,7 @@ use Rattle.odb_sessions.specs.Book.{revision_at}
 pub returns-in_default-clause-ready : goal.returns-in_default-clause-ready
 returns-in_default-clause-ready c = λ s all kept.
     let none : finite.get c.args.sessions.now c.args.session ≡ None = search rules in
-    subst (λ (o : Option Kept). IsReadyFor s (revision_at c.args.planner.now.chains) (option_map seen o) (ready_by all c.none.result.taking)) (sym none) (c.none.ensures.coming all)
+    subst (λ (o : Option Kept). IsReadyFor s (revision_at c.args.planner.now.chains c.args.recent.now) (option_map seen o) (ready_by all c.none.result.taking)) (sym none) (c.none.ensures.coming all)
 
 pub returns-in_default-clause-jobs : goal.returns-in_default-clause-jobs
 returns-in_default-clause-jobs c = keeps_itself c.args.planner.now.jobs
@@ -23,7 +23,7 @@ taking-requires c =
 
 pub returns-clause-ready : goal.returns-clause-ready
 returns-clause-ready c = λ s all kept.
-    let revision = revision_at c.args.planner.now.chains in
+    let revision = revision_at c.args.planner.now.chains c.args.recent.now in
     let x : Kept = c.in-Some.of.now in
     let there : finite.get c.args.sessions.now c.args.session ≡ Some x = search rules in
     let t = c.in_ok-taking.taking in

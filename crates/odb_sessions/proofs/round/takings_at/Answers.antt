@@ -4,9 +4,10 @@ use Rattle.std.proofs.lemmas.List.{map-append, take_more}
 use Rattle.odb_atoms.specs.FinMap.{get}
 use Rattle.odb_chain.specs.Chains.{Chains}
 use Rattle.odb_monitor.specs.Job.{Job}
+use Rattle.odb_recent.specs.Recent.{Recent}
 use Rattle.odb_schema.specs.Schema.{Schema}
 use Rattle.odb_service.specs.Session.{Session}
-use Rattle.odb_sessions.specs.Book.{Book, revision_at}
+use Rattle.odb_sessions.specs.Book.{Book, book_with, revision_at}
 use Rattle.odb_sessions.specs.Held.{Sessions, all_seen, seen}
 use Rattle.odb_sessions.specs.Jobs.{Keeps}
 use Rattle.odb_sessions.specs.Represented.Taking.{pending_by, ready_by}
@@ -18,15 +19,15 @@ use Rattle.odb_sessions.proofs.Rounds.{ready-append}
 use Rattle.odb_sessions.proofs.Ties.{get-seen}
 use Rattle.odb_sessions.proofs.round.takings_at.Goals as goal
 
-abbrev book : Chains → Sessions → Book
-book k m = record { db = k.db; sessions = all_seen m }
+abbrev book : Chains → Recent → Sessions → Book
+book k r m = book_with k.db r (all_seen m)
 
 pub loop-session-init : goal.loop-session-init
 loop-session-init c =
     let none : c.in_ok-takings.takings.items ≡ [] = search rules in
     let fits : length c.args.listed.now ≤ vec_capacity c.in_ok-takings.takings = search rules in (
       ap (map (λ (p : Planned). p.session)) none,
-      λ s all kept. subst (λ (ps : List Planned). AreReady s (book c.args.planner.now.chains c.args.sessions.now) (map (pending_by all) ps)) (sym none) tt,
+      λ s all kept. subst (λ (ps : List Planned). AreReady s (book c.args.planner.now.chains c.args.recent.now c.args.sessions.now) (map (pending_by all) ps)) (sym none) tt,
       search rules,
       fits,
       refl,
@@ -46,6 +47,7 @@ loop-session-preserved c =
     let p : Planned = c.in_ok-taking_at.field-0 in
     let ps : List Planned = c.loop-session.takings.items in
     let k : Chains = c.args.planner.now.chains in
+    let r : Recent = c.args.recent.now in
     let m : Sessions = c.args.sessions.now in
     let now : List Job = c.taking_at.new.planner.jobs in
     let same : c.loop-session.planner.chains ≡ k = c.loop-session.invariant.4 in
@@ -53,8 +55,8 @@ loop-session-preserved c =
     let inside : i < length ns = search rules in
     let n : ℕ = get_or ns i 0 in
     let named : p.session ≡ n = search rules in
-    let ready : (s : Schema) (all : List Job) → Keeps now all → IsReadyFor s (revision_at k) (get (all_seen m) n) (ready_by all p.taking) =
-    λ s all kept. subst (λ (o : Option Session). IsReadyFor s (revision_at k) o (ready_by all p.taking)) (sym (get-seen m n)) (subst (λ (q : Chains). IsReadyFor s (revision_at q) (option_map seen (get m n)) (ready_by all p.taking)) same (c.in_ok-taking_at.ensures.ready s all kept))
+    let ready : (s : Schema) (all : List Job) → Keeps now all → IsReadyFor s (revision_at k r) (get (all_seen m) n) (ready_by all p.taking) =
+    λ s all kept. subst (λ (o : Option Session). IsReadyFor s (revision_at k r) o (ready_by all p.taking)) (sym (get-seen m n)) (subst (λ (q : Chains). IsReadyFor s (revision_at q r) (option_map seen (get m n)) (ready_by all p.taking)) same (c.in_ok-taking_at.ensures.ready s all kept))
     in
     let len : vec_len c.push_reserved.new.self ≡ vec_len c.loop-session.takings + 1 = search rules in
     let before : vec_len c.loop-session.takings ≡ i = c.loop-session.invariant.2 in
@@ -62,10 +64,10 @@ loop-session-preserved c =
     let fits : length ns ≤ vec_capacity c.loop-session.takings = c.loop-session.invariant.3 in (
       ap (map (λ (q : Planned). q.session)) grown ∙ map-append (λ (q : Planned). q.session) ps (p ∷ [])
           ∙ (λ j. c.loop-session.invariant.0 j ++ named j ∷ []) ∙ sym (take_more ns i 0 inside),
-      λ s all kept. subst (AreReady s (book k m)) (sym (ap (map (pending_by all)) grown ∙ map-append (pending_by all) ps (p ∷ [])))
-          (ready-append s (book k m) (map (pending_by all) ps) (pending_by all p)
+      λ s all kept. subst (AreReady s (book k r m)) (sym (ap (map (pending_by all)) grown ∙ map-append (pending_by all) ps (p ∷ [])))
+          (ready-append s (book k r m) (map (pending_by all) ps) (pending_by all p)
           (c.loop-session.invariant.1 s all (keeps_on c.loop-session.planner.jobs now all c.taking_at.ensures.jobs kept))
-          (subst (λ (n : ℕ). IsReadyFor s (revision_at k) (get (all_seen m) n) (ready_by all p.taking)) (sym named) (ready s all kept))),
+          (subst (λ (n : ℕ). IsReadyFor s (revision_at k r) (get (all_seen m) n) (ready_by all p.taking)) (sym named) (ready s all kept))),
       omega (arith, len, before),
       omega (arith, capacity, fits),
       c.taking_at.ensures.chains ∙ same,

@@ -2,7 +2,7 @@ use Rattle.std.proofs.Common.{◌≡◌, ◌≤◌, List, length, map, take}
 use Rattle.std.specs.Prelude.{vec_capacity, vec_len}
 use Rattle.odb_monitor.specs.Job.{Job}
 use Rattle.odb_schema.specs.Schema.{Schema}
-use Rattle.odb_sessions.specs.Book.{Book}
+use Rattle.odb_sessions.specs.Book.{book_with}
 use Rattle.odb_sessions.specs.Held.{all_seen}
 use Rattle.odb_sessions.specs.Jobs.{Keeps}
 use Rattle.odb_sessions.specs.Represented.Taking.{pending_by}
@@ -13,6 +13,6 @@ use Rattle.odb_sessions.proofs.round.takings_at.Given as goal
 abbrev pub invariant-loop-session : goal.invariant-loop-session
 invariant-loop-session l =
     (map (λ (p : Planned). p.session) l.takings.items ≡ take l.session-index l.listed)
-    × ((s : Schema) (all : List Job) → Keeps l.planner.jobs all → let b : Book = record { db = l.initial.planner.chains.db; sessions = all_seen l.sessions } in AreReady s b (map (pending_by all) l.takings.items))
+    × ((s : Schema) (all : List Job) → Keeps l.planner.jobs all → AreReady s (book_with l.initial.planner.chains.db l.recent (all_seen l.sessions)) (map (pending_by all) l.takings.items))
     × (vec_len l.takings ≡ l.session-index) × (length l.listed ≤ vec_capacity l.takings)
     × (l.planner.chains ≡ l.initial.planner.chains)

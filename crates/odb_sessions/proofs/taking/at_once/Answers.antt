@@ -3,7 +3,7 @@ use Rattle.odb_sessions.specs.Foreseen.{finished_text}
 use Rattle.odb_sessions.specs.declared.item.Item.{Item}
 use Rattle.odb_sessions.proofs.Leading.{first_items, first_monitors, first_text, seen_item}
 use Rattle.odb_sessions.proofs.taking.at_once.Goals as goal
-use Rattle.odb_service.specs.Session.{Revision}
+use Rattle.odb_service.specs.Session.{Revision, nothing_earlier}
 
 pub returns-clause-items : goal.returns-clause-items
 returns-clause-items c = λ s db ms.
@@ -12,7 +12,7 @@ returns-clause-items c = λ s db ms.
     let low : 0 < length xs = search rules in
     let at : x ≡ slice_index_or xs 0 x = search rules in
     let e : is_some (finished_text (seen_item x)) ≡ true = search rules in
-    let revision : Revision = record { db = db } in
+    let revision : Revision = record { db = db; commits = 0; earlier = nothing_earlier 0 0 } in
     first_items s revision ms xs x low at e
 
 pub returns-clause-monitors : goal.returns-clause-monitors
@@ -22,7 +22,7 @@ returns-clause-monitors c = λ s db ms.
     let low : 0 < length xs = search rules in
     let at : x ≡ slice_index_or xs 0 x = search rules in
     let e : is_some (finished_text (seen_item x)) ≡ true = search rules in
-    let revision : Revision = record { db = db } in
+    let revision : Revision = record { db = db; commits = 0; earlier = nothing_earlier 0 0 } in
     first_monitors s revision ms xs x low at e
 
 pub returns-clause-text : goal.returns-clause-text

@@ -89,7 +89,7 @@ returns-then-is_some-clause-monitors c = λ s.
 
 pub returns-then-is_some-clause-text : goal.returns-then-is_some-clause-text
 returns-then-is_some-clause-text c = λ s all kept.
-    let revision : Revision = revision_at c.args.planner.now.chains in
+    let revision : Revision = revision_at c.args.planner.now.chains c.args.recent.now in
     let ms : List Monitor = c.loop-place.planner.monitors in
     let xs : List Item = c.args.items.now.items in
     let i = c.loop-place.place in
@@ -101,7 +101,7 @@ returns-then-is_some-clause-text c = λ s all kept.
     let some : is_some c.in_ok-coming.coming ≡ true = search rules in
     ap (coming_text all c.in_ok-coming.coming) (last_at xs i x low at)
     ∙ c.in_ok-coming.ensures.text s all kept
-    ∙ ap (λ (d : Db). let r : Revision = record { db = d } in option_map (due_text (served_by s) r) (due (served_by s) d (seen_item x) ms)) same
+    ∙ ap (λ (k : Chains). option_map (due_text (served_by s) (revision_at k c.args.recent.now)) (due (served_by s) k.db (seen_item x) ms)) c.loop-place.invariant.chains
     ∙ sym (ap (λ (p : Plan). option_map (due_text (served_by s) revision) p.out) (c.loop-place.invariant.rest s
     ∙ ended s revision.db xs i x step ms (ap (λ (d : Db). is_some (due (served_by s) d (seen_item x) ms)) (sym same) ∙ sym (c.in_ok-coming.ensures.comes s) ∙ some)))
 
@@ -127,16 +127,15 @@ returns-clause-monitors c = λ s.
 
 pub returns-clause-text : goal.returns-clause-text
 returns-clause-text c = λ s all kept.
-    let revision : Revision = revision_at c.args.planner.now.chains in
+    let revision : Revision = revision_at c.args.planner.now.chains c.args.recent.now in
     let ms : List Monitor = c.loop-place.planner.monitors in
     let xs : List Item = c.args.items.now.items in
     let i = c.loop-place.place in
     let past : length xs ≤ i = search rules in
     let within : i ≤ length xs = c.loop-place.invariant.within in
-    let same : c.loop-place.planner.chains.db ≡ revision.db = ap (λ (k : Chains). k.db) c.loop-place.invariant.chains in
     c.composed.ensures.text all _
     ∙ c.in_ok-rest.ensures.text (served_by s) all kept
-    ∙ ap (λ (d : Db). let r : Revision = record { db = d } in option_map (due_text (served_by s) r) (plan_rest (served_by s) d ms).out) same
+    ∙ ap (λ (k : Chains). option_map (due_text (served_by s) (revision_at k c.args.recent.now)) (plan_rest (served_by s) k.db ms).out) c.loop-place.invariant.chains
     ∙ sym (ap (λ (p : Plan). option_map (due_text (served_by s) revision) p.out) (c.loop-place.invariant.rest s ∙ at_end s revision.db xs i i ms past within (omega (arith, past, within))))
 
 pub returns-then-is_some-clause-jobs : goal.returns-then-is_some-clause-jobs

@@ -10,6 +10,6 @@ returns c =
     let n = c.self-inside.inside.0.1.1.0 in
     let s = c.self-inside.inside.0.1.0 in
     let r = c.self-inside.inside.0.1.1.1.0 in
-    let w : World = record { db = r.sessions.db; commits = r.commits; now = r.now; waiting = r.waiting; locks = r.locks; sessions = r.sessions.sessions } in
+    let w : World = record { db = r.sessions.db; commits = r.sessions.commits; earlier = r.sessions.earlier; now = r.now; waiting = r.waiting; locks = r.locks; sessions = r.sessions.sessions } in
     let is : at s w n ≡ c.args.self.now = ap (λ i. at i.served i.state i.opened) c.self-inside.view_is ∙ c.self.view_is in
     subst (IsQuietBut c.owed.result.now) is (quiet_but c.owed.result.now (at s w n) c.owed.ensures)

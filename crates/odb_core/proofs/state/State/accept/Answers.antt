@@ -13,11 +13,11 @@ accept-requires-clause-ready c = λ s. subst (λ (w : World). AreReady s (book_i
 pub returns-clause-ok : goal.returns-clause-ok
 returns-clause-ok c = λ s.
     let i = c.self.inside in
-    let w : World = record { db = i.sessions.db; commits = i.commits; now = i.now; waiting = i.waiting; locks = i.locks; sessions = i.sessions.sessions } in
+    let w : World = record { db = i.sessions.db; commits = i.sessions.commits; earlier = i.sessions.earlier; now = i.now; waiting = i.waiting; locks = i.locks; sessions = i.sessions.sessions } in
     let now = c.accept.new.self in
     let t = c.accept.ensures.round s w refl refl in (
       ap (λ (u : World). (take_each (served_by s) (sessions_in c.args.prepared) u).0) (sym c.self.view_is) ∙ t.0
-          ∙ (λ j. record { db = sym c.accept.ensures.database j; commits = i.commits; now = i.now; waiting = i.waiting; locks = i.locks; sessions = now.sessions }),
+          ∙ (λ j. record { db = (sym c.accept.ensures.revision j).db; commits = (sym c.accept.ensures.revision j).commits; earlier = (sym c.accept.ensures.revision j).earlier; now = i.now; waiting = i.waiting; locks = i.locks; sessions = now.sessions }),
       ap (λ (u : World). map printed (take_each (served_by s) (sessions_in c.args.prepared) u).1) (sym c.self.view_is) ∙ t.1,
     )
 

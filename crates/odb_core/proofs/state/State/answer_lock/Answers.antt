@@ -17,10 +17,10 @@ returns-clause-ok c =
     let ns = notices_of c.args.lock_notices.now in
     let r = view c.args.value.now in
     let i = c.self.inside in
-    let w : World = record { db = i.sessions.db; commits = i.commits; now = i.now; waiting = i.waiting; locks = i.locks; sessions = i.sessions.sessions } in
+    let w : World = record { db = i.sessions.db; commits = i.sessions.commits; earlier = i.sessions.earlier; now = i.now; waiting = i.waiting; locks = i.locks; sessions = i.sessions.sessions } in
     let now = c.post_all.new.self in
     let all : map post_of c.push.new.self.items ≡ answers_to ns s d r = search (rules, map-append) in
     IfOk-weaker c.post_all.result _ _ (λ queued h.
     ap (λ w. succeed s d r (post_notices ns w)) (sym c.self.view_is)
     ∙ answers_as ns s d r w (map post_of c.push.new.self.items) now.sessions all (ap (λ (b : Book). b.sessions) h)
-    ∙ (λ j. record { db = sym (ap (λ (b : Book). b.db) h) j; commits = w.commits; now = w.now; waiting = w.waiting; locks = w.locks; sessions = now.sessions })) c.post_all.ensures.ok
+    ∙ (λ j. record { db = sym (ap (λ (b : Book). b.db) h) j; commits = sym (ap (λ (b : Book). b.commits) h) j; earlier = sym (ap (λ (b : Book). b.earlier) h) j; now = w.now; waiting = w.waiting; locks = w.locks; sessions = now.sessions })) c.post_all.ensures.ok

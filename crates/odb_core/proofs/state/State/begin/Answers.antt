@@ -1,4 +1,6 @@
 use Rattle.std.proofs.Common.{rules, ◌≡◌, [], ◌∷◌, sym, ◌∙◌}
+use Rattle.std.specs.Prelude.{option_map}
+use Rattle.odb_atoms.specs.Uuid.{uuid_from}
 use Rattle.odb_request.specs.Represented.Kind.{notation_of}
 use Rattle.odb_rpc.specs.Represented.Printable.{printable_data}
 use Rattle.odb_wire.specs.Shown.{request_data}
@@ -11,7 +13,7 @@ use Rattle.odb_core.proofs.state.State.begin.Goals as goal
 pub returns-clause-ok : goal.returns-clause-ok
 returns-clause-ok c =
     let w : World = c.args.self.now in
-    let i : Item = start (request_data c.args.request.now) (record { id = printable_data c.args.asked.id; notation = notation_of c.args.asked.kind; requests = c.args.requests.items }) in
-    let told : c.start.new.self ≡ record { db = w.db; sessions = at_number (push (i ∷ [])) w.sessions c.args.session } = search rules in
+    let i : Item = start (request_data c.args.request.now) (record { id = printable_data c.args.asked.id; notation = notation_of c.args.asked.kind; requests = c.args.requests.items; since = option_map uuid_from c.args.asked.since }) in
+    let told : c.start.new.self ≡ record { db = w.db; commits = w.commits; earlier = w.earlier; sessions = at_number (push (i ∷ [])) w.sessions c.args.session } = search rules in
     post_as c.args.session (i ∷ []) w
-    ∙ (λ j. record { db = (sym told j).db; commits = (sym c.self.view_is j).commits; now = (sym c.self.view_is j).now; waiting = (sym c.self.view_is j).waiting; locks = (sym c.self.view_is j).locks; sessions = (sym told j).sessions })
+    ∙ (λ j. record { db = (sym told j).db; commits = (sym told j).commits; earlier = (sym told j).earlier; now = (sym c.self.view_is j).now; waiting = (sym c.self.view_is j).waiting; locks = (sym c.self.view_is j).locks; sessions = (sym told j).sessions })

@@ -42,7 +42,7 @@ returns-clause-ok c = λ s.
     let d = printable_data c.args.id in
     let w : World = c.args.self.now in
     let i = c.self-2.inside in
-    let v : World = record { db = i.sessions.db; commits = i.commits; now = i.now; waiting = i.waiting; locks = i.locks; sessions = i.sessions.sessions } in
+    let v : World = record { db = i.sessions.db; commits = i.sessions.commits; earlier = i.sessions.earlier; now = i.now; waiting = i.waiting; locks = i.locks; sessions = i.sessions.sessions } in
     let k = c.in-Some.place in
     let x : Waiting = c.at.result.now in
     let named : c.deref.result.now ≡ compact_text d = search rules in
@@ -59,7 +59,7 @@ returns-clause-tried c = λ h tried.
     let n = c.args.session in
     let w : World = c.args.self.now in
     let i = c.self-2.inside in
-    let v : World = record { db = i.sessions.db; commits = i.commits; now = i.now; waiting = i.waiting; locks = i.locks; sessions = i.sessions.sessions } in
+    let v : World = record { db = i.sessions.db; commits = i.sessions.commits; earlier = i.sessions.earlier; now = i.now; waiting = i.waiting; locks = i.locks; sessions = i.sessions.sessions } in
     let k = c.in-Some.place in
     let posts : post n (item_of c.in_ok-reply.reply ∷ []) w ≡ v = search rules in
     let left : c.remove.new.self ≡ remove v.waiting k = search rules in

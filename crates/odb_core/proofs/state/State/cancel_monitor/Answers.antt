@@ -31,7 +31,7 @@ returns-clause-ok c = λ s.
     let is : List Item = sync i ∷ stopped d i ∷ [] in
     let one : c.in_ok-is_used.field-0 ≡ true = search rules in
     let used : c.in_ok-is_used.field-0 ≡ is_some (watched (served_by s) i (asked_of (served_by s) (get w.sessions n))) = c.in_ok-is_used.ensures s in
-    let told : c.stop.new.self ≡ record { db = w.db; sessions = at_number (push is) w.sessions n } = search rules in
+    let told : c.stop.new.self ≡ record { db = w.db; commits = w.commits; earlier = w.earlier; sessions = at_number (push is) w.sessions n } = search rules in
     cancels_one (served_by s) n d i w (watched (served_by s) i (asked_of (served_by s) (get w.sessions n))) (sym used ∙ one)
     ∙ post_as n is w
-    ∙ (λ j. record { db = (sym told j).db; commits = (sym c.self.view_is j).commits; now = (sym c.self.view_is j).now; waiting = (sym c.self.view_is j).waiting; locks = (sym c.self.view_is j).locks; sessions = (sym told j).sessions })
+    ∙ (λ j. record { db = (sym told j).db; commits = (sym told j).commits; earlier = (sym told j).earlier; now = (sym c.self.view_is j).now; waiting = (sym c.self.view_is j).waiting; locks = (sym c.self.view_is j).locks; sessions = (sym told j).sessions })

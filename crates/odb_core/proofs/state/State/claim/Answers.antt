@@ -18,7 +18,7 @@ returns-clause-ok c = λ h.
     let preview : LockOutcome = c.in-Ok.preview in
     let ns = notices_of preview.notices.items in
     let i = c.self-2.inside in
-    let v : World = record { db = i.sessions.db; commits = i.commits; now = i.now; waiting = i.waiting; locks = i.locks; sessions = i.sessions.sessions } in
+    let v : World = record { db = i.sessions.db; commits = i.sessions.commits; earlier = i.sessions.earlier; now = i.now; waiting = i.waiting; locks = i.locks; sessions = i.sessions.sessions } in
     let r = view c.in_ok-result.result in
     let says : answer_of (claim_by c.args.stolen w.locks s name) ≡ Ok (ns, preview.owns) = search rules in
     let went : is_err c.claim.result ≡ false = search rules in

@@ -14,6 +14,6 @@ returns-clause-ok c =
     let old = printable_data c.args.asked.old in
     let fs = filters_of c.args.changes in
     let is : List Item = shift old fs ∷ renamed (request_data c.args.request.now) old (printable_data c.args.asked.new) fs ∷ [] in
-    let told : c.change.new.self ≡ record { db = w.db; sessions = at_number (push is) w.sessions c.args.session } = search rules in
+    let told : c.change.new.self ≡ record { db = w.db; commits = w.commits; earlier = w.earlier; sessions = at_number (push is) w.sessions c.args.session } = search rules in
     post_as c.args.session is w
-    ∙ (λ j. record { db = (sym told j).db; commits = (sym c.self.view_is j).commits; now = (sym c.self.view_is j).now; waiting = (sym c.self.view_is j).waiting; locks = (sym c.self.view_is j).locks; sessions = (sym told j).sessions })
+    ∙ (λ j. record { db = (sym told j).db; commits = (sym told j).commits; earlier = (sym told j).earlier; now = (sym c.self.view_is j).now; waiting = (sym c.self.view_is j).waiting; locks = (sym c.self.view_is j).locks; sessions = (sym told j).sessions })

@@ -1,6 +1,8 @@
 use Rattle.std.proofs.Common.{rules, ◌≡◌, true, false, Ok, Err, is_some, sym, ap, ◌∙◌}
 use Rattle.std.proofs.lemmas.Result.{on_ok_weaker}
+use Rattle.std.specs.Prelude.{option_map}
 use Rattle.serde_json.specs.View.{view}
+use Rattle.odb_atoms.specs.Uuid.{uuid_from}
 use Rattle.odb_atoms.specs.FinMap.{get}
 use Rattle.odb_atoms.specs.Represented.Error.{error_of}
 use Rattle.odb_request.specs.Represented.Kind.{notation_of}
@@ -22,7 +24,7 @@ returns-then-branch-clause-ok c =
     let i = printable_data c.args.asked.id in
     let one : c.in_ok-is_used.field-0 ≡ true = search rules in
     let used : is_some (watched (served_by s) i (asked_of (served_by s) (get w.sessions c.args.session))) ≡ true = sym (c.in_ok-is_used.ensures s) ∙ one in
-    on_ok_weaker c.fail.result (λ e. used_fails (served_by s) c.args.session (request_data c.args.request.now) (notation_of c.args.asked.kind) i (view c.args.asked.requests.now) w used ∙ e) c.fail.ensures.ok
+    on_ok_weaker c.fail.result (λ e. used_fails (served_by s) c.args.session (request_data c.args.request.now) (notation_of c.args.asked.kind) i (option_map uuid_from c.args.asked.since) (view c.args.asked.requests.now) w used ∙ e) c.fail.ensures.ok
 
 pub begin-requires-clause-tables : goal.begin-requires-clause-tables
 begin-requires-clause-tables c =
@@ -50,7 +52,7 @@ returns-in-Ok-clause-ok c =
     let none : c.in_ok-is_used.field-0 ≡ false = search rules in
     let unused : is_some (watched (served_by s) i (asked_of (served_by s) (get w.sessions c.args.session))) ≡ false = sym (c.in_ok-is_used.ensures s) ∙ none in
     let read : read_requests s n d ≡ Ok c.in-Ok.requests.items = sym c.in_ok-requests.ensures ∙ ap requests_as c.in-Ok.is in
-    on_ok_weaker c.begin.result (λ e. reads_on (served_by s) c.args.session (request_data c.args.request.now) n i d w (Ok c.in-Ok.requests.items) unused read ∙ e) c.begin.ensures.ok
+    on_ok_weaker c.begin.result (λ e. reads_on (served_by s) c.args.session (request_data c.args.request.now) n i (option_map uuid_from c.args.asked.since) d w (Ok c.in-Ok.requests.items) unused read ∙ e) c.begin.ensures.ok
 
 pub returns-in-Err-clause-ok : goal.returns-in-Err-clause-ok
 returns-in-Err-clause-ok c =
@@ -62,4 +64,4 @@ returns-in-Err-clause-ok c =
     let none : c.in_ok-is_used.field-0 ≡ false = search rules in
     let unused : is_some (watched (served_by s) i (asked_of (served_by s) (get w.sessions c.args.session))) ≡ false = sym (c.in_ok-is_used.ensures s) ∙ none in
     let read : read_requests s n d ≡ Err (error_of c.in-Err.why) = sym c.in_ok-requests.ensures ∙ ap requests_as c.in-Err.is in
-    on_ok_weaker c.fail-in-Err.result (λ e. reads_on (served_by s) c.args.session (request_data c.args.request.now) n i d w (Err (error_of c.in-Err.why)) unused read ∙ e) c.fail-in-Err.ensures.ok
+    on_ok_weaker c.fail-in-Err.result (λ e. reads_on (served_by s) c.args.session (request_data c.args.request.now) n i (option_map uuid_from c.args.asked.since) d w (Err (error_of c.in-Err.why)) unused read ∙ e) c.fail-in-Err.ensures.ok

@@ -1,12 +1,18 @@
-use Rattle.std.proofs.Common.{rules, ◌≡◌, sym, ap, subst, ◌∙◌}
+use Rattle.std.proofs.Common.{rules, ◌≡◌, ◌+◌, List, sym, ap, subst, ◌∙◌}
+use Rattle.std.proofs.lemmas.Result.{IfOk-weaker}
 use Rattle.odb_atoms.specs.Represented.Atom.{uuid_of}
 use Rattle.odb_atoms.specs.Uuid.{zero_uuid}
 use Rattle.odb_atoms.proofs.Represented.Atoms.{nil_uuid}
 use Rattle.odb_integrity.specs.Settled.{IsSettled}
+use Rattle.odb_schema.specs.Schema.{Schema}
 use Rattle.odb_service.specs.World.{World}
-use Rattle.odb_tables.specs.Change.{all_changed_by}
+use Rattle.odb_tables.specs.Change.{Changes, all_changed_by}
 use Rattle.odb_tables.specs.Database.{Db}
 use Rattle.odb_tables.specs.Draft.{Draft, draft_of}
+use Rattle.odb_core.specs.declared.foreseen.Told.{Told}
+use Rattle.odb_core.specs.declared.foreseen.Told.TheVariants as told
+use Rattle.odb_core.specs.declared.submitted.Submitted.{Submitted}
+use Rattle.odb_core.specs.Represented.Foreseen.{Tells, committed, over}
 use Rattle.odb_core.specs.Represented.Spared.{AreOwnSpared, IsSpared}
 use Rattle.odb_core.proofs.ToldOutcomes.{as_long}
 use Rattle.odb_core.proofs.state.State.tell.Goals as goal
@@ -57,3 +63,23 @@ tell_on-requires-clause-zero c =
 pub tell_on-requires-clause-own : goal.tell_on-requires-clause-own
 tell_on-requires-clause-own c =
     subst (AreOwnSpared c.put_change.new.draft.removed) c.operations.ensures (c.is_one_own_removed.ensures c.if-is_one_own_removed.false)
+
+-- a transaction sees nothing of earlier contents
+on_change : (s : Schema) (cs : List Changes) (w : World) (a : Submitted) (t : Told) → Tells s (over (all_changed_by w.db cs) (w.commits + 1) w) a t → Tells s (committed cs w) a t
+on_change s cs w a told.Nothing h = h
+on_change s cs w a (told.Ends results) h = h
+on_change s cs w a (told.Waits deadline) h = h
+
+pub returns : goal.returns
+returns c =
+    let s = c.args.schema.now in
+    let w : World = c.args.self.now in
+    let a = c.args.asked.now in
+    let cs = c.args.change.now in
+    let d : Draft = c.in_ok-draft.draft in
+    let made : d ≡ draft_of w.db = search rules in
+    let new : Db = c.put_change.new.draft.now in
+    let changed : new ≡ all_changed_by w.db cs = c.in_ok-put_change.ensures.now ∙ ap (λ (e : Draft). all_changed_by e.now cs) made in
+    IfOk-weaker c.tell_on.result _ _
+    (λ t tells. on_change s cs w a t (subst (λ (db : Db). Tells s (over db (w.commits + 1) w) a t) changed (tells (w.commits + 1))))
+    c.tell_on.ensures

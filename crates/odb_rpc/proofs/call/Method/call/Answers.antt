@@ -4,10 +4,10 @@ use Rattle.serde_json.specs.Find.{as_array}
 use Rattle.serde_json.specs.View.{view, items_view}
 use Rattle.odb_request.specs.Request.{update, update2}
 use Rattle.odb_wire.specs.Message.{has_left_out}
-use Rattle.odb_rpc.specs.Message.{answered, cancel_monitor, of_change, of_monitor, of_one, of_request, of_transact, reply}
+use Rattle.odb_rpc.specs.Message.{answered, cancel_monitor, of_change, of_monitor, of_monitor_since, of_one, of_request, of_transact, reply}
 use Rattle.odb_rpc.specs.Served.{served}
 use Rattle.odb_rpc.specs.Represented.Call.{name_of}
-use Rattle.odb_rpc.specs.declared.call.Method.TheVariants.{Echo, Monitor, MonitorCancel, MonitorCond, MonitorCondChange, Transact}
+use Rattle.odb_rpc.specs.declared.call.Method.TheVariants.{Echo, Monitor, MonitorCancel, MonitorCond, MonitorCondChange, MonitorCondSince, Transact}
 use Rattle.odb_rpc.proofs.LeftOut.{whole_params}
 use Rattle.odb_rpc.proofs.Requests.{an_array, echoed}
 use Rattle.odb_rpc.proofs.call.Method.call.Goals as goal
@@ -70,6 +70,25 @@ returns-in-MonitorCond c json id =
     c.read_monitor-in-MonitorCond.ensures json id
     ∙ ap (λ vs. of_monitor db id update2 (map view vs)) c.as_slice-in-MonitorCond.ensures.value
     ∙ an_array db json id MonitorCond xs params listed
+    ∙ ap (λ k. of_request db json served id (name_of k) params) is
+
+pub read_monitor_since-requires : goal.read_monitor_since-requires
+read_monitor_since-requires c =
+    let xs = c.in-Some.items.now.items in
+    let listed : Some (items_view xs) ≡ as_array (view c.args.params.now) = search rules in
+    let whole : has_left_out (view c.args.params.now) ≡ false = search rules in
+    ap (λ vs. list_any has_left_out (map view vs)) c.as_slice-in-MonitorCondSince.ensures.value ∙ whole_params xs (view c.args.params.now) listed whole
+
+pub returns-in-MonitorCondSince : goal.returns-in-MonitorCondSince
+returns-in-MonitorCondSince c json id =
+    let db = c.args.database.now in
+    let params = view c.args.params.now in
+    let xs = c.in-Some.items.now.items in
+    let listed : Some (items_view xs) ≡ as_array params = search rules in
+    let is : MonitorCondSince ≡ c.args.self = search rules in
+    c.read_monitor_since.ensures json id
+    ∙ ap (λ vs. of_monitor_since db id (map view vs)) c.as_slice-in-MonitorCondSince.ensures.value
+    ∙ an_array db json id MonitorCondSince xs params listed
     ∙ ap (λ k. of_request db json served id (name_of k) params) is
 
 pub read_monitor_change-requires : goal.read_monitor_change-requires

@@ -9,17 +9,17 @@ use Rattle.odb_sessions.specs.Jobs.{Keeps}
 use Rattle.odb_sessions.specs.Planned.{due}
 use Rattle.odb_sessions.specs.Represented.Composed.{Tells}
 use Rattle.odb_sessions.specs.Represented.Under.{item_in}
-use Rattle.odb_sessions.specs.Tied.{AreLive}
+use Rattle.odb_sessions.specs.Tied.{AreLive, HasLists}
 use Rattle.odb_sessions.proofs.foreseen.Planner.pass.Goals as goal
 use Rattle.odb_sessions.specs.Book.{revision_at}
 
 pub invariant_of-self : goal.invariant_of-self
-invariant_of-self c = subst (λ (k : Chains). AreLive k (marks_ahead c.pass.new.monitors.items)) (sym c.pass.ensures.chains) c.pass.ensures.live
+invariant_of-self c = subst (λ (k : Chains). AreLive k (marks_ahead c.pass.new.monitors.items) × HasLists k) (sym c.pass.ensures.chains) (c.pass.ensures.live, c.self.invariant.1)
 
 pub returns-clause-text : goal.returns-clause-text
 returns-clause-text c =
     subst (λ (f : Foreseen). IfOk c.pass.result (λ message. (s : Schema) → Tells c.pass.new.wanted.jobs message
-    (option_map (due_text (served_by s) (revision_at f.chains)) (due (served_by s) f.chains.db (item_in c.args.id.now c.args.under) f.monitors))))
+    (option_map (due_text (served_by s) (revision_at f.chains c.args.recent.now)) (due (served_by s) f.chains.db (item_in c.args.id.now c.args.under) f.monitors))))
     c.self.view_is c.pass.ensures.text
 
 pub returns-clause-passed : goal.returns-clause-passed

@@ -1,17 +1,33 @@
-use Rattle.std.proofs.Common.{◌∙◌}
+use Rattle.std.proofs.Common.{rules, ◌≡◌, Some, None, option_map, subst, sym, ap, ◌∙◌}
 use Rattle.std.proofs.lemmas.Result.{IfOk-weaker}
-use Rattle.odb_sessions.specs.Composed.{asked_of, first_updates}
+use Rattle.odb_atoms.specs.Represented.Atom.{uuid_of}
+use Rattle.odb_sessions.specs.Composed.{AreTheirs}
 use Rattle.odb_sessions.specs.Held.{Held}
-use Rattle.odb_sessions.proofs.Places.{first_composition}
+use Rattle.odb_sessions.specs.declared.item.Start.{Start}
+use Rattle.odb_sessions.specs.declared.monitor.Monitor.TheInside.{Inside}
+use Rattle.odb_sessions.proofs.NamedCommits.{AreThere, are_there, text_is, whole_text}
 use Rattle.odb_sessions.proofs.item.Start.first_reply.Goals as goal
 
-pub returns-clause-text : goal.returns-clause-text
-returns-clause-text c =
-    let db = c.args.wanted.now.chains.db in
+pub returns-in-None-clause-text : goal.returns-in-None-clause-text
+returns-in-None-clause-text c =
     let x : Held = c.args.self.now.monitor in
-    IfOk-weaker c.reply.result _ _
-    (λ message e. λ h all kept. e all (first_updates db x.notation (asked_of x.tables)) (c.in_ok-job.ensures.place all kept ∙ first_composition db x.notation (asked_of x.tables)))
-    c.reply.ensures
+    let m : Inside = c.self.inside.0.1.0 in
+    let none : m.since ≡ None = search rules in
+    let since : x.since ≡ None = sym (ap (λ (s : Start). s.monitor.since) c.self.view_is) ∙ ap (option_map uuid_of) none in
+    IfOk-weaker c.whole_reply.result _ _
+    (λ message e. λ h all kept. e all kept ∙ whole_text h c.args.recent.now c.args.wanted.now.chains c.args.self.now.origin x since)
+    c.whole_reply.ensures.text
 
-pub returns-clause-jobs : goal.returns-clause-jobs
-returns-clause-jobs c = c.first_reply.ensures.jobs
+pub returns-in-Some-clause-text : goal.returns-in-Some-clause-text
+returns-in-Some-clause-text c =
+    let k = c.args.wanted.now.chains in
+    let x : Held = c.args.self.now.monitor in
+    let v = c.in-Some.since in
+    let m : Inside = c.self.inside.0.1.0 in
+    let some : m.since ≡ Some v = search rules in
+    let since : x.since ≡ Some (uuid_of v) = sym (ap (λ (s : Start). s.monitor.since) c.self.view_is) ∙ ap (option_map uuid_of) some in
+    let theirs : AreTheirs x.tables = subst (λ (s : Start). AreTheirs s.monitor.tables) c.self.view_is c.self.invariant.0 in
+    let there : AreThere k.db x.tables = are_there k x.tables c.requires.lists c.requires.live theirs in
+    IfOk-weaker c.reply_since.result _ _
+    (λ message e. λ h all kept. e all kept ∙ text_is h c.args.recent.now k c.args.self.now.origin x (uuid_of v) since c.reply_since.ensures.kept there)
+    c.reply_since.ensures.text

@@ -13,7 +13,7 @@ use Rattle.odb_sessions.proofs.job.Job.differences.Goals as goal
 
 -- a first reply is of what is asked, whatever the client was told
 first_is : (db : Db) (x : Held) → own_job true db x ≡ first_job db x.notation (asked_of x.tables)
-first_is db x = ap (λ (ps : List Part). let j : Job = record { notation = x.notation; first = true; parts = ps } in j) (sym (map-map (λ (w : Watched). w.request) (first_part db) x.tables))
+first_is db x = ap (λ (ps : List Part). let j : Job = record { notation = x.notation; first = true; reply = true; parts = ps } in j) (sym (map-map (λ (w : Watched). w.request) (first_part db) x.tables))
 
 pub returns-in-First : goal.returns-in-First
 returns-in-First c =
@@ -59,3 +59,10 @@ returns-in-Again c =
     IfOk-weaker c.again_job.result _ _
     (λ job e. e ∙ again_is c.self.inside.chains.now.db x c.self.inside.way (filters_in c.in-Again.told) c.as_slice-requests.result.now again told (slice ∙ c.self.invariant.1) ∙ c.self.view_is)
     c.again_job.ensures
+
+pub returns-in-Since : goal.returns-in-Since
+returns-in-Since c =
+    let db = c.self.inside.chains.now.db in
+    let x : Held = c.self.inside.monitor.now in
+    let is : c.self.inside.way ≡ way.Since c.in-Since.recent c.in-Since.ago = search rules in
+    IfOk-weaker c.resumed_job.result (λ (job : Job). job ≡ job_in db x (way.Since c.in-Since.recent c.in-Since.ago)) _ (λ job e. e ∙ ap (job_in db x) (sym is) ∙ c.self.view_is) c.resumed_job.ensures

@@ -38,4 +38,4 @@ returns c =
     let parts : c.in_ok-parts.parts.items ≡ all_parts_again db gs x.tables c.args.requests.now =
     c.in_ok-parts.ensures ∙ ap (λ (ws : List Watched). all_parts_again db gs ws c.args.requests.now) tables
     in
-    c.new.ensures ∙ (λ i. let j : Job = record { notation = notation i; first = false; parts = parts i } in j)
+    c.new.ensures ∙ (λ i. let j : Job = record { notation = notation i; first = false; reply = false; parts = parts i } in j)

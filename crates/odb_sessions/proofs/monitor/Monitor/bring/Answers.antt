@@ -19,7 +19,7 @@ returns-clause-monitor c = λ h.
     let k : Chains = c.args.chains.now in
     let x : Held = c.args.self.now in
     let same : c.self.inside.tables.items ≡ x.tables = ap (λ (y : Held). y.tables) c.self.view_is in
-    monitor_brought h k x _ (ap (λ (y : Held). y.id) c.self.view_is) (ap (λ (y : Held). y.notation) c.self.view_is)
+    monitor_brought h k x _ (ap (λ (y : Held). y.id) c.self.view_is) (ap (λ (y : Held). y.notation) c.self.view_is) (ap (λ (y : Held). y.since) c.self.view_is)
     (c.bring_all.ensures.tables ∙ ap (λ (ws : List Watched). map (brought_to k) ws) same) (subst AreTheirs same c.self.invariant.0)
 
 pub returns-clause-marks : goal.returns-clause-marks

@@ -23,7 +23,7 @@ returns-clause-monitor c = λ h.
     let k : Chains = c.args.chains.now in
     let x : Held = c.args.self.now in
     let same : c.self.inside.tables.items ≡ x.tables = ap (λ (y : Held). y.tables) c.self.view_is in
-    monitor_under h k x _ (filters_of c.args.changes) (ap (λ (y : Held). y.id) c.self.view_is) (ap (λ (y : Held). y.notation) c.self.view_is)
+    monitor_under h k x _ (filters_of c.args.changes) (ap (λ (y : Held). y.id) c.self.view_is) (ap (λ (y : Held). y.notation) c.self.view_is) (ap (λ (y : Held). y.since) c.self.view_is)
     (c.bring_all_under.ensures.tables ∙ ap (λ (ws : List Watched). map (brought_under k (filters_of c.args.changes)) ws) same) (subst AreTheirs same c.self.invariant.0)
 
 pub returns-clause-marks : goal.returns-clause-marks

@@ -42,4 +42,4 @@ returns c =
     let parts : c.in_ok-parts.parts.items ≡ map (part_to db) (all_asked_as x.tables c.args.requests.now) =
     c.in_ok-parts.ensures ∙ ap (λ (ws : List Watched). map (part_to db) (all_asked_as ws c.args.requests.now)) tables
     in
-    c.new.ensures ∙ (λ i. let j : Job = record { notation = notation i; first = false; parts = parts i } in j)
+    c.new.ensures ∙ (λ i. let j : Job = record { notation = notation i; first = false; reply = false; parts = parts i } in j)

@@ -19,4 +19,4 @@ returns c =
     let tables : c.as_slice.result.now ≡ x.tables = slice ∙ c.in_ok-tables.ensures.tables in
     let notation : notation_of c.self.inside.kind ≡ x.notation = ap (λ (y : Held). y.notation) c.self.view_is in
     let parts : c.in_ok-parts.parts.items ≡ map (part_in c.args.first db) x.tables = c.in_ok-parts.ensures ∙ ap (map (part_in c.args.first db)) tables in
-    c.new.ensures ∙ (λ i. let j : Job = record { notation = notation i; first = c.args.first; parts = parts i } in j)
+    c.new.ensures ∙ (λ i. let j : Job = record { notation = notation i; first = c.args.first; reply = c.args.first; parts = parts i } in j)

@@ -21,7 +21,7 @@ pub returns-clause-monitor : goal.returns-clause-monitor
 returns-clause-monitor c = λ h.
     let x : Held = c.args.self.now in
     let same : c.self.inside.tables.items ≡ x.tables = ap (λ (y : Held). y.tables) c.self.view_is in
-    monitor_renamed h x _ (filters_of c.args.changes) (ap (λ (y : Held). y.notation) c.self.view_is) (c.ask_all_under.ensures ∙ ap (λ (ws : List Watched). map (asked_under (filters_of c.args.changes)) ws) same)
+    monitor_renamed h x _ (filters_of c.args.changes) (ap (λ (y : Held). y.notation) c.self.view_is) (ap (λ (y : Held). y.since) c.self.view_is) (c.ask_all_under.ensures ∙ ap (λ (ws : List Watched). map (asked_under (filters_of c.args.changes)) ws) same)
 
 pub returns-clause-marks : goal.returns-clause-marks
 returns-clause-marks c =

@@ -1,8 +1,9 @@
-use Rattle.std.proofs.Common.{◌∙◌}
+use Rattle.std.proofs.Common.{Option, option_map, ap, ◌∙◌}
 use Rattle.std.proofs.lemmas.Result.{IfOk-weaker}
 use Rattle.odb_monitor.specs.Job.{updates_of}
+use Rattle.odb_schema.specs.Json.{Data}
 use Rattle.odb_service.specs.Session.{refilter}
-use Rattle.odb_sessions.specs.Composed.{asked_of, later_job}
+use Rattle.odb_sessions.specs.Composed.{asked_of, later_job, notified_text}
 use Rattle.odb_sessions.specs.Foreseen.{all_parts_again}
 use Rattle.odb_sessions.specs.Held.{Held}
 use Rattle.odb_sessions.specs.Represented.Under.{filters_in}
@@ -13,13 +14,13 @@ use Rattle.odb_sessions.specs.Book.{revision_at}
 pub returns-clause-text : goal.returns-clause-text
 returns-clause-text c =
     let db = c.args.wanted.now.chains.db in
-    let revision = revision_at c.args.wanted.now.chains in
+    let revision = revision_at c.args.wanted.now.chains c.args.recent.now in
     let x : Held = c.args.self.now in
     let fs = filters_in c.args.under in
     let gs = filters_in c.args.told in
+    let updates : Option Data = updates_of (later_job x.notation (all_parts_again db gs x.tables (refilter fs (asked_of x.tables)))) in
     IfOk-weaker c.notification.result _ _
-    (λ message told. λ h all kept.
-    told all (updates_of (later_job x.notation (all_parts_again db gs x.tables (refilter fs (asked_of x.tables))))) (c.in_ok-place.ensures.place all kept) ∙ sent_again h revision gs fs x)
+    (λ message told. λ h all kept. told all updates (c.in_ok-place.ensures.place all kept) ∙ ap (λ v. option_map (notified_text v x) updates) c.number.ensures ∙ sent_again h revision gs fs x)
     c.notification.ensures
 
 pub returns-clause-jobs : goal.returns-clause-jobs

@@ -8,7 +8,7 @@ use Rattle.odb_sessions.specs.Tied.{AreLive}
 use Rattle.odb_sessions.proofs.QuietSessions.{session_quiet}
 use Rattle.odb_sessions.proofs.Releases.{live-left}
 use Rattle.odb_sessions.proofs.session.Session.rests.Goals as goal
-use Rattle.odb_sessions.specs.Book.{revision_at}
+use Rattle.odb_tables.specs.Database.{Db}
 
 pub are_told-requires : goal.are_told-requires
 are_told-requires c =
@@ -21,10 +21,10 @@ are_told-requires c =
 
 pub returns : goal.returns
 returns c = λ told.
-    let revision = revision_at c.args.chains.now in
+    let db : Db = c.args.chains.now.db in
     let x : Kept = record { queue = c.self.inside.queue; monitors = c.self.inside.monitors.items } in
     let slice : c.as_slice.result.now ≡ c.self.inside.monitors.items = search rules in
     let empty : c.is_empty.result ≡ true = search rules in
     let none : c.self.inside.queue ≡ [] = c.is_empty.ensures empty in
-    subst (λ (y : Kept). IsQuiet revision (seen y)) c.self.view_is
-    (session_quiet revision x none (subst (All (λ (m : Held). AreNow revision.db m.tables)) slice (c.are_told.ensures told)))
+    subst (λ (y : Kept). IsQuiet db (seen y)) c.self.view_is
+    (session_quiet db x none (subst (All (λ (m : Held). AreNow db m.tables)) slice (c.are_told.ensures told)))

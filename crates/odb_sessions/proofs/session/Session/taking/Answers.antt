@@ -16,7 +16,7 @@ use Rattle.odb_sessions.specs.Book.{revision_at}
 pub returns-in-Some-clause-text : goal.returns-in-Some-clause-text
 returns-in-Some-clause-text c = λ s all kept.
     let x : Kept = record { queue = c.self.inside.queue; monitors = c.self.inside.monitors.items } in
-    let revision = revision_at c.args.planner.now.chains in
+    let revision = revision_at c.args.planner.now.chains c.args.recent.now in
     subst (λ (y : Kept). taking_text all c.in-Some.taking (seen y).queue ≡ option_map (due_text (served_by s) revision) (plan (served_by s) revision.db (seen y)).out) c.self.view_is
     (c.in-Some.ensures.text s revision (seen x).monitors all)
 
@@ -66,11 +66,11 @@ returns-clause-text c =
     let monitors : c.turn_to.new.self.monitors ≡ map monitor_of x.monitors = c.in_ok-turn_to.ensures.monitors ∙ ap (map monitor_of) slice in
     let chains : c.turn_to.new.self.chains ≡ c.args.planner.now.chains = c.turn_to.ensures.chains in
     let db = c.args.planner.now.chains.db in
-    let revision = revision_at c.args.planner.now.chains in
+    let revision = revision_at c.args.planner.now.chains c.args.recent.now in
     let queue = ap (λ (y : Kept). (seen y).queue) c.self.view_is in
     IfOk-weaker c.taking.result _ _
     (λ taking e. λ s all kept. sym (ap (taking_text all taking) queue) ∙ e s all kept
-    ∙ (λ i. let k : Chains = chains i in let ms : List Monitor = monitors i in option_map (due_text (served_by s) (revision_at k)) (plan_from (served_by s) k.db (map item_seen x.queue) ms).out)
+    ∙ (λ i. let k : Chains = chains i in let ms : List Monitor = monitors i in option_map (due_text (served_by s) (revision_at k c.args.recent.now)) (plan_from (served_by s) k.db (map item_seen x.queue) ms).out)
     ∙ ap (λ (y : Kept). option_map (due_text (served_by s) revision) (plan (served_by s) db (seen y)).out) c.self.view_is)
     c.taking.ensures.text
 

@@ -33,7 +33,7 @@ returns-clause-round c = λ s w revision sessions.
 pub returns-clause-texts : goal.returns-clause-texts
 returns-clause-texts c =
     let b : Book = c.args.self.now in
-    let w : World = record { db = b.db; commits = 0; now = 0; waiting = []; locks = empty; sessions = b.sessions } in
+    let w : World = record { db = b.db; commits = b.commits; earlier = b.earlier; now = 0; waiting = []; locks = empty; sessions = b.sessions } in
     let ps : List Pending = map pending_of c.prepared.inside.takings.items in
     let once : AreOnce (sessions_in ps) = subst (λ (qs : List Pending). AreOnce (sessions_in qs)) (sym c.prepared.view_is) c.requires.once in
     let ready : AreReady no_schema b ps = subst (AreReady no_schema b) (sym c.prepared.view_is) (c.requires.ready no_schema) in

@@ -1,9 +1,11 @@
-use Rattle.std.proofs.Common.{Option, ap, subst, sym, ◌∙◌}
+use Rattle.std.proofs.Common.{Option, refl, ap, subst, sym, ◌∙◌}
 use Rattle.std.specs.Prelude.{option_and_then}
 use Rattle.odb_atoms.specs.FinMap as finite
 use Rattle.odb_service.specs.Server.{served_by}
 use Rattle.odb_service.specs.Session.{Out, Session}
-use Rattle.odb_sessions.specs.Book.{Book}
+use Rattle.odb_recent.specs.Recent.{recent_of}
+use Rattle.odb_sessions.specs.Book.{Book, book_with, revision_in}
+use Rattle.odb_sessions.specs.Held.{all_seen}
 use Rattle.odb_sessions.specs.Carried.{last_finished, used_by}
 use Rattle.odb_sessions.specs.Owed.{book_seen}
 use Rattle.odb_sessions.specs.Posts.{at_number}
@@ -23,15 +25,16 @@ invariant_of-self c =
     let b : Book = book_seen old.past old.sessions in
     let s = c.args.session in
     let f : Session → Session = used_by (served_by no_schema) b.db c.args.items c.args.monitors in
-    let uses : UsesUp b s c.args.items c.args.monitors = subst (λ (d : Book). UsesUp d s c.args.items c.args.monitors) (sym c.self.view_is) c.requires in
+    let seen : Book = book_with old.past.db old.recent (all_seen old.sessions) in
+    let uses : UsesUp seen s c.args.items c.args.monitors = subst (λ (d : Book). UsesUp d s c.args.items c.args.monitors) (sym c.self.view_is) c.requires in
     together c.carry_out.new.past c.carry_out.new.self old.owed old.interest (record b { sessions = at_number f b.sessions s })
     (tied_after old.past c.carry_out.new.past old.sessions c.carry_out.new.self s c.args.items c.args.monitors c.carry_out.ensures.carried c.self.invariant.0)
-    (seen_after old.past c.carry_out.new.past old.sessions c.carry_out.new.self s c.args.items c.args.monitors c.carry_out.ensures.carried no_schema)
-    (used_rest old.owed old.interest b s f (λ x there quiet. uses no_schema x there ∙ ap (λ (t : Option Out × Session). t.1) (quiet.1 no_schema)) c.self.invariant.1)
+    (seen_after old.past c.carry_out.new.past old.sessions c.carry_out.new.self s c.args.items c.args.monitors c.carry_out.ensures.carried (recent_of 0 0) no_schema)
+    (used_rest old.owed old.interest b s f (λ x there quiet. uses no_schema x there ∙ ap (λ (t : Option Out × Session). t.1) (quiet.1 no_schema (revision_in seen) refl)) c.self.invariant.1)
 
 pub returns-clause-book : goal.returns-clause-book
 returns-clause-book c = λ s.
-    seen_after c.self.inside.past c.carry_out.new.past c.self.inside.sessions c.carry_out.new.self c.args.session c.args.items c.args.monitors c.carry_out.ensures.carried s
+    seen_after c.self.inside.past c.carry_out.new.past c.self.inside.sessions c.carry_out.new.self c.args.session c.args.items c.args.monitors c.carry_out.ensures.carried c.self.inside.recent s
     ∙ ap (λ (b : Book). let y : Book = record b { sessions = at_number (used_by (served_by s) b.db c.args.items c.args.monitors) b.sessions c.args.session } in y) c.self.view_is
 
 pub returns-clause-text : goal.returns-clause-text

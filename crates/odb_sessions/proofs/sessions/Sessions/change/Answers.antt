@@ -2,7 +2,8 @@ use Rattle.std.proofs.Common.{rules, true, List, map, subst, sym, ap, ◌∙◌}
 use Rattle.std.specs.BTreeSet.{Updates}
 use Rattle.std.specs.Ordering.{nat_cmp}
 use Rattle.odb_service.specs.Session.{Session, renamed, shift}
-use Rattle.odb_sessions.specs.Book.{Book}
+use Rattle.odb_recent.specs.Recent.{recent_of}
+use Rattle.odb_sessions.specs.Book.{Book, book_with}
 use Rattle.odb_sessions.specs.Held.{Queued, Sessions, all_seen}
 use Rattle.odb_sessions.specs.Posts.{at_number}
 use Rattle.odb_sessions.specs.Represented.Queued.{queued_of}
@@ -30,12 +31,12 @@ invariant_of-self-2 c =
     let f : Session → Session = changed_in c.args.changing in
     together old.past c.post_each.new.self c.insert.new.self old.interest (record b { sessions = at_number f b.sessions s })
     (subst (IsTied old.past) (sym c.in_ok-post_each.ensures.ok) (two_tied (shift c.args.changing.old c.args.changing.filters) (renamed c.args.changing.request c.args.changing.old c.args.changing.new c.args.changing.filters) qs c.in_ok-items.ensures old.past old.sessions s c.self.invariant.0))
-    (λ i. let d : Book = record { db = b.db; sessions = (ap all_seen c.in_ok-post_each.ensures.ok ∙ two_seen (shift c.args.changing.old c.args.changing.filters) (renamed c.args.changing.request c.args.changing.old c.args.changing.new c.args.changing.filters) qs c.in_ok-items.ensures old.sessions s) i } in d)
+    (λ i. book_with b.db (recent_of 0 0) ((ap all_seen c.in_ok-post_each.ensures.ok ∙ two_seen (shift c.args.changing.old c.args.changing.filters) (renamed c.args.changing.request c.args.changing.old c.args.changing.new c.args.changing.filters) qs c.in_ok-items.ensures old.sessions s) i))
     (posted_rest old.owed c.insert.new.self old.interest b s f c.self.invariant.1 grown)
 
 pub returns-clause-ok : goal.returns-clause-ok
 returns-clause-ok c =
     let m : Sessions = c.self.inside.sessions in
     let qs : List Queued = map queued_of c.in_ok-items.items.items in
-    (λ i. let b : Book = record { db = c.self.inside.past.db; sessions = (ap all_seen c.in_ok-post_each.ensures.ok ∙ two_seen (shift c.args.changing.old c.args.changing.filters) (renamed c.args.changing.request c.args.changing.old c.args.changing.new c.args.changing.filters) qs c.in_ok-items.ensures m c.args.session) i } in b)
+    (λ i. book_with c.self.inside.past.db c.self.inside.recent ((ap all_seen c.in_ok-post_each.ensures.ok ∙ two_seen (shift c.args.changing.old c.args.changing.filters) (renamed c.args.changing.request c.args.changing.old c.args.changing.new c.args.changing.filters) qs c.in_ok-items.ensures m c.args.session) i))
     ∙ ap (λ (b : Book). let y : Book = record b { sessions = at_number (changed_in c.args.changing) b.sessions c.args.session } in y) c.self.view_is

@@ -1,6 +1,7 @@
 use Rattle.std.proofs.Common.{rules, ◌≡◌, false, Some, None, subst, sym, ap, ◌∙◌}
 use Rattle.odb_atoms.specs.FinMap as finite
-use Rattle.odb_sessions.specs.Book.{Book}
+use Rattle.odb_recent.specs.Recent.{recent_of}
+use Rattle.odb_sessions.specs.Book.{Book, book_with}
 use Rattle.odb_sessions.specs.Held.{Sessions, all_seen}
 use Rattle.std.specs.BTreeSet.{Updates}
 use Rattle.std.specs.Ordering.{nat_cmp}
@@ -25,14 +26,14 @@ invariant_of-self-2 c =
     let out : Updates nat_cmp c.self.inside.owed c.remove.new.self s false = search rules in
     together c.release.new.past c.remove-2.new.self c.remove.new.self c.forget.new.self (record b { sessions = finite.remove b.sessions s })
     (subst (IsTied c.release.new.past) (sym c.remove-2.ensures.sessions) (tied_closed c.self.inside.past c.release.new.past m s c.in-Some.closed c.self.invariant.0 there c.release.ensures))
-    (λ i. let x : Book = record { db = c.release.ensures.0 i; sessions = (ap all_seen c.remove-2.ensures.sessions ∙ seen-remove m s) i } in x)
+    (λ i. book_with (c.release.ensures.0 i) (recent_of 0 0) ((ap all_seen c.remove-2.ensures.sessions ∙ seen-remove m s) i))
     (closed_rest c.self.inside.owed c.remove.new.self c.self.inside.interest c.forget.new.self b s c.self.invariant.1 out c.forget.ensures)
 
 pub returns : goal.returns
 returns c =
     let m : Sessions = c.self.inside.sessions in
     let s = c.args.session in
-    (λ i. let x : Book = record { db = c.release.ensures.0 i; sessions = (ap all_seen c.remove-2.ensures.sessions ∙ seen-remove m s) i } in x) ∙ ap (λ (b : Book). let y : Book = record b { sessions = finite.remove b.sessions s } in y) c.self.view_is
+    (λ i. book_with (c.release.ensures.0 i) c.self.inside.recent ((ap all_seen c.remove-2.ensures.sessions ∙ seen-remove m s) i)) ∙ ap (λ (b : Book). let y : Book = record b { sessions = finite.remove b.sessions s } in y) c.self.view_is
 
 pub invariant_of-self : goal.invariant_of-self
 invariant_of-self c =
@@ -44,11 +45,11 @@ invariant_of-self c =
     let out : Updates nat_cmp c.self.inside.owed c.remove.new.self s false = search rules in
     together k c.remove-2.new.self c.remove.new.self c.forget.new.self (record b { sessions = finite.remove b.sessions s })
     (subst (IsTied k) (sym c.remove-2.ensures.sessions) (tied_shut k m s c.self.invariant.0 shut))
-    (λ i. let x : Book = record { db = k.db; sessions = (ap all_seen c.remove-2.ensures.sessions ∙ seen-remove m s) i } in x)
+    (λ i. book_with k.db (recent_of 0 0) ((ap all_seen c.remove-2.ensures.sessions ∙ seen-remove m s) i))
     (closed_rest c.self.inside.owed c.remove.new.self c.self.inside.interest c.forget.new.self b s c.self.invariant.1 out c.forget.ensures)
 
 pub returns-in_default : goal.returns-in_default
 returns-in_default c =
     let m : Sessions = c.self.inside.sessions in
     let s = c.args.session in
-    (λ i. let x : Book = record { db = c.self.inside.past.db; sessions = (ap all_seen c.remove-2.ensures.sessions ∙ seen-remove m s) i } in x) ∙ ap (λ (b : Book). let y : Book = record b { sessions = finite.remove b.sessions s } in y) c.self.view_is
+    (λ i. book_with c.self.inside.past.db c.self.inside.recent ((ap all_seen c.remove-2.ensures.sessions ∙ seen-remove m s) i)) ∙ ap (λ (b : Book). let y : Book = record b { sessions = finite.remove b.sessions s } in y) c.self.view_is

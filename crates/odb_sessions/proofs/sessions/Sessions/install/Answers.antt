@@ -1,11 +1,15 @@
 use Rattle.std.proofs.Common.{rules, ◌≡◌, [], subst, sym, ap, ◌∙◌}
 use Rattle.odb_chain.specs.Chains.{Chains}
 use Rattle.odb_tables.specs.Change.{all_changed_by}
+use Rattle.odb_tables.specs.Database.{Db}
 use Rattle.odb_tables.specs.Installing.{IsChangeOf}
-use Rattle.odb_sessions.specs.Book.{Book}
-use Rattle.odb_sessions.specs.Held.{Sessions}
+use Rattle.odb_recent.specs.Recent.{Recent, kept_undo, noted}
+use Rattle.odb_sessions.specs.Book.{Book, book_with}
+use Rattle.odb_sessions.specs.Committed.{changed_with}
+use Rattle.odb_sessions.specs.Held.{Sessions, all_seen}
 use Rattle.odb_sessions.specs.Owed.{AreAtRest, AreNoted, book_seen}
 use Rattle.odb_sessions.specs.Tied.{IsTied}
+use Rattle.odb_sessions.proofs.Earlier.{book_committed}
 use Rattle.odb_sessions.proofs.OwedSessions.{rest_owed, said_rest, still_rest}
 use Rattle.odb_sessions.proofs.Ties.{on_err, tied_absorbed}
 use Rattle.odb_sessions.proofs.Untouched.{AreTouched, book_after, touched_rest}
@@ -30,7 +34,7 @@ invariant_of-self c =
     (c.refresh_each.ensures.tied, subst (AreAtRest o j) (sym c.refresh_each.ensures.seen) (said_rest o i j b (still_rest old.owed o i b [] c.self.invariant.1 kept) (λ q out. c.forget_owed.ensures q (kept q out).0)))
 
 pub absorb-requires : goal.absorb-requires
-absorb-requires c = subst (λ (b : Book). IsChangeOf b.db c.args.change) (sym (c.refresh_each.ensures.seen ∙ c.self.view_is)) c.requires
+absorb-requires c = subst (λ (d : Db). IsChangeOf d c.args.change) (sym (ap (λ (b : Book). b.db) c.refresh_each.ensures.seen ∙ ap (λ (b : Book). b.db) c.self.view_is)) c.requires
 
 pub invariant_of-self-in_err-absorb : goal.invariant_of-self-in_err-absorb
 invariant_of-self-in_err-absorb c =
@@ -83,15 +87,21 @@ invariant_of-self-2 c =
     )
 
 pub returns-in_err-note_each-clause-err : goal.returns-in_err-note_each-clause-err
-returns-in_err-note_each-clause-err c = on_err c.from_residual-in_err-note_each.result _ (c.refresh_each.ensures.seen ∙ c.self.view_is)
+returns-in_err-note_each-clause-err c = on_err c.from_residual-in_err-note_each.result _ (ap (λ (b : Book). book_with b.db c.self.inside.recent b.sessions) c.refresh_each.ensures.seen ∙ c.self.view_is)
 
 pub returns-in_err-absorb-clause-err : goal.returns-in_err-absorb-clause-err
 returns-in_err-absorb-clause-err c =
     on_err c.from_residual-in_err-absorb.result _
-    ((λ j. book_seen (c.in_err-absorb.ensures.err j) c.refresh_each.new.sessions) ∙ c.refresh_each.ensures.seen ∙ c.self.view_is)
+    (ap (λ (b : Book). book_with b.db c.self.inside.recent b.sessions) ((λ j. book_seen (c.in_err-absorb.ensures.err j) c.refresh_each.new.sessions) ∙ c.refresh_each.ensures.seen) ∙ c.self.view_is)
 
 pub returns-clause-ok : goal.returns-clause-ok
 returns-clause-ok c =
     let old = c.self.inside in
     let after = book_after old.past c.absorb.new.self c.refresh_each.new.past old.sessions c.refresh_each.new.sessions c.args.change c.in_ok-absorb.ensures.ok c.refresh_each.ensures.seen in
-    c.go_on.ensures.seen ∙ after ∙ ap (λ (x : Book). let y : Book = record x { db = all_changed_by x.db c.args.change } in y) c.self.view_is
+    let is : IsChangeOf old.past.db c.args.change = subst (λ (x : Book). IsChangeOf x.db c.args.change) (sym c.self.view_is) c.requires in
+    let kept : c.in-Ok.undo ≡ kept_undo old.recent.most c.args.change = search rules in
+    let noted_so : c.note.new.self ≡ noted c.in-Ok.undo old.recent = search rules in
+    ap (λ (b : Book). book_with b.db c.note.new.self b.sessions) (c.go_on.ensures.seen ∙ after)
+    ∙ ap (λ (r : Recent). book_with (all_changed_by old.past.db c.args.change) r (all_seen old.sessions)) noted_so
+    ∙ book_committed old.past.db c.args.change old.recent is c.in-Ok.undo kept (all_seen old.sessions)
+    ∙ ap (changed_with c.args.change) c.self.view_is

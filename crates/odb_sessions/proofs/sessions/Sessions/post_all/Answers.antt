@@ -1,7 +1,8 @@
 use Rattle.std.proofs.Common.{rules, ◌≡◌, List, [], map, subst, sym, ap, ◌∙◌}
 use Rattle.std.proofs.lemmas.Result.{IfOk-weaker, on_err_weaker}
 use Rattle.odb_queue.specs.Represented.Post.{post_of}
-use Rattle.odb_sessions.specs.Book.{Book}
+use Rattle.odb_recent.specs.Recent.{recent_of}
+use Rattle.odb_sessions.specs.Book.{Book, book_with}
 use Rattle.odb_sessions.specs.Held.{Sessions, all_seen}
 use Rattle.odb_sessions.specs.Posts.{all_posted}
 use Rattle.odb_queue.specs.declared.post.Post.{Post}
@@ -29,7 +30,7 @@ invariant_of-self-2 c =
     either_posted c.post_all.result (HangTogether k c.post_all.new.self o old.interest)
     (c.post_all.ensures.ok) (c.post_all.ensures.err)
     (λ p is. together k c.post_all.new.self o old.interest (record b { sessions = all_posted b.sessions ps }) (subst (IsTied k) (sym is) (posts_tied k m ps c.self.invariant.0))
-    (λ i. let x : Book = record { db = k.db; sessions = (ap all_seen is ∙ posts_seen m ps) i } in x)
+    (λ i. book_with k.db (recent_of 0 0) ((ap all_seen is ∙ posts_seen m ps) i))
     (noted_rest old.owed o old.interest b ps c.self.invariant.1 noted))
     (λ is. subst (λ (n : Sessions). HangTogether k n o old.interest) (sym is) (c.self.invariant.0, still_rest old.owed o old.interest b (addressed ps) c.self.invariant.1 noted))
 
@@ -38,7 +39,7 @@ returns-clause-ok c =
     let m : Sessions = c.self.inside.sessions in
     let ps = map post_of c.args.posts.items in
     IfOk-weaker c.post_all.result _ _
-    (λ p is. (λ i. let x : Book = record { db = c.self.inside.past.db; sessions = (ap all_seen is ∙ posts_seen m ps) i } in x) ∙ ap (λ (b : Book). let y : Book = record b { sessions = all_posted b.sessions ps } in y) c.self.view_is)
+    (λ p is. (λ i. book_with c.self.inside.past.db c.self.inside.recent ((ap all_seen is ∙ posts_seen m ps) i)) ∙ ap (λ (b : Book). let y : Book = record b { sessions = all_posted b.sessions ps } in y) c.self.view_is)
     c.post_all.ensures.ok
 
 pub returns-clause-back : goal.returns-clause-back
@@ -50,5 +51,5 @@ returns-clause-back c =
 pub returns-clause-err : goal.returns-clause-err
 returns-clause-err c =
     on_err_weaker c.post_all.result
-    (λ is. (λ i. let x : Book = record { db = c.self.inside.past.db; sessions = all_seen (is i) } in x) ∙ c.self.view_is)
+    (λ is. (λ i. book_with c.self.inside.past.db c.self.inside.recent (all_seen (is i))) ∙ c.self.view_is)
     c.post_all.ensures.err

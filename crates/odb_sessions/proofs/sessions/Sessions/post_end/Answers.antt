@@ -4,7 +4,8 @@ use Rattle.std.specs.Arc.{arc_value}
 use Rattle.odb_atoms.specs.FinMap as finite
 use Rattle.odb_queue.specs.Represented.Item.{item_of}
 use Rattle.odb_sessions.specs.Asked.{ended_in}
-use Rattle.odb_sessions.specs.Book.{Book}
+use Rattle.odb_recent.specs.Recent.{recent_of}
+use Rattle.odb_sessions.specs.Book.{Book, book_with}
 use Rattle.odb_sessions.specs.Held.{Kept, Queued, Sessions, all_seen, seen}
 use Rattle.odb_sessions.specs.Posts.{at_number}
 use Rattle.odb_sessions.specs.Represented.Queued.{queued_of}
@@ -28,7 +29,7 @@ returns-in_default-clause-ok c = λ schema.
     let shut : finite.get m s ≡ None = search rules in
     let none : finite.get (all_seen m) s ≡ None = get-seen m s ∙ ap (option_map seen) shut in
     subst (λ (b : Book). b ≡ (let y : Book = record b { sessions = at_number (ended_in schema (item_of c.args.reply)) b.sessions s } in y)) c.self.view_is
-    (λ i. let x : Book = record { db = c.self.inside.past.db; sessions = sym (at_shut (ended_in schema (item_of c.args.reply)) (all_seen m) s none) i } in x)
+    (λ i. book_with c.self.inside.past.db c.self.inside.recent (sym (at_shut (ended_in schema (item_of c.args.reply)) (all_seen m) s none) i))
 
 pub invariant_of-self-2 : goal.invariant_of-self-2
 invariant_of-self-2 c =
@@ -46,7 +47,7 @@ invariant_of-self-2 c =
     either_posted c.post_each.result (HangTogether k c.post_each.new.self o old.interest)
     (c.post_each.ensures.ok) (c.post_each.ensures.err)
     (λ p is. together k c.post_each.new.self o old.interest (record b { sessions = at_number f b.sessions s }) (subst (IsTied k) (sym is) (ending_tied arc_value (item_of c.args.reply) k m s qs c.in_ok-ids.ids.items c.in_ok-items.ensures c.self.invariant.0))
-    (λ i. let d : Book = record { db = k.db; sessions = (ap all_seen is ∙ ending_seen arc_value (item_of c.args.reply) no_schema m s x qs c.in_ok-ids.ids.items there c.in_ok-items.ensures c.in_ok-ids.ensures) i } in d)
+    (λ i. book_with k.db (recent_of 0 0) ((ap all_seen is ∙ ending_seen arc_value (item_of c.args.reply) no_schema m s x qs c.in_ok-ids.ids.items there c.in_ok-items.ensures c.in_ok-ids.ensures) i))
     (posted_rest old.owed o old.interest b s f c.self.invariant.1 grown))
     (λ is. subst (λ (n : Sessions). HangTogether k n o old.interest) (sym is) (c.self.invariant.0, grown_rest old.owed o old.interest b s c.self.invariant.1 grown))
 
@@ -58,7 +59,7 @@ returns-clause-ok c =
     let there : finite.get m s ≡ Some x = search rules in
     let qs : List Queued = map queued_of c.in_ok-items.items.items in
     IfOk-weaker c.post_each.result _ _
-    (λ p is schema. (λ i. let b : Book = record { db = c.self.inside.past.db; sessions = (ap all_seen is ∙ ending_seen arc_value (item_of c.args.reply) schema m s x qs c.in_ok-ids.ids.items there c.in_ok-items.ensures c.in_ok-ids.ensures) i } in b) ∙ ap (λ (b : Book). let y : Book = record b { sessions = at_number (ended_in schema (item_of c.args.reply)) b.sessions s } in y) c.self.view_is)
+    (λ p is schema. (λ i. book_with c.self.inside.past.db c.self.inside.recent ((ap all_seen is ∙ ending_seen arc_value (item_of c.args.reply) schema m s x qs c.in_ok-ids.ids.items there c.in_ok-items.ensures c.in_ok-ids.ensures) i)) ∙ ap (λ (b : Book). let y : Book = record b { sessions = at_number (ended_in schema (item_of c.args.reply)) b.sessions s } in y) c.self.view_is)
     c.post_each.ensures.ok
 
 pub returns-clause-back : goal.returns-clause-back
@@ -70,5 +71,5 @@ returns-clause-back c =
 pub returns-clause-err : goal.returns-clause-err
 returns-clause-err c =
     on_err_weaker c.post_each.result
-    (λ is. (λ i. let x : Book = record { db = c.self.inside.past.db; sessions = all_seen (is i) } in x) ∙ c.self.view_is)
+    (λ is. (λ i. book_with c.self.inside.past.db c.self.inside.recent (all_seen (is i))) ∙ c.self.view_is)
     c.post_each.ensures.err

@@ -8,14 +8,13 @@ use Rattle.odb_sessions.specs.Tied.{AreLive}
 use Rattle.odb_sessions.proofs.QuietSessions.{on_true, quiet_open, quiet_shut}
 use Rattle.odb_sessions.proofs.sessions.Sessions.rests.Goals as goal
 use Rattle.odb_tables.specs.Database.{Db}
-use Rattle.odb_service.specs.Session.{Revision}
 
 pub rests-requires : goal.rests-requires
 rests-requires c =
     let m : Sessions = c.self.inside.sessions in
     let x : Kept = c.in-Some.of.now in
     let there : finite.get m c.args.session ≡ Some x = search rules in
-    subst (λ (k : Chains). AreLive k (marks_of x)) (sym c.chains.ensures) (c.self.invariant.0.2 c.args.session x there)
+    subst (λ (k : Chains). AreLive k (marks_of x)) (sym c.chains.ensures.now) (c.self.invariant.0.2 c.args.session x there)
 
 pub returns-in_default : goal.returns-in_default
 returns-in_default c =
@@ -29,6 +28,6 @@ returns c =
     let m : Sessions = c.self.inside.sessions in
     let x : Kept = c.in-Some.of.now in
     let there : finite.get m c.args.session ≡ Some x = search rules in
-    let db : c.chains.result.now.db ≡ b.db = ap (λ (k : Chains). k.db) c.chains.ensures ∙ ap (λ (d : Book). d.db) c.self.view_is in
+    let db : c.chains.result.now.db ≡ b.db = ap (λ (k : Chains). k.db) c.chains.ensures.now ∙ ap (λ (d : Book). d.db) c.self.view_is in
     on_true c.rests.result (IsQuietAt b c.args.session)
-    (λ told. quiet_open b m c.args.session x (ap (λ (d : Book). d.sessions) c.self.view_is) there (subst (λ (d : Db). let r : Revision = record { db = d } in IsQuiet r (seen x)) db (c.rests.ensures told)))
+    (λ told. quiet_open b m c.args.session x (ap (λ (d : Book). d.sessions) c.self.view_is) there (subst (λ (d : Db). IsQuiet d (seen x)) db (c.rests.ensures told)))

@@ -2,7 +2,8 @@ use Rattle.std.proofs.Common.{rules, ◌≡◌, true, false, is_some, [], ◌∷
 use Rattle.odb_atoms.specs.FinMap as finite
 use Rattle.odb_chain.specs.Chains.{Chains}
 use Rattle.odb_service.specs.World.{push}
-use Rattle.odb_sessions.specs.Book.{Book}
+use Rattle.odb_recent.specs.Recent.{recent_of}
+use Rattle.odb_sessions.specs.Book.{Book, book_with}
 use Rattle.odb_sessions.specs.Held.{Kept, Queued, Sessions, all_seen, due, marks_due, marks_in, seen}
 use Rattle.odb_sessions.specs.Posts.{at_number, posted}
 use Rattle.odb_sessions.specs.Represented.Queued.{queued_of}
@@ -28,7 +29,7 @@ returns-then-not-has-clause-ok c =
     let shut : is_some (finite.get m s) ≡ false = search rules in
     let none : finite.get (all_seen m) s ≡ None = get-seen m s ∙ ap (option_map seen) (nothing_is (finite.get m s) shut) in
     subst (λ (b : Book). b ≡ (let y : Book = record b { sessions = posted b.sessions (s, started c.args.starting) } in y)) c.self.view_is
-    (λ i. let x : Book = record { db = c.self.inside.past.db; sessions = sym (at_shut (push (started c.args.starting ∷ [])) (all_seen m) s none) i } in x)
+    (λ i. book_with c.self.inside.past.db c.self.inside.recent (sym (at_shut (push (started c.args.starting ∷ [])) (all_seen m) s none) i))
 
 pub invariant_of-self-in-Ok : goal.invariant_of-self-in-Ok
 invariant_of-self-in-Ok c =
@@ -43,7 +44,7 @@ invariant_of-self-in-Ok c =
     let f : Session → Session = push (started c.args.starting ∷ []) in
     together new c.hand.new.self o c.self.inside.interest (record b { sessions = at_number f b.sessions s })
     (subst (IsTied new) (sym c.in-Ok.ensures.ok) (tied_handed c.self.inside.past new m s q c.self.invariant.0 found.0 found.1 c.in_ok-start.ensures.ok))
-    (λ i. let x : Book = record { db = c.in_ok-start.ensures.ok.0 i; sessions = (ap all_seen c.in-Ok.ensures.ok ∙ handed_seen m q s ∙ ap (λ j. at_number (push (j ∷ [])) (all_seen m) s) c.in_ok-start.ensures.item) i } in x)
+    (λ i. book_with (c.in_ok-start.ensures.ok.0 i) (recent_of 0 0) ((ap all_seen c.in-Ok.ensures.ok ∙ handed_seen m q s ∙ ap (λ j. at_number (push (j ∷ [])) (all_seen m) s) c.in_ok-start.ensures.item) i))
     (posted_rest c.self.inside.owed o c.self.inside.interest b s f c.self.invariant.1 grown)
 
 pub invariant_of-self-in-Err : goal.invariant_of-self-in-Err
@@ -59,7 +60,7 @@ invariant_of-self-in-Err c =
     let same : new.db ≡ k.db = frees.0 ∙ c.in_ok-start.ensures.ok.0 in
     together new c.hand.new.self o c.self.inside.interest b
     (subst (IsTied new) (sym c.in-Err.ensures.err) (given_back k made new m (marks_in c.in_ok-start.start.monitor) c.self.invariant.0 c.in_ok-start.ensures.ok frees))
-    (λ i. let x : Book = record { db = same i; sessions = all_seen (c.in-Err.ensures.err i) } in x)
+    (λ i. book_with (same i) (recent_of 0 0) (all_seen (c.in-Err.ensures.err i)))
     (grown_rest c.self.inside.owed o c.self.inside.interest b c.args.session c.self.invariant.1 grown)
 
 pub returns-in-Ok-clause-ok : goal.returns-in-Ok-clause-ok
@@ -67,5 +68,5 @@ returns-in-Ok-clause-ok c =
     let m : Sessions = c.self.inside.sessions in
     let s = c.args.session in
     let q : Queued = due c.in_ok-start.start.origin c.in_ok-start.start.monitor in
-    (λ i. let x : Book = record { db = c.in_ok-start.ensures.ok.0 i; sessions = (ap all_seen c.in-Ok.ensures.ok ∙ handed_seen m q s ∙ ap (λ j. at_number (push (j ∷ [])) (all_seen m) s) c.in_ok-start.ensures.item) i } in x)
+    (λ i. book_with (c.in_ok-start.ensures.ok.0 i) c.self.inside.recent ((ap all_seen c.in-Ok.ensures.ok ∙ handed_seen m q s ∙ ap (λ j. at_number (push (j ∷ [])) (all_seen m) s) c.in_ok-start.ensures.item) i))
     ∙ ap (λ (b : Book). let y : Book = record b { sessions = posted b.sessions (s, started c.args.starting) } in y) c.self.view_is

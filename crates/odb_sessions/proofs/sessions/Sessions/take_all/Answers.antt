@@ -13,7 +13,6 @@ use Rattle.odb_sessions.specs.declared.out.Out.{Out}
 use Rattle.odb_sessions.specs.declared.ready.Ready.{Ready}
 use Rattle.odb_sessions.proofs.Rounds.{GoesOn, goes_on, left_ready, no_schema}
 use Rattle.odb_sessions.proofs.sessions.Sessions.take_all.Goals as goal
-use Rattle.odb_service.specs.Session.{Revision}
 
 abbrev listed_in : List Ready → List ℕ
 listed_in rs = sessions_in (map pending_of rs)
@@ -114,5 +113,5 @@ returns-clause-round c = λ s w revision sessions.
       ap (λ (qs : List Ready). map printed (take_each (served_by s) (listed_in qs) w).1) (sym all) ∙ end.1 ∙ append-nil (map sent_in c.loop-ready.sent.items),
     )
 
-pub returns-clause-database : goal.returns-clause-database
-returns-clause-database c = ap (λ (r : Revision). r.db) c.loop-ready.invariant.3
+pub returns-clause-revision : goal.returns-clause-revision
+returns-clause-revision c = c.loop-ready.invariant.3

@@ -1,5 +1,6 @@
 use Rattle.std.proofs.Common.{rules, ◌≡◌, [], ◌∷◌, Some, None, subst, sym, ap, ◌∙◌}
-use Rattle.odb_sessions.specs.Book.{Book}
+use Rattle.odb_recent.specs.Recent.{recent_of}
+use Rattle.odb_sessions.specs.Book.{Book, book_with}
 use Rattle.odb_sessions.specs.Held.{Queued, Sessions, all_seen}
 use Rattle.odb_sessions.specs.Posts.{newest_at}
 use Rattle.odb_sessions.specs.Represented.Queued.{queued_of}
@@ -27,14 +28,14 @@ invariant_of-self-2 c =
     let b : Book = book_seen c.self.inside.past m in
     together c.release.new.past c.take_newest.new.self c.self.inside.owed c.self.inside.interest (back_one s b)
     (subst (IsTied c.release.new.past) (sym c.take_newest.ensures.sessions) (tied_taken_back c.self.inside.past c.release.new.past m s q c.self.invariant.0 newest c.release.ensures))
-    (λ i. let x : Book = record { db = c.release.ensures.0 i; sessions = (ap all_seen c.take_newest.ensures.sessions ∙ taken_back_seen m s) i } in x)
+    (λ i. book_with (c.release.ensures.0 i) (recent_of 0 0) ((ap all_seen c.take_newest.ensures.sessions ∙ taken_back_seen m s) i))
     (unposted_rest c.self.inside.owed c.self.inside.interest b (s ∷ []) c.self.invariant.1)
 
 pub returns : goal.returns
 returns c =
     let m : Sessions = c.self.inside.sessions in
     let s = c.args.session in
-    (λ i. let x : Book = record { db = c.release.ensures.0 i; sessions = (ap all_seen c.take_newest.ensures.sessions ∙ taken_back_seen m s) i } in x) ∙ ap (back_one s) c.self.view_is
+    (λ i. book_with (c.release.ensures.0 i) c.self.inside.recent ((ap all_seen c.take_newest.ensures.sessions ∙ taken_back_seen m s) i)) ∙ ap (back_one s) c.self.view_is
 
 pub invariant_of-self : goal.invariant_of-self
 invariant_of-self c =
@@ -46,4 +47,4 @@ pub returns-in_default : goal.returns-in_default
 returns-in_default c =
     let m : Sessions = c.self.inside.sessions in
     let s = c.args.session in
-    (λ i. let x : Book = record { db = c.self.inside.past.db; sessions = (ap all_seen c.take_newest.ensures.sessions ∙ taken_back_seen m s) i } in x) ∙ ap (back_one s) c.self.view_is
+    (λ i. book_with c.self.inside.past.db c.self.inside.recent ((ap all_seen c.take_newest.ensures.sessions ∙ taken_back_seen m s) i)) ∙ ap (back_one s) c.self.view_is

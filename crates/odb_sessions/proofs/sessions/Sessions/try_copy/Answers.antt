@@ -1,6 +1,6 @@
 use Rattle.std.proofs.Common.{rules, ◌≡◌, subst, sym, ◌∙◌}
 use Rattle.odb_chain.specs.Chains.{Chains}
-use Rattle.odb_sessions.specs.Book.{Book}
+use Rattle.odb_sessions.specs.Book.{Book, book_with}
 use Rattle.odb_sessions.specs.Held.{Sessions, all_seen}
 use Rattle.std.specs.List.{AllZip}
 use Rattle.odb_interest.specs.Represented.Lists.{IsSame}
@@ -19,4 +19,4 @@ invariant_of-result c =
     (subst (λ (m : Sessions). HangTogether old.past m o i) (sym c.in_ok-sessions.ensures) (c.self.invariant.0, copied_rest old.owed o old.interest i (book_seen old.past old.sessions) same said c.self.invariant.1))
 
 pub returns : goal.returns
-returns c = (λ i. let b : Book = record { db = (c.in_ok-past.ensures i).db; sessions = all_seen (c.in_ok-sessions.ensures i) } in b) ∙ c.self.view_is
+returns c = (λ i. book_with (c.in_ok-past.ensures i).db (c.in_ok-recent.ensures i) (all_seen (c.in_ok-sessions.ensures i))) ∙ c.self.view_is
