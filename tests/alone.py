@@ -1,0 +1,115 @@
+"""Definitions and lemmas with no code: a repository of these alone is checked in seconds, before a library is built."""
+
+import functools
+import os
+import re
+import shutil
+
+from places import ROOT, crates
+
+WITH_CODE = ("odb_atoms",)  # what lemmas of nearly all crates need goes through its code
+OF_CODE = re.compile(r"\bRattle\.(odb_\w+)\.(?:specs\.(?:declared|contracts)|proofs\.[\w.+-]*(?:Goals|Given|TheSendSync))\b")
+PATHS = re.compile(r"\bRattle(?:\.[\w+-]+)+")
+
+
+def modules(folder):
+    """The files of specs/ and proofs/ of all crates, by the names that imports give them."""
+    found = {}
+    for at, folders, files in os.walk(folder):
+        folders[:] = [it for it in folders if it != "out"]
+        for file in files:
+            name, _, part = os.path.relpath(f"{at}/{file}", folder).partition("/")
+            if file.endswith(".antt") and part.startswith(("specs/", "proofs/")):
+                found[f"Rattle.{name}.{part[:-len('.antt')].replace('/', '.')}"] = f"{at}/{file}"
+    return found
+
+
+def read(file):
+    with open(file, encoding="utf-8") as it:
+        return it.read()
+
+
+@functools.cache
+def imports_of(file):
+    """What a file of the repository imports, and the crates whose code it speaks of."""
+    text = read(file)
+    return {*PATHS.findall(text)}, {*OF_CODE.findall(text)} - {*WITH_CODE}
+
+
+def crate_in(file):
+    return os.path.relpath(file, f"{ROOT}/crates").partition("/")[0]
+
+
+def needed(named, start, whole=()):
+    """The files that these files import, near and far, with themselves; of whole crates no further."""
+    seen, left = set(), list(start)
+    while left:
+        file = left.pop()
+        if file in seen:
+            continue
+        seen.add(file)
+        for path in imports_of(file)[0] if crate_in(file) not in whole else ():
+            while path and path not in named:
+                path = path.rpartition(".")[0]
+            left += [named[path]] if path else []
+    return seen
+
+
+def list_modules(of, to, file="Lib.antt", inside=""):
+    """Copies the list of a folder's modules, and those of the folders in it, with those alone that the copy has."""
+    here = f"{to}/{inside}"
+    lines = read(f"{of}/{file}").splitlines(keepends=True)
+    named = lambda line: re.match(r"(?:pub )?mod (\w+)", line)
+    has = lambda name: os.path.isfile(f"{here}/{name}.antt") or os.path.isdir(f"{here}/{name}")
+    write(f"{to}/{file}", "".join(line for line in lines if not named(line) or has(named(line)[1])))
+    for name in os.listdir(here):
+        if os.path.isdir(f"{here}/{name}"):
+            list_modules(of, to, os.path.normpath(f"{inside}/{name}.antt").lstrip("/"), f"{inside}/{name}".lstrip("/"))
+
+
+def write(path, text):
+    """Writes a file, unless it says this already."""
+    os.makedirs(os.path.dirname(path), exist_ok=True)
+    if not os.path.isfile(path) or read(path) != text:
+        with open(path, "w", encoding="utf-8") as it:
+            it.write(text)
+
+
+def write_alone(to, files, whole=()):
+    """Writes a repository of these files, with no code but that of whole crates. What it had else goes."""
+    kept = {f"{to}/{os.path.relpath(it, ROOT)}" for it in files}
+    for file in modules(f"{to}/crates").values() if os.path.isdir(f"{to}/crates") else ():
+        if file not in kept and crate_in(f"{ROOT}/{os.path.relpath(file, to)}") not in whole:
+            os.remove(file)
+    for file in files:
+        if crate_in(file) not in whole:
+            write(f"{to}/{os.path.relpath(file, ROOT)}", read(file))
+    names = {crate_in(it) for it in files}
+    for name in names:
+        made_whole(to, name) if name in whole else without_code(to, name)
+    uses = crates()
+    lines = (f"{it}: {' '.join(below for below in uses[it] if below not in uses or below in names)}\n" for it in uses if it in names)
+    write(f"{to}/crates.txt", "".join(lines))
+    write(f"{to}/HANDLES", read(f"{ROOT}/HANDLES"))
+    os.makedirs(f"{to}/.git", exist_ok=True)
+
+
+def without_code(to, name):
+    folder = f"{to}/crates/{name}"
+    for part in ("specs", "proofs"):
+        if os.path.isdir(f"{folder}/{part}"):
+            list_modules(f"{ROOT}/crates/{name}/{part}", f"{folder}/{part}")
+    write(f"{folder}/src/lib.rt", "//! Definitions.\n#![tactic(auto)]\n")
+
+
+def made_whole(to, name):
+    shutil.copytree(f"{ROOT}/crates/{name}", f"{to}/crates/{name}", ignore=shutil.ignore_patterns("out", "must-fail"), dirs_exist_ok=True)
+
+
+def lemmas_of(names):
+    """The definitions and lemmas of these crates that need no code, and those that do."""
+    named = modules(f"{ROOT}/crates")
+    mine = [it for name, it in named.items() if name.split(".")[1] in names and not it.endswith("/Lib.antt")]
+    needs = lambda file: any(imports_of(it)[1] for it in needed(named, [file], WITH_CODE) if crate_in(it) not in WITH_CODE)
+    left_out = {it for it in mine if needs(it)}
+    return needed(named, [it for it in mine if it not in left_out], WITH_CODE), left_out
