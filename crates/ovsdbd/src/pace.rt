@@ -22,6 +22,9 @@ const EACH: u64 = 100;
 /// What the pump sleeps by. One that sleeps begins at once when it is told that something may be owed. While it is awake it
 /// rests after rounds, so that it holds the lock and wakes writers for a part of the time, and replies have the rest; but
 /// not while more messages are queued than one round gives.
+///
+/// What it does with flags and parker are the steps of the pump of `odb_waking`, which loses no wake-up: each call names
+/// its own, and they are to stay in this order.
 #[derive(Drop)]
 pub(crate) struct Pace {
     pump: Parker,
@@ -32,7 +35,7 @@ pub(crate) struct Pace {
 }
 
 impl Pace {
-    /// The pump is awake, and was told nothing.
+    /// Makes that of a pump that is awake and was told nothing.
     pub(crate) fn new() -> Pace {
         Pace {
             pump: Parker::new(),
@@ -42,7 +45,8 @@ impl Pace {
         }
     }
 
-    /// A session may be owed something: a round is run, at once if the pump sleeps, and when it has rested if it is awake.
+    /// Tells the pump that a session may be owed something: a round is run, at once if the pump sleeps, and when it has rested
+    /// if it is awake. Steps: `tells`, `looks`, `wakes`.
     pub(crate) fn tell(&self) {
         self.told.store(1, Ordering::SeqCst);
         if self.sleeps() {
@@ -50,7 +54,7 @@ impl Pace {
         }
     }
 
-    /// Whether the pump sleeps, and a round of all is brief: then another thread may as well run it.
+    /// Says whether the pump sleeps, and a round of all is brief: then another thread may as well run it.
     pub(crate) fn lets_others(&self) -> bool {
         self.sleeps() && self.took.load(Ordering::SeqCst) < BRIEF
     }
@@ -63,20 +67,20 @@ impl Pace {
         }
     }
 
-    /// The pump goes on at once, also if it rests.
+    /// Lets the pump go on at once, also if it rests. Steps: `calls`, `wakes`.
     pub(crate) fn wake(&self) {
         self.told.store(1, Ordering::SeqCst);
         self.pump.unpark();
     }
 
-    /// A turn begins. It meets what the pump was told by now.
+    /// Begins a turn, which meets what the pump was told by now. Steps: `begins`, `forgets`.
     pub(crate) fn begin(&self) {
         self.awake.store(1, Ordering::SeqCst);
         self.told.store(0, Ordering::SeqCst);
     }
 
     /// Goes on at once if the round gave something and more is owed. Else it rests if the round gave something or the pump
-    /// was told something since the turn began, and sleeps if not; either for no longer than `left`.
+    /// was told something since the turn began, and sleeps if not; either for no longer than `left`. Step: `decides`.
     pub(crate) fn pause<R: Wait>(&self, rt: &R, round: Round, left: Option<Duration>) {
         self.note(round);
         if round.given > 0 && round.more {
@@ -95,7 +99,7 @@ impl Pace {
         self.pump.park_timeout(rt, rest.min(left.unwrap_or(rest)));
     }
 
-    /// Sleeps until the pump is told something or woken, or `left` is over.
+    /// Sleeps until the pump is told something or woken, or `left` is over. Steps: `lies_down`, `looks_again`, `sleeps`.
     fn sleep<R: Wait>(&self, rt: &R, left: Option<Duration>) {
         self.awake.store(0, Ordering::SeqCst);
         // Who told before that didn't wake the pump.

@@ -1,0 +1,2 @@
+pub mod BellKept
+pub mod PumpKept

@@ -1,0 +1,2 @@
+pub mod Bell
+pub mod Pump
