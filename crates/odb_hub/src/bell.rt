@@ -5,8 +5,9 @@ use std::sync::atomic::{AtomicU64, Ordering};
 use std::thread::Parker;
 
 /// What the threads of one session share: the thread that writes sleeps until there is something to write, the
-/// one that reads sleeps where its request met `Busy` or a message is held back. No contract speaks of it: whether a
-/// thread wakes is tested.
+/// one that reads sleeps where its request met `Busy` or a message is held back. No contract speaks of it. What is done with
+/// it are the steps of a session of `odb_waking`, which loses no wake-up: `Ring::put` and the two threads are to keep their
+/// order.
 #[derive(Drop)]
 pub struct Bell {
     writer: Parker,
@@ -22,7 +23,7 @@ pub struct Bell {
 const REST: u64 = 2;
 
 impl Bell {
-    /// Nothing was rung, and the session goes on.
+    /// Makes a bell that wasn't rung, of a session that goes on.
     pub fn new() -> Bell {
         Bell {
             writer: Parker::new(),
@@ -35,7 +36,7 @@ impl Bell {
         }
     }
 
-    /// Something was given to the session: both threads look again.
+    /// Wakes both threads, so that they look again: something was given to the session. Steps: `wakes_writer`, `wakes_reader`.
     pub fn ring(&self) {
         self.writer.unpark();
         self.reader.unpark();
@@ -51,52 +52,52 @@ impl Bell {
         moment.saturating_sub(self.told.load(Ordering::SeqCst)) >= REST
     }
 
-    /// The session ends: the thread that writes writes what its mailbox has, and returns.
+    /// Ends the session: the thread that writes writes what its mailbox has, and returns.
     pub fn end(&self) {
         self.ended.store(1, Ordering::SeqCst);
         self.writer.unpark();
     }
 
-    /// Whether the session ends.
+    /// Says whether the session ends.
     pub fn has_ended(&self) -> bool {
         self.ended.load(Ordering::SeqCst) != 0
     }
 
-    /// Writing failed: the thread that reads ends the session.
+    /// Says that writing failed, so that the thread that reads ends the session.
     pub fn fail(&self) {
         self.failed.store(1, Ordering::SeqCst);
         self.reader.unpark();
     }
 
-    /// Whether writing failed.
+    /// Says whether writing failed.
     pub fn has_failed(&self) -> bool {
         self.failed.load(Ordering::SeqCst) != 0
     }
 
-    /// A message is held back, since the ring has no room for it.
+    /// Says that a message is held back, since the ring has no room for it.
     pub fn hold(&self) {
         self.holds.store(1, Ordering::SeqCst);
     }
 
-    /// Nothing is held back.
+    /// Says that nothing is held back.
     pub fn let_go(&self) {
         if self.is_held_back() {
             self.holds.store(0, Ordering::SeqCst);
         }
     }
 
-    /// Whether a message is held back.
+    /// Says whether a message is held back.
     pub fn is_held_back(&self) -> bool {
         self.holds.load(Ordering::SeqCst) != 0
     }
 
-    /// The peer said nothing for a while: the thread that writes asks it whether it is there.
+    /// Has the thread that writes ask the peer, which said nothing for a while, whether it is there.
     pub fn ask(&self) {
         self.asks.store(1, Ordering::SeqCst);
         self.writer.unpark();
     }
 
-    /// Whether the peer is to be asked, since the last call.
+    /// Says whether the peer is to be asked, since the last call.
     pub fn is_to_ask(&self) -> bool {
         self.asks.swap(0, Ordering::SeqCst) != 0
     }

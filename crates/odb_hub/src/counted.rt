@@ -20,6 +20,8 @@ use std::time::Clock;
 pub struct BatchOutcome {
     /// Whether a session may be owed something, where nothing was refused; else why the turn stopped.
     pub owes: Result<bool, Refused>,
+    /// Whether the session was given what it is owed; an error says that memory was refused, and that it is owed it still.
+    pub given: Result<(), AllocError>,
     /// Whether few sessions may be owed something, of which half or more have rested, so that they are to be told at once.
     pub few: bool,
     /// Whether a transaction waits that is due sooner than any was before.
@@ -119,9 +121,8 @@ impl<L: Ledger> Counted<L> {
     }
 
     /// Submits a turn of the batch as [`HubState::submit_turn`] does, and then gives the session what it is owed
-    /// ([`HubState::rounds_for`]); where memory is refused for that, it is owed it still. It returns whether a session may
-    /// be owed something then, and whether a transaction is due sooner than any was. The seat is answered each submission
-    /// that was taken.
+    /// ([`HubState::rounds_for`]). It returns what came of both, whether a session may be owed something then, and whether
+    /// a transaction is due sooner than any was. The seat is answered each submission that was taken.
     pub fn submit_turn<R: Clock>(
         &mut self,
         rt: &R,
@@ -132,6 +133,7 @@ impl<L: Ledger> Counted<L> {
         ensures submits { Submits result.owes seat.old.session (events_of seat.old.session now batch.old.items) (events_of seat.old.session now batch.new.items) self.old.kept self.new.kept }
         ensures most { IsTurn (length batch.old.items) (length batch.new.items) }
         ensures some { OnOk result.owes (IsSome (length batch.old.items) (length batch.new.items)) }
+        ensures given { OnOk result.given (IsGiven seat.old.session self.new.kept) }
         ensures quiet { IfOk result.owes (λ owes. owes ≡ false → IsQuiet self.new.kept.server) }
         ensures sooner { result.due_sooner ≡ is_sooner (earliest self.new.kept.server.world.waiting) (earliest self.old.kept.server.world.waiting) }
         ensures seat { seat.new ≡ record { session = seat.old.session; answered = seat.old.answered + (length batch.old.items - length batch.new.items) } }
@@ -144,8 +146,9 @@ impl<L: Ledger> Counted<L> {
         let submitted = self.state.submit_turn(rt, seat.session, batch, now);
         let answered = before.saturating_sub(batch.len());
         self.book.add(&mut seat.share, answered as u64);
-        drop(self.state.rounds_for(seat.session));
+        let given = self.state.rounds_for(seat.session);
         BatchOutcome {
+            given,
             owes: match submitted {
                 Ok(()) => Ok(self.state.owes()),
                 Err(why) => Err(why),

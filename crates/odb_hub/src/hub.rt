@@ -84,8 +84,8 @@ impl<L: Ledger> Hub<L> {
     /// Submits a turn of the batch, from its last to its first: at most 64, and none after the first once 200 microseconds
     /// are over. At a refusal it stops, and the submission that was refused is the last of the batch again. The seat is
     /// answered each submission that was taken. Then its session, and no other, is given what it is owed, so that replies
-    /// wait for nobody. It returns whether a session may be owed something then, so that a round is to be run, and whether
-    /// a transaction is due sooner than any was.
+    /// wait for nobody; or memory was refused for that. It returns what came of both, whether a session may be owed
+    /// something then, so that a round is to be run, and whether a transaction is due sooner than any was.
     pub fn submit_turn<R: Wait + Clock>(
         &self,
         rt: &R,
@@ -93,7 +93,7 @@ impl<L: Ledger> Hub<L> {
         batch: &mut Vec<Submission>,
         now: u64,
     ) -> BatchOutcome
-        ensures submits { UnderLock (λ old new. Submits result.owes seat.old.session (events_of seat.old.session now batch.old.items) (events_of seat.old.session now batch.new.items) old.kept new.kept) }
+        ensures submits { UnderLock (λ old new. Submits result.owes seat.old.session (events_of seat.old.session now batch.old.items) (events_of seat.old.session now batch.new.items) old.kept new.kept × OnOk result.given (IsGiven seat.old.session new.kept)) }
         ensures quiet { UnderLock (λ old new. IfOk result.owes (λ owes. owes ≡ false → IsQuiet new.kept.server)) }
         ensures most { IsTurn (length batch.old.items) (length batch.new.items) }
         ensures some { OnOk result.owes (IsSome (length batch.old.items) (length batch.new.items)) }

@@ -91,7 +91,8 @@ impl Ring {
         self.put(out);
     }
 
-    /// Sends a message, or holds it back where the ring has no room.
+    /// Sends a message, or holds it back where the ring has no room, and wakes both threads. Of a session of `odb_waking` this
+    /// is the step `puts`, and all that the thread does which has the lock.
     pub(crate) fn put(&mut self, out: Out)
         requires { self.old.held ≡ None }
         ensures { IsPut (text_of_out out) self.old self.new }
@@ -103,7 +104,7 @@ impl Ring {
         self.bell.ring();
     }
 
-    /// The thread that takes messages out learns that one is held back. It may have made room before, so the ring is tried again.
+    /// Tells the thread that takes messages out that one is held back. It may have made room before, so the ring is tried again.
     fn put_again(&mut self, out: Out)
         requires { self.old.held ≡ None }
         ensures { IsPut (text_of_out out) self.old self.new }

@@ -27,7 +27,7 @@ invariant_of-self g c =
     let answered : total ≡ i.book.total + (length xs - length ys) = search rules in
     let before = c.self.invariant.0 in
     let counts : total ≡ i.settled.value.total + submits mid.events = omega (arith, grown, answered, before) in
-    (own_counted s mid c.rounds_for.new.self total i.settled.value.total counts c.rounds_for.ensures.rounds, c.self.invariant.1)
+    (own_counted s mid c.rounds_for-given.new.self total i.settled.value.total counts c.rounds_for-given.ensures.rounds, c.self.invariant.1)
 
 pub returns-clause-submits : goal.returns-clause-submits
 returns-clause-submits g c =
@@ -35,7 +35,7 @@ returns-clause-submits g c =
     let xs = c.args.batch.now.items in
     let ys = c.submit_turn-submitted.new.batch.items in
     let mid : Kept = c.submit_turn-submitted.new.self in
-    let new : Kept = c.rounds_for.new.self in
+    let new : Kept = c.rounds_for-given.new.self in
     let taken : TakesUpTo (events_of s c.args.now xs) (events_of s c.args.now ys) c.self.inside.state mid = subst (λ (k : Kept). TakesUpTo (events_of s c.args.now xs) (events_of s c.args.now ys) k mid) c.set_moment.ensures c.submit_turn-submitted.ensures.taken in
     let same_seat : s ≡ c.args.seat.now.session = ap (λ (x : Seat). x.session) c.seat.view_is in
     let same_kept : c.self.inside.state ≡ c.args.self.now.kept = ap (λ (x : Counted). x.kept) c.self.view_is in
@@ -43,9 +43,9 @@ returns-clause-submits g c =
       | in-Ok w ↦ rw (w.result-is) (
           let r : Result Bool Refused = Ok w.owes.result in
           subst (λ q. Submitted r q c.args.now xs ys c.args.self.now.kept new) same_seat
-          (subst (λ (k : Kept). Submitted r s c.args.now xs ys k new) same_kept (mid, taken, tt, c.rounds_for.ensures.rounds)))
+          (subst (λ (k : Kept). Submitted r s c.args.now xs ys k new) same_kept (mid, taken, tt, c.rounds_for-given.ensures.rounds)))
       | in-Err w ↦ rw (w.result-is) (
           let r : Result Bool Refused = Err w.in-Err.why in
           subst (λ q. Submitted r q c.args.now xs ys c.args.self.now.kept new) same_seat
-          (subst (λ (k : Kept). Submitted r s c.args.now xs ys k new) same_kept (mid, taken, search rules, c.rounds_for.ensures.rounds)))
+          (subst (λ (k : Kept). Submitted r s c.args.now xs ys k new) same_kept (mid, taken, search rules, c.rounds_for-given.ensures.rounds)))
     ]
