@@ -8,9 +8,9 @@ use std::alloc::{AllocError, Global};
 use std::hash::RandomState;
 use std::test::Fail;
 
-/// A schema with one table, whose rows have names.
+/// A schema with a table whose rows have names, and another.
 const NAMES: &[u8] =
-    b"{\"name\":\"net\",\"version\":\"1.0.0\",\"tables\":{\"T\":{\"isRoot\":true,\"columns\":{\"name\":{\"type\":\"string\"}}}}}";
+    b"{\"name\":\"net\",\"version\":\"1.0.0\",\"tables\":{\"T\":{\"isRoot\":true,\"columns\":{\"name\":{\"type\":\"string\"}}},\"U\":{\"isRoot\":true,\"columns\":{\"name\":{\"type\":\"string\"}}}}}";
 
 const WATCHERS: usize = 1_000;
 
@@ -19,8 +19,9 @@ const DIGITS: &[u8; 10] = b"0123456789";
 /// What was found after a row was renamed from the name of the session 1 to that of the session 2.
 #[derive(Clone, Copy, Debug, PartialEq, Eq)]
 struct Found {
-    /// How many sessions may be owed something before, and after.
-    owed: [usize; 2],
+    /// How many sessions may be owed something after rounds gave all; after a row of another table was inserted; and after
+    /// the row was renamed.
+    owed: [usize; 3],
     /// Whether these are the sessions 1 and 2, and the one that is owed its reply.
     are_concerned: bool,
     /// The compositions for a round of all sessions that watch.
@@ -95,6 +96,9 @@ fn are_concerned(core: &Core, writer: SessionId) -> bool {
 const INSERT: &[u8] =
     b"{\"id\":1,\"method\":\"transact\",\"params\":[\"net\",{\"op\":\"insert\",\"table\":\"T\",\"row\":{\"name\":\"s001\"}}]}";
 
+const INSERT_ELSEWHERE: &[u8] =
+    b"{\"id\":1,\"method\":\"transact\",\"params\":[\"net\",{\"op\":\"insert\",\"table\":\"U\",\"uuid\":\"00000000-0000-4000-8000-000000000001\",\"row\":{\"name\":\"s001\"}}]}";
+
 const RENAME: &[u8] =
     b"{\"id\":1,\"method\":\"transact\",\"params\":[\"net\",{\"op\":\"update\",\"table\":\"T\",\"where\":[[\"name\",\"==\",\"s001\"]],\"row\":{\"name\":\"s002\"}}]}";
 
@@ -105,9 +109,12 @@ fn trial(alloc: Global, core: &mut Core) -> Result<Found, AllocError> {
     take_all(core, listed.as_slice())?;
     take_all(core, &[writer])?;
     let before = core.owed().len();
+    submit(alloc, core, writer, INSERT_ELSEWHERE)?;
+    let elsewhere = core.owed().len();
+    take_all(core, &[writer])?;
     submit(alloc, core, writer, RENAME)?;
     Ok(Found {
-        owed: [before, core.owed().len()],
+        owed: [before, elsewhere, core.owed().len()],
         are_concerned: are_concerned(core, writer),
         jobs: core.jobs(listed.as_slice())?.list().len(),
     })
@@ -118,7 +125,7 @@ fn a_row_that_is_renamed_concerns_two_of_a_thousand(rt: HostRuntime) -> Result<(
     let mut core = core(rt.alloc(), RandomState::new(&rt)?, NAMES)?;
     let found = trial(rt.alloc(), &mut core)?;
     let wanted = Found {
-        owed: [0, 3],
+        owed: [0, 1, 3],
         are_concerned: true,
         jobs: 2,
     };
