@@ -8,14 +8,14 @@ use Rattle.odb_atoms.specs.Row.{Row}
 use Rattle.odb_atoms.specs.Uuid.{Uuid, uuid_cmp}
 use Rattle.odb_atoms.proofs.Atoms.{uuid_cmp_total, uuid_cmp-IsAntisymmetric}
 use Rattle.odb_atoms.proofs.FinMaps.{get-combine, get-empty, same_map}
-use Rattle.odb_tables.specs.Change.{Changes, after, changed_by}
+use Rattle.odb_tables.specs.Change.{Changes, after, before, changed_by, undone}
 use Rattle.odb_tables.specs.Database.{Table}
 use Rattle.std.proofs.Common.{List, ◌||◌, nat_eq}
 use Rattle.std.proofs.Common.{arith}
 use Rattle.odb_chain.specs.Represented.Places.{is_place}
 use Rattle.std.proofs.lemmas.Bool.Decides.{nat_tests}
 use Rattle.odb_chain.specs.Kept.{History, Rows, at_place, content_at, is_reached}
-use Rattle.odb_chain.specs.Represented.Chain.{Chain, IsReadyFor}
+use Rattle.odb_chain.specs.Represented.Chain.{Chain, IsOf, IsReadyFor}
 use Rattle.odb_chain.specs.Represented.Places.{IsPast, StaysOrGoes}
 use Rattle.odb_tables.proofs.KeyedMaps.{len-from_entries}
 use Rattle.odb_chain.proofs.Histories.{beyond, found, past_at, past_moved, reached_before, unreached_after}
@@ -38,6 +38,17 @@ pub now_content : (v p : ℕ) (t : Table) (rows : Rows) → nat_le v p ≡ true 
 now_content v p t rows le h =
     same_map uuid_cmp_total uuid_cmp-IsAntisymmetric (content_at p t rows) t
     (λ u. get-content p t rows u ∙ now_at v p (finite.get t u) (finite.get rows u) le (h u))
+
+-- a change says of the rows before it what they are once it is undone
+pub undone_before : (t : Table) (d : Changes) → IsOf (undone t d) d
+undone_before t d u = ap (λ r. before r (finite.get d u)) there ∙ by (finite.get t u) (finite.get d u) ∙ sym there
+  where
+    there : finite.get (undone t d) u ≡ before (finite.get t u) (finite.get d u)
+    there = get-combine uuid_cmp_total uuid_cmp-IsAntisymmetric before refl t d u
+
+    by : (r : Option Row) (o : Option (Option Row × Option Row)) → before (before r o) o ≡ before r o
+    by r None = refl
+    by r (Some c) = refl
 
 -- rows of which it is kept what they were may change
 found_at : (p : ℕ) (r s : Option Row) (h : Option History) → is_reached p h ≡ true → at_place p r h ≡ at_place p s h

@@ -1,9 +1,10 @@
 -- What is kept of a row says the same as before: that is so of itself, and goes on.
-use Rattle.std.proofs.Common.{◌≡◌, ℕ, ◌+◌, ◌<◌, Bool, true, false, cond, ◌||◌, List, [], ◌∷◌, ◌++◌, get_or, length, map, take, Option, Some, None, is_some, option_map, Result, Ok, Err, is_err, OnErr, OnOk, refl, sym, ap, subst, ◌∙◌, true≢false}
+use Rattle.std.proofs.Common.{◌≡◌, ℕ, zero, suc, ◌+◌, ◌<◌, arith, Bool, true, false, cond, ◌||◌, List, [], ◌∷◌, ◌++◌, get_or, length, map, take, Option, Some, None, is_some, option_map, Result, Ok, Err, is_err, OnErr, OnOk, refl, sym, ap, subst, ◌∙◌, true≢false}
 use mathlib.Core.Logic.{inl, inr}
 use Rattle.std.proofs.lemmas.List.{map-append, take_more}
-use Rattle.std.specs.FinMap.Entries.{is_some-find}
-use Rattle.std.specs.List.{IsDistinct, list_any}
+use Rattle.std.proofs.lemmas.Map.Keys.{IsDistinct-head, IsDistinct-tail}
+use Rattle.std.specs.FinMap.Entries.{find, is_some-find}
+use Rattle.std.specs.List.{AllByRecursion, IsDistinct, list_any}
 use Rattle.std.specs.Map.{keys_of}
 use Rattle.indexmap.specs.IndexMap.{IndexMap, get_by}
 use Rattle.std.specs.Ordering.{eq_by_cmp}
@@ -12,14 +13,18 @@ use Rattle.odb_atoms.specs.Row.{Row}
 use Rattle.odb_atoms.specs.Uuid.{Uuid, uuid_cmp}
 use Rattle.odb_atoms.proofs.Atoms.{uuid_cmp_total, uuid_cmp-IsAntisymmetric}
 use Rattle.odb_atoms.proofs.FinMaps.{get-insert, same_key, same_map}
+use Rattle.odb_tables.specs.Change.{Changes, before}
 use Rattle.odb_tables.specs.Database.{Table}
 use Rattle.odb_tables.specs.Represented.Key.{keys_equivalent}
 use Rattle.odb_tables.specs.Represented.Keyed.{keyed, shown}
+use Rattle.odb_tables.specs.Represented.TableChange.{AreDistinct}
 use Rattle.odb_tables.proofs.KeyedMaps.{get-from_entries, get-keyed, keys-shown}
+use Rattle.odb_tables.proofs.Leading.{Entry}
 use Rattle.odb_chain.proofs.Histories.{label_pushed, or_left, or_right}
 use Rattle.odb_chain.specs.Represented.Places.{has_label}
 use Rattle.std.proofs.Common.{nat_eq}
 use Rattle.odb_chain.specs.Kept.{History, Rows, at, is_reached}
+use Rattle.odb_chain.specs.Represented.Chain.{IsOf}
 use Rattle.odb_chain.specs.Represented.Places.{AsBefore, StaysOrGoes}
 use Rattle.odb_chain.proofs.Histories.{neutral, past_pushed}
 
@@ -39,12 +44,15 @@ module _ (n : ℕ) (ls : List (ℕ × ℕ)) where
   begun r = (λ p kept. neutral p n r [], λ v le h. past_pushed v n r [] le tt, λ q e. label_pushed q n r [] e)
 
   -- a row that the change doesn't concern, and the one that it does
-  pub only_at : (t : Table) (old new : Rows) (k : Uuid) → AsBefore n ls (finite.get t k) (finite.get old k) (finite.get new k)
+  pub only_at : (t : Table) (old new : Rows) (k : Uuid) (r : Option Row) → finite.get t k ≡ r → AsBefore n ls r (finite.get old k) (finite.get new k)
       → ((u : Uuid) → eq_by_cmp uuid_cmp u k ≡ false → finite.get new u ≡ finite.get old u) → (u : Uuid) → AsBefore n ls (finite.get t u) (finite.get old u) (finite.get new u)
-  only_at t old new k here others u = by (eq_by_cmp uuid_cmp u k) refl
+  only_at t old new k r at here others u = by (eq_by_cmp uuid_cmp u k) refl
     where
+      own : AsBefore n ls (finite.get t k) (finite.get old k) (finite.get new k)
+      own = subst (λ (x : Option Row). AsBefore n ls x (finite.get old k) (finite.get new k)) (sym at) here
+
       by : (b : Bool) → eq_by_cmp uuid_cmp u k ≡ b → AsBefore n ls (finite.get t u) (finite.get old u) (finite.get new u)
-      by true is = subst (λ q. AsBefore n ls (finite.get t q) (finite.get old q) (finite.get new q)) (sym (same_key uuid_cmp-IsAntisymmetric u k is)) here
+      by true is = subst (λ q. AsBefore n ls (finite.get t q) (finite.get old q) (finite.get new q)) (sym (same_key uuid_cmp-IsAntisymmetric u k is)) own
       by false is = subst (AsBefore n ls (finite.get t u) (finite.get old u)) (sym (others u is)) (as_it_is (finite.get t u) (finite.get old u))
 
 pub reached_still : (n : ℕ) (old new : Rows) (k : Uuid) → is_reached n (finite.get new k) ≡ true
@@ -84,13 +92,13 @@ put_back m k h had =
     by q false is = refl
 
 -- what the row is now is kept, where nothing was
-module _ {A E : Type 0} (n : ℕ) (ls : List (ℕ × ℕ)) (t : Table) (m now : Rows) (k : Uuid) (old : ℕ × Option Row) (result : Result A E) (is : old ≡ (n, finite.get t k)) (none : finite.get m k ≡ None)
+module _ {A E : Type 0} (n : ℕ) (ls : List (ℕ × ℕ)) (r : Option Row) (m now : Rows) (k : Uuid) (old : ℕ × Option Row) (result : Result A E) (is : old ≡ (n, r)) (none : finite.get m k ≡ None)
     (made : OnOk result (now ≡ finite.insert m k (old ∷ []))) (kept : OnErr result (now ≡ m)) where
-  pub start_here : AsBefore n ls (finite.get t k) (finite.get m k) (finite.get now k)
+  pub start_here : AsBefore n ls (r) (finite.get m k) (finite.get now k)
   start_here =
       either result made kept
-      (λ e. subst (AsBefore n ls (finite.get t k) (finite.get m k)) (sym (ap (λ (x : Rows). finite.get x k) e ∙ inserted_here m k (old ∷ []))) (subst (λ o. AsBefore n ls (finite.get t k) o (Some (old ∷ []))) (sym none) (subst (λ (x : ℕ × Option Row). AsBefore n ls (finite.get t k) None (Some (x ∷ []))) (sym is) (begun n ls (finite.get t k)))))
-      (λ e. subst (AsBefore n ls (finite.get t k) (finite.get m k)) (sym (ap (λ (x : Rows). finite.get x k) e)) (as_it_is n ls (finite.get t k) (finite.get m k)))
+      (λ e. subst (AsBefore n ls (r) (finite.get m k)) (sym (ap (λ (x : Rows). finite.get x k) e ∙ inserted_here m k (old ∷ []))) (subst (λ o. AsBefore n ls (r) o (Some (old ∷ []))) (sym none) (subst (λ (x : ℕ × Option Row). AsBefore n ls (r) None (Some (x ∷ []))) (sym is) (begun n ls (r)))))
+      (λ e. subst (AsBefore n ls (r) (finite.get m k)) (sym (ap (λ (x : Rows). finite.get x k) e)) (as_it_is n ls (r) (finite.get m k)))
 
   pub start_else : (u : Uuid) → eq_by_cmp uuid_cmp u k ≡ false → finite.get now u ≡ finite.get m u
   start_else u apart =
@@ -99,8 +107,8 @@ module _ {A E : Type 0} (n : ℕ) (ls : List (ℕ × ℕ)) (t : Table) (m now : 
       (λ e. ap (λ (x : Rows). finite.get x u) e)
 
 -- and where something was
-module _ (n : ℕ) (ls : List (ℕ × ℕ)) (t : Table) (m now : Rows) (k : Uuid) (old : ℕ × Option Row) (h w : History) (is : old ≡ (n, finite.get t k)) (had : finite.get m k ≡ Some h) (made : now ≡ finite.insert m k w) where
-  pub push_here : AsBefore old.0 ls old.1 (Some h) (Some w) → AsBefore n ls (finite.get t k) (finite.get m k) (finite.get now k)
+module _ (n : ℕ) (ls : List (ℕ × ℕ)) (r : Option Row) (m now : Rows) (k : Uuid) (old : ℕ × Option Row) (h w : History) (is : old ≡ (n, r)) (had : finite.get m k ≡ Some h) (made : now ≡ finite.insert m k w) where
+  pub push_here : AsBefore old.0 ls old.1 (Some h) (Some w) → AsBefore n ls (r) (finite.get m k) (finite.get now k)
   push_here f =
       subst (λ (x : ℕ × Option Row). AsBefore x.0 ls x.1 (finite.get m k) (finite.get now k)) is
       (subst (AsBefore old.0 ls old.1 (finite.get m k)) (sym (ap (λ (x : Rows). finite.get x k) made ∙ inserted_here m k w)) (subst (λ o. AsBefore old.0 ls old.1 o (Some w)) (sym had) f))
@@ -136,6 +144,25 @@ module _ {X : Type 0} (es : List (Uuid × X)) where
   -- the rows of a change are those that it lists
   pub any_of : (m : finite.FinMap uuid_cmp X) (u : Uuid) → finite.from_entries es ≡ m → is_some (finite.get m u) ≡ true → list_any (eq_by_cmp uuid_cmp u) (keys_of es) ≡ true
   any_of m u is there = sym (is_some-find uuid_cmp u es) ∙ ap is_some (sym (get-from_entries es u) ∙ ap (λ n. finite.get n u) is) ∙ there
+
+apart : (q : Uuid) (es : List Entry) (i : ℕ) (e : Entry) → AllByRecursion (λ y. eq_by_cmp uuid_cmp q y ≡ false) (keys_of es) → i < length es → e ≡ get_or es i e → eq_by_cmp uuid_cmp e.0 q ≡ false
+apart q [] i e h low at = absurd (omega (arith, low))
+apart q (x ∷ es) zero e h low at = ap (λ (y : Entry). eq_by_cmp uuid_cmp y.0 q) at ∙ keys_equivalent.symm x.0 q ∙ h.0
+apart q (x ∷ es) (suc i) e h low at = apart q es i e h.1 (omega (arith, low)) at
+
+find-here : (es : List Entry) (i : ℕ) (e : Entry) → IsDistinct (eq_by_cmp uuid_cmp) (keys_of es) → i < length es → e ≡ get_or es i e → find uuid_cmp e.0 es ≡ Some e.1
+find-here [] i e h low at = absurd (omega (arith, low))
+find-here (x ∷ es) zero e h low at = (λ j. cond (eq_by_cmp uuid_cmp e.0 (sym at j).0) (Some (sym at j).1) (find uuid_cmp e.0 es)) ∙ ap (λ b. cond b (Some e.1) (find uuid_cmp e.0 es)) (keys_equivalent.refl e.0)
+find-here (x ∷ es) (suc i) e h low at =
+    ap (λ b. cond b (Some x.1) (find uuid_cmp e.0 es)) (apart x.0 es i e (IsDistinct-head (eq_by_cmp uuid_cmp) x.0 (keys_of es) h) (omega (arith, low)) at)
+    ∙ find-here es i e (IsDistinct-tail (eq_by_cmp uuid_cmp) x.0 (keys_of es) h) (omega (arith, low)) at
+
+get-here : (es : List Entry) (c : Changes) (i : ℕ) (e : Entry) → IsDistinct (eq_by_cmp uuid_cmp) (keys_of es) → finite.from_entries es ≡ c → i < length es → e ≡ get_or es i e → finite.get c e.0 ≡ Some e.1
+get-here es c i e h is low at = ap (λ m. finite.get m e.0) (sym is) ∙ get-from_entries es e.0 ∙ find-here es i e h low at
+
+-- what a change says of a row before it is what the table has
+pub row_before : (es : List Entry) (d : Changes) (t : Table) (i : ℕ) (e : Entry) → AreDistinct es → finite.from_entries es ≡ d → i < length es → e ≡ get_or es i e → IsOf t d → finite.get t e.0 ≡ e.1.0
+row_before es d t i e apart is low at of = sym (of e.0) ∙ ap (before (finite.get t e.0)) (get-here es d i e apart is low at)
 
 pub one_reached : (n : ℕ) (old new : Rows) (k : Uuid) (before : Uuid → Bool) → ((u : Uuid) → before u ≡ true → is_reached n (finite.get old u) ≡ true)
     → is_reached n (finite.get new k) ≡ true → ((u : Uuid) → is_reached n (finite.get old u) ≡ true → is_reached n (finite.get new u) ≡ true)

@@ -4,7 +4,7 @@ ghost use Rattle.std.specs.List.{position};
 ghost use Rattle.odb_atoms.specs.FinMap as finite;
 ghost use Rattle.odb_atoms.specs.Uuid as model_uuid;
 ghost use Rattle.odb_chain.specs.Kept.{content_at};
-ghost use Rattle.odb_chain.specs.Represented.Chain.{AreRising, IsChainOf, IsCopyOf, IsReadyFor, StandsAsBefore, fewer, here, is_roomy, nothing_kept, places};
+ghost use Rattle.odb_chain.specs.Represented.Chain.{AreRising, IsChainOf, IsCopyOf, IsOf, IsReadyFor, StandsAsBefore, fewer, here, is_roomy, nothing_kept, places};
 ghost use Rattle.odb_chain.specs.Represented.Places.{has_label, is_kept, is_place};
 ghost use Rattle.odb_tables.specs.Change.{change};
 ghost use Rattle.odb_tables.specs.Database as model_tables;
@@ -188,9 +188,9 @@ impl Chain {
 
     /// Makes ready for a change of the table: keeps what the rows that it names are now, up to a place with marks, and finds room for
     /// one place more. Where memory is refused, all marks stand for what they did. O(rows changed).
-    pub(crate) fn prepare(&mut self, table: &Table, change: &TableChange) -> Result<(), AllocError>
+    pub(crate) fn prepare(&mut self, change: &TableChange) -> Result<(), AllocError>
         ensures ok { OnOk result (IsReadyFor change.now self.new) }
-        ensures stands { StandsAsBefore table.now self.old self.new }
+        ensures stands { (t : model_tables.Table) → IsOf t change.now → StandsAsBefore t self.old self.new }
         ensures labels { (q : ℕ) (u : model_uuid.Uuid) → has_label q (finite.get self.new.rows u) ≡ true → (has_label q (finite.get self.old.rows u) || is_place q (places self.old)) ≡ true }
     {
         if change.rows().is_empty() {
@@ -201,7 +201,7 @@ impl Chain {
             return Ok(());
         };
         let places = Places::of(self.live.as_slice());
-        self.kept.record_all(newest, &places, table, change)
+        self.kept.record_all(newest, &places, change)
     }
 
     /// Finds room for one place more, and sees that the version has a next one.

@@ -6,6 +6,7 @@ ghost use Rattle.odb_chain.specs.Chains.{IsLive, IsNow, absorbed, chains_of, cou
 ghost use Rattle.odb_chain.specs.Represented.Chain.{IsCopyOf, IsReadyFor, IsStepped, StandsAsBefore, chain_at, change_at, is_moved, is_roomy, moved_at};
 ghost use Rattle.odb_chain.specs.Segments.{contents_held, segments_held};
 ghost use Rattle.odb_tables.specs.Change.{change};
+ghost use Rattle.odb_tables.specs.Database as model_tables;
 ghost use Rattle.odb_tables.specs.Database.{table_at};
 ghost use Rattle.odb_tables.specs.Installing.{IsChangeOf};
 
@@ -105,7 +106,7 @@ impl Chains {
         ensures handed_back { IfErr result (λ refused. refused.value ≡ change) }
         ensures now { IsNow self.new }
     {
-        if prepare(&mut self.chains, self.db.tables(), change.tables()).is_err() {
+        if prepare(&mut self.chains, change.tables()).is_err() {
             return Err(AllocFailed { value: change });
         }
         let Ok(moved) = moved_tables(self.alloc, change.tables()) else {
@@ -227,19 +228,14 @@ fn copies(alloc: Global, chains: &[Chain], hashing: RandomState) -> Result<Vec<C
 
 /// Makes each chain ready for the change of its table. Where memory is refused, all marks stand for what
 /// they did.
-fn prepare(
-    chains: &mut Vec<Chain>,
-    tables: &[Table],
-    changes: &[TableChange],
-) -> Result<(), AllocError>
-    requires as_many { length chains.old.items ≡ length tables.now }
-    requires as_many_changes { length changes.now ≡ length tables.now }
+fn prepare(chains: &mut Vec<Chain>, changes: &[TableChange]) -> Result<(), AllocError>
+    requires as_many { length changes.now ≡ length chains.old.items }
     ensures ok { OnOk result ((t : ℕ) → IsReadyFor (change_at changes.now t) (chain_at chains.new.items t)) }
-    ensures stands { (t : ℕ) → StandsAsBefore (table_at tables.now t) (chain_at chains.old.items t) (chain_at chains.new.items t) }
+    ensures stands { (db : model_tables.Db) → IsChangeOf db changes.now → (t : ℕ) → StandsAsBefore (table_at db t) (chain_at chains.old.items t) (chain_at chains.new.items t) }
     ensures same_length { length chains.new.items ≡ length chains.old.items }
 {
     for place in 0..changes.len() {
-        chains[place].prepare(&tables[place], &changes[place])?;
+        chains[place].prepare(&changes[place])?;
     }
     Ok(())
 }

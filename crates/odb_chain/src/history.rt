@@ -194,7 +194,7 @@ impl Drop for History {
 }
 
 /// Twice the number, or about so.
-pub(crate) fn twice(number: usize) -> usize {
+fn twice(number: usize) -> usize {
     if number < usize::MAX / 4 {
         number * 2 + 2
     } else {

@@ -7,9 +7,11 @@ ghost use Rattle.odb_atoms.specs.FinMap as finite;
 ghost use Rattle.odb_atoms.specs.Uuid as model_uuid;
 ghost use Rattle.odb_atoms.specs.Uuid.{uuid_cmp};
 ghost use Rattle.odb_chain.specs.Kept.{at_place, content_at, is_reached};
+ghost use Rattle.odb_chain.specs.Represented.Chain.{IsOf};
 ghost use Rattle.odb_chain.specs.Represented.Log.{AllFrom, is_noted};
 ghost use Rattle.odb_chain.specs.Represented.Places.{AsBefore, StaysOrGoes};
 ghost use Rattle.odb_tables.specs.Change.{change};
+ghost use Rattle.odb_tables.specs.Database as model_tables;
 ghost use Rattle.odb_tables.specs.Represented.Keyed.{keyed};
 ghost use Rattle.odb_tables.specs.Represented.Overlay.{row_of};
 ghost use Rattle.odb_tables.specs.Represented.RowChange.{change_at};
@@ -61,27 +63,27 @@ impl Kept {
     }
 
     /// Keeps what the row is now, up to the newest place, unless that is kept. Where memory is refused, what is kept says
-    /// the same as before. One look-up where it is kept; else one more in the table, and one where nothing was kept.
+    /// the same as before. One look-up where something of the row is kept, and else two.
     fn record(
         &mut self,
         newest: u64,
         live: &Places<'_>,
         key: Key,
-        table: &Table,
+        now: Option<&Arc<Row>>,
     ) -> Result<(), AllocError>
         ensures ok { OnOk result (is_reached newest (finite.get self.new.rows key) ≡ true) }
-        ensures rows { (u : model_uuid.Uuid) → AsBefore newest live.now (finite.get table.now u) (finite.get self.old.rows u) (finite.get self.new.rows u) }
+        ensures rows { (t : model_tables.Table) → finite.get t key ≡ row_of (option_copied now.entry) → (u : model_uuid.Uuid) → AsBefore newest live.now (finite.get t u) (finite.get self.old.rows u) (finite.get self.new.rows u) }
         ensures reached { (u : model_uuid.Uuid) → is_reached newest (finite.get self.old.rows u) ≡ true → is_reached newest (finite.get self.new.rows u) ≡ true }
     {
         self.log.tidy(&self.rows);
         let Some(history) = self.rows.get_mut(&key) else {
-            let old = noted(&mut self.log, newest, key, table)?;
+            let old = noted(&mut self.log, newest, key, now)?;
             return start(self.alloc, &mut self.rows, key, old);
         };
         if history.reaches(newest) {
             return Ok(());
         }
-        let old = noted(&mut self.log, newest, key, table)?;
+        let old = noted(&mut self.log, newest, key, now)?;
         history.push(old, live)
     }
 
@@ -101,20 +103,19 @@ impl Kept {
         })
     }
 
-    /// Keeps what the rows that the change names are now, up to the newest place. Where memory is refused,
-    /// what is kept says the same as before. O(rows changed).
+    /// Keeps what the rows that the change names were before it, up to the newest place. Where memory is refused,
+    /// what is kept says the same as before of the table that changes. O(rows changed).
     pub(crate) fn record_all(
         &mut self,
         newest: u64,
         live: &Places<'_>,
-        table: &Table,
         change: &TableChange,
     ) -> Result<(), AllocError>
         ensures ok { OnOk result ((u : model_uuid.Uuid) → is_some (finite.get change.now u) ≡ true → is_reached newest (finite.get self.new.rows u) ≡ true) }
-        ensures rows { (u : model_uuid.Uuid) → AsBefore newest live.now (finite.get table.now u) (finite.get self.old.rows u) (finite.get self.new.rows u) }
+        ensures rows { (t : model_tables.Table) → IsOf t change.now → (u : model_uuid.Uuid) → AsBefore newest live.now (finite.get t u) (finite.get self.old.rows u) (finite.get self.new.rows u) }
     {
         for row in change.rows() {
-            self.record(newest, live, Key::of(row.uuid()), table)?;
+            self.record(newest, live, Key::of(row.uuid()), row.share_old())?;
         }
         Ok(())
     }
@@ -191,12 +192,12 @@ impl Kept {
 }
 
 /// Notes that it is kept what the row is now, and returns that.
-fn noted(log: &mut Log, newest: u64, key: Key, table: &Table) -> Result<Old, AllocError>
-    ensures old { IfOk result (λ old. old ≡ (newest, finite.get table.now key)) }
+fn noted(log: &mut Log, newest: u64, key: Key, now: Option<&Arc<Row>>) -> Result<Old, AllocError>
+    ensures old { IfOk result (λ old. old ≡ (newest, row_of (option_copied now.entry))) }
     ensures noted { OnOk result (is_noted newest key log.new ≡ true) }
     ensures still { (p : ℕ) (u : model_uuid.Uuid) → is_noted p u log.old ≡ true → is_noted p u log.new ≡ true }
 {
-    let row = share(table.share(key))?;
+    let row = share(now)?;
     log.note(newest, key)?;
     Ok(Old { place: newest, row })
 }

@@ -6,7 +6,7 @@ ghost use Rattle.odb_atoms.specs.Uuid.{uuid_cmp};
 ghost use Rattle.odb_chain.specs.Represented.Log.{AllFrom, AreNoted, is_named, is_needed, is_noted};
 ghost use Rattle.odb_tables.specs.Represented.Keyed.{keyed};
 
-use crate::history::{History, twice};
+use crate::history::History;
 use indexmap::IndexMap;
 use odb_tables::Key;
 use std::alloc::{AllocError, Global};
@@ -35,7 +35,8 @@ impl Model for Noted {
 
 /// The rows of which something was kept, the earliest first; places never fall. The first ones may be done with. Once
 /// there are as many notes as the limit, and most are done with, these are cut off. Else those that aren't needed go: at
-/// most one for each row is left, or a few of one place. The limit is then twice as many.
+/// most one for each row is left, or a few of one place. The limit is then eight times as many, so that a note costs
+/// little more than one look-up on the average.
 #[derive(Drop)]
 pub(crate) struct Log {
     noted: Vec<Noted>,
@@ -111,7 +112,7 @@ impl Log {
     }
 
     /// Leaves out what is done with or isn't needed, once there is as much as the limit. O(1) for each note on the average,
-    /// with a look-up or two where most aren't done with.
+    /// with a look-up where most aren't done with.
     pub(crate) fn tidy(&mut self, rows: &IndexMap<Key, History, RandomState>)
         ensures { AreNoted (keyed (λ h. h) rows.now) self.old → AreNoted (keyed (λ h. h) rows.now) self.new }
     {
@@ -139,7 +140,7 @@ impl Log {
     {
         self.noted.retain(|note| is_needed(rows, note));
         self.done = 0;
-        self.limit = twice(self.noted.len());
+        self.limit = eightfold(self.noted.len());
     }
 
     /// Takes the first note, if its place is before this one, and returns its row; `None` where no note comes before it.
@@ -167,6 +168,15 @@ impl Log {
     {
         self.noted.clear();
         self.done = 0;
+    }
+}
+
+/// Eight times the number, or about so.
+fn eightfold(number: usize) -> usize {
+    if number < usize::MAX / 16 {
+        number * 8 + 8
+    } else {
+        usize::MAX
     }
 }
 

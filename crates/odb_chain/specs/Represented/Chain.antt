@@ -2,7 +2,7 @@
 use Rattle.std.specs.Prelude.{◌≡◌, ℕ, zero, suc, ◌+◌, ◌-◌, ◌^◌, ◌<◌, Bool, true, false, cond, nat_eq, nat_le, nat_lt, List, [], ◌∷◌, ◌++◌, length, map as map_list, slice_get, unwrap_or, zip, is_some}
 use Rattle.odb_atoms.specs.FinMap as map
 use Rattle.odb_atoms.specs.Uuid.{Uuid}
-use Rattle.odb_tables.specs.Change.{Changes}
+use Rattle.odb_tables.specs.Change.{Changes, before}
 use Rattle.odb_tables.specs.Database.{Db, Table, table_at}
 use Rattle.odb_chain.specs.Chains.{Chains, Live, Standing}
 use Rattle.odb_chain.specs.Kept.{Rows, content_at, is_reached}
@@ -79,6 +79,10 @@ is_roomy (suc n) room = room
 abbrev pub fewer : ℕ → List (ℕ × ℕ) → List (ℕ × ℕ)
 fewer p [] = []
 fewer p (e ∷ es) = cond (nat_eq p e.0) (cond (nat_le e.1 1) es ((e.0, e.1 - 1) ∷ es)) (e ∷ fewer p es)
+
+-- what a change says of the rows before it is what the table has
+abbrev pub IsOf : Table → Changes → Type 0
+IsOf t d = (u : Uuid) → before (map.get t u) (map.get d u) ≡ map.get t u
 
 -- of the rows that a change names it is kept what they were at each place, and there is room for one place more
 abbrev pub IsReadyFor : Changes → Chain → Type 0

@@ -1,6 +1,6 @@
 use Rattle.std.proofs.Common.{rules, ◌≡◌, ℕ, ◌-◌, ◌^◌, ◌<◌, List, [], ◌++◌, nat_le, true, subst, sym, ap, ◌∙◌}
 use Rattle.odb_atoms.specs.FinMap as finite
-use Rattle.odb_tables.specs.Database.{Table}
+use Rattle.odb_tables.specs.Change.{Changes, undone}
 use Rattle.odb_chain.proofs.Histories.{or_left}
 use Rattle.odb_chain.specs.Represented.Places.{has_label}
 use Rattle.odb_chain.proofs.Contents.{label_of}
@@ -15,7 +15,7 @@ use Rattle.odb_chain.proofs.chain.Chain.prepare.Goals as goal
 use Rattle.std.proofs.lemmas.List.{nil_from_length}
 use Rattle.std.proofs.lemmas.Result.{on_ok_weaker}
 use Rattle.odb_atoms.specs.Uuid.{uuid_cmp}
-use Rattle.odb_chain.proofs.Contents.{nothing_named, reached_at, same_content}
+use Rattle.odb_chain.proofs.Contents.{nothing_named, reached_at, same_content, undone_before}
 use Rattle.odb_tables.proofs.Leading.{Entry}
 
 pub returns-then-is_empty-clause-ok : goal.returns-then-is_empty-clause-ok
@@ -38,10 +38,9 @@ returns-clause-ok c =
     )) c.record_all.ensures.ok
 
 pub returns-clause-stands : goal.returns-clause-stands
-returns-clause-stands c =
+returns-clause-stands c = λ t of.
     let old : Chain = c.args.self.now in
     let x : Chain = c.make_room.new.self in
-    let t : Table = c.args.table.now in
     let n = c.in-Some.newest in
     let new : Rows = c.record_all.new.self.rows in
     let version : x.version ≡ old.version = c.make_room.ensures.version in
@@ -57,11 +56,11 @@ returns-clause-stands c =
       λ p there.
           let at_x : is_place p (places x) ≡ true = (λ i. is_place p (live i ++ here (version i) (fresh i))) ∙ there in
           let kept : is_kept n c.of-places.result p ≡ true = ap (λ ls. is_kept n ls p) same_live ∙ (newest p at_x).1 in
-          same_content p t t new c.self.inside.kept.rows (λ u. (c.record_all.ensures.rows u).0 p kept) ∙ ap (content_at p t) rows,
+          same_content p t t new c.self.inside.kept.rows (λ u. (c.record_all.ensures.rows t of u).0 p kept) ∙ ap (content_at p t) rows,
       λ h u.
           let before : IsPast c.self.inside.version (finite.get t u) (finite.get c.self.inside.kept.rows u) =
           subst (λ (r : Rows). IsPast c.self.inside.version (finite.get t u) (finite.get r u)) (sym rows) (subst (λ v. IsPast v (finite.get t u) (finite.get old.rows u)) (sym (ap (λ (y : Chain). y.version) c.self.view_is ∙ version)) (h u)) in
-          (c.record_all.ensures.rows u).1 c.self.inside.version (ap (λ (y : Chain). nat_le n y.version) c.self.view_is ∙ past) before,
+          (c.record_all.ensures.rows t of u).1 c.self.inside.version (ap (λ (y : Chain). nat_le n y.version) c.self.view_is ∙ past) before,
     )
 
 pub returns-then-is_empty-clause-labels : goal.returns-then-is_empty-clause-labels
@@ -75,13 +74,14 @@ returns-in_default-clause-labels c = λ q u e. or_left (has_label q (finite.get 
 
 pub returns-clause-labels : goal.returns-clause-labels
 returns-clause-labels c = λ q u e.
+    let d : Changes = c.args.change.now in
     let old : Chain = c.args.self.now in
     let x : Chain = c.make_room.new.self in
     let n = c.in-Some.newest in
     let rows : c.self.inside.kept.rows ≡ old.rows = ap (λ (y : Chain). y.rows) c.self.view_is ∙ c.make_room.ensures.rows in
     let at_x : is_place n (places x) ≡ true = c.in-Some.ensures.place in
     let there : is_place n (places old) ≡ true = (λ i. is_place n (sym c.make_room.ensures.live i ++ here (sym c.make_room.ensures.version i) (sym c.make_room.ensures.fresh i))) ∙ at_x in
-    label_of q n (has_label q (finite.get old.rows u)) (places old) there (ap (λ (r : Rows). has_label q (finite.get r u) || nat_eq q n) (sym rows) ∙ (c.record_all.ensures.rows u).2 q e)
+    label_of q n (has_label q (finite.get old.rows u)) (places old) there (ap (λ (r : Rows). has_label q (finite.get r u) || nat_eq q n) (sym rows) ∙ (c.record_all.ensures.rows (undone finite.empty d) (undone_before finite.empty d) u).2 q e)
 
 pub of-places-requires : goal.of-places-requires
 of-places-requires c = subst AreApart (sym c.as_slice.ensures.value) (apart c.self.inside.version c.self.inside.live.items c.self.invariant)
