@@ -6,7 +6,7 @@ use Rattle.std.proofs.lemmas.List.{take-append-drop}
 use Rattle.std.proofs.lemmas.List.Folds.{list_any_more}
 use Rattle.std.specs.BTreeSet.{BTreeSet, contains}
 use Rattle.std.specs.FinMap.Entries.{find}
-use Rattle.std.specs.List.{IsDistinct, list_any}
+use Rattle.std.specs.List.{IsDistinct, list_all, list_any}
 use Rattle.std.specs.List.Sorted.{IsNonDecreasingBy, IsPartitionedBy}
 use Rattle.std.specs.Map.{keys_of}
 use Rattle.std.specs.Ordering.{eq_by_cmp}
@@ -67,6 +67,14 @@ up_to_filtered f p (n ∷ ns) h = by (f n) (up_to_filtered f p ns h.1)
     by : (b : Bool) → AllUpTo p (filter f ns) → AllUpTo p (cond b (n ∷ filter f ns) (filter f ns))
     by true rest = (h.0, rest)
     by false rest = rest
+
+pub all_filtered : (f : Noted → Bool) (ns : List Noted) → list_all f (filter f ns) ≡ true
+all_filtered f [] = refl
+all_filtered f (n ∷ ns) = by (f n) refl (all_filtered f ns)
+  where
+    by : (b : Bool) → f n ≡ b → list_all f (filter f ns) ≡ true → list_all f (cond b (n ∷ filter f ns) (filter f ns)) ≡ true
+    by true is rest = λ i. is i && rest i
+    by false is rest = rest
 
 from_at : (p : ℕ) (ns : List Noted) (j : ℕ) (d : Noted) → AllFrom p ns → j < length ns → p ≤ (get_or ns j d).0
 from_at p [] j d h low = absurd (omega (arith, low))

@@ -1,9 +1,9 @@
 -- Places with their marks: one mark less, the first and the last place, and one place more.
-use Rattle.std.proofs.Common.{◌≡◌, ℕ, zero, suc, ◌+◌, ◌-◌, ◌<◌, ◌≤◌, arith, Bool, true, false, cond, not, ◌||◌, nat_eq, nat_le, nat_lt, List, [], ◌∷◌, ◌++◌, length, slice_get, slice_set, option_map, Option, Some, None, refl, sym, ap, ◌∙◌, true≢false}
+use Rattle.std.proofs.Common.{◌≡◌, ℕ, zero, suc, ◌+◌, ◌-◌, ◌<◌, ◌≤◌, arith, Bool, true, false, cond, not, ◌||◌, nat_eq, nat_le, nat_lt, List, [], ◌∷◌, ◌++◌, length, slice_get, slice_set, option_map, Option, Some, None, IfNone, IfSome, refl, sym, ap, ◌∙◌, true≢false}
 use Rattle.std.proofs.lemmas.Bool.Decides.{nat_tests}
 use Rattle.std.proofs.lemmas.Option.{none-some, same_Some}
 use Rattle.std.specs.List.{position, position_or_len, remove}
-use Rattle.odb_chain.specs.Represented.Chain.{AllAfter, AreRising, Chain, fewer, here, places}
+use Rattle.odb_chain.specs.Represented.Chain.{AllAfter, AreRising, Chain, earliest, fewer, here, places}
 use Rattle.odb_chain.specs.Represented.Places.{is_kept, is_place}
 
 abbrev pub Place : Type 0
@@ -81,6 +81,17 @@ newest_last v p (k ∷ j ∷ ls) l h there last = by (nat_eq p k.0) refl there (
     by : (b : Bool) → nat_eq p k.0 ≡ b → (b || is_place p (j ∷ ls)) ≡ true → ((q : ℕ) → is_place q (j ∷ ls) ≡ true → nat_le q l.0 ≡ true) → nat_le p l.0 ≡ true
     by true is e rest = let low : k.0 < j.0 = h.2.0 in let high : nat_le j.0 l.0 ≡ true = rest j.0 first in grind (arith, nat_tests)
     by false is e rest = rest p e
+
+pub earliest_first : (v n : ℕ) (ls : List Place) (l : Place) → slice_get ls 0 ≡ Some l → Some l.0 ≡ earliest (ls ++ here v n)
+earliest_first v n [] l first = absurd (none-some l first)
+earliest_first v n (k ∷ ls) l first = ap (λ (x : Place). Some x.0) (sym (same_Some k l first))
+
+pub earliest_here : (v n : ℕ) (ls : List Place) (o : Option ℕ) → slice_get ls 0 ≡ None → IfNone o (n ≡ 0) → IfSome o (λ p. (p ≡ v) × (0 < n)) → o ≡ earliest (ls ++ here v n)
+earliest_here v n (k ∷ ls) o first none some = absurd (none-some k (sym first))
+earliest_here v zero [] None first none some = refl
+earliest_here v (suc n) [] None first none some = absurd (omega (arith, none))
+earliest_here v zero [] (Some p) first none some = let low : 0 < 0 = some.1 in absurd (omega (arith, low))
+earliest_here v (suc n) [] (Some p) first none some = ap Some some.0
 
 -- ---- one mark less
 

@@ -4,7 +4,7 @@ ghost use Rattle.std.specs.List.{position};
 ghost use Rattle.odb_atoms.specs.FinMap as finite;
 ghost use Rattle.odb_atoms.specs.Uuid as model_uuid;
 ghost use Rattle.odb_chain.specs.Kept.{content_at};
-ghost use Rattle.odb_chain.specs.Represented.Chain.{AreRising, IsChainOf, IsCopyOf, IsOf, IsReadyFor, StandsAsBefore, fewer, here, is_roomy, nothing_kept, places};
+ghost use Rattle.odb_chain.specs.Represented.Chain.{AreRising, HasForgotten, IsChainOf, IsCopyOf, IsForgotten, IsOf, IsReadyFor, StandsAsBefore, earliest, fewer, here, is_roomy, nothing_kept, places};
 ghost use Rattle.odb_chain.specs.Represented.Places.{has_label, is_kept, is_place};
 ghost use Rattle.odb_tables.specs.Change.{change};
 ghost use Rattle.odb_tables.specs.Database as model_tables;
@@ -40,6 +40,7 @@ impl Model for Chain {
       live = c.live.items;
       fresh = c.fresh;
       rows = c.kept.rows;
+      notes = c.kept.notes;
       room = nat_lt (vec_len c.live) (vec_capacity c.live);
     } };
 
@@ -106,7 +107,8 @@ impl Chain {
         self.fresh += 1;
     }
 
-    /// One mark less at the place. What no mark needs any more goes.
+    /// One mark less at the place. Where that was the earliest one and goes, all notes before the next one go, with the rows of
+    /// these that didn't change since it; after the last place all goes.
     pub(crate) fn release(&mut self, place: u64)
         requires { is_place place (places self.old) ≡ true }
         ensures version { self.new.version ≡ self.old.version }
@@ -114,6 +116,7 @@ impl Chain {
         ensures contents { (t : model_tables.Table) (p : ℕ) → is_place p (places self.new) ≡ true → content_at p t self.new.rows ≡ content_at p t self.old.rows }
         ensures past { (t : model_tables.Table) → IsChainOf t self.old → IsChainOf t self.new }
         ensures rising { AreRising self.new.version self.new.live }
+        ensures forgotten { HasForgotten self.old self.new }
     {
         let oldest = self.oldest();
         self.take(place);
@@ -127,6 +130,7 @@ impl Chain {
         ensures version { self.new.version ≡ self.old.version }
         ensures places { places self.new ≡ fewer place (places self.old) }
         ensures rows { self.new.rows ≡ self.old.rows }
+        ensures notes { self.new.notes ≡ self.old.notes }
         ensures rising { AreRising self.new.version self.new.live }
     {
         if place == self.version {
@@ -143,6 +147,7 @@ impl Chain {
         ensures contents { (t : model_tables.Table) (p : ℕ) → is_place p (places self.old) ≡ true → content_at p t self.new.rows ≡ content_at p t self.old.rows }
         ensures past { (t : model_tables.Table) → IsChainOf t self.old → IsChainOf t self.new }
         ensures rising { AreRising self.new.version self.new.live }
+        ensures forgotten { IsForgotten (earliest (places self.new)) self.new.rows self.new.notes }
     {
         match self.oldest() {
             Some(place) => self.kept.forget_before(place),
@@ -154,6 +159,7 @@ impl Chain {
     fn oldest(&self) -> Option<u64>
         ensures none { IfNone result (places self.now ≡ []) }
         ensures some { IfSome result (λ oldest. (p : ℕ) → is_place p (places self.now) ≡ true → nat_le oldest p ≡ true) }
+        ensures earliest { result ≡ earliest (places self.now) }
     {
         match self.live.first() {
             Some(live) => Some(live.place),

@@ -1,5 +1,5 @@
 //! What one row was.
-ghost use Rattle.std.specs.Prelude.{◌≡◌, ℕ, ◌≤◌, true, false, [], ◌∷◌, nat_eq, nat_le, ◌||◌, vec_capacity, vec_len, IfOk, OnOk, Option};
+ghost use Rattle.std.specs.Prelude.{◌≡◌, ◌⊎◌, ℕ, ◌+◌, ◌*◌, ◌<◌, ◌≤◌, length, true, false, [], ◌∷◌, nat_eq, nat_le, ◌||◌, vec_capacity, vec_len, IfOk, OnOk, Option};
 ghost use Rattle.std.specs.Option.{option_copied};
 ghost use Rattle.odb_atoms.specs.Row as model_row;
 ghost use Rattle.odb_chain.specs.Kept.{at, reaches};
@@ -164,6 +164,8 @@ fn tidy(olds: &mut Vec<Old>, limit: &mut usize, live: &Places<'_>)
     ensures labels { (q : ℕ) → is_label q olds.new.items ≡ true → is_label q olds.old.items ≡ true }
     ensures bound { vec_len olds.new ≤ vec_len olds.old }
     ensures capacity { vec_capacity olds.new ≡ vec_capacity olds.old }
+    ensures tidied { (length olds.old.items < limit.old) ⊎ (olds.new.items ≡ cleaned live.now olds.old.items) }
+    ensures limit { (limit.new ≡ limit.old) ⊎ (limit.new ≤ 2 * length olds.new.items + 2) }
 {
     if olds.len() < *limit {
         return;
@@ -193,9 +195,11 @@ impl Drop for History {
     }
 }
 
-/// Twice the number, or about so.
-fn twice(number: usize) -> usize {
-    if number < usize::MAX / 4 {
+/// Twice the number and two more, or the greatest number.
+fn twice(number: usize) -> usize
+    ensures { result ≤ 2 * number + 2 }
+{
+    if number < usize::MAX / 2 {
         number * 2 + 2
     } else {
         usize::MAX

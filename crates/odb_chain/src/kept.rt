@@ -53,7 +53,8 @@ impl Model for Kept {
 impl Kept {
     /// Nothing is kept.
     pub(crate) fn new(alloc: Global, hashing: RandomState) -> Kept
-        ensures { result.rows ≡ finite.empty }
+        ensures rows { result.rows ≡ finite.empty }
+        ensures notes { result.notes ≡ [] }
     {
         Kept {
             alloc,

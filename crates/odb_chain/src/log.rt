@@ -1,6 +1,7 @@
 //! In which order rows were kept, so that those that changed since a place are found without a look at others.
 ghost use Rattle.std.specs.Prelude.{◌≡◌, ◌≤◌, ℕ, true, [], ◌∷◌, drop, length, nat_lt, IfNone, IfOk, IfSome, OnOk};
 ghost use Rattle.std.specs.BTreeSet.{contains};
+ghost use Rattle.std.specs.List.{list_all};
 ghost use Rattle.odb_atoms.specs.Uuid as model_uuid;
 ghost use Rattle.odb_atoms.specs.Uuid.{uuid_cmp};
 ghost use Rattle.odb_chain.specs.Represented.Log.{AllFrom, AreNoted, is_named, is_needed, is_noted};
@@ -136,7 +137,8 @@ impl Log {
 
     /// Leaves out what isn't needed. One look-up for each note.
     fn clean(&mut self, rows: &IndexMap<Key, History, RandomState>)
-        ensures { AreNoted (keyed (λ h. h) rows.now) self.old → AreNoted (keyed (λ h. h) rows.now) self.new }
+        ensures noted { AreNoted (keyed (λ h. h) rows.now) self.old → AreNoted (keyed (λ h. h) rows.now) self.new }
+        ensures needed { list_all (is_needed (keyed (λ h. h) rows.now)) self.new ≡ true }
     {
         self.noted.retain(|note| is_needed(rows, note));
         self.done = 0;

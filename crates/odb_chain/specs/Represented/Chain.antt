@@ -1,19 +1,21 @@
 -- What is kept of one table, as the code has it, and what it stands for.
-use Rattle.std.specs.Prelude.{◌≡◌, ℕ, zero, suc, ◌+◌, ◌-◌, ◌^◌, ◌<◌, Bool, true, false, cond, nat_eq, nat_le, nat_lt, List, [], ◌∷◌, ◌++◌, length, map as map_list, slice_get, unwrap_or, zip, is_some}
+use Rattle.std.specs.Prelude.{◌≡◌, ◌⊎◌, ℕ, zero, suc, ◌+◌, ◌-◌, ◌^◌, ◌<◌, Bool, true, false, cond, nat_eq, nat_le, nat_lt, List, [], ◌∷◌, ◌++◌, length, map as map_list, slice_get, unwrap_or, zip, is_some, Option, Some, None}
 use Rattle.odb_atoms.specs.FinMap as map
 use Rattle.odb_atoms.specs.Uuid.{Uuid}
 use Rattle.odb_tables.specs.Change.{Changes, before}
 use Rattle.odb_tables.specs.Database.{Db, Table, table_at}
 use Rattle.odb_chain.specs.Chains.{Chains, Live, Standing}
 use Rattle.odb_chain.specs.Kept.{Rows, content_at, is_reached}
+use Rattle.odb_chain.specs.Represented.Log.{AllFrom, Noted}
 use Rattle.odb_chain.specs.Represented.Places.{IsPast, is_place}
 
--- how many changes the table had, the places before that with their marks, how many marks are at that, the old rows, and whether there is room for one place more
+-- how many changes the table had, the places before that with their marks, how many marks are at that, the old rows, the notes of them, and whether there is room for one place more
 pub record Chain : Type 0 where
   pub version : ℕ
   pub live : List (ℕ × ℕ)
   pub fresh : ℕ
   pub rows : Rows
+  pub notes : List Noted
   pub room : Bool
 
 abbrev pub here : ℕ → ℕ → List (ℕ × ℕ)
@@ -30,7 +32,7 @@ abbrev pub live_of : Table → Chain → Live
 live_of t c = map.from_entries (map_list (stands t c.rows) (places c))
 
 abbrev pub nothing_kept : Chain
-nothing_kept = record { version = 0; live = []; fresh = 0; rows = map.empty; room = false }
+nothing_kept = record { version = 0; live = []; fresh = 0; rows = map.empty; notes = []; room = false }
 
 abbrev pub chain_at : List Chain → ℕ → Chain
 chain_at cs t = unwrap_or (slice_get cs t) nothing_kept
@@ -79,6 +81,20 @@ is_roomy (suc n) room = room
 abbrev pub fewer : ℕ → List (ℕ × ℕ) → List (ℕ × ℕ)
 fewer p [] = []
 fewer p (e ∷ es) = cond (nat_eq p e.0) (cond (nat_le e.1 1) es ((e.0, e.1 - 1) ∷ es)) (e ∷ fewer p es)
+
+-- the earliest place
+abbrev pub earliest : List (ℕ × ℕ) → Option ℕ
+earliest [] = None
+earliest (e ∷ es) = Some e.0
+
+-- nothing is noted before the earliest place, and where there is none nothing is kept
+abbrev pub IsForgotten : Option ℕ → Rows → List Noted → Type 0
+IsForgotten None rows ns = rows ≡ map.empty
+IsForgotten (Some p) rows ns = AllFrom p ns
+
+-- the earliest place is the same, with all that is kept; or what comes before it is forgotten
+abbrev pub HasForgotten : Chain → Chain → Type 0
+HasForgotten old new = ((earliest (places new) ≡ earliest (places old)) × (new.rows ≡ old.rows) × (new.notes ≡ old.notes)) ⊎ IsForgotten (earliest (places new)) new.rows new.notes
 
 -- what a change says of the rows before it is what the table has
 abbrev pub IsOf : Table → Changes → Type 0

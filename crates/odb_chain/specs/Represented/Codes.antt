@@ -30,8 +30,8 @@ kept_code = code_by (Rows × List Noted) (coded× rows_code (coded_list noted_co
 
 abbrev pub chain_code : Coded Chain
 chain_code =
-    code_by (ℕ × (List (ℕ × ℕ) × (ℕ × (Rows × Bool)))) (coded× coded_ℕ (coded× (coded_list place_code) (coded× coded_ℕ (coded× rows_code coded_bool))))
-    (λ c. (c.version, (c.live, (c.fresh, (c.rows, c.room))))) (λ p. record { version = p.0; live = p.1.0; fresh = p.1.1.0; rows = p.1.1.1.0; room = p.1.1.1.1 }) (λ _. refl)
+    code_by (ℕ × (List (ℕ × ℕ) × (ℕ × (Rows × (List Noted × Bool))))) (coded× coded_ℕ (coded× (coded_list place_code) (coded× coded_ℕ (coded× rows_code (coded× (coded_list noted_code) coded_bool)))))
+    (λ c. (c.version, (c.live, (c.fresh, (c.rows, (c.notes, c.room)))))) (λ p. record { version = p.0; live = p.1.0; fresh = p.1.1.0; rows = p.1.1.1.0; notes = p.1.1.1.1.0; room = p.1.1.1.1.1 }) (λ _. refl)
 
 abbrev pub standing_code : Coded Standing
 standing_code = code_by (Table × ℕ) (coded× table_code coded_ℕ) (λ x. (x.content, x.marks)) (λ p. record { content = p.0; marks = p.1 }) (λ _. refl)
