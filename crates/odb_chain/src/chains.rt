@@ -61,9 +61,10 @@ impl Chains {
         })
     }
 
-    /// The database as it is now. O(1).
+    /// The database as it is now. There are as many lists of live marks as it has tables. O(1).
     pub fn db(&self) -> &Db
-        ensures { result.now ≡ self.now.db }
+        ensures db { result.now ≡ self.now.db }
+        ensures lists { length self.now.live ≡ length self.now.db }
     {
         &self.db
     }
