@@ -195,7 +195,7 @@ impl Drop for History {
     }
 }
 
-/// Twice the number and two more, or the greatest number.
+/// Returns twice the number and two more, or the greatest number.
 fn twice(number: usize) -> usize
     ensures { result ≤ 2 * number + 2 }
 {

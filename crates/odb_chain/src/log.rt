@@ -1,5 +1,5 @@
 //! In which order rows were kept, so that those that changed since a place are found without a look at others.
-ghost use Rattle.std.specs.Prelude.{◌≡◌, ◌≤◌, ℕ, true, [], ◌∷◌, drop, length, nat_lt, IfNone, IfOk, IfSome, OnOk};
+ghost use Rattle.std.specs.Prelude.{◌≡◌, ◌+◌, ◌*◌, ◌≤◌, ℕ, true, [], ◌∷◌, drop, length, nat_lt, IfNone, IfOk, IfSome, OnOk};
 ghost use Rattle.std.specs.BTreeSet.{contains};
 ghost use Rattle.std.specs.List.{list_all};
 ghost use Rattle.odb_atoms.specs.Uuid as model_uuid;
@@ -173,9 +173,11 @@ impl Log {
     }
 }
 
-/// Eight times the number, or about so.
-fn eightfold(number: usize) -> usize {
-    if number < usize::MAX / 16 {
+/// Returns eight times the number and eight more, or the greatest number.
+fn eightfold(number: usize) -> usize
+    ensures { result ≤ 8 * number + 8 }
+{
+    if number < usize::MAX / 8 {
         number * 8 + 8
     } else {
         usize::MAX
