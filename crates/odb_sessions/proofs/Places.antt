@@ -1,8 +1,7 @@
 -- Jobs by their places, in lists that grow.
-use Rattle.std.proofs.Common.{◌≡◌, ◌<◌, ℕ, zero, suc, arith, ◌++◌, true, false, List, [], ◌∷◌, is_some, length, map, slice_get, slice_index_or, Option, Some, None, refl, sym, ap, append_assoc, ◌∙◌, true≢false}
+use Rattle.std.proofs.Common.{◌≡◌, ◌<◌, ℕ, zero, suc, arith, ◌++◌, true, false, List, [], ◌∷◌, is_some, length, map, slice_get, slice_index_or, Option, Some, None, refl, sym, ap, ◌∙◌, true≢false}
 use Rattle.std.specs.List.{All}
-use Rattle.std.specs.Prelude.{Vec, option_and_then, option_map}
-use Rattle.std.specs.declared.sync.Arc.{Arc}
+use Rattle.std.specs.Prelude.{option_and_then, option_map}
 use Rattle.std.proofs.lemmas.List.{length-map}
 use Rattle.std.proofs.lemmas.Option.{none-some, same_Some}
 use Rattle.serde_json.specs.Written.{compact_text}
@@ -11,12 +10,14 @@ use Rattle.odb_chain.specs.Chains.{Chains}
 use Rattle.odb_monitor.specs.Job.{Job, updates_of}
 use Rattle.odb_request.specs.Request.{Notation, Request}
 use Rattle.odb_schema.specs.Json.{Data}
+use Rattle.odb_service.specs.Session.{Item}
 use Rattle.odb_tables.specs.Database.{Db}
 use Rattle.odb_sessions.specs.Alike.{AreAlike}
 use Rattle.odb_sessions.specs.Composed.{first_job, first_updates, notified_text, updates_for}
 use Rattle.odb_sessions.specs.Held.{Held, marks_in}
 use Rattle.odb_sessions.specs.Jobs.{Decision, IsDecided, IsFor, Keeps, certainly, composition, composition_at}
-use Rattle.odb_sessions.specs.Taken.{body_text}
+use Rattle.odb_sessions.specs.Represented.Taking.{text_around}
+use Rattle.odb_sessions.specs.Taken.{text_from, whole_text}
 use Rattle.odb_sessions.specs.Tied.{AreLive}
 use Rattle.odb_sessions.proofs.Composed.{first_composed}
 use Rattle.odb_sessions.proofs.SameUpdates.{same_updates}
@@ -97,15 +98,15 @@ serves_for k js d y alike decided live all kept = decided.1 all kept ∙ ap (opt
 -- ---- messages
 
 -- nothing is told
-pub none_told : (number : Uuid) (x : Held) (o : Option Data) → None ≡ option_map certainly (option_map compact_text o) → None ≡ option_map (notified_text number x) o
+pub none_told : (number : Uuid) (x : Held) (o : Option Data) → None ≡ option_map certainly (option_map compact_text o) → None ≡ option_map certainly (option_map (notified_text number x) o)
 none_told number x None e = refl
 none_told number x (Some d) e = absurd (none-some (certainly (compact_text d)) e)
 
 -- this is told, with this text around it
-pub some_told : (number : Uuid) (x : Held) (body : Option (List ℕ)) (text : List ℕ) (o : Option Data) → Some body ≡ option_map certainly (option_map compact_text o)
-    → ((d : Data) → body ≡ Some (compact_text d) → text ≡ notified_text number x d) → Some text ≡ option_map (notified_text number x) o
+pub some_told : (number : Uuid) (x : Held) (body text : Option (List ℕ)) (o : Option Data) → Some body ≡ option_map certainly (option_map compact_text o)
+    → ((d : Data) → body ≡ Some (compact_text d) → text ≡ Some (notified_text number x d)) → Some text ≡ option_map certainly (option_map (notified_text number x) o)
 some_told number x body text None e around = absurd (none-some body (sym e))
-some_told number x body text (Some d) e around = ap Some (around d (same_Some body (certainly (compact_text d)) e))
+some_told number x body text (Some d) e around = ap (λ (t : Option (List ℕ)). Some t) (around d (same_Some body (certainly (compact_text d)) e))
 
 -- what is composed of the job of a first reply
 pub first_composition : (db : Db) (n : Notation) (qs : List Request) → composition (first_job db n qs) ≡ Some (compact_text (first_updates db n qs))
@@ -126,8 +127,23 @@ mapped_at f (x ∷ xs) (suc n) = mapped_at f xs n
 pub body_composed : {A : Type 0} (f : A → Option (List ℕ)) (xs : List A) (js : List Job) (n : ℕ) → map f xs ≡ map composition js → option_and_then f (slice_get xs n) ≡ composition_at js n
 body_composed f xs js n same = mapped_at f xs n ∙ ap (λ (os : List (Option (List ℕ))). joined (slice_get os n)) same ∙ sym (mapped_at composition js n)
 
--- the three parts of an out
-pub out_text : {Y Z : Type 0} (before after : List ℕ) (body : Option (Arc (Vec ℕ Y) Z))
-    → before ++ elim body [ None ↦ [] | Some shared ↦ shared.value.items ] ++ after ≡ before ++ (body_text (option_map (λ (a : Arc (Vec ℕ Y) Z). a.value.items) body) ++ after)
-out_text before after None = append_assoc before [] after
-out_text before after (Some a) = append_assoc before a.value.items after
+-- what comes by a message is its text
+pub around_text : (before after : List ℕ) (body : Option (List ℕ)) (last : Option Item) → text_from (text_around before body after) last ≡ option_map (λ t. whole_text before t after) body
+around_text before after None last = refl
+around_text before after (Some t) last = refl
+
+-- a message that is told has a text
+pub told_text : {A : Type 0} (f : A → Option (List ℕ)) (m : Option A) (text : Option (List ℕ)) → option_map f m ≡ option_map certainly text → option_and_then f m ≡ text
+told_text f None None e = refl
+told_text f None (Some t) e = absurd (none-some (certainly t) e)
+told_text f (Some m) None e = absurd (none-some (f m) (sym e))
+told_text f (Some m) (Some t) e = same_Some (f m) (certainly t) e
+
+pub is_told : {A : Type 0} (f : A → Option (List ℕ)) (m : Option A) (text : Option (List ℕ)) → option_map f m ≡ option_map certainly text → is_some (option_and_then f m) ≡ is_some m
+is_told f None text e = refl
+is_told f (Some m) None e = absurd (none-some (f m) (sym e))
+is_told f (Some m) (Some t) e = ap is_some (same_Some (f m) (certainly t) e)
+
+-- it is told, too, by what its text is
+pub still_told : {A : Type 0} (f : A → Option (List ℕ)) (m : Option A) (text other : Option (List ℕ)) → option_map f m ≡ option_map certainly text → option_and_then f m ≡ other → option_map f m ≡ option_map certainly other
+still_told f m text other e same = e ∙ ap (option_map certainly) (sym (told_text f m text e) ∙ same)

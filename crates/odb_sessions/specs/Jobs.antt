@@ -47,11 +47,11 @@ pub record Round : Type 0 where
   pub jobs : List Job
   pub takings : List Pending
 
--- the composition in what comes is that of one of these jobs
+-- the composition in what comes is that of one of these jobs, of which something is composed
 abbrev pub IsOfJob : List Job → Text → Type 0
 IsOfJob js no_text = Unit {0}
 IsOfJob js last_text = Unit {0}
-IsOfJob js (composed_text before body after) = (n : ℕ) × (body ≡ composition_at js n)
+IsOfJob js (composed_text before body after) = (n : ℕ) × (j : Job) × (slice_get js n ≡ Some j) × (composition j ≡ Some body)
 
 abbrev pub AreOfJobs : List Job → List Pending → Type 0
 AreOfJobs js [] = Unit {0}

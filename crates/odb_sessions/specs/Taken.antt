@@ -13,15 +13,10 @@ use Rattle.odb_sessions.specs.Foreseen.{finished_text, last_used}
 -- what comes: nothing, the text of the last item that is used up, or a composition with the text before it and the text after it
 pub data Text : Type 0 where
   no_text last_text : Text
-  composed_text : List ℕ → Option (List ℕ) → List ℕ → Text
+  composed_text : List ℕ → List ℕ → List ℕ → Text
 
--- a composition, if there is one
-abbrev pub body_text : Option (List ℕ) → List ℕ
-body_text None = []
-body_text (Some t) = t
-
-abbrev pub whole_text : List ℕ → Option (List ℕ) → List ℕ → List ℕ
-whole_text before body after = before ++ (body_text body ++ after)
+abbrev pub whole_text : List ℕ → List ℕ → List ℕ → List ℕ
+whole_text before body after = before ++ (body ++ after)
 
 abbrev pub text_from : Text → Option Item → Option (List ℕ)
 text_from no_text last = None

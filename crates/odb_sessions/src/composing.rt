@@ -55,7 +55,7 @@ impl Monitor {
         job: usize,
     ) -> Result<Message, AllocError>
         ensures { IfOk result (λ message. (all : List model_job.Job) (d : Data) → composition_at all job ≡ Some (compact_text d)
-            → text_under all message ≡ notified_text (uuid_of number) self.now d) }
+            → text_under all message ≡ Some (notified_text (uuid_of number) self.now d)) }
     {
         let before = self.before_updates(alloc, number)?;
         let after = Vec::from_slice(alloc, after_updates())?;

@@ -13,7 +13,7 @@ ghost use Rattle.odb_sessions.specs.Planned.{due, plan_rest};
 ghost use Rattle.odb_sessions.specs.Jobs.{Keeps};
 ghost use Rattle.odb_sessions.specs.Represented.Composed.{Tells};
 ghost use Rattle.odb_sessions.specs.Represented.Under.{filters_in, item_in};
-ghost use Rattle.odb_sessions.specs.Tied.{AreLive, HasLists};
+ghost use Rattle.odb_sessions.specs.Tied.{AreLive};
 ghost use Rattle.odb_sessions.specs.Book.{revision_at};
 
 use crate::composing::Message;
@@ -191,7 +191,7 @@ impl<'a> Model for Planner<'a> {
     ghost use Rattle.odb_sessions.specs.Foreseen as model;
     ghost use Rattle.odb_sessions.specs.Foreseen.{marks_ahead, seen_ahead};
     ghost use Rattle.odb_sessions.specs.Represented.Codes.{foreseen_code};
-    ghost use Rattle.odb_sessions.specs.Tied.{AreLive, HasLists};
+    ghost use Rattle.odb_sessions.specs.Tied.{AreLive};
 
     ghost Value = { model.Foreseen };
 
@@ -199,14 +199,13 @@ impl<'a> Model for Planner<'a> {
 
     ghost view = { λ p. record { chains = p.wanted.chains; jobs = p.wanted.jobs; monitors = map (seen_ahead p.wanted.chains.db) p.monitors.items } };
 
-    ghost invariant = { λ p. AreLive p.wanted.chains (marks_ahead p.monitors.items) × HasLists p.wanted.chains };
+    ghost invariant = { λ p. AreLive p.wanted.chains (marks_ahead p.monitors.items) };
 }
 
 impl<'a> Planner<'a> {
     /// No jobs, and no monitors. O(1).
     pub(crate) fn new(alloc: Global, chains: &'a Chains, firsts: &'a FirstTexts) -> Planner<'a>
-        requires firsts { AreFirstTexts chains.now.db firsts.now }
-        requires lists { HasLists chains.now }
+        requires { AreFirstTexts chains.now.db firsts.now }
         ensures { result ≡ record { chains = chains.now; jobs = []; monitors = [] } }
     {
         Planner {

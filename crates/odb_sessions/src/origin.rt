@@ -53,7 +53,7 @@ impl Origin {
     /// The reply, with the result that is composed of the job. O(n) for an id of n bytes.
     pub(crate) fn reply(&self, alloc: Global, job: usize) -> Result<Message, AllocError>
         ensures { IfOk result (λ message. (all : List model_job.Job) (d : Data) → composition_at all job ≡ Some (compact_text d)
-            → text_under all message ≡ compact_text (reply (id_of self.now) d)) }
+            → text_under all message ≡ Some (compact_text (reply (id_of self.now) d))) }
     {
         let before = self.before.clone()?;
         let after = Vec::from_slice(alloc, after_result())?;
@@ -70,7 +70,7 @@ impl Origin {
         job: usize,
     ) -> Result<Message, AllocError>
         ensures { IfOk result (λ message. (all : List model_job.Job) (d : Data) → composition_at all job ≡ Some (compact_text d)
-            → text_under all message ≡ compact_text (reply (id_of self.now) (since_result found (uuid_of number) d))) }
+            → text_under all message ≡ Some (compact_text (reply (id_of self.now) (since_result found (uuid_of number) d)))) }
     {
         let before = before_since(self.before.clone()?, found, number)?;
         let after = Vec::from_slice(alloc, after_updates())?;

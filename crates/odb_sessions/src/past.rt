@@ -9,7 +9,7 @@ ghost use Rattle.odb_sessions.specs.Held.{marks_in, monitor_of, table_marks, wat
 ghost use Rattle.odb_sessions.specs.Moved.{Moves, all_now};
 ghost use Rattle.odb_sessions.specs.Represented.Queued.{filters_of};
 ghost use Rattle.odb_sessions.specs.Started.{AreOfTables};
-ghost use Rattle.odb_sessions.specs.Tied.{Adds, HasAll, HasLists};
+ghost use Rattle.odb_sessions.specs.Tied.{Adds, HasAll};
 ghost use Rattle.odb_tables.specs.Installing.{IsChangeOf};
 
 use crate::first_texts::{FirstText, FirstTexts};
@@ -69,8 +69,7 @@ impl Past {
 
     /// The database with its past. O(1).
     pub(crate) fn chains(&self) -> &Chains
-        ensures now { result.now ≡ self.now }
-        ensures lists { HasLists self.now }
+        ensures { result.now ≡ self.now }
     {
         &self.chains
     }

@@ -125,7 +125,7 @@ impl Monitor {
     ) -> Result<Option<Message>, AllocError>
         ensures { IfOk result (λ message. (all : List model_job.Job) (o : Option Data)
             → option_map (composition_at all) place ≡ option_map certainly (option_map compact_text o)
-            → option_map (text_under all) message ≡ option_map (notified_text (uuid_of number) self.now) o) }
+            → option_map (text_under all) message ≡ option_map certainly (option_map (notified_text (uuid_of number) self.now) o)) }
     {
         let Some(job) = place else {
             return Ok(None);

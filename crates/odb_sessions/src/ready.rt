@@ -2,11 +2,11 @@
 ghost use Rattle.std.specs.Prelude.{◌≡◌, IfOk, List, map, option_and_then, slice_get};
 ghost use Rattle.odb_monitor.specs.Job as model_job;
 ghost use Rattle.odb_sessions.specs.Jobs.{composition, composition_at};
-ghost use Rattle.odb_sessions.specs.Represented.Composed.{bytes_in};
+ghost use Rattle.odb_sessions.specs.Represented.Composed.{bytes_in, bytes_of};
 ghost use Rattle.odb_sessions.specs.Represented.Out.{text_of_out};
 ghost use Rattle.odb_sessions.specs.Represented.Ready.{text_coming};
-ghost use Rattle.odb_sessions.specs.Represented.Taking.{text_planned};
-ghost use Rattle.odb_sessions.specs.Taken.{composed_text, whole_text};
+ghost use Rattle.odb_sessions.specs.Represented.Taking.{text_around, text_planned};
+ghost use Rattle.odb_sessions.specs.Taken.{whole_text};
 
 use crate::composing::Message;
 use crate::out::Out;
@@ -30,15 +30,15 @@ pub(crate) enum Coming {
 /// A composed text, whose three parts stand in order. Other texts may have its body too.
 pub(crate) struct Text {
     pub(crate) before: Vec<u8>,
-    pub(crate) body: Option<Arc<Vec<u8>>>,
+    pub(crate) body: Arc<Vec<u8>>,
     pub(crate) after: Vec<u8>,
 }
 
 impl Text {
-    /// It, for a session.
+    /// Makes a message of it, for a session.
     pub(crate) fn out(self, session: SessionId) -> Out
         ensures session { result.session ≡ session }
-        ensures text { text_of_out result ≡ whole_text self.before.items (bytes_in self.body) self.after.items }
+        ensures text { text_of_out result ≡ whole_text self.before.items (bytes_of self.body) self.after.items }
     {
         let Text {
             before,
@@ -48,7 +48,7 @@ impl Text {
         Out {
             session,
             before,
-            body,
+            body: Some(body),
             after,
         }
     }
@@ -65,19 +65,21 @@ pub(crate) struct Ready {
 }
 
 impl Message {
-    /// Its text, with one of these bodies: that of its job. O(1).
-    fn with_body(self, bodies: &[Option<Arc<Vec<u8>>>]) -> Result<Text, AllocError>
-        ensures { IfOk result (λ text. (js : List model_job.Job) → map bytes_in bodies.now ≡ map composition js
-            → composed_text text.before.items (bytes_in text.body) text.after.items
-            ≡ composed_text self.before.items (composition_at js self.job) self.after.items) }
+    /// Returns what comes by it, with one of these bodies, that of its job: nothing, where nothing is composed of that. O(1).
+    fn with_body(self, bodies: &[Option<Arc<Vec<u8>>>]) -> Result<Coming, AllocError>
+        ensures { IfOk result (λ coming. (js : List model_job.Job) → map bytes_in bodies.now ≡ map composition js
+            → text_coming coming ≡ text_around self.before.items (composition_at js self.job) self.after.items) }
     {
         let Message { before, job, after } = self;
-        let body = body_at(bodies, job)?;
-        Ok(Text {
-            before,
-            body,
-            after,
-        })
+        let found = body_at(bodies, job)?;
+        match found {
+            Some(body) => Ok(Coming::Composed(Text {
+                before,
+                body,
+                after,
+            })),
+            None => Ok(Coming::Nothing),
+        }
     }
 }
 
@@ -115,17 +117,8 @@ pub(crate) fn with_bodies(
     match coming {
         None => Ok(Coming::Nothing),
         Some(taking::Coming::Queued) => Ok(Coming::Queued),
-        Some(taking::Coming::Composed(message)) => composed(message, bodies),
+        Some(taking::Coming::Composed(message)) => message.with_body(bodies),
     }
-}
-
-/// The message comes, with these bodies.
-fn composed(message: Message, bodies: &[Option<Arc<Vec<u8>>>]) -> Result<Coming, AllocError>
-    ensures { IfOk result (λ ready. (js : List model_job.Job) → map bytes_in bodies.now ≡ map composition js
-        → text_coming ready ≡ composed_text message.before.items (composition_at js message.job) message.after.items) }
-{
-    let text = message.with_body(bodies)?;
-    Ok(Coming::Composed(text))
 }
 
 /// The message for a session that a finished text is.

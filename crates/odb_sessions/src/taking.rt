@@ -1,5 +1,5 @@
 //! Takings as they are planned: what they use up, and the text that comes. Nothing changes by them. [P 9.8, 10.1]
-ghost use Rattle.std.specs.Prelude.{◌≡◌, ◌≤◌, true, false, IfOk, IfSome, List, OnOk, Option, Some, flat_map, is_some, length, map, option_map, take};
+ghost use Rattle.std.specs.Prelude.{◌≡◌, ◌≤◌, true, false, IfOk, IfSome, List, OnOk, Option, Some, flat_map, is_some, length, map, option_and_then, option_map, take};
 ghost use Rattle.odb_atoms.specs.Represented.Atom.{uuid_of};
 ghost use Rattle.serde_json.specs.Written.{compact_text};
 ghost use Rattle.odb_monitor.specs.Job as model_job;
@@ -20,7 +20,7 @@ ghost use Rattle.odb_sessions.specs.Represented.Composed.{text_under};
 ghost use Rattle.odb_sessions.specs.Represented.Queued.{queued_of};
 ghost use Rattle.odb_sessions.specs.Represented.Taking.{Comes, Gives, coming_text, taking_text};
 ghost use Rattle.odb_sessions.specs.Represented.Under.{item_in};
-ghost use Rattle.odb_sessions.specs.Tied.{AreLive, HasLists};
+ghost use Rattle.odb_sessions.specs.Tied.{AreLive};
 ghost use Rattle.odb_tables.specs.Database as model_db;
 ghost use Rattle.odb_sessions.specs.Book.{revision_at};
 ghost use Rattle.odb_wire.specs.Message.{id_of};
@@ -59,7 +59,7 @@ pub(crate) struct Taking {
 /// A message comes, if there is one.
 fn composed(message: Option<Message>) -> Option<Coming>
     ensures comes { is_some result ≡ is_some message }
-    ensures text { (all : List model_job.Job) (last : Option machine.Item) → coming_text all result last ≡ option_map (text_under all) message }
+    ensures text { (all : List model_job.Job) (last : Option machine.Item) → coming_text all result last ≡ option_and_then (text_under all) message }
 {
     match message {
         Some(message) => Some(Coming::Composed(message)),
@@ -74,13 +74,13 @@ impl Start {
         wanted: &mut Wanted<'a>,
         recent: &'a Recent,
     ) -> Result<Message, AllocError>
-        requires live { AreLive wanted.old.chains (marks_in self.now.monitor) }
-        requires lists { HasLists wanted.old.chains }
+        requires { AreLive wanted.old.chains (marks_in self.now.monitor) }
         ensures text { IfOk result (λ message. (h : Service) (all : List model_job.Job) → Keeps wanted.new.jobs all
-            → text_under all message ≡ compact_text (first_out h (revision_at wanted.old.chains recent.now) self.now.origin (watch_of self.now.monitor)).message) }
+            → text_under all message ≡ Some (compact_text (first_out h (revision_at wanted.old.chains recent.now) self.now.origin (watch_of self.now.monitor)).message)) }
         ensures jobs { Keeps wanted.old.jobs wanted.new.jobs }
         ensures chains { wanted.new.chains ≡ wanted.old.chains }
     {
+        let _now = wanted.chains().db();
         match self.monitor.since {
             None => self.whole_reply(wanted),
             Some(since) => self.reply_since(wanted, recent, since),
@@ -91,7 +91,7 @@ impl Start {
     fn whole_reply<'a>(&'a self, wanted: &mut Wanted<'a>) -> Result<Message, AllocError>
         requires { AreLive wanted.old.chains (marks_in self.now.monitor) }
         ensures text { IfOk result (λ message. (all : List model_job.Job) → Keeps wanted.new.jobs all
-            → text_under all message ≡ compact_text (reply (id_of self.now.origin) (first_updates wanted.old.chains.db self.now.monitor.notation (asked_of self.now.monitor.tables)))) }
+            → text_under all message ≡ Some (compact_text (reply (id_of self.now.origin) (first_updates wanted.old.chains.db self.now.monitor.notation (asked_of self.now.monitor.tables))))) }
         ensures jobs { Keeps wanted.old.jobs wanted.new.jobs }
         ensures chains { wanted.new.chains ≡ wanted.old.chains }
     {
@@ -108,7 +108,7 @@ impl Start {
     ) -> Result<Message, AllocError>
         requires { AreLive wanted.old.chains (marks_in self.now.monitor) }
         ensures text { IfOk result (λ message. (all : List model_job.Job) → Keeps wanted.new.jobs all
-            → text_under all message ≡ text_since recent.now wanted.old.chains self.now.origin self.now.monitor (uuid_of since)) }
+            → text_under all message ≡ Some (text_since recent.now wanted.old.chains self.now.origin self.now.monitor (uuid_of since))) }
         ensures kept { IfSome (commits_ago recent.now.most recent.now.run recent.now.commits (uuid_of since)) (λ ago. ago ≤ length recent.now.undos) }
         ensures jobs { Keeps wanted.old.jobs wanted.new.jobs }
         ensures chains { wanted.new.chains ≡ wanted.old.chains }
@@ -123,7 +123,7 @@ impl Start {
     fn not_found<'a>(&'a self, wanted: &mut Wanted<'a>, number: Uuid) -> Result<Message, AllocError>
         requires { AreLive wanted.old.chains (marks_in self.now.monitor) }
         ensures text { IfOk result (λ message. (all : List model_job.Job) → Keeps wanted.new.jobs all
-            → text_under all message ≡ compact_text (reply (id_of self.now.origin) (since_result false (uuid_of number) (first_updates wanted.old.chains.db self.now.monitor.notation (asked_of self.now.monitor.tables))))) }
+            → text_under all message ≡ Some (compact_text (reply (id_of self.now.origin) (since_result false (uuid_of number) (first_updates wanted.old.chains.db self.now.monitor.notation (asked_of self.now.monitor.tables)))))) }
         ensures jobs { Keeps wanted.old.jobs wanted.new.jobs }
         ensures chains { wanted.new.chains ≡ wanted.old.chains }
     {
@@ -141,7 +141,7 @@ impl Start {
     ) -> Result<Message, AllocError>
         requires { AreLive wanted.old.chains (marks_in self.now.monitor) }
         ensures text { IfOk result (λ message. (all : List model_job.Job) → Keeps wanted.new.jobs all
-            → text_under all message ≡ compact_text (reply (id_of self.now.origin) (since_result true (number_of recent.now.run recent.now.commits) (resumed_updates (take ago recent.now.undos) wanted.old.chains.db self.now.monitor.notation (asked_of self.now.monitor.tables))))) }
+            → text_under all message ≡ Some (compact_text (reply (id_of self.now.origin) (since_result true (number_of recent.now.run recent.now.commits) (resumed_updates (take ago recent.now.undos) wanted.old.chains.db self.now.monitor.notation (asked_of self.now.monitor.tables)))))) }
         ensures jobs { Keeps wanted.old.jobs wanted.new.jobs }
         ensures chains { wanted.new.chains ≡ wanted.old.chains }
     {

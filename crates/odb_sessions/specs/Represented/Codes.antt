@@ -94,7 +94,7 @@ wanted_code = code_by (Chains × List Job) (coded× chains_code (coded_list job_
 -- ---- takings
 
 abbrev Parts : Type 0
-Parts = List ℕ × (Option (List ℕ) × List ℕ)
+Parts = List ℕ × (List ℕ × List ℕ)
 
 abbrev text_parts : Text → Option (Option Parts)
 text_parts no_text = None
@@ -113,7 +113,7 @@ text_of_parts-text_parts (composed_text before body after) = refl
 
 abbrev pub text_code : Coded Text
 text_code =
-    code_by (Option (Option Parts)) (coded_option (coded_option (coded× (coded_list coded_ℕ) (coded× (coded_option (coded_list coded_ℕ)) (coded_list coded_ℕ)))))
+    code_by (Option (Option Parts)) (coded_option (coded_option (coded× (coded_list coded_ℕ) (coded× (coded_list coded_ℕ) (coded_list coded_ℕ)))))
     text_parts text_of_parts text_of_parts-text_parts
 
 abbrev pub ready_code : Coded Ready

@@ -1,5 +1,5 @@
 -- What takings stand for that are ready to be carried out.
-use Rattle.odb_sessions.specs.Represented.Composed.{bytes_in}
+use Rattle.odb_sessions.specs.Represented.Composed.{bytes_of}
 use Rattle.odb_sessions.specs.Taken as model
 use Rattle.odb_sessions.specs.Taken.{Pending, composed_text, last_text, no_text}
 use Rattle.odb_sessions.specs.declared.ready.Ready.{Ready}
@@ -9,7 +9,7 @@ use Rattle.odb_sessions.specs.declared.ready.Coming.TheVariants.{Composed, Nothi
 abbrev pub text_coming : Coming → model.Text
 text_coming Nothing = no_text
 text_coming Queued = last_text
-text_coming (Composed m) = composed_text m.before.items (bytes_in m.body) m.after.items
+text_coming (Composed m) = composed_text m.before.items (bytes_of m.body) m.after.items
 
 abbrev pub ready_of : Ready → model.Ready
 ready_of r = record { items = r.items; monitors = r.monitors; text = text_coming r.coming }

@@ -11,10 +11,15 @@ use Rattle.odb_sessions.specs.declared.taking.Coming.{Coming}
 use Rattle.odb_sessions.specs.declared.taking.Coming.TheVariants.{Composed, Queued}
 use Rattle.odb_sessions.specs.declared.taking.Taking.{Taking}
 
+-- what comes by a message with this before and this after a composition: nothing, where nothing is composed
+abbrev pub text_around : List ℕ → Option (List ℕ) → List ℕ → model.Text
+text_around before None after = no_text
+text_around before (Some body) after = composed_text before body after
+
 abbrev pub text_planned : List Job → Option Coming → model.Text
 text_planned js None = no_text
 text_planned js (Some Queued) = last_text
-text_planned js (Some (Composed m)) = composed_text m.before.items (composition_at js m.job) m.after.items
+text_planned js (Some (Composed m)) = text_around m.before.items (composition_at js m.job) m.after.items
 
 -- what comes, where this is the last item that is used up
 abbrev pub coming_text : List Job → Option Coming → Option Item → Option (List ℕ)

@@ -6,12 +6,13 @@ use Rattle.odb_service.specs.Session.{Monitor, Revision, leaves}
 use Rattle.odb_sessions.specs.Foreseen.{due_text}
 use Rattle.odb_sessions.specs.Held.{marks_due}
 use Rattle.odb_sessions.specs.Planned.{Plan, due, plan_rest}
+use Rattle.odb_sessions.specs.Represented.Composed.{text_under}
 use Rattle.odb_sessions.specs.Represented.Queued.{queued_of}
 use Rattle.odb_sessions.specs.Represented.Taking.{coming_text}
 use Rattle.odb_sessions.specs.Tied.{AreLive}
 use Rattle.odb_sessions.specs.declared.item.Item.{Item}
 use Rattle.odb_sessions.proofs.Leading.{at_end, ended, goes_on, last_at, live_due, none_used, plan_at, seen_item}
-use Rattle.odb_sessions.proofs.Places.{keeps_itself, keeps_on}
+use Rattle.odb_sessions.proofs.Places.{keeps_itself, keeps_on, told_text}
 use Rattle.odb_sessions.proofs.taking.taking_of.Goals as goal
 use Rattle.odb_tables.specs.Database.{Db}
 use Rattle.odb_sessions.specs.Book.{revision_at}
@@ -134,7 +135,7 @@ returns-clause-text c = λ s all kept.
     let past : length xs ≤ i = search rules in
     let within : i ≤ length xs = c.loop-place.invariant.within in
     c.composed.ensures.text all _
-    ∙ c.in_ok-rest.ensures.text (served_by s) all kept
+    ∙ told_text (text_under all) c.in_ok-rest.rest.message _ (c.in_ok-rest.ensures.text (served_by s) all kept)
     ∙ ap (λ (k : Chains). option_map (due_text (served_by s) (revision_at k c.args.recent.now)) (plan_rest (served_by s) k.db ms).out) c.loop-place.invariant.chains
     ∙ sym (ap (λ (p : Plan). option_map (due_text (served_by s) revision) p.out) (c.loop-place.invariant.rest s ∙ at_end s revision.db xs i i ms past within (omega (arith, past, within))))
 

@@ -5,25 +5,22 @@ use Rattle.odb_sessions.specs.Foreseen.{Foreseen, due_text, marks_ahead}
 use Rattle.odb_sessions.specs.Held.{marks_in, watch_of}
 use Rattle.odb_sessions.specs.Jobs.{Keeps}
 use Rattle.odb_sessions.specs.Planned.{first_due}
-use Rattle.odb_sessions.specs.Tied.{AreLive, HasLists}
+use Rattle.odb_sessions.specs.Tied.{AreLive}
 use Rattle.odb_sessions.proofs.foreseen.Planner.begin.Goals as goal
 use Rattle.odb_sessions.specs.Book.{revision_at}
 
-pub first_reply-requires-clause-live : goal.first_reply-requires-clause-live
-first_reply-requires-clause-live c = subst (λ (f : Foreseen). AreLive f.chains (marks_in c.args.start.now.monitor)) (sym c.self.view_is) c.requires
-
-pub first_reply-requires-clause-lists : goal.first_reply-requires-clause-lists
-first_reply-requires-clause-lists c = c.self.invariant.1
+pub first_reply-requires : goal.first_reply-requires
+first_reply-requires c = subst (λ (f : Foreseen). AreLive f.chains (marks_in c.args.start.now.monitor)) (sym c.self.view_is) c.requires
 
 pub invariant_of-self : goal.invariant_of-self
-invariant_of-self c = subst (λ (k : Chains). AreLive k (marks_ahead c.self.inside.monitors.items) × HasLists k) (sym c.first_reply.ensures.chains) c.self.invariant
+invariant_of-self c = subst (λ (k : Chains). AreLive k (marks_ahead c.self.inside.monitors.items)) (sym c.first_reply.ensures.chains) c.self.invariant
 
 pub invariant_of-self-2 : goal.invariant_of-self-2
-invariant_of-self-2 c = subst (λ (k : Chains). AreLive k (marks_ahead c.self.inside.monitors.items) × HasLists k) (sym c.first_reply.ensures.chains) c.self.invariant
+invariant_of-self-2 c = subst (λ (k : Chains). AreLive k (marks_ahead c.self.inside.monitors.items)) (sym c.first_reply.ensures.chains) c.self.invariant
 
 pub returns-clause-text : goal.returns-clause-text
 returns-clause-text c = λ h last all kept.
-    c.composed.ensures.text all last ∙ ap Some (c.in_ok-message.ensures.text h all kept)
+    c.composed.ensures.text all last ∙ c.in_ok-message.ensures.text h all kept
     ∙ ap (λ (f : Foreseen). Some (due_text h (revision_at f.chains c.args.recent.now) (first_due c.args.start.now.origin (watch_of c.args.start.now.monitor)))) c.self.view_is
 
 pub returns-clause-jobs : goal.returns-clause-jobs

@@ -9,12 +9,12 @@ use Rattle.odb_sessions.specs.Jobs.{Keeps}
 use Rattle.odb_sessions.specs.Planned.{due}
 use Rattle.odb_sessions.specs.Represented.Composed.{Tells}
 use Rattle.odb_sessions.specs.Represented.Under.{item_in}
-use Rattle.odb_sessions.specs.Tied.{AreLive, HasLists}
+use Rattle.odb_sessions.specs.Tied.{AreLive}
 use Rattle.odb_sessions.proofs.foreseen.Planner.pass.Goals as goal
 use Rattle.odb_sessions.specs.Book.{revision_at}
 
 pub invariant_of-self : goal.invariant_of-self
-invariant_of-self c = subst (λ (k : Chains). AreLive k (marks_ahead c.pass.new.monitors.items) × HasLists k) (sym c.pass.ensures.chains) (c.pass.ensures.live, c.self.invariant.1)
+invariant_of-self c = subst (λ (k : Chains). AreLive k (marks_ahead c.pass.new.monitors.items)) (sym c.pass.ensures.chains) c.pass.ensures.live
 
 pub returns-clause-text : goal.returns-clause-text
 returns-clause-text c =

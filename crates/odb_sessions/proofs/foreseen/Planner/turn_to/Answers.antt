@@ -10,7 +10,7 @@ pub invariant_of-self : goal.invariant_of-self
 invariant_of-self c =
     let k : Chains = c.self.inside.wanted.chains in
     let live : AreLive k (flat_map marks_in c.args.monitors.now) = subst (λ (f : Foreseen). AreLive f.chains (flat_map marks_in c.args.monitors.now)) (sym c.self.view_is) c.requires in
-    (subst (AreLive k) (sym (ap marks_ahead c.in_ok-ahead.ensures ∙ marks_told c.args.monitors.now)) live, c.self.invariant.1)
+    subst (AreLive k) (sym (ap marks_ahead c.in_ok-ahead.ensures ∙ marks_told c.args.monitors.now)) live
 
 pub returns-clause-monitors : goal.returns-clause-monitors
 returns-clause-monitors c =

@@ -1,4 +1,4 @@
-use Rattle.std.proofs.Common.{true, take, ap, ◌∙◌}
+use Rattle.std.proofs.Common.{true, take, Some, ap, ◌∙◌}
 use Rattle.std.proofs.lemmas.Result.{IfOk-weaker}
 use Rattle.serde_json.specs.Written.{compact_text}
 use Rattle.odb_rpc.specs.Message.{reply}
@@ -18,7 +18,7 @@ returns-clause-text c =
     let updates : Data = resumed_updates undos db x.notation (asked_of x.tables) in
     IfOk-weaker c.numbered_reply.result _ _
     (λ message e. λ all kept. e all updates (c.in_ok-job.ensures.place all kept ∙ resumed_composition undos db x.notation (asked_of x.tables))
-    ∙ ap (λ n. compact_text (reply (id_of c.args.self.now.origin) (since_result true n updates))) c.number.ensures)
+    ∙ ap (λ n. Some (compact_text (reply (id_of c.args.self.now.origin) (since_result true n updates)))) c.number.ensures)
     c.numbered_reply.ensures
 
 pub returns-clause-jobs : goal.returns-clause-jobs

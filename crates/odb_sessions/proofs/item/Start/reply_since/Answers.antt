@@ -18,8 +18,8 @@ returns-in-None-clause-text c =
     let found : None ≡ commits_ago r.most r.run r.commits (uuid_of c.args.since) = search rules in
     IfOk-weaker c.not_found.result _ _
     (λ message e. λ all kept. e all kept
-    ∙ ap (λ n. compact_text (reply (id_of c.args.self.now.origin) (since_result false n (first_updates db x.notation (asked_of x.tables))))) c.number.ensures
-    ∙ ap (λ o. compact_text (reply (id_of c.args.self.now.origin) (result_since r db x o))) found)
+    ∙ ap (λ n. Some (compact_text (reply (id_of c.args.self.now.origin) (since_result false n (first_updates db x.notation (asked_of x.tables)))))) c.number.ensures
+    ∙ ap (λ o. Some (compact_text (reply (id_of c.args.self.now.origin) (result_since r db x o)))) found)
     c.not_found.ensures.text
 
 pub returns-in-Some-clause-text : goal.returns-in-Some-clause-text
@@ -29,5 +29,5 @@ returns-in-Some-clause-text c =
     let r : Recent = c.args.recent.now in
     let found : Some c.in-Some.ago ≡ commits_ago r.most r.run r.commits (uuid_of c.args.since) = search rules in
     IfOk-weaker c.found.result _ _
-    (λ message e. λ all kept. e all kept ∙ ap (λ o. compact_text (reply (id_of c.args.self.now.origin) (result_since r db x o))) found)
+    (λ message e. λ all kept. e all kept ∙ ap (λ o. Some (compact_text (reply (id_of c.args.self.now.origin) (result_since r db x o)))) found)
     c.found.ensures.text

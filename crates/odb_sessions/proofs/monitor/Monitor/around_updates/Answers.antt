@@ -1,9 +1,8 @@
-use Rattle.std.proofs.Common.{rules, ◌≡◌, ◌++◌, ◌∙◌}
+use Rattle.std.proofs.Common.{rules, ◌≡◌, ◌++◌, Some, option_map, ap, ◌∙◌}
 use Rattle.odb_rpc.specs.Represented.Shared.{after_updates}
-use Rattle.odb_sessions.specs.Taken.{body_text}
 use Rattle.odb_sessions.proofs.monitor.Monitor.around_updates.Goals as goal
 
 pub returns : goal.returns
 returns c = λ all d is.
     let after : c.in_ok-after.after.items ≡ after_updates = search rules in
-    (λ i. c.in_ok-before.before.items ++ (body_text (is i) ++ after i)) ∙ c.in_ok-before.ensures d
+    (λ i. option_map (λ body. c.in_ok-before.before.items ++ (body ++ after i)) (is i)) ∙ ap Some (c.in_ok-before.ensures d)

@@ -5,6 +5,7 @@ use Rattle.odb_schema.specs.Json.{Data}
 use Rattle.odb_service.specs.Session.{refilter}
 use Rattle.odb_sessions.specs.Composed.{asked_of, later_job, notified_text}
 use Rattle.odb_sessions.specs.Foreseen.{all_parts_again}
+use Rattle.odb_sessions.specs.Jobs.{certainly}
 use Rattle.odb_sessions.specs.Held.{Held}
 use Rattle.odb_sessions.specs.Represented.Under.{filters_in}
 use Rattle.odb_sessions.proofs.Updates.{sent_again}
@@ -20,7 +21,7 @@ returns-clause-text c =
     let gs = filters_in c.args.told in
     let updates : Option Data = updates_of (later_job x.notation (all_parts_again db gs x.tables (refilter fs (asked_of x.tables)))) in
     IfOk-weaker c.notification.result _ _
-    (λ message told. λ h all kept. told all updates (c.in_ok-place.ensures.place all kept) ∙ ap (λ v. option_map (notified_text v x) updates) c.number.ensures ∙ sent_again h revision gs fs x)
+    (λ message told. λ h all kept. told all updates (c.in_ok-place.ensures.place all kept) ∙ ap (option_map certainly) (ap (λ v. option_map (notified_text v x) updates) c.number.ensures ∙ sent_again h revision gs fs x))
     c.notification.ensures
 
 pub returns-clause-jobs : goal.returns-clause-jobs

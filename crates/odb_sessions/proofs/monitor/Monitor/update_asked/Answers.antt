@@ -5,6 +5,7 @@ use Rattle.odb_chain.specs.Chains.{Chains}
 use Rattle.odb_monitor.specs.Job.{updates_of}
 use Rattle.odb_schema.specs.Json.{Data}
 use Rattle.odb_sessions.specs.Composed.{AreNow, IsKnown, later_job, notified_text, part_to}
+use Rattle.odb_sessions.specs.Jobs.{certainly}
 use Rattle.odb_sessions.specs.Held.{Held, Watched, marks_in}
 use Rattle.odb_sessions.specs.Tied.{AreLive}
 use Rattle.odb_sessions.proofs.Places.{keeps_itself}
@@ -28,7 +29,7 @@ returns-then-are_now-clause-text c = λ h all kept.
     let slice : c.as_slice.result.now ≡ c.self.inside.tables.items = search rules in
     let tables : c.as_slice.result.now ≡ x.tables = slice ∙ ap (λ (y : Held). y.tables) c.self.view_is in
     let now : c.are_now.result ≡ true = search rules in
-    quiet h (revision_at c.args.wanted.now.chains c.args.recent.now) x (subst (λ (k : Chains). AreNow k.db x.tables) c.chains.ensures (subst (AreNow c.chains.result.now.db) tables (c.are_now.ensures now)))
+    ap (option_map certainly) (quiet h (revision_at c.args.wanted.now.chains c.args.recent.now) x (subst (λ (k : Chains). AreNow k.db x.tables) c.chains.ensures (subst (AreNow c.chains.result.now.db) tables (c.are_now.ensures now))))
 
 pub returns-then-are_now-clause-jobs : goal.returns-then-are_now-clause-jobs
 returns-then-are_now-clause-jobs c = keeps_itself c.args.wanted.now.jobs
@@ -40,7 +41,7 @@ returns-clause-text c =
     let x : Held = c.args.self.now in
     let updates : Option Data = updates_of (later_job x.notation (map (part_to db) x.tables)) in
     IfOk-weaker c.notification.result _ _
-    (λ message told. λ h all kept. told all updates (c.in_ok-place.ensures.place all kept) ∙ ap (λ v. option_map (notified_text v x) updates) c.number.ensures ∙ sent_asked h revision x)
+    (λ message told. λ h all kept. told all updates (c.in_ok-place.ensures.place all kept) ∙ ap (option_map certainly) (ap (λ v. option_map (notified_text v x) updates) c.number.ensures ∙ sent_asked h revision x))
     c.notification.ensures
 
 pub returns-clause-jobs : goal.returns-clause-jobs

@@ -17,7 +17,7 @@ use Rattle.odb_sessions.proofs.sessions.Sessions.jobs.Goals as goal
 
 pub takings_at-requires : goal.takings_at-requires
 takings_at-requires c =
-    let planner : c.new-planner.result.chains ≡ c.self.inside.past = ap (λ (f : Foreseen). f.chains) c.new-planner.ensures ∙ c.chains.ensures.now in
+    let planner : c.new-planner.result.chains ≡ c.self.inside.past = ap (λ (f : Foreseen). f.chains) c.new-planner.ensures ∙ c.chains.ensures in
     subst (λ (k : Chains). AreAllLive k c.self.inside.sessions) (sym planner) c.self.invariant.0.2
 
 pub returns-clause-sessions : goal.returns-clause-sessions
@@ -26,7 +26,7 @@ returns-clause-sessions c = ap (λ (r : Round). sessions_in r.takings) c.new.ens
 pub returns-clause-ready : goal.returns-clause-ready
 returns-clause-ready c = λ s.
     let js : List Job = c.into_jobs.result.items in
-    let planner : c.new-planner.result.chains ≡ c.self.inside.past = ap (λ (f : Foreseen). f.chains) c.new-planner.ensures ∙ c.chains.ensures.now in
+    let planner : c.new-planner.result.chains ≡ c.self.inside.past = ap (λ (f : Foreseen). f.chains) c.new-planner.ensures ∙ c.chains.ensures in
     let same = (λ i. let k : Chains = planner i in book_with k.db c.self.inside.recent (all_seen c.self.inside.sessions)) ∙ c.self.view_is in
     let ready = c.in_ok-takings.ensures.ready s js (keeps_same c.takings_at.new.planner.jobs js c.into_jobs.ensures.jobs) in
     subst (λ (r : Round). AreReady s c.args.self.now r.takings) (sym c.new.ensures) (subst (λ (b : Book). AreReady s b (map (pending_by js) c.in_ok-takings.takings.items)) same ready)
@@ -36,6 +36,6 @@ returns-clause-jobs c = subst (λ (r : Round). AreOfJobs r.jobs r.takings) (sym 
 
 pub returns-clause-now : goal.returns-clause-now
 returns-clause-now c =
-    let planner : c.new-planner.result.chains ≡ c.self.inside.past = ap (λ (f : Foreseen). f.chains) c.new-planner.ensures ∙ c.chains.ensures.now in
+    let planner : c.new-planner.result.chains ≡ c.self.inside.past = ap (λ (f : Foreseen). f.chains) c.new-planner.ensures ∙ c.chains.ensures in
     let db : c.takings_at.new.planner.chains.db ≡ c.args.self.now.db = ap (λ (k : Chains). k.db) (c.in_ok-takings.ensures.chains ∙ planner) ∙ ap (λ (b : Book). b.db) c.self.view_is in
     subst (λ (r : Round). All (IsOfNow c.args.self.now.db) r.jobs) (sym c.new.ensures) (subst (λ (d : Db). All (IsOfNow d) c.into_jobs.result.items) db c.into_jobs.ensures.now)

@@ -14,7 +14,7 @@ rests-requires c =
     let m : Sessions = c.self.inside.sessions in
     let x : Kept = c.in-Some.of.now in
     let there : finite.get m c.args.session ≡ Some x = search rules in
-    subst (λ (k : Chains). AreLive k (marks_of x)) (sym c.chains.ensures.now) (c.self.invariant.0.2 c.args.session x there)
+    subst (λ (k : Chains). AreLive k (marks_of x)) (sym c.chains.ensures) (c.self.invariant.0.2 c.args.session x there)
 
 pub returns-in_default : goal.returns-in_default
 returns-in_default c =
@@ -28,6 +28,6 @@ returns c =
     let m : Sessions = c.self.inside.sessions in
     let x : Kept = c.in-Some.of.now in
     let there : finite.get m c.args.session ≡ Some x = search rules in
-    let db : c.chains.result.now.db ≡ b.db = ap (λ (k : Chains). k.db) c.chains.ensures.now ∙ ap (λ (d : Book). d.db) c.self.view_is in
+    let db : c.chains.result.now.db ≡ b.db = ap (λ (k : Chains). k.db) c.chains.ensures ∙ ap (λ (d : Book). d.db) c.self.view_is in
     on_true c.rests.result (IsQuietAt b c.args.session)
     (λ told. quiet_open b m c.args.session x (ap (λ (d : Book). d.sessions) c.self.view_is) there (subst (λ (d : Db). IsQuiet d (seen x)) db (c.rests.ensures told)))

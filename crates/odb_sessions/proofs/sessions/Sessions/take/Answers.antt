@@ -6,7 +6,7 @@ use Rattle.odb_service.specs.Server.{served_by}
 use Rattle.odb_service.specs.Session.{Session}
 use Rattle.odb_sessions.specs.Book.{Book, revision_in}
 use Rattle.odb_sessions.specs.Foreseen.{last_used}
-use Rattle.odb_sessions.specs.Represented.Composed.{bytes_in}
+use Rattle.odb_sessions.specs.Represented.Composed.{bytes_of}
 use Rattle.odb_sessions.specs.Represented.Out.{sent_in}
 use Rattle.odb_sessions.specs.Represented.Ready.{ready_of, text_coming}
 use Rattle.odb_sessions.specs.Taken.{Text, composed_text, last_text, no_text, text_from, text_taken}
@@ -60,9 +60,9 @@ returns-clause-out c = λ s.
       | in-Composed+in-Some-1 w ↦
           ap (option_map sent_in) w.result-is
           ∙ (λ i. let p : ℕ × List ℕ = (w.out.ensures.session i, w.out.ensures.text i) in Some p)
-          ∙ ap (as_sent k) (by_text (composed_text w.in-Composed.text.before.items (bytes_in w.in-Composed.text.body) w.in-Composed.text.after.items) (ap text_coming w.in-Composed.is))
+          ∙ ap (as_sent k) (by_text (composed_text w.in-Composed.text.before.items (bytes_of w.in-Composed.text.body) w.in-Composed.text.after.items) (ap text_coming w.in-Composed.is))
       | in-Composed+in-None-1 w ↦
           ap (option_map sent_in) w.result-is
           ∙ (λ i. let p : ℕ × List ℕ = (w.out.ensures.session i, w.out.ensures.text i) in Some p)
-          ∙ ap (as_sent k) (by_text (composed_text w.in-Composed.text.before.items (bytes_in w.in-Composed.text.body) w.in-Composed.text.after.items) (ap text_coming w.in-Composed.is))
+          ∙ ap (as_sent k) (by_text (composed_text w.in-Composed.text.before.items (bytes_of w.in-Composed.text.body) w.in-Composed.text.after.items) (ap text_coming w.in-Composed.is))
     ]
