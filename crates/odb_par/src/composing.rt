@@ -1,0 +1,52 @@
+//! The jobs of a round, composed by several threads.
+ghost use Rattle.std.specs.Prelude.{◌≡◌, ◌≤◌, IfOk, map};
+ghost use Rattle.odb_par.specs.Shares.{AreShares};
+ghost use Rattle.odb_sessions.specs.Jobs.{composition};
+ghost use Rattle.odb_sessions.specs.Represented.Composed.{bytes_in};
+
+use crate::dealing::in_order;
+use crate::gate::Gate;
+use crate::worker::{Share, own_bodies};
+use odb_sessions::Job;
+use std::alloc::{AllocError, Global};
+use std::sync::Arc;
+use std::thread;
+use std::thread::Threads;
+
+/// Composes each of the jobs, and gives what is composed in their order. Of `n` workers the first takes the jobs 0, n,
+/// 2 n and so on, the second 1, n + 1, 2 n + 1 and so on: each in a thread of its own, but the caller is one of them,
+/// and does the work of those for which no thread can be made. The costs are those of `Job::compose` for each job,
+/// O(1) more for each, and a thread for each worker but one; there are no more workers than jobs.
+pub fn compose_all<R: Threads + Sync, G: Gate + Sync>(
+    rt: &R,
+    alloc: Global,
+    jobs: &[Job<'_>],
+    workers: usize,
+    gate: &G,
+) -> Result<Vec<Option<Arc<Vec<u8>>>>, AllocError>
+    requires workers { (1 ≤ workers) × (workers ≤ 64) }
+    ensures { IfOk result (λ bodies. map bytes_in bodies.items ≡ map composition jobs.now) }
+{
+    let shares = shares_of(rt, alloc, jobs, workers, gate)?;
+    in_order(alloc, jobs, workers, shares.as_slice())
+}
+
+/// Lets each worker compose its jobs.
+fn shares_of<R: Threads + Sync, G: Gate + Sync>(
+    rt: &R,
+    alloc: Global,
+    jobs: &[Job<'_>],
+    workers: usize,
+    gate: &G,
+) -> Result<Vec<Share>, AllocError>
+    requires { (1 ≤ workers) × (workers ≤ 64) }
+    ensures { IfOk result (λ shares. AreShares workers (map composition jobs.now) shares.items) }
+{
+    let count = workers.min(jobs.len());
+    thread::map_indices(
+        rt,
+        alloc,
+        count,
+        &|first| own_bodies(alloc, jobs, first, workers, gate),
+    )
+}

@@ -1,0 +1,56 @@
+//! What the workers composed, in the order of the jobs.
+ghost use Rattle.std.specs.Prelude.{◌≡◌, ◌<◌, ◌≤◌, IfOk, Some, length, map, slice_get};
+ghost use Rattle.odb_par.specs.Shares.{AreShares};
+ghost use Rattle.odb_sessions.specs.Jobs.{composition};
+ghost use Rattle.odb_sessions.specs.Represented.Composed.{bytes_in};
+
+use crate::worker::Share;
+use odb_sessions::Job;
+use std::alloc::{AllocError, Global};
+use std::sync::Arc;
+
+/// Deals out for each job its body, in the order of the jobs: each is shared with the worker's. O(n) for n jobs.
+pub(crate) fn in_order(
+    alloc: Global,
+    jobs: &[Job<'_>],
+    workers: usize,
+    shares: &[Share],
+) -> Result<Vec<Option<Arc<Vec<u8>>>>, AllocError>
+    requires workers { 1 ≤ workers }
+    requires shares { AreShares workers (map composition jobs.now) shares.now }
+    ensures { IfOk result (λ bodies. map bytes_in bodies.items ≡ map composition jobs.now) }
+{
+    let mut bodies = Vec::with_capacity(alloc, jobs.len())?;
+    for place in 0..jobs.len() {
+        bodies.push_reserved(body_of(jobs, workers, shares, place)?);
+    }
+    Ok(bodies)
+}
+
+/// Finds the body of the job at this place. O(1).
+fn body_of(
+    _jobs: &[Job<'_>],
+    workers: usize,
+    shares: &[Share],
+    place: usize,
+) -> Result<Option<Arc<Vec<u8>>>, AllocError>
+    requires workers { 1 ≤ workers }
+    requires shares { AreShares workers (map composition _jobs.now) shares.now }
+    requires place { place < length _jobs.now }
+    ensures { IfOk result (λ body. slice_get (map composition _jobs.now) place ≡ Some (bytes_in body)) }
+{
+    match &shares[place % workers] {
+        Ok(bodies) => shared(&bodies[place / workers]),
+        Err(_) => Err(AllocError),
+    }
+}
+
+/// Shares the body. O(1).
+fn shared(body: &Option<Arc<Vec<u8>>>) -> Result<Option<Arc<Vec<u8>>>, AllocError>
+    ensures { IfOk result (λ same. bytes_in same ≡ bytes_in body.now) }
+{
+    let Some(text) = body else {
+        return Ok(None);
+    };
+    Ok(Some(text.clone()?))
+}

@@ -1,0 +1,12 @@
+//! The jobs of a round, composed by several threads: the bodies are those that one thread composes.
+//!
+//! Where memory is refused a call returns `AllocError`, and what it was given is as it was.
+#![tactic(auto)]
+
+mod composing;
+mod dealing;
+mod gate;
+mod worker;
+
+pub use composing::compose_all;
+pub use gate::{Gate, Open};
