@@ -1,10 +1,8 @@
 -- Each step keeps what makes writer and reader wake, so every run does.
-use Rattle.std.proofs.Common.{◌≡◌, ℕ, zero, suc, Bool, true, false, not, cond, List, [], ◌∷◌, refl, sym, true≢false}
+use Rattle.std.proofs.Common.{◌≡◌, ℕ, zero, suc, Bool, true, false, not, cond, List, [], ◌∷◌, refl}
 use Rattle.std.specs.Prelude.{◌&&◌, ◌||◌, fold}
+use Rattle.odb_waking.proofs.PumpKept.{no, or_true}
 use Rattle.odb_waking.specs.Bell.{Hand, idle, refused, marked, sent, wakes_writer, wakes_reader, Writer, takes, looks, refills, writer_sleeps, Reader, submits, reader_sleeps, waits_for_room, Bell, Step, puts, flushes, hand_goes_on, writer_goes_on, reader_goes_on, meets_busy, NoReaderOversleeps, NoWriterOversleeps, begun, next, reader_is_asleep, some, will_wake_reader, will_wake_writer, writer_is_asleep}
-
-no : {A : Type 0} → false ≡ true → A
-no e = absurd (true≢false (sym e))
 
 -- the flag says what is held back, but while a message is put
 abbrev marks : Hand → Bool → Bool → Bool
@@ -87,10 +85,6 @@ token_reads submits holds given = refl
 token_reads reader_sleeps true given = refl
 token_reads reader_sleeps false given = refl
 token_reads waits_for_room holds given = refl
-
-or_true : (b : Bool) → (b || true) ≡ true
-or_true true = refl
-or_true false = refl
 
 -- ---- steps
 

@@ -1,189 +1,210 @@
 -- Each step keeps what makes the pump wake, so every run does.
 use Rattle.std.proofs.Common.{◌≡◌, ℕ, zero, suc, ◌<◌, ◌+◌, arith, Bool, true, false, not, List, [], ◌∷◌, refl, sym, true≢false}
-use Rattle.std.specs.Prelude.{◌&&◌, ◌||◌, fold}
-use Rattle.odb_waking.specs.Pump.{Place, begins, forgets, gives, decides, rests, lies_down, looks_again, sleeps, Pump, Step, goes_on, owes, tells, calls, looks, wakes, gives_all, NoPumpOversleeps, begun, is_asleep, next}
+use Rattle.std.specs.Prelude.{◌||◌, fold}
+use Rattle.odb_waking.specs.Bell.{some}
+use Rattle.odb_waking.specs.Pump.{Place, begins, forgets, gives, decides, rests, lies_down, looks_again, sleeps, Pump, Step, goes_on, owes, nears, tells, calls, looks, wakes, keeps_silent, gives_all, NoPumpOversleeps, begun, is_asleep, next}
 
-abbrev some : ℕ → Bool
-some zero = false
-some (suc n) = true
-
--- where something is owed, the pump will meet it
-abbrev meets : Bool → Bool → Bool
-meets false met = true
-meets true met = met
-
-abbrev sound_at : Place → Pump → Bool
-sound_at begins p = true
-sound_at forgets p = true
-sound_at gives p = true
-sound_at decides p = meets p.owed (some p.telling || p.told)
-sound_at rests p = true
-sound_at lies_down p = meets p.owed (some p.telling || p.told)
-sound_at looks_again p = not p.awake && meets p.owed (some p.telling || p.told)
-sound_at sleeps p = not p.awake && meets p.owed (some p.telling || (some p.looking || (some p.waking || p.token)))
-
-abbrev sound : Pump → Bool
-sound p = sound_at p.place p
-
-no : {A : Type 0} → false ≡ true → A
+pub no : {A : Type 0} → false ≡ true → A
 no e = absurd (true≢false (sym e))
 
-abbrev pump : Place → Bool → Bool → Bool → Bool → ℕ → ℕ → ℕ → Pump
-pump x a t k o n l w = record { place = x; awake = a; told = t; token = k; owed = o; telling = n; looking = l; waking = w }
+pub or_true : (b : Bool) → (b || true) ≡ true
+or_true true = refl
+or_true false = refl
 
-goes : (b : Bool) (x : Place) (a t k o : Bool) (n l w : ℕ) → sound (pump x a t k o n l w) ≡ true → sound (next (goes_on b) (pump x a t k o n l w)) ≡ true
-goes b begins a t k o n l w h = refl
-goes b forgets a t k o n l w h = refl
-goes true gives a t k o n l w h = refl
-goes false gives a t k o n l w h = refl
-goes b decides a true k o n l w h = refl
-goes b decides a false k o n l w h = h
-goes b rests a t k o n l w h = refl
-goes b lies_down a t k o n l w h = h
-goes b looks_again a true k o n l w h = refl
-goes b looks_again true false k o n l w h = no h
-goes b looks_again false false k false n l w h = refl
-goes b looks_again false false k true zero l w h = no h
-goes b looks_again false false k true (suc n) l w h = refl
-goes b sleeps a t true o n l w h = refl
-goes true sleeps a t false o n l w h = refl
-goes false sleeps a t false o n l w h = h
+-- where there is something to do, one of so many threads will say so, or the pump learns it otherwise
+abbrev meets : Bool → ℕ → Bool → Bool
+meets false n learns = true
+meets true n learns = some n || learns
 
-owing : (x : Place) (a t k o : Bool) (n l w : ℕ) → sound (pump x a t k o n l w) ≡ true → sound (next owes (pump x a t k o n l w)) ≡ true
-owing begins a t k o n l w h = refl
-owing forgets a t k o n l w h = refl
-owing gives a t k o n l w h = refl
-owing decides a t k o n l w h = refl
-owing rests a t k o n l w h = refl
-owing lies_down a t k o n l w h = refl
-owing looks_again true t k o n l w h = no h
-owing looks_again false t k o n l w h = refl
-owing sleeps true t k o n l w h = no h
-owing sleeps false t k o n l w h = refl
+abbrev on_the_way : Pump → Bool
+on_the_way p = some p.looking || (some p.waking || p.token)
 
-telling : (x : Place) (a t k o : Bool) (n l w : ℕ) → sound (pump x a t k o n l w) ≡ true → sound (next tells (pump x a t k o n l w)) ≡ true
-telling x a t k o zero l w h = h
-telling begins a t k o (suc n) l w h = refl
-telling forgets a t k o (suc n) l w h = refl
-telling gives a t k o (suc n) l w h = refl
-telling decides a t k false (suc n) l w h = refl
-telling decides a t k true (suc zero) l w h = refl
-telling decides a t k true (suc (suc n)) l w h = refl
-telling rests a t k o (suc n) l w h = refl
-telling lies_down a t k false (suc n) l w h = refl
-telling lies_down a t k true (suc zero) l w h = refl
-telling lies_down a t k true (suc (suc n)) l w h = refl
-telling looks_again true t k o (suc n) l w h = no h
-telling looks_again false t k false (suc n) l w h = refl
-telling looks_again false t k true (suc zero) l w h = refl
-telling looks_again false t k true (suc (suc n)) l w h = refl
-telling sleeps true t k o (suc n) l w h = no h
-telling sleeps false t k false (suc n) l w h = refl
-telling sleeps false t k true (suc zero) l w h = refl
-telling sleeps false t k true (suc (suc n)) l w h = refl
+abbrev Meets : Pump → Bool → Type 0
+Meets p learns = (meets p.owed p.telling learns ≡ true) × (meets p.sooner p.calling learns ≡ true)
 
-calling : (x : Place) (a t k o : Bool) (n l w : ℕ) → sound (pump x a t k o n l w) ≡ true → sound (next calls (pump x a t k o n l w)) ≡ true
-calling x a t k o zero l w h = h
-calling begins a t k o (suc n) l w h = refl
-calling forgets a t k o (suc n) l w h = refl
-calling gives a t k o (suc n) l w h = refl
-calling decides a t k false (suc n) l w h = refl
-calling decides a t k true (suc zero) l w h = refl
-calling decides a t k true (suc (suc n)) l w h = refl
-calling rests a t k o (suc n) l w h = refl
-calling lies_down a t k false (suc n) l w h = refl
-calling lies_down a t k true (suc zero) l w h = refl
-calling lies_down a t k true (suc (suc n)) l w h = refl
-calling looks_again true t k o (suc n) l w h = no h
-calling looks_again false t k false (suc n) l w h = refl
-calling looks_again false t k true (suc zero) l w h = refl
-calling looks_again false t k true (suc (suc n)) l w h = refl
-calling sleeps true t k o (suc n) l w h = no h
-calling sleeps false t k false (suc n) l w h = refl
-calling sleeps false t k true (suc zero) zero w h = refl
-calling sleeps false t k true (suc zero) (suc l) w h = refl
-calling sleeps false t k true (suc (suc n)) l w h = refl
+abbrev Sound_at : Place → Pump → Type 0
+Sound_at begins p = Unit {0}
+Sound_at forgets p = Unit {0}
+Sound_at gives p = Unit {0}
+Sound_at decides p = Meets p p.told
+Sound_at rests p = Unit {0}
+Sound_at lies_down p = Meets p p.told
+Sound_at looks_again p = (not p.awake ≡ true) × Meets p p.told
+Sound_at sleeps p = (not p.awake ≡ true) × Meets p (on_the_way p)
 
-looking : (x : Place) (a t k o : Bool) (n l w : ℕ) → sound (pump x a t k o n l w) ≡ true → sound (next looks (pump x a t k o n l w)) ≡ true
-looking x a t k o n zero w h = h
-looking begins true t k o n (suc l) w h = refl
-looking begins false t k o n (suc l) w h = refl
-looking forgets true t k o n (suc l) w h = refl
-looking forgets false t k o n (suc l) w h = refl
-looking gives true t k o n (suc l) w h = refl
-looking gives false t k o n (suc l) w h = refl
-looking decides true t k o n (suc l) w h = h
-looking decides false t k o n (suc l) w h = h
-looking rests true t k o n (suc l) w h = refl
-looking rests false t k o n (suc l) w h = refl
-looking lies_down true t k o n (suc l) w h = h
-looking lies_down false t k o n (suc l) w h = h
-looking looks_again true t k o n (suc l) w h = no h
-looking looks_again false t k o n (suc l) w h = h
-looking sleeps true t k o n (suc l) w h = no h
-looking sleeps false t k false n (suc l) w h = refl
-looking sleeps false t k true (suc n) (suc l) w h = refl
-looking sleeps false t k true zero (suc zero) w h = refl
-looking sleeps false t k true zero (suc (suc l)) w h = refl
+abbrev Sound : Pump → Type 0
+Sound p = Sound_at p.place p
 
-waking : (x : Place) (a t k o : Bool) (n l w : ℕ) → sound (pump x a t k o n l w) ≡ true → sound (next wakes (pump x a t k o n l w)) ≡ true
-waking x a t k o n l zero h = h
-waking begins a t k o n l (suc w) h = refl
-waking forgets a t k o n l (suc w) h = refl
-waking gives a t k o n l (suc w) h = refl
-waking decides a t k o n l (suc w) h = h
-waking rests a t k o n l (suc w) h = refl
-waking lies_down a t k o n l (suc w) h = h
-waking looks_again a t k o n l (suc w) h = h
-waking sleeps true t k o n l (suc w) h = no h
-waking sleeps false t k false n l (suc w) h = refl
-waking sleeps false t k true (suc n) l (suc w) h = refl
-waking sleeps false t k true zero (suc l) (suc w) h = refl
-waking sleeps false t k true zero zero (suc zero) h = refl
-waking sleeps false t k true zero zero (suc (suc w)) h = refl
+abbrev pump : Place → Bool → Bool → Bool → Bool → Bool → ℕ → ℕ → ℕ → ℕ → Pump
+pump x a t k o s n c l w = record { place = x; awake = a; told = t; token = k; owed = o; sooner = s; telling = n; calling = c; looking = l; waking = w }
 
-giving : (x : Place) (a t k o : Bool) (n l w : ℕ) → sound (pump x a t k o n l w) ≡ true → sound (next gives_all (pump x a t k o n l w)) ≡ true
-giving begins a t k o n l w h = refl
-giving forgets a t k o n l w h = refl
-giving gives a t k o n l w h = refl
-giving decides a t k o n l w h = refl
-giving rests a t k o n l w h = refl
-giving lies_down a t k o n l w h = refl
-giving looks_again true t k o n l w h = no h
-giving looks_again false t k o n l w h = refl
-giving sleeps true t k o n l w h = no h
-giving sleeps false t k o n l w h = refl
+-- ---- small facts
 
-sound-next : (s : Step) (p : Pump) → sound p ≡ true → sound (next s p) ≡ true
-sound-next (goes_on b) p = goes b p.place p.awake p.told p.token p.owed p.telling p.looking p.waking
-sound-next owes p = owing p.place p.awake p.told p.token p.owed p.telling p.looking p.waking
-sound-next tells p = telling p.place p.awake p.told p.token p.owed p.telling p.looking p.waking
-sound-next calls p = calling p.place p.awake p.told p.token p.owed p.telling p.looking p.waking
-sound-next looks p = looking p.place p.awake p.told p.token p.owed p.telling p.looking p.waking
-sound-next wakes p = waking p.place p.awake p.told p.token p.owed p.telling p.looking p.waking
-sound-next gives_all p = giving p.place p.awake p.told p.token p.owed p.telling p.looking p.waking
+learnt : (d : Bool) (n : ℕ) (learns : Bool) → learns ≡ true → meets d n learns ≡ true
+learnt false n learns e = refl
+learnt true zero learns e = e
+learnt true (suc n) learns e = refl
 
-sound-run : (steps : List Step) (p : Pump) → sound p ≡ true → sound (fold (λ p s. next s p) p steps) ≡ true
+-- it needn't be learnt
+by_others : (d : Bool) (n : ℕ) (learns : Bool) → meets d n false ≡ true → meets d n learns ≡ true
+by_others false n learns e = refl
+by_others true zero learns e = no e
+by_others true (suc n) learns e = refl
+
+will_wake : (l : ℕ) (k : Bool) → (some l || (true || k)) ≡ true
+will_wake zero k = refl
+will_wake (suc l) k = refl
+
+has_token : (l w : ℕ) → (some l || (some w || true)) ≡ true
+has_token zero zero = refl
+has_token zero (suc w) = refl
+has_token (suc l) w = refl
+
+-- ---- steps
+
+going : (b : Bool) (x : Place) (a t k o s : Bool) (n c l w : ℕ) → Sound (pump x a t k o s n c l w) → Sound (next (goes_on b) (pump x a t k o s n c l w))
+going b begins a t k o s n c l w p = tt
+going b forgets a t k o s n c l w p = tt
+going true gives a t k o s n c l w p = tt
+going false gives a t k o s n c l w p = (refl, refl)
+going b decides a true k o s n c l w p = tt
+going b decides a false k o s n c l w p = p
+going b rests a t k o s n c l w p = tt
+going b lies_down a t k o s n c l w p = (refl, p)
+going b looks_again a true k o s n c l w p = tt
+going b looks_again a false k o s n c l w p = (p.0, (by_others o n _ p.1.0, by_others s c _ p.1.1))
+going b sleeps a t true o s n c l w p = tt
+going true sleeps a t false o s n c l w p = tt
+going false sleeps a t false o s n c l w p = p
+
+owing : (x : Place) (a t k o s : Bool) (n c l w : ℕ) → Sound (pump x a t k o s n c l w) → Sound (next owes (pump x a t k o s n c l w))
+owing begins a t k o s n c l w p = tt
+owing forgets a t k o s n c l w p = tt
+owing gives a t k o s n c l w p = tt
+owing decides a t k o s n c l w p = (refl, p.1)
+owing rests a t k o s n c l w p = tt
+owing lies_down a t k o s n c l w p = (refl, p.1)
+owing looks_again a t k o s n c l w p = (p.0, (refl, p.1.1))
+owing sleeps a t k o s n c l w p = (p.0, (refl, p.1.1))
+
+nearing : (x : Place) (a t k o s : Bool) (n c l w : ℕ) → Sound (pump x a t k o s n c l w) → Sound (next nears (pump x a t k o s n c l w))
+nearing begins a t k o s n c l w p = tt
+nearing forgets a t k o s n c l w p = tt
+nearing gives a t k o s n c l w p = tt
+nearing decides a t k o s n c l w p = (p.0, refl)
+nearing rests a t k o s n c l w p = tt
+nearing lies_down a t k o s n c l w p = (p.0, refl)
+nearing looks_again a t k o s n c l w p = (p.0, (p.1.0, refl))
+nearing sleeps a t k o s n c l w p = (p.0, (p.1.0, refl))
+
+telling : (x : Place) (a t k o s : Bool) (n c l w : ℕ) → Sound (pump x a t k o s n c l w) → Sound (next tells (pump x a t k o s n c l w))
+telling x a t k o s zero c l w p = p
+telling begins a t k o s (suc n) c l w p = tt
+telling forgets a t k o s (suc n) c l w p = tt
+telling gives a t k o s (suc n) c l w p = tt
+telling decides a t k o s (suc n) c l w p = (learnt o n true refl, learnt s c true refl)
+telling rests a t k o s (suc n) c l w p = tt
+telling lies_down a t k o s (suc n) c l w p = (learnt o n true refl, learnt s c true refl)
+telling looks_again a t k o s (suc n) c l w p = (p.0, (learnt o n true refl, learnt s c true refl))
+telling sleeps a t k o s (suc n) c l w p = (p.0, (learnt o n true refl, learnt s c true refl))
+
+calling : (x : Place) (a t k o s : Bool) (n c l w : ℕ) → Sound (pump x a t k o s n c l w) → Sound (next calls (pump x a t k o s n c l w))
+calling x a t k o s n zero l w p = p
+calling begins a t k o s n (suc c) l w p = tt
+calling forgets a t k o s n (suc c) l w p = tt
+calling gives a t k o s n (suc c) l w p = tt
+calling decides a t k o s n (suc c) l w p = (learnt o n true refl, learnt s c true refl)
+calling rests a t k o s n (suc c) l w p = tt
+calling lies_down a t k o s n (suc c) l w p = (learnt o n true refl, learnt s c true refl)
+calling looks_again a t k o s n (suc c) l w p = (p.0, (learnt o n true refl, learnt s c true refl))
+calling sleeps a t k o s n (suc c) l w p = (p.0, (learnt o n _ (will_wake l k), learnt s c _ (will_wake l k)))
+
+looking : (x : Place) (a t k o s : Bool) (n c l w : ℕ) → Sound (pump x a t k o s n c l w) → Sound (next looks (pump x a t k o s n c l w))
+looking x a t k o s n c zero w p = p
+looking begins true t k o s n c (suc l) w p = tt
+looking begins false t k o s n c (suc l) w p = tt
+looking forgets true t k o s n c (suc l) w p = tt
+looking forgets false t k o s n c (suc l) w p = tt
+looking gives true t k o s n c (suc l) w p = tt
+looking gives false t k o s n c (suc l) w p = tt
+looking decides true t k o s n c (suc l) w p = p
+looking decides false t k o s n c (suc l) w p = p
+looking rests true t k o s n c (suc l) w p = tt
+looking rests false t k o s n c (suc l) w p = tt
+looking lies_down true t k o s n c (suc l) w p = p
+looking lies_down false t k o s n c (suc l) w p = p
+looking looks_again true t k o s n c (suc l) w p = no p.0
+looking looks_again false t k o s n c (suc l) w p = p
+looking sleeps true t k o s n c (suc l) w p = no p.0
+looking sleeps false t k o s n c (suc l) w p = (refl, (learnt o n _ (will_wake l k), learnt s c _ (will_wake l k)))
+
+waking : (x : Place) (a t k o s : Bool) (n c l w : ℕ) → Sound (pump x a t k o s n c l w) → Sound (next wakes (pump x a t k o s n c l w))
+waking x a t k o s n c l zero p = p
+waking begins a t k o s n c l (suc w) p = tt
+waking forgets a t k o s n c l (suc w) p = tt
+waking gives a t k o s n c l (suc w) p = tt
+waking decides a t k o s n c l (suc w) p = p
+waking rests a t k o s n c l (suc w) p = tt
+waking lies_down a t k o s n c l (suc w) p = p
+waking looks_again a t k o s n c l (suc w) p = p
+waking sleeps a t k o s n c l (suc w) p = (p.0, (learnt o n _ (has_token l w), learnt s c _ (has_token l w)))
+
+staying_silent : (x : Place) (a t k o s : Bool) (n c l w : ℕ) → Sound (pump x a t k o s n c l w) → Sound (next keeps_silent (pump x a t k o s n c l w))
+staying_silent x a t k o s zero c l w p = p
+staying_silent begins a t k o s (suc n) c l w p = tt
+staying_silent forgets a t k o s (suc n) c l w p = tt
+staying_silent gives a t k o s (suc n) c l w p = tt
+staying_silent decides a t k o s (suc n) c l w p = (refl, p.1)
+staying_silent rests a t k o s (suc n) c l w p = tt
+staying_silent lies_down a t k o s (suc n) c l w p = (refl, p.1)
+staying_silent looks_again a t k o s (suc n) c l w p = (p.0, (refl, p.1.1))
+staying_silent sleeps a t k o s (suc n) c l w p = (p.0, (refl, p.1.1))
+
+giving : (x : Place) (a t k o s : Bool) (n c l w : ℕ) → Sound (pump x a t k o s n c l w) → Sound (next gives_all (pump x a t k o s n c l w))
+giving begins a t k o s n c l w p = tt
+giving forgets a t k o s n c l w p = tt
+giving gives a t k o s n c l w p = tt
+giving decides a t k o s n c l w p = (refl, p.1)
+giving rests a t k o s n c l w p = tt
+giving lies_down a t k o s n c l w p = (refl, p.1)
+giving looks_again a t k o s n c l w p = (p.0, (refl, p.1.1))
+giving sleeps a t k o s n c l w p = (p.0, (refl, p.1.1))
+
+sound-next : (s : Step) (p : Pump) → Sound p → Sound (next s p)
+sound-next (goes_on b) p = going b p.place p.awake p.told p.token p.owed p.sooner p.telling p.calling p.looking p.waking
+sound-next owes p = owing p.place p.awake p.told p.token p.owed p.sooner p.telling p.calling p.looking p.waking
+sound-next nears p = nearing p.place p.awake p.told p.token p.owed p.sooner p.telling p.calling p.looking p.waking
+sound-next tells p = telling p.place p.awake p.told p.token p.owed p.sooner p.telling p.calling p.looking p.waking
+sound-next calls p = calling p.place p.awake p.told p.token p.owed p.sooner p.telling p.calling p.looking p.waking
+sound-next looks p = looking p.place p.awake p.told p.token p.owed p.sooner p.telling p.calling p.looking p.waking
+sound-next wakes p = waking p.place p.awake p.told p.token p.owed p.sooner p.telling p.calling p.looking p.waking
+sound-next keeps_silent p = staying_silent p.place p.awake p.told p.token p.owed p.sooner p.telling p.calling p.looking p.waking
+sound-next gives_all p = giving p.place p.awake p.told p.token p.owed p.sooner p.telling p.calling p.looking p.waking
+
+sound-run : (steps : List Step) (p : Pump) → Sound p → Sound (fold (λ p s. next s p) p steps)
 sound-run [] p h = h
 sound-run (s ∷ steps) p h = sound-run steps (next s p) (sound-next s p h)
 
-woken : (x : Place) (a t k o : Bool) (n l w : ℕ) → sound (pump x a t k o n l w) ≡ true → is_asleep (pump x a t k o n l w) ≡ true → o ≡ true → 0 < n + (l + w)
-woken begins a t k o n l w h asleep owed = no asleep
-woken forgets a t k o n l w h asleep owed = no asleep
-woken gives a t k o n l w h asleep owed = no asleep
-woken decides a t k o n l w h asleep owed = no asleep
-woken rests a t k o n l w h asleep owed = no asleep
-woken lies_down a t k o n l w h asleep owed = no asleep
-woken looks_again a t k o n l w h asleep owed = no asleep
-woken sleeps a t true o n l w h asleep owed = no asleep
-woken sleeps true t false o n l w h asleep owed = no h
-woken sleeps false t false false n l w h asleep owed = no owed
-woken sleeps false t false true zero zero zero h asleep owed = no h
-woken sleeps false t false true zero zero (suc w) h asleep owed = omega arith
-woken sleeps false t false true zero (suc l) w h asleep owed = omega arith
-woken sleeps false t false true (suc n) l w h asleep owed = omega arith
+-- ---- what follows
+
+woken : (x : Place) (a t k o s : Bool) (n c l w : ℕ) → Sound (pump x a t k o s n c l w) → is_asleep (pump x a t k o s n c l w) ≡ true → (o || s) ≡ true → 0 < n + (c + (l + w))
+woken begins a t k o s n c l w p asleep due = no asleep
+woken forgets a t k o s n c l w p asleep due = no asleep
+woken gives a t k o s n c l w p asleep due = no asleep
+woken decides a t k o s n c l w p asleep due = no asleep
+woken rests a t k o s n c l w p asleep due = no asleep
+woken lies_down a t k o s n c l w p asleep due = no asleep
+woken looks_again a t k o s n c l w p asleep due = no asleep
+woken sleeps a t true o s n c l w p asleep due = no asleep
+woken sleeps a t false o s (suc n) c l w p asleep due = omega arith
+woken sleeps a t false o s zero (suc c) l w p asleep due = omega arith
+woken sleeps a t false o s zero zero (suc l) w p asleep due = omega arith
+woken sleeps a t false o s zero zero zero (suc w) p asleep due = omega arith
+woken sleeps a t false true s zero zero zero zero p asleep due = no p.1.0
+woken sleeps a t false false true zero zero zero zero p asleep due = no p.1.1
+woken sleeps a t false false false zero zero zero zero p asleep due = no due
 
 pub no_pump_oversleeps : NoPumpOversleeps
 no_pump_oversleeps steps =
     let p : Pump = fold (λ p s. next s p) begun steps in
-    woken p.place p.awake p.told p.token p.owed p.telling p.looking p.waking (sound-run steps begun refl)
+    woken p.place p.awake p.told p.token p.owed p.sooner p.telling p.calling p.looking p.waking (sound-run steps begun tt)

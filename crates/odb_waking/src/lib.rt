@@ -6,7 +6,8 @@ ghost use Rattle.odb_waking.specs.Pump.{NoPumpOversleeps};
 
 /// States that no wake-up is lost, whatever the threads do and in which order. The call does nothing.
 pub fn law()
-    // While the pump sleeps and may have something to do, a thread is about to tell it, to look whether it sleeps, or to wake it.
+    // While the pump sleeps and a session is owed something, or a transaction is due sooner than it knows, a thread is about to tell
+    // it, to call it, to look whether it sleeps, or to wake it.
     ensures pump { NoPumpOversleeps }
     // While a session's writer sleeps and a message is in its ring or held back, a thread is about to wake it.
     ensures writer { NoWriterOversleeps }
