@@ -200,12 +200,14 @@ impl Core {
         self.state.round(listed.as_slice())
     }
 
-    /// What `round` gives these sessions, as it is planned: the jobs that are to be composed for it, those that are alike
-    /// once. Nothing is composed, and nothing is taken. O(k log k + k log n) for a list of k sessions, and what deciding
-    /// whether something is sent costs.
+    /// What `round` gives these sessions, as it is planned: the jobs that are to be composed for it, of alike ones mostly one.
+    /// A text that is composed is of the job of what is due to its session, which says what the client was told and what is
+    /// asked, and what stands around the composition is what the protocol has around any table updates there. Nothing is
+    /// composed, and nothing is taken. O(k log k + k log n) for a list of k sessions, and what deciding whether something is
+    /// sent costs.
     pub fn jobs(&self, ready: &[SessionId]) -> Result<Jobs<'_>, AllocError>
         ensures round { IfOk result (λ jobs. AreRoundOf ready.now self.now jobs.takings) }
-        ensures jobs { IfOk result (λ jobs. AreOfJobs jobs.jobs jobs.takings) }
+        ensures jobs { IfOk result (λ jobs. AreOfJobs (book_in self.now.world) jobs.jobs jobs.takings) }
     {
         let listed = once(self.alloc, ready)?;
         self.state.jobs(listed.as_slice())

@@ -496,7 +496,7 @@ impl State {
     pub(crate) fn jobs(&self, listed: &[SessionId]) -> Result<Jobs<'_>, AllocError>
         ensures sessions { IfOk result (λ jobs. sessions_in jobs.takings ≡ listed.now) }
         ensures ready { IfOk result (λ jobs. AreOf (book_in self.entry.now) jobs.takings) }
-        ensures jobs { IfOk result (λ jobs. AreOfJobs jobs.jobs jobs.takings) }
+        ensures jobs { IfOk result (λ jobs. AreOfJobs (book_in self.entry.now) jobs.jobs jobs.takings) }
     {
         self.sessions.jobs(listed)
     }

@@ -3,7 +3,7 @@ use Rattle.std.proofs.Common.{◌≡◌, ℕ, Bool, true, false, cond, not, List
 use Rattle.serde_json.specs.Written.{compact_text}
 use Rattle.std.specs.Prelude.{option_map}
 use Rattle.odb_atoms.specs.Uuid.{Uuid}
-use Rattle.odb_monitor.specs.Job.{Part, updates_of}
+use Rattle.odb_monitor.specs.Job.{Job, Part, updates_of}
 use Rattle.odb_monitor.specs.Update.{table_updates}
 use Rattle.odb_monitor.specs.View.{View, delta, is_none, nothing, query, selected, shown}
 use Rattle.odb_request.specs.Request.{Notation, Request, update, update2}
@@ -12,12 +12,11 @@ use Rattle.odb_rpc.specs.Represented.Shared.{update_method}
 use Rattle.odb_rpc.specs.Since.{update3}
 use Rattle.odb_schema.specs.Json.{Data}
 use Rattle.odb_service.specs.Service.{Service}
-use Rattle.odb_service.specs.Session.{Monitor, Out, Revision, method_of, newest_number, no_request, notified, shapes, told_of}
+use Rattle.odb_service.specs.Session.{Monitor, Revision, method_of, newest_number, notified, shapes}
 use Rattle.odb_sessions.specs.Composed.{asked_of, first_job, first_part, first_updates, later_job, notified_text, part_to}
-use Rattle.odb_sessions.specs.Foreseen.{update_text}
 use Rattle.odb_sessions.specs.Held.{Held, Watched, view_of, watch_of}
-use Rattle.odb_sessions.specs.Planned.{out_of, update_of}
-use Rattle.odb_sessions.proofs.Plans.{update_given}
+use Rattle.odb_sessions.specs.Planned.{update_due}
+use Rattle.odb_sessions.specs.Sending.{due_sending, notifying, parts_between, sent_with, update_sending}
 use Rattle.odb_tables.specs.Database.{Db, table_at}
 
 pub mapped_twice : {A B C : Type 0} (f : B → C) (g : A → B) (xs : List A) → map f (map g xs) ≡ map (λ x. f (g x)) xs
@@ -65,41 +64,45 @@ same_notification h revision x d = by x.since
     by None = ap (λ m. named m None) (same_method h x.notation)
     by (Some v) = refl
 
-either_way : (h : Service) (revision : Revision) (x : Held) (qs : List Request) (V W : View)
-    → option_map (λ (o : Out). o.message) (told_of h revision (watch_of x) qs (shown false qs (delta V W))) ≡ option_map (in_notification (newest_number revision) x) (updates_between x.notation qs V W)
-either_way h revision x qs V W = by (is_none (shown false qs (delta V W)))
-  where
-    body : Data
-    body = table_updates x.notation false (shapes qs) (shown false qs (delta V W))
+-- parts are made of what they have
+pub parts_again : (ps : List Part) → parts_between (map (λ (p : Part). p.request) ps) (map (λ (p : Part). p.told) ps) (map (λ (p : Part). p.asked) ps) ≡ ps
+parts_again [] = refl
+parts_again (p ∷ ps) = ap (λ (qs : List Part). p ∷ qs) (parts_again ps)
 
-    by : (b : Bool)
-        → option_map (λ (o : Out). o.message) (cond b None (Some (record { answers = no_request; message = notified h revision (watch_of x) body; held = None })))
-        ≡ option_map (in_notification (newest_number revision) x) (cond (not b) (Some body) None)
-    by true = refl
-    by false = ap Some (same_notification h revision x body)
-
-option_twice : {A B C : Type 0} (f : B → C) (g : A → B) (o : Option A) → option_map f (option_map g o) ≡ option_map (λ x. f (g x)) o
-option_twice f g None = refl
-option_twice f g (Some x) = refl
-
-abbrev out_text : Out → List ℕ
-out_text o = compact_text o.message
-
-abbrev monitor_so : Held → View → Monitor
+abbrev pub monitor_so : Held → View → Monitor
 monitor_so x V = record { watch = watch_of x; view = V }
 
--- the text of parts that lead from what the client has to what these requests select
+either_way : (h : Service) (revision : Revision) (x : Held) (qs : List Request) (V : View)
+    → (let j : Job = later_job x.notation (parts_between qs V (query revision.db qs)) in
+    option_map (sent_with (notifying (newest_number revision) x j)) (updates_between x.notation qs V (query revision.db qs)) ≡ update_sending h revision qs (monitor_so x V))
+either_way h revision x qs V = by (is_none (shown false qs (delta V (query revision.db qs))))
+  where
+    j : Job
+    j = later_job x.notation (parts_between qs V (query revision.db qs))
+
+    body : Data
+    body = table_updates x.notation false (shapes qs) (shown false qs (delta V (query revision.db qs)))
+
+    said : notified_text (newest_number revision) x ≡ (λ (d : Data). compact_text (notified h revision (watch_of x) d))
+    said = λ i d. compact_text (sym (same_notification h revision x d) i)
+
+    by : (b : Bool)
+        → option_map (sent_with (notifying (newest_number revision) x j)) (cond (not b) (Some body) None)
+        ≡ option_map (due_sending h revision) (cond b None (Some (update_due (monitor_so x V) qs)))
+    by true = refl
+    by false = ap (λ (f : Data → List ℕ). Some (sent_with (record { job = j; text = f }) body)) said
+
+-- what is sent of parts that lead from what the client has to what these requests select
 pub parts_sent : (h : Service) (revision : Revision) (x : Held) (qs : List Request) (V : View) (ps : List Part)
     → map (λ (p : Part). p.request) ps ≡ qs → map (λ (p : Part). p.told) ps ≡ V → map (λ (p : Part). p.asked) ps ≡ query revision.db qs
-    → option_map (notified_text (newest_number revision) x) (updates_of (later_job x.notation ps)) ≡ update_text h revision qs (monitor_so x V)
+    → option_map (sent_with (notifying (newest_number revision) x (later_job x.notation ps))) (updates_of (later_job x.notation ps)) ≡ update_sending h revision qs (monitor_so x V)
 parts_sent h revision x qs V ps asked told now =
     let number : Uuid = newest_number revision in
-    (λ j. option_map (notified_text number x) (updates_between x.notation (asked j) (told j) (now j)))
-    ∙ sym (option_twice compact_text (in_notification number x) (updates_between x.notation qs V (query revision.db qs)))
-    ∙ ap (option_map compact_text) (sym (either_way h revision x qs V (query revision.db qs)))
-    ∙ option_twice compact_text (λ (o : Out). o.message) (told_of h revision (watch_of x) qs (shown false qs (delta V (query revision.db qs))))
-    ∙ ap (option_map out_text) (update_given h revision qs (monitor_so x V))
-    ∙ option_twice out_text (out_of h revision) (update_of h revision.db qs (monitor_so x V))
+    let n : Notation = x.notation in
+    let same : later_job n ps ≡ later_job n (parts_between qs V (query revision.db qs)) = ap (later_job n) (sym (parts_again ps) ∙ (λ j. parts_between (asked j) (told j) (now j))) in
+    (λ j. option_map (sent_with (notifying number x (later_job n ps))) (updates_between n (asked j) (told j) (now j)))
+    ∙ ap (λ (k : Job). option_map (sent_with (notifying number x k)) (updates_between n qs V (query revision.db qs))) same
+    ∙ either_way h revision x qs V
 
 -- ---- first replies
 

@@ -7,10 +7,11 @@ use Rattle.odb_schema.specs.Schema.{Schema}
 use Rattle.odb_service.specs.Server.{served_by}
 use Rattle.odb_service.specs.Session as machine
 use Rattle.odb_service.specs.Session.{Monitor, Revision, leaves}
-use Rattle.odb_sessions.specs.Foreseen.{due_text, finished_text, last_used}
+use Rattle.odb_sessions.specs.Foreseen.{finished_text, last_used}
 use Rattle.odb_sessions.specs.Held.{item_seen, marks_due}
 use Rattle.odb_sessions.specs.Planned.{Due, Plan, due, from_item, plan_from, plan_rest}
 use Rattle.odb_sessions.specs.Represented.Queued.{queued_of}
+use Rattle.odb_sessions.specs.Sending.{due_sending, finished}
 use Rattle.odb_sessions.specs.Tied.{AreLive}
 use Rattle.odb_sessions.specs.declared.item.Item.{Item}
 use Rattle.odb_sessions.proofs.Releases.{live-left, live-right}
@@ -83,7 +84,7 @@ finished_due s db (machine.shift i fs) ms e = absurd (true≢false (sym e))
 finished_due s db (machine.renamed d old new fs) ms e = refl
 finished_due s db (machine.stopped d i) ms e = refl
 
-finished_says : (s : Schema) (revision : Revision) (i : machine.Item) (ms : List Monitor) → is_some (finished_text i) ≡ true → finished_text i ≡ option_map (due_text (served_by s) revision) (due (served_by s) revision.db i ms)
+finished_says : (s : Schema) (revision : Revision) (i : machine.Item) (ms : List Monitor) → is_some (finished_text i) ≡ true → option_map finished (finished_text i) ≡ option_map (due_sending (served_by s) revision) (due (served_by s) revision.db i ms)
 finished_says s revision (machine.say a d) ms e = refl
 finished_says s revision (machine.start d k) ms e = absurd (true≢false (sym e))
 finished_says s revision (machine.sync i) ms e = absurd (true≢false (sym e))
@@ -105,11 +106,11 @@ module _ (s : Schema) (revision : Revision) (ms : List Monitor) where
   first_monitors xs x low at e = sym (ap (λ (p : Plan). p.monitors) (first_plan xs x low at e))
 
   pub first_text : (xs : List Item) (x : Item) → 0 < length xs → x ≡ slice_index_or xs 0 x → is_some (finished_text (seen_item x)) ≡ true
-      → option_and_then finished_text (last_used 1 (all_seen xs)) ≡ option_map (due_text (served_by s) revision) (plan_at s revision.db xs ms).out
+      → option_map finished (option_and_then finished_text (last_used 1 (all_seen xs))) ≡ option_map (due_sending (served_by s) revision) (plan_at s revision.db xs ms).out
   first_text [] x low at e = absurd (omega (arith, low))
   first_text (y ∷ ys) x low at e =
-      ap (λ z. finished_text (seen_item z)) (sym at) ∙ finished_says s revision (seen_item x) ms e
-      ∙ sym (ap (λ (p : Plan). option_map (due_text (served_by s) revision) p.out) (first_plan (y ∷ ys) x low at e))
+      ap (λ z. option_map finished (finished_text (seen_item z))) (sym at) ∙ finished_says s revision (seen_item x) ms e
+      ∙ sym (ap (λ (p : Plan). option_map (due_sending (served_by s) revision) p.out) (first_plan (y ∷ ys) x low at e))
 
 -- ---- items by their places
 

@@ -1,7 +1,6 @@
 -- The first reply to who named a commit is the machine's: what changed since is what leads from the content that the commit made.
 use Rattle.std.proofs.Common.{◌≡◌, ℕ, ◌<◌, ◌≤◌, true, false, List, [], ◌∷◌, drop, is_some, length, map, slice_get, take, Option, Some, None, refl, sym, ap, subst, ◌∙◌}
 use Rattle.std.specs.Prelude.{IfSome, option_and_then, option_map}
-use Rattle.serde_json.specs.Written.{compact_text}
 use Rattle.odb_atoms.specs.Uuid.{Uuid}
 use Rattle.odb_chain.specs.Chains.{Chains}
 use Rattle.odb_monitor.specs.Job.{Part, updates_of}
@@ -12,21 +11,20 @@ use Rattle.odb_recent.specs.Recent.{Recent, commits_ago, number_of}
 use Rattle.odb_recent.specs.Undo.{Undo, table_ago}
 use Rattle.odb_recent.proofs.Undoing.{contents_are_there, tables_are_those_of_contents}
 use Rattle.odb_request.specs.Request.{Notation, Request}
-use Rattle.odb_rpc.specs.Message.{reply}
 use Rattle.odb_rpc.specs.Since.{since_result}
 use Rattle.odb_schema.specs.Json.{Data}
 use Rattle.odb_service.specs.Service.{Service}
 use Rattle.odb_service.specs.Session as machine
-use Rattle.odb_service.specs.Session.{Watch, first_out, shapes}
+use Rattle.odb_service.specs.Session.{Watch, shapes}
 use Rattle.odb_sessions.specs.Book.{revision_at}
-use Rattle.odb_sessions.specs.Composed.{AreTheirs, asked_of, first_updates, part_since, result_since, resumed_job, resumed_updates, text_since}
+use Rattle.odb_sessions.specs.Composed.{AreTheirs, asked_of, part_since, resumed_job, resumed_updates}
 use Rattle.odb_sessions.specs.Held.{Held, Watched, table_marks, watch_of}
-use Rattle.odb_sessions.specs.Jobs.{composition}
+use Rattle.odb_sessions.specs.Planned.{first_due}
+use Rattle.odb_sessions.specs.Sending.{Sending, due_sending, first_job_to, parts_between, replying, sending_ago, sending_since, sent_with, whole_sending}
 use Rattle.odb_sessions.specs.Tied.{AreLive}
-use Rattle.odb_sessions.proofs.Composed.{mapped_same, mapped_twice}
+use Rattle.odb_sessions.proofs.Composed.{mapped_same, mapped_twice, parts_again}
 use Rattle.odb_sessions.proofs.Counted.{stands_inside}
 use Rattle.odb_tables.specs.Database.{Db, table_at}
-use Rattle.odb_wire.specs.Message.{id_of}
 
 -- ---- what is composed
 
@@ -41,11 +39,13 @@ since_now : (us : List Undo) (db : Db) (qs : List Request) → map (λ (p : Part
 since_now us db qs = mapped_twice (λ (p : Part). p.asked) (part_since us db) qs
 
 -- something is always sent
-resumed_composed : (us : List Undo) (db : Db) (n : Notation) (qs : List Request) → updates_of (resumed_job us db n qs) ≡ Some (resumed_updates us db n qs)
+pub resumed_composed : (us : List Undo) (db : Db) (n : Notation) (qs : List Request) → updates_of (resumed_job us db n qs) ≡ Some (resumed_updates us db n qs)
 resumed_composed us db n qs = λ j. Some (table_updates n false (shapes (since_asked us db qs j)) (shown false (since_asked us db qs j) (delta (since_told us db qs j) (since_now us db qs j))))
 
-pub resumed_composition : (us : List Undo) (db : Db) (n : Notation) (qs : List Request) → composition (resumed_job us db n qs) ≡ Some (compact_text (resumed_updates us db n qs))
-resumed_composition us db n qs = ap (option_map compact_text) (resumed_composed us db n qs)
+-- the parts, by the view that the client has
+since_parts : (us : List Undo) (db : Db) (qs : List Request)
+    → map (part_since us db) qs ≡ parts_between qs (map (λ (q : Request). selected q (table_ago q.place us (table_at db q.place))) qs) (query db qs)
+since_parts us db qs = sym (parts_again (map (part_since us db) qs)) ∙ (λ j. parts_between (since_asked us db qs j) (since_told us db qs j) (since_now us db qs j))
 
 -- ---- the content that a commit made
 
@@ -80,30 +80,47 @@ module _ (h : Service) (r : Recent) (k : Chains) (d : Data) (x : Held) where
   abbrev naming : Option Uuid → Watch
   naming o = record (watch_of x) { since = o }
 
-  abbrev text_naming : Option Uuid → List ℕ
-  text_naming o = compact_text (first_out h (revision_at k r) d (naming o)).message
+  abbrev sending_naming : Option Uuid → Sending
+  sending_naming o = due_sending h (revision_at k r) (first_due d (naming o))
 
   -- no commit was named
-  pub whole_text : x.since ≡ None → compact_text (reply (id_of d) (first_updates k.db x.notation (asked_of x.tables))) ≡ text_naming x.since
-  whole_text none = sym (ap text_naming none)
+  pub whole_is : x.since ≡ None → whole_sending k.db d x ≡ sending_naming x.since
+  whole_is none = sym (ap sending_naming none)
+
+  abbrev requests : List Request
+  requests = asked_of x.tables
 
   -- the views of the content that was found, if one was
   abbrev held : Option Db → Option View
-  held o = option_map (λ db. query db (asked_of x.tables)) o
+  held o = option_map (λ db. query db requests) o
 
-  abbrev text_to : Option Db → List ℕ
-  text_to o = compact_text (reply (id_of d) (since_result (is_some (held o)) (number_of r.run r.commits) (machine.first_updates h (watch_of x) (held o) (query k.db (asked_of x.tables)))))
+  -- the reply to a client that has what the monitor selected of this content, if one was found
+  abbrev sending_to : Option Db → Sending
+  sending_to o =
+      sent_with (replying d (since_result (is_some (held o)) (number_of r.run r.commits)) (first_job_to k.db (watch_of x) (held o)))
+      (machine.first_updates h (watch_of x) (held o) (query k.db requests))
 
   abbrev IsKeptAgo : ℕ → Type 0
   IsKeptAgo ago = ago ≤ length r.undos
 
-  pub text_is : (v : Uuid) → x.since ≡ Some v → IfSome (commits_ago r.most r.run r.commits v) IsKeptAgo → AreThere k.db x.tables → text_since r k d x v ≡ text_naming x.since
-  text_is v some few there = by (commits_ago r.most r.run r.commits v) few ∙ sym (ap text_naming some)
+  pub since_is : (v : Uuid) → x.since ≡ Some v → IfSome (commits_ago r.most r.run r.commits v) IsKeptAgo → AreThere k.db x.tables → sending_since r k.db d x v ≡ sending_naming x.since
+  since_is v some few there = by (commits_ago r.most r.run r.commits v) few ∙ sym (ap sending_naming some)
     where
+      number : Uuid
+      number = number_of r.run r.commits
+
+      -- what the client was told by then, as the machine has it
+      told : (ago : ℕ) → ago ≤ length r.undos
+          → map (λ (q : Request). selected q (table_ago q.place (take ago r.undos) (table_at k.db q.place))) requests ≡ query (content_ago k.db r.undos ago) requests
+      told ago few = selected_ago k.db r.undos ago x.tables few there
+
+      parts : (ago : ℕ) → ago ≤ length r.undos → map (part_since (take ago r.undos) k.db) requests ≡ parts_between requests (query (content_ago k.db r.undos ago) requests) (query k.db requests)
+      parts ago few = since_parts (take ago r.undos) k.db requests ∙ ap (λ V. parts_between requests V (query k.db requests)) (told ago few)
+
       by : (o : Option ℕ) → IfSome o IsKeptAgo
-          → compact_text (reply (id_of d) (result_since r k.db x o)) ≡ text_to (option_and_then (λ ago. slice_get (k.db ∷ drop 1 (kept_of k.db r.undos)) ago) o)
+          → sending_ago r k.db d x o ≡ sending_to (option_and_then (λ ago. slice_get (k.db ∷ drop 1 (kept_of k.db r.undos)) ago) o)
       by None few = refl
       by (Some ago) few =
-          (λ j. compact_text (reply (id_of d) (since_result true (number_of r.run r.commits)
-          (table_updates x.notation false (shapes (asked_of x.tables)) (shown false (asked_of x.tables) (delta (selected_ago k.db r.undos ago x.tables few there j) (query k.db (asked_of x.tables))))))))
-          ∙ ap text_to (sym (content_there k.db r.undos ago few))
+          (λ j. sent_with (replying d (since_result true number) (record { notation = x.notation; first = false; reply = true; parts = parts ago few j }))
+          (table_updates x.notation false (shapes requests) (shown false requests (delta (told ago few j) (query k.db requests)))))
+          ∙ ap sending_to (sym (content_there k.db r.undos ago few))

@@ -1,13 +1,24 @@
 -- Takings that are planned, with the bodies of their messages.
-use Rattle.std.proofs.Common.{◌≡◌, ◌++◌, ℕ, suc, slice_get, Option, Some, None, List, [], ◌∷◌, length, map, refl, sym, ap, append_assoc, ◌∙◌}
-use Rattle.std.specs.Prelude.{option_and_then}
+use Rattle.std.proofs.Common.{◌≡◌, ◌++◌, suc, slice_get, Option, Some, None, List, [], ◌∷◌, length, map, refl, sym, ap, append_assoc, ◌∙◌}
+use Rattle.std.specs.Prelude.{option_and_then, option_map}
 use Rattle.std.proofs.lemmas.List.{map-append}
-use Rattle.std.proofs.lemmas.Option.{none-some}
-use Rattle.odb_monitor.specs.Job.{Job}
-use Rattle.odb_sessions.specs.Jobs.{AreOfJobs, IsOfJob, composition, composition_at}
+use Rattle.std.proofs.lemmas.Option.{none-some, same_Some}
+use Rattle.serde_json.specs.Written.{compact_text}
+use Rattle.odb_atoms.specs.FinMap.{get}
+use Rattle.odb_monitor.specs.Job.{Job, updates_of}
+use Rattle.odb_schema.specs.Json.{Data}
+use Rattle.odb_schema.specs.Schema.{Schema}
+use Rattle.odb_service.specs.Server.{served_by}
+use Rattle.odb_service.specs.Session.{Item, Revision, Session}
+use Rattle.odb_sessions.specs.Book.{Book, revision_in}
+use Rattle.odb_sessions.specs.Jobs.{AreMadeOf, IsOfJob, composition}
+use Rattle.odb_sessions.specs.Planned.{Due, plan}
+use Rattle.odb_sessions.specs.Represented.Composed.{framing}
 use Rattle.odb_sessions.specs.Represented.Ready.{pending_of}
-use Rattle.odb_sessions.specs.Represented.Taking.{pending_by, text_around, text_planned}
+use Rattle.odb_sessions.specs.Represented.Taking.{coming_sending, pending_by, text_around, text_planned}
+use Rattle.odb_sessions.specs.Sending.{Framed, Sending, due_sending, framed_due, sent_with}
 use Rattle.odb_sessions.specs.Taken.{Pending, sessions_in}
+use Rattle.odb_sessions.specs.declared.composing.Message.{Message}
 use Rattle.odb_sessions.specs.declared.jobs.Planned.{Planned}
 use Rattle.odb_sessions.specs.declared.ready.Ready.{Ready}
 use Rattle.odb_sessions.specs.declared.taking.Coming.{Coming}
@@ -34,21 +45,36 @@ length_mapped f (x ∷ xs) = ap suc (length_mapped f xs)
 pub as_many_ready : (js : List Job) (rs : List Ready) (ps : List Planned) → map pending_of rs ≡ map (pending_by js) ps → length rs ≡ length ps
 as_many_ready js rs ps same = sym (length_mapped pending_of rs) ∙ ap length same ∙ length_mapped (pending_by js) ps
 
--- what is composed at a place is composed of the job there
-found_job : (js : List Job) (n : ℕ) (text : List ℕ) (o : Option Job) → slice_get js n ≡ o → option_and_then composition o ≡ Some text → (k : ℕ) × (j : Job) × (slice_get js k ≡ Some j) × (composition j ≡ Some text)
-found_job js n text None at e = absurd (none-some text e)
-found_job js n text (Some j) at e = (n, j, at, e)
+-- ---- what is composed is what is due
 
--- each message that is planned names its job
-around_job : (js : List Job) (before after : List ℕ) (n : ℕ) (o : Option (List ℕ)) → composition_at js n ≡ o → IsOfJob js (text_around before o after)
-around_job js before after n None e = tt
-around_job js before after n (Some text) e = found_job js n text (slice_get js n) refl e
+module _ (s : Schema) (revision : Revision) (js : List Job) (x : Session) (m : Message) where
+  abbrev due_out : Option Due
+  due_out = (plan (served_by s) revision.db x).out
 
-of_job : (js : List Job) (c : Option Coming) → IsOfJob js (text_planned js c)
-of_job js None = tt
-of_job js (Some Queued) = tt
-of_job js (Some (Composed m)) = around_job js m.before.items m.after.items m.job (composition_at js m.job) refl
+  -- what is due is composed so
+  framed_is : (o : Option Due) (f : Framed) (d : Data) → Some (sent_with f d) ≡ option_map (due_sending (served_by s) revision) o → option_and_then (framed_due (served_by s) revision) o ≡ Some f
+  framed_is None f d e = absurd (none-some (sent_with f d) (sym e))
+  framed_is (Some due) f d e = sym (ap (λ (y : Sending). y.framed) (same_Some (sent_with f d) (due_sending (served_by s) revision due) e))
 
-pub of_jobs : (js : List Job) (ps : List Planned) → AreOfJobs js (map (pending_by js) ps)
-of_jobs js [] = tt
-of_jobs js (p ∷ ps) = (of_job js p.taking.coming, of_jobs js ps)
+  of_updates : (j : Job) (o : Option Data) → slice_get js m.job ≡ Some j → updates_of j ≡ o → option_map (sent_with (framing m j)) o ≡ option_map (due_sending (served_by s) revision) due_out
+      → IsOfJob s revision js (Some x) (text_around m.before.items (option_map compact_text o) m.after.items)
+  of_updates j None at is e = tt
+  of_updates j (Some d) at is e = (m.job, j, at, ap (option_map compact_text) is, framed_is due_out (framing m j) d e)
+
+  of_message : (o : Option Job) → slice_get js m.job ≡ o
+      → option_and_then (λ (j : Job). option_map (sent_with (framing m j)) (updates_of j)) o ≡ option_map (due_sending (served_by s) revision) due_out
+      → IsOfJob s revision js (Some x) (text_around m.before.items (option_and_then composition o) m.after.items)
+  of_message None at e = tt
+  of_message (Some j) at e = of_updates j (updates_of j) at refl e
+
+-- what comes to a session, where what is sent is what is due to it
+pub made_of : (s : Schema) (revision : Revision) (js : List Job) (x : Session) (c : Option Coming) (last : Option Item)
+    → coming_sending js c last ≡ option_map (due_sending (served_by s) revision) (plan (served_by s) revision.db x).out → IsOfJob s revision js (Some x) (text_planned js c)
+made_of s revision js x None last e = tt
+made_of s revision js x (Some Queued) last e = tt
+made_of s revision js x (Some (Composed m)) last e = of_message s revision js x m (slice_get js m.job) refl e
+
+-- one more is composed so
+pub made-append : (s : Schema) (b : Book) (js : List Job) (ps : List Pending) (p : Pending) → AreMadeOf s b js ps → IsOfJob s (revision_in b) js (get b.sessions p.0) p.1.text → AreMadeOf s b js (ps ++ p ∷ [])
+made-append s b js [] p h k = (k, tt)
+made-append s b js (q ∷ ps) p h k = (h.0, made-append s b js ps p h.1 k)

@@ -1,26 +1,28 @@
--- Jobs by their places, in lists that grow.
+-- Jobs by their places, in lists that grow, and what is sent of them.
 use Rattle.std.proofs.Common.{◌≡◌, ◌<◌, ℕ, zero, suc, arith, ◌++◌, true, false, List, [], ◌∷◌, is_some, length, map, slice_get, slice_index_or, Option, Some, None, refl, sym, ap, ◌∙◌, true≢false}
 use Rattle.std.specs.List.{All}
 use Rattle.std.specs.Prelude.{option_and_then, option_map}
 use Rattle.std.proofs.lemmas.List.{length-map}
 use Rattle.std.proofs.lemmas.Option.{none-some, same_Some}
 use Rattle.serde_json.specs.Written.{compact_text}
-use Rattle.odb_atoms.specs.Uuid.{Uuid}
 use Rattle.odb_chain.specs.Chains.{Chains}
 use Rattle.odb_monitor.specs.Job.{Job, updates_of}
-use Rattle.odb_request.specs.Request.{Notation, Request}
 use Rattle.odb_schema.specs.Json.{Data}
 use Rattle.odb_service.specs.Session.{Item}
-use Rattle.odb_tables.specs.Database.{Db}
 use Rattle.odb_sessions.specs.Alike.{AreAlike}
-use Rattle.odb_sessions.specs.Composed.{first_job, first_updates, notified_text, updates_for}
+use Rattle.odb_sessions.specs.Composed.{owed_job}
+use Rattle.odb_sessions.specs.Foreseen.{finished_text}
 use Rattle.odb_sessions.specs.Held.{Held, marks_in}
-use Rattle.odb_sessions.specs.Jobs.{Decision, IsDecided, IsFor, Keeps, certainly, composition, composition_at}
-use Rattle.odb_sessions.specs.Represented.Taking.{text_around}
+use Rattle.odb_sessions.specs.Jobs.{Decision, IsDecided, IsFor, Keeps, certainly, composition, composition_at, if_sent}
+use Rattle.odb_sessions.specs.Represented.Composed.{IsFrame, framing, sending_under}
+use Rattle.odb_sessions.specs.Represented.Taking.{coming_sending, text_around, text_planned}
+use Rattle.odb_sessions.specs.Sending.{Sending, finished, sent_with}
 use Rattle.odb_sessions.specs.Taken.{text_from, whole_text}
 use Rattle.odb_sessions.specs.Tied.{AreLive}
-use Rattle.odb_sessions.proofs.Composed.{first_composed}
-use Rattle.odb_sessions.proofs.SameUpdates.{same_updates}
+use Rattle.odb_sessions.specs.declared.composing.Message.{Message}
+use Rattle.odb_sessions.specs.declared.taking.Coming.{Coming}
+use Rattle.odb_sessions.specs.declared.taking.Coming.TheVariants.{Composed, Queued}
+use Rattle.odb_sessions.proofs.SameUpdates.{same_owed}
 
 -- ---- lists that keep their jobs
 
@@ -63,54 +65,58 @@ found_at (y ∷ xs) (suc n) x low at = found_at xs n x (omega (arith, low)) at
 -- ---- places
 
 -- nothing is sent
-none_composed : (o : Option Data) → is_some o ≡ false → None ≡ option_map certainly (option_map compact_text o)
-none_composed None none = refl
-none_composed (Some d) none = absurd (true≢false none)
+none_sent : (j : Job) (o : Option Data) → is_some o ≡ false → None ≡ option_map certainly (option_map (λ (u : Data). j) o)
+none_sent j None none = refl
+none_sent j (Some d) none = absurd (true≢false none)
 
 -- something is sent
-some_composed : (o : Option Data) → is_some o ≡ true → Some (option_map compact_text o) ≡ option_map certainly (option_map compact_text o)
-some_composed None some = absurd (true≢false (sym some))
-some_composed (Some d) some = refl
+some_sent : (j : Job) (o : Option Data) → is_some o ≡ true → Some (Some j) ≡ option_map certainly (option_map (λ (u : Data). j) o)
+some_sent j None some = absurd (true≢false (sym some))
+some_sent j (Some d) some = refl
 
-pub none_for : (js : List Job) (j : Job) → is_some (updates_of j) ≡ false → IsFor js (composition j) None
-none_for js j none all kept = none_composed (updates_of j) none
+pub none_for : (js : List Job) (j : Job) → is_some (updates_of j) ≡ false → IsFor js (if_sent j) None
+none_for js j none all kept = none_sent j (updates_of j) none
 
-pub placed_at : (js : List Job) (j : Job) (n : ℕ) → slice_get js n ≡ Some j → (all : List Job) → Keeps js all → composition_at all n ≡ composition j
-placed_at js j n at all kept = ap (option_and_then composition) (kept n j at)
-
-pub some_for : (js : List Job) (j : Job) (n : ℕ) → slice_get js n ≡ Some j → is_some (updates_of j) ≡ true → IsFor js (composition j) (Some n)
-some_for js j n at some all kept = ap (λ (o : Option (List ℕ)). Some o) (placed_at js j n at all kept) ∙ some_composed (updates_of j) some
+pub some_for : (js : List Job) (j : Job) (n : ℕ) → slice_get js n ≡ Some j → is_some (updates_of j) ≡ true → IsFor js (if_sent j) (Some n)
+some_for js j n at some all kept = ap (λ (o : Option Job). Some o) (kept n j at) ∙ some_sent j (updates_of j) some
 
 -- a place is for the same in a list that keeps the jobs
-pub still_for : (a b : List Job) (text : Option (List ℕ)) (place : Option ℕ) → Keeps a b → IsFor a text place → IsFor b text place
-still_for a b text place kept was all more = was all (keeps_on a b all kept more)
+pub still_for : (a b : List Job) (job : Option Job) (place : Option ℕ) → Keeps a b → IsFor a job place → IsFor b job place
+still_for a b job place kept was all more = was all (keeps_on a b all kept more)
 
 pub still_decided : (k : Chains) (a b : List Job) (ds : List Decision) → Keeps a b → All (IsDecided k a) ds → All (IsDecided k b) ds
 still_decided k a b ds kept was i d low = again (slice_index_or ds i d) (was i d low)
   where
     again : (x : Decision) → IsDecided k a x → IsDecided k b x
-    again x h = (h.0, still_for a b (updates_for k.db x.held) x.place kept h.1)
+    again x h = (h.0, still_for a b (if_sent (owed_job k.db x.held)) x.place kept h.1)
 
 -- what was decided for a monitor serves each that is alike
-pub serves_for : (k : Chains) (js : List Job) (d : Decision) (y : Held) → AreAlike d.held y → IsDecided k js d → AreLive k (marks_in y) → IsFor js (updates_for k.db y) d.place
-serves_for k js d y alike decided live all kept = decided.1 all kept ∙ ap (option_map certainly) (same_updates k d.held y alike decided.0 live)
+pub serves_for : (k : Chains) (js : List Job) (d : Decision) (y : Held) → AreAlike d.held y → IsDecided k js d → AreLive k (marks_in y) → IsFor js (if_sent (owed_job k.db y)) d.place
+serves_for k js d y alike decided live all kept = decided.1 all kept ∙ ap (λ (j : Job). option_map certainly (if_sent j)) (same_owed k d.held y alike decided.0 live)
 
 -- ---- messages
 
+-- what is sent by a message of the job that stands at its place
+pub sent_by : (all : List Job) (m : Message) (n : ℕ) (text : Data → List ℕ) (j : Job) (d : Data) → IsFrame m n text → slice_get all n ≡ Some j → updates_of j ≡ Some d
+    → sending_under all m ≡ Some (sent_with (record { job = j; text = text }) d)
+sent_by all m n text j d frame at is =
+    let around : (λ (u : Data). whole_text m.before.items (compact_text u) m.after.items) ≡ text = λ i u. frame.1 u i in
+    ap (λ (k : ℕ). option_and_then (λ (i : Job). option_map (sent_with (framing m i)) (updates_of i)) (slice_get all k)) frame.0
+    ∙ ap (option_and_then (λ (i : Job). option_map (sent_with (framing m i)) (updates_of i))) at
+    ∙ ap (option_map (sent_with (framing m j))) is
+    ∙ ap (λ (f : Data → List ℕ). Some (sent_with (record { job = j; text = f }) d)) around
+
 -- nothing is told
-pub none_told : (number : Uuid) (x : Held) (o : Option Data) → None ≡ option_map certainly (option_map compact_text o) → None ≡ option_map certainly (option_map (notified_text number x) o)
-none_told number x None e = refl
-none_told number x (Some d) e = absurd (none-some (certainly (compact_text d)) e)
+pub none_told : (j : Job) (f : Data → Sending) (o : Option Data) → None ≡ option_map certainly (option_map (λ (u : Data). j) o) → None ≡ option_map certainly (option_map f o)
+none_told j f None e = refl
+none_told j f (Some d) e = absurd (none-some (certainly j) e)
 
--- this is told, with this text around it
-pub some_told : (number : Uuid) (x : Held) (body text : Option (List ℕ)) (o : Option Data) → Some body ≡ option_map certainly (option_map compact_text o)
-    → ((d : Data) → body ≡ Some (compact_text d) → text ≡ Some (notified_text number x d)) → Some text ≡ option_map certainly (option_map (notified_text number x) o)
-some_told number x body text None e around = absurd (none-some body (sym e))
-some_told number x body text (Some d) e around = ap (λ (t : Option (List ℕ)). Some t) (around d (same_Some body (certainly (compact_text d)) e))
-
--- what is composed of the job of a first reply
-pub first_composition : (db : Db) (n : Notation) (qs : List Request) → composition (first_job db n qs) ≡ Some (compact_text (first_updates db n qs))
-first_composition db n qs = ap (option_map compact_text) (first_composed db n qs)
+-- the job at the place is told, with this text around what is composed of it
+pub some_told : (all : List Job) (m : Message) (n : ℕ) (text : Data → List ℕ) (j : Job) → IsFrame m n text → (o : Option Data) → updates_of j ≡ o
+    → Some (slice_get all n) ≡ option_map certainly (option_map (λ (u : Data). j) o)
+    → Some (sending_under all m) ≡ option_map certainly (option_map (sent_with (record { job = j; text = text })) o)
+some_told all m n text j frame None is e = absurd (none-some (slice_get all n) (sym e))
+some_told all m n text j frame (Some d) is e = ap (λ (o : Option Sending). Some o) (sent_by all m n text j d frame (same_Some (slice_get all n) (certainly j) e) is)
 
 -- ---- bodies
 
@@ -132,18 +138,41 @@ pub around_text : (before after : List ℕ) (body : Option (List ℕ)) (last : O
 around_text before after None last = refl
 around_text before after (Some t) last = refl
 
--- a message that is told has a text
-pub told_text : {A : Type 0} (f : A → Option (List ℕ)) (m : Option A) (text : Option (List ℕ)) → option_map f m ≡ option_map certainly text → option_and_then f m ≡ text
-told_text f None None e = refl
-told_text f None (Some t) e = absurd (none-some (certainly t) e)
-told_text f (Some m) None e = absurd (none-some (f m) (sym e))
-told_text f (Some m) (Some t) e = same_Some (f m) (certainly t) e
+-- what is sent by a message that is told
+pub told_sending : {A B : Type 0} (f : A → Option B) (m : Option A) (x : Option B) → option_map f m ≡ option_map certainly x → option_and_then f m ≡ x
+told_sending f None None e = refl
+told_sending f None (Some t) e = absurd (none-some (certainly t) e)
+told_sending f (Some m) None e = absurd (none-some (f m) (sym e))
+told_sending f (Some m) (Some t) e = same_Some (f m) (certainly t) e
 
-pub is_told : {A : Type 0} (f : A → Option (List ℕ)) (m : Option A) (text : Option (List ℕ)) → option_map f m ≡ option_map certainly text → is_some (option_and_then f m) ≡ is_some m
-is_told f None text e = refl
+pub is_told : {A B : Type 0} (f : A → Option B) (m : Option A) (x : Option B) → option_map f m ≡ option_map certainly x → is_some (option_and_then f m) ≡ is_some m
+is_told f None x e = refl
 is_told f (Some m) None e = absurd (none-some (f m) (sym e))
 is_told f (Some m) (Some t) e = ap is_some (same_Some (f m) (certainly t) e)
 
--- it is told, too, by what its text is
-pub still_told : {A : Type 0} (f : A → Option (List ℕ)) (m : Option A) (text other : Option (List ℕ)) → option_map f m ≡ option_map certainly text → option_and_then f m ≡ other → option_map f m ≡ option_map certainly other
-still_told f m text other e same = e ∙ ap (option_map certainly) (sym (told_text f m text e) ∙ same)
+-- it is told, too, by what is sent by it
+pub still_told : {A B : Type 0} (f : A → Option B) (m : Option A) (x other : Option B) → option_map f m ≡ option_map certainly x → option_and_then f m ≡ other → option_map f m ≡ option_map certainly other
+still_told f m x other e same = e ∙ ap (option_map certainly) (sym (told_sending f m x e) ∙ same)
+
+-- ---- what comes
+
+-- the text of what is sent
+pub text_comes : (js : List Job) (c : Option Coming) (last : Option Item) → text_from (text_planned js c) last ≡ option_map (λ (x : Sending). x.text) (coming_sending js c last)
+text_comes js None last = refl
+text_comes js (Some Queued) last = by (option_and_then finished_text last)
+  where
+    by : (o : Option (List ℕ)) → o ≡ option_map (λ (x : Sending). x.text) (option_map finished o)
+    by None = refl
+    by (Some t) = refl
+text_comes js (Some (Composed m)) last =
+    around_text m.before.items m.after.items (composition_at js m.job) last
+    ∙ by (slice_get js m.job)
+  where
+    one : (j : Job) (o : Option Data) → option_map (λ t. whole_text m.before.items t m.after.items) (option_map compact_text o) ≡ option_map (λ (x : Sending). x.text) (option_map (sent_with (framing m j)) o)
+    one j None = refl
+    one j (Some d) = refl
+
+    by : (o : Option Job) → option_map (λ t. whole_text m.before.items t m.after.items) (option_and_then composition o)
+        ≡ option_map (λ (x : Sending). x.text) (option_and_then (λ (j : Job). option_map (sent_with (framing m j)) (updates_of j)) o)
+    by None = refl
+    by (Some j) = one j (updates_of j)

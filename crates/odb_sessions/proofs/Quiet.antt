@@ -11,10 +11,10 @@ use Rattle.odb_service.specs.Service.{Service}
 use Rattle.odb_service.specs.Session.{Monitor, Out, Revision, brought, update_to}
 use Rattle.odb_service.proofs.WhatIsOwed.{all_owe_nothing}
 use Rattle.odb_sessions.specs.Composed.{AreNow}
-use Rattle.odb_sessions.specs.Foreseen.{due_text, update_text}
 use Rattle.odb_sessions.specs.Held.{Held, Watched, monitor_of, view_of, watch_of}
 use Rattle.odb_sessions.specs.Planned.{Due, out_of, update_of}
 use Rattle.odb_sessions.specs.Represented.Told.{told_under}
+use Rattle.odb_sessions.specs.Sending.{due_sending, update_sending}
 use Rattle.odb_sessions.proofs.Composed.{mapped_twice}
 use Rattle.odb_sessions.proofs.Plans.{update_given}
 use Rattle.odb_tables.specs.Database.{Db, table_at}
@@ -45,8 +45,8 @@ nothing_sent h revision x same =
     let qs : List Request = (watch_of x).requests in
     ap (λ (n : Monitor). update_to h revision qs n) (brought_same h revision.db x same) ∙ no_more (update_to h revision qs (brought h revision.db qs m)) (all_owe_nothing h revision (m ∷ []))
 
-pub quiet : (h : Service) (revision : Revision) (x : Held) → AreNow revision.db x.tables → None ≡ update_text h revision (watch_of x).requests (monitor_of x)
+pub quiet : (h : Service) (revision : Revision) (x : Held) → AreNow revision.db x.tables → None ≡ update_sending h revision (watch_of x).requests (monitor_of x)
 quiet h revision x same =
     let m : Monitor = monitor_of x in
     let qs : List Request = (watch_of x).requests in
-    sym (ap (option_map (due_text h revision)) (nothing_due (out_of h revision) (update_of h revision.db qs m) (sym (update_given h revision qs m) ∙ nothing_sent h revision x same)))
+    sym (ap (option_map (due_sending h revision)) (nothing_due (out_of h revision) (update_of h revision.db qs m) (sym (update_given h revision qs m) ∙ nothing_sent h revision x same)))

@@ -8,9 +8,10 @@ use Rattle.odb_request.specs.Request.{Request}
 use Rattle.odb_service.specs.Service.{Service}
 use Rattle.odb_service.specs.Session.{Monitor, Revision, refilter}
 use Rattle.odb_tables.specs.Database.{Db}
-use Rattle.odb_sessions.specs.Foreseen.{Ahead, due_text, seen_ahead, update_text}
+use Rattle.odb_sessions.specs.Foreseen.{Ahead, seen_ahead}
 use Rattle.odb_sessions.specs.Held.{watch_of}
 use Rattle.odb_sessions.specs.Planned.{Due, Plan, from_monitor, plan_rest, update_of}
+use Rattle.odb_sessions.specs.Sending.{Sending, due_sending, update_sending}
 use Rattle.odb_sessions.proofs.Updates.{refilter_none}
 use Rattle.odb_sessions.specs.Book.{revision_at}
 
@@ -28,14 +29,14 @@ rest_of h db xs = plan_rest h db (map (seen_ahead db) xs)
 abbrev pub owed_to : Service → Db → Ahead → Option Due
 owed_to h db x = update_of h db (watch_of x.held).requests (seen_ahead db x)
 
-abbrev pub text_to : Service → Revision → Ahead → Option (List ℕ)
-text_to h revision x = update_text h revision (watch_of x.held).requests (seen_ahead revision.db x)
+abbrev pub sending_to : Service → Revision → Ahead → Option Sending
+sending_to h revision x = update_sending h revision (watch_of x.held).requests (seen_ahead revision.db x)
 
--- the same text, at the same chains, as it is found out under no other filters
-pub text_at : (h : Service) (r : Recent) (k n : Chains) (x : Ahead) → k ≡ n → update_text h (revision_at k r) (refilter [] (watch_of x.held).requests) (seen_ahead k.db x) ≡ text_to h (revision_at n r) x
-text_at h r k n x same =
-    ap (λ (m : Chains). update_text h (revision_at m r) (refilter [] (watch_of x.held).requests) (seen_ahead m.db x)) same
-    ∙ ap (λ (qs : List Request). update_text h (revision_at n r) qs (seen_ahead n.db x)) (refilter_none (watch_of x.held).requests)
+-- the same, at the same chains, as it is found out under no other filters
+pub sending_at : (h : Service) (r : Recent) (k n : Chains) (x : Ahead) → k ≡ n → update_sending h (revision_at k r) (refilter [] (watch_of x.held).requests) (seen_ahead k.db x) ≡ sending_to h (revision_at n r) x
+sending_at h r k n x same =
+    ap (λ (m : Chains). update_sending h (revision_at m r) (refilter [] (watch_of x.held).requests) (seen_ahead m.db x)) same
+    ∙ ap (λ (qs : List Request). update_sending h (revision_at n r) qs (seen_ahead n.db x)) (refilter_none (watch_of x.held).requests)
 
 pub is_mapped : {A B : Type 0} (f : A → B) (o : Option A) → is_some (option_map f o) ≡ is_some o
 is_mapped f None = refl
@@ -43,7 +44,7 @@ is_mapped f (Some x) = refl
 
 -- ---- what is due ends a plan
 
-module _ (f : Due → List ℕ) (p : Plan) where
+module _ (f : Due → Sending) (p : Plan) where
   one_brought : (o : Option Due) → is_some (option_map f o) ≡ true → (from_monitor o p).monitors ≡ 1
   one_brought None e = absurd (true≢false (sym e))
   one_brought (Some d) e = refl
@@ -56,28 +57,28 @@ module _ (f : Due → List ℕ) (p : Plan) where
   one_passed None e = refl
   one_passed (Some d) e = absurd (true≢false e)
 
-module _ (h : Service) (revision : Revision) (xs : List Ahead) (i : ℕ) (x : Ahead) (step : drop i xs ≡ x ∷ drop (i + 1) xs) (text : Option (List ℕ)) (is : text ≡ text_to h revision x) where
+module _ (h : Service) (revision : Revision) (xs : List Ahead) (i : ℕ) (x : Ahead) (step : drop i xs ≡ x ∷ drop (i + 1) xs) (told : Option Sending) (is : told ≡ sending_to h revision x) where
   abbrev later : Plan
   later = rest_of h revision.db (drop (i + 1) xs)
 
   -- the monitor at this place is owed an update
-  pub found_monitors : is_some text ≡ true → (after_none i (rest_of h revision.db (drop i xs))).monitors ≡ i + 1
+  pub found_monitors : is_some told ≡ true → (after_none i (rest_of h revision.db (drop i xs))).monitors ≡ i + 1
   found_monitors some =
       ap (λ ys. i + (rest_of h revision.db ys).monitors) step
-      ∙ ap (λ n. i + n) (one_brought (due_text h revision) later (owed_to h revision.db x) (ap is_some (sym is) ∙ some))
+      ∙ ap (λ n. i + n) (one_brought (due_sending h revision) later (owed_to h revision.db x) (ap is_some (sym is) ∙ some))
 
-  pub found_out : is_some text ≡ true → option_map (due_text h revision) (after_none i (rest_of h revision.db (drop i xs))).out ≡ text
+  pub found_out : is_some told ≡ true → option_map (due_sending h revision) (after_none i (rest_of h revision.db (drop i xs))).out ≡ told
   found_out some =
-      ap (λ ys. option_map (due_text h revision) (rest_of h revision.db ys).out) step
-      ∙ ap (option_map (due_text h revision)) (one_out (due_text h revision) later (owed_to h revision.db x) (ap is_some (sym is) ∙ some))
+      ap (λ ys. option_map (due_sending h revision) (rest_of h revision.db ys).out) step
+      ∙ ap (option_map (due_sending h revision)) (one_out (due_sending h revision) later (owed_to h revision.db x) (ap is_some (sym is) ∙ some))
       ∙ sym is
 
   -- it is owed none
-  pub rest_none : is_some text ≡ false → after_none i (rest_of h revision.db (drop i xs)) ≡ after_none (i + 1) later
+  pub rest_none : is_some told ≡ false → after_none i (rest_of h revision.db (drop i xs)) ≡ after_none (i + 1) later
   rest_none none =
       let next : i + suc later.monitors ≡ i + 1 + later.monitors = omega arith in
       ap (λ ys. after_none i (rest_of h revision.db ys)) step
-      ∙ ap (after_none i) (one_passed (due_text h revision) later (owed_to h revision.db x) (ap is_some (sym is) ∙ none))
+      ∙ ap (after_none i) (one_passed (due_sending h revision) later (owed_to h revision.db x) (ap is_some (sym is) ∙ none))
       ∙ ap (λ n. let q : Plan = record { items = later.items; monitors = n; out = later.out } in q) next
 
 -- there is no other

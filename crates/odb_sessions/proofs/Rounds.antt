@@ -18,6 +18,7 @@ use Rattle.odb_sessions.specs.Carried.{finished_in, last_finished, used_by}
 use Rattle.odb_sessions.specs.Foreseen.{due_text, finished_text, last_used}
 use Rattle.odb_sessions.specs.Planned.{AreOnce, Due, Plan, applied, is_listed, out_of, plan}
 use Rattle.odb_sessions.specs.Posts.{at_number}
+use Rattle.odb_sessions.specs.Sending.{Sending, due_sending}
 use Rattle.odb_sessions.specs.Taken as model
 use Rattle.odb_sessions.specs.Taken.{AreReady, IsReadyFor, Pending, Text, given_by, last_text, sessions_in, text_from, text_taken}
 use Rattle.odb_sessions.proofs.Plans.{planned_takes}
@@ -35,6 +36,11 @@ module _ (s : Schema) (revision : Revision) where
   texts_of : (o : Option Due) → option_map (due_text h revision) o ≡ option_map text_of (option_map (out_of h revision) o)
   texts_of None = refl
   texts_of (Some d) = refl
+
+  -- the text of what is due
+  pub texts_due : (o : Option Due) → option_map (λ (x : Sending). x.text) (option_map (due_sending h revision) o) ≡ option_map (due_text h revision) o
+  texts_due None = refl
+  texts_due (Some d) = refl
 
   abbrev Taken : Type 0
   Taken = Option Out × Session

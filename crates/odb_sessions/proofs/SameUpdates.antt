@@ -1,15 +1,13 @@
 -- Clients of monitors that are alike are owed the same.
 use Rattle.std.proofs.Common.{◌≡◌, suc, arith, List, [], ◌∷◌, length, map, Some, refl, sym, ap, ◌∙◌}
-use Rattle.std.specs.Prelude.{option_map}
 use Rattle.std.proofs.lemmas.Option.{same_Some}
-use Rattle.serde_json.specs.Written.{compact_text}
 use Rattle.odb_chain.specs.Chains.{Chains, IsLive, Standing, standing}
 use Rattle.odb_cond.specs.Filter.{Filter}
-use Rattle.odb_monitor.specs.Job.{Part, updates_of}
+use Rattle.odb_monitor.specs.Job.{Part}
 use Rattle.odb_monitor.specs.View.{selected}
 use Rattle.odb_request.specs.Request.{Request}
 use Rattle.odb_sessions.specs.Alike.{AreAlike, stands}
-use Rattle.odb_sessions.specs.Composed.{later_job, part_to, updates_for}
+use Rattle.odb_sessions.specs.Composed.{later_job, owed_job, part_to}
 use Rattle.odb_sessions.specs.Held.{Held, Watched, marks_in, table_marks}
 use Rattle.odb_sessions.specs.Tied.{AreLive}
 use Rattle.odb_tables.specs.Database.{Db, Table, table_at}
@@ -52,5 +50,5 @@ same_parts k (v ∷ vs) (w ∷ ws) e one other =
     let tail : map (part_to k.db) vs ≡ map (part_to k.db) ws = same_parts k vs ws (ap rest e) one.1 other.1 in
     λ i. head i ∷ tail i
 
-pub same_updates : (k : Chains) (x y : Held) → AreAlike x y → AreLive k (marks_in x) → AreLive k (marks_in y) → updates_for k.db x ≡ updates_for k.db y
-same_updates k x y e one other = λ i. option_map compact_text (updates_of (later_job (e.0 i) (same_parts k x.tables y.tables e.1 one other i)))
+pub same_owed : (k : Chains) (x y : Held) → AreAlike x y → AreLive k (marks_in x) → AreLive k (marks_in y) → owed_job k.db x ≡ owed_job k.db y
+same_owed k x y e one other = λ i. later_job (e.0 i) (same_parts k x.tables y.tables e.1 one other i)

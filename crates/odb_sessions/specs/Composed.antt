@@ -1,23 +1,21 @@
 -- What is composed for the client of a monitor, from the marks for what it was told. [P 9.2, 9.3, 9.8, 10.1]
-use Rattle.std.specs.Prelude.{◌≡◌, ℕ, Bool, true, false, List, [], ◌∷◌, map, take, Option, Some, None, option_map}
+use Rattle.std.specs.Prelude.{◌≡◌, Bool, true, false, List, [], ◌∷◌, map, Option, Some, None, ℕ}
 use Rattle.serde_json.specs.Written.{compact_text}
 use Rattle.odb_atoms.specs.FinMap.{empty}
 use Rattle.odb_atoms.specs.Uuid.{Uuid}
 use Rattle.odb_chain.specs.Chains.{Chains, IsLive}
-use Rattle.odb_monitor.specs.Job.{Job, Part, updates_of}
+use Rattle.odb_monitor.specs.Job.{Job, Part}
 use Rattle.odb_monitor.specs.Update.{table_updates}
 use Rattle.odb_monitor.specs.View.{delta, nothing, query, selected, shown}
-use Rattle.odb_recent.specs.Recent.{Recent, commits_ago, number_of}
 use Rattle.odb_recent.specs.Undo.{Undo, table_ago}
 use Rattle.odb_request.specs.Request.{Notation, Request}
-use Rattle.odb_rpc.specs.Message.{notification, reply}
+use Rattle.odb_rpc.specs.Message.{notification}
 use Rattle.odb_rpc.specs.Represented.Shared.{update_method}
-use Rattle.odb_rpc.specs.Since.{since_result, update3}
+use Rattle.odb_rpc.specs.Since.{update3}
 use Rattle.odb_schema.specs.Json.{Data}
 use Rattle.odb_service.specs.Session.{Monitor, shapes}
 use Rattle.odb_sessions.specs.Held.{Held, Watched, monitor_of}
 use Rattle.odb_tables.specs.Database.{Db, table_at}
-use Rattle.odb_wire.specs.Message.{id_of}
 
 -- what the client was told is kept, and it is a content of the table that is asked for
 abbrev pub IsKnown : Chains → Watched → Type 0
@@ -61,9 +59,9 @@ part_in false db = part_to db
 abbrev pub later_job : Notation → List Part → Job
 later_job n ps = record { notation = n; first = false; reply = false; parts = ps }
 
--- the text of the table updates that the client of this monitor is owed, without its id, if something is sent
-abbrev pub updates_for : Db → Held → Option (List ℕ)
-updates_for db x = option_map compact_text (updates_of (later_job x.notation (map (part_to db) x.tables)))
+-- the job of what the client of this monitor lacks
+abbrev pub owed_job : Db → Held → Job
+owed_job db x = later_job x.notation (map (part_to db) x.tables)
 
 -- the job of a client's own tables: of its first reply, or of what it lacks
 abbrev pub own_job : Bool → Db → Held → Job
@@ -87,15 +85,6 @@ first_updates db n qs = table_updates n true (shapes qs) (shown true qs (delta (
 -- what a client is told that has what these requests selected before these commits
 abbrev pub resumed_updates : List Undo → Db → Notation → List Request → Data
 resumed_updates us db n qs = table_updates n false (shapes qs) (shown false qs (delta (map (λ q. selected q (table_ago q.place us (table_at db q.place))) qs) (query db qs)))
-
--- the result of a first reply to who named a commit, where it was found so many commits ago, or not at all
-abbrev pub result_since : Recent → Db → Held → Option ℕ → Data
-result_since r db x None = since_result false (number_of r.run r.commits) (first_updates db x.notation (asked_of x.tables))
-result_since r db x (Some ago) = since_result true (number_of r.run r.commits) (resumed_updates (take ago r.undos) db x.notation (asked_of x.tables))
-
--- the text of the first reply to the request d, where this commit was named
-abbrev pub text_since : Recent → Chains → Data → Held → Uuid → List ℕ
-text_since r k d x v = compact_text (reply (id_of d) (result_since r k.db x (commits_ago r.most r.run r.commits v)))
 
 -- the text of the notification with these table updates, where this is the newest commit
 abbrev pub notified_text : Uuid → Held → Data → List ℕ

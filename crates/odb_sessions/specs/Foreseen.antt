@@ -1,5 +1,5 @@
 -- What a plan foresees: what clients have once so much of a queue was taken, and the text that comes. [P 10.1]
-use Rattle.std.specs.Prelude.{ℕ, zero, suc, List, [], ◌∷◌, Option, Some, None, flat_map, option_map, slice_get}
+use Rattle.std.specs.Prelude.{ℕ, zero, suc, List, [], ◌∷◌, Option, Some, None, flat_map, slice_get}
 use Rattle.serde_json.specs.Written.{compact_text}
 use Rattle.odb_chain.specs.Chains.{Chains, Mark}
 use Rattle.odb_cond.specs.Filter.{Filter}
@@ -10,7 +10,7 @@ use Rattle.odb_rpc.specs.Message.{reply}
 use Rattle.odb_service.specs.Service.{Service}
 use Rattle.odb_service.specs.Session.{Item, Monitor, Revision, filter_of, no_result, refilter, renamed, say, shift, start, stopped, sync}
 use Rattle.odb_sessions.specs.Held.{Held, Watched, marks_in, view_of, watch_of}
-use Rattle.odb_sessions.specs.Planned.{Due, out_of, update_of}
+use Rattle.odb_sessions.specs.Planned.{Due, out_of}
 use Rattle.odb_tables.specs.Database.{Db, table_at}
 use Rattle.odb_wire.specs.Message.{id_of}
 
@@ -65,10 +65,6 @@ all_parts_again db told (w ∷ ws) (q ∷ qs) = part_again db told w q ∷ all_p
 -- the text of what is due
 abbrev pub due_text : Service → Revision → Due → List ℕ
 due_text h revision d = compact_text (out_of h revision d).message
-
--- the text of what leads a monitor to these requests, if something of it is shown
-abbrev pub update_text : Service → Revision → List Request → Monitor → Option (List ℕ)
-update_text h revision qs m = option_map (due_text h revision) (update_of h revision.db qs m)
 
 -- the text of an item that was finished when it was queued
 abbrev pub finished_text : Item → Option (List ℕ)

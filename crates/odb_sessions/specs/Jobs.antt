@@ -1,11 +1,18 @@
 -- The compositions that a round needs, each once, as a list of jobs. A message names by a place in the list what it tells. [P 9.2, 10.3]
 use Rattle.std.specs.Prelude.{◌≡◌, ℕ, List, [], ◌∷◌, Option, Some, option_and_then, option_map, slice_get}
 use Rattle.serde_json.specs.Written.{compact_text}
+use Rattle.odb_atoms.specs.FinMap.{get}
 use Rattle.odb_chain.specs.Chains.{Chains}
 use Rattle.odb_monitor.specs.Job.{Job, updates_of}
-use Rattle.odb_sessions.specs.Composed.{updates_for}
+use Rattle.odb_schema.specs.Schema.{Schema}
+use Rattle.odb_service.specs.Server.{served_by}
+use Rattle.odb_service.specs.Session.{Revision, Session}
+use Rattle.odb_sessions.specs.Book.{Book, revision_in}
+use Rattle.odb_sessions.specs.Composed.{owed_job}
 use Rattle.odb_sessions.specs.Held.{Held, marks_in}
-use Rattle.odb_sessions.specs.Taken.{Pending, Text, composed_text, last_text, no_text}
+use Rattle.odb_sessions.specs.Planned.{plan}
+use Rattle.odb_sessions.specs.Sending.{Framed, framed_due}
+use Rattle.odb_sessions.specs.Taken.{Pending, Text, composed_text, last_text, no_text, whole_text}
 use Rattle.odb_sessions.specs.Tied.{AreLive}
 
 -- what is composed of a job: a text, where something is sent
@@ -20,13 +27,16 @@ composition_at js n = option_and_then composition (slice_get js n)
 abbrev pub Keeps : List Job → List Job → Type 0
 Keeps old new = (n : ℕ) (j : Job) → slice_get old n ≡ Some j → slice_get new n ≡ Some j
 
--- a text that is sent
-abbrev pub certainly : List ℕ → Option (List ℕ)
-certainly t = Some t
+-- the job, if something is sent
+abbrev pub if_sent : Job → Option Job
+if_sent j = option_map (λ u. j) (updates_of j)
 
--- the place of a job of which this text is composed, also in each list that keeps these jobs; no place, where nothing is sent
-abbrev pub IsFor : List Job → Option (List ℕ) → Option ℕ → Type 0
-IsFor js text place = (all : List Job) → Keeps js all → option_map (composition_at all) place ≡ option_map certainly text
+abbrev pub certainly : {A : Type 0} → A → Option A
+certainly x = Some x
+
+-- the place of this job, if there is one, also in each list that keeps these jobs
+abbrev pub IsFor : List Job → Option Job → Option ℕ → Type 0
+IsFor js job place = (all : List Job) → Keeps js all → option_map (slice_get all) place ≡ option_map certainly job
 
 -- the database with its past, and the jobs so far
 pub record Wanted : Type 0 where
@@ -38,21 +48,31 @@ pub record Decision : Type 0 where
   pub held : Held
   pub place : Option ℕ
 
--- what the client was told is kept, and the place is for what it is owed
+-- what the client was told is kept, and the place is that of the job of what it is owed
 abbrev pub IsDecided : Chains → List Job → Decision → Type 0
-IsDecided k js d = AreLive k (marks_in d.held) × IsFor js (updates_for k.db d.held) d.place
+IsDecided k js d = AreLive k (marks_in d.held) × IsFor js (if_sent (owed_job k.db d.held)) d.place
 
 -- a round as it is planned: the jobs, and each taking with the text that comes of it once these are composed
 pub record Round : Type 0 where
   pub jobs : List Job
   pub takings : List Pending
 
--- the composition in what comes is that of one of these jobs, of which something is composed
-abbrev pub IsOfJob : List Job → Text → Type 0
-IsOfJob js no_text = Unit {0}
-IsOfJob js last_text = Unit {0}
-IsOfJob js (composed_text before body after) = (n : ℕ) × (j : Job) × (slice_get js n ≡ Some j) × (composition j ≡ Some body)
+-- the message that is due to the session, if it is one that is composed
+abbrev pub framed_for : Schema → Revision → Option Session → Option Framed
+framed_for s revision o = option_and_then (framed_due (served_by s) revision) (option_and_then (λ x. (plan (served_by s) revision.db x).out) o)
 
-abbrev pub AreOfJobs : List Job → List Pending → Type 0
-AreOfJobs js [] = Unit {0}
-AreOfJobs js (p ∷ ps) = IsOfJob js p.1.text × AreOfJobs js ps
+-- The composition in what comes to the session is that of one of these jobs: of the job of what is due to it, and what stands around the composition is what the protocol has there around any table updates
+abbrev pub IsOfJob : Schema → Revision → List Job → Option Session → Text → Type 0
+IsOfJob s revision js o no_text = Unit {0}
+IsOfJob s revision js o last_text = Unit {0}
+IsOfJob s revision js o (composed_text before body after) =
+    (n : ℕ) × (j : Job) × (slice_get js n ≡ Some j) × (composition j ≡ Some body)
+    × (framed_for s revision o ≡ Some (record { job = j; text = λ d. whole_text before (compact_text d) after }))
+
+abbrev pub AreMadeOf : Schema → Book → List Job → List Pending → Type 0
+AreMadeOf s b js [] = Unit {0}
+AreMadeOf s b js (p ∷ ps) = IsOfJob s (revision_in b) js (get b.sessions p.0) p.1.text × AreMadeOf s b js ps
+
+-- the same, whatever the schema
+abbrev pub AreOfJobs : Book → List Job → List Pending → Type 0
+AreOfJobs b js ps = (s : Schema) → AreMadeOf s b js ps

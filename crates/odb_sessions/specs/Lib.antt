@@ -16,6 +16,7 @@ pub mod Planned
 pub mod Posts
 pub mod Quiet
 pub mod Represented
+pub mod Sending
 pub mod Started
 pub mod Stopped
 pub mod Taken

@@ -1,14 +1,12 @@
 //! What is owed to the client of a monitor, by parts, from the marks for what it was told; and its messages. [P 9.2, 9.3, 9.8, 10.1]
-ghost use Rattle.std.specs.Prelude.{◌≡◌, ◌++◌, IfOk, List, Some, map};
+ghost use Rattle.std.specs.Prelude.{◌≡◌, ◌++◌, IfOk, map};
 ghost use Rattle.std.specs.List.{All};
 ghost use Rattle.serde_json.specs.Data.{Data};
 ghost use Rattle.serde_json.specs.Written.{compact_text};
 ghost use Rattle.odb_atoms.specs.Represented.Atom.{uuid_of};
-ghost use Rattle.odb_monitor.specs.Job as model_job;
 ghost use Rattle.odb_rpc.specs.Represented.Shared.{after_updates};
 ghost use Rattle.odb_sessions.specs.Composed.{IsKnown, notified_text, part_in};
-ghost use Rattle.odb_sessions.specs.Jobs.{composition_at};
-ghost use Rattle.odb_sessions.specs.Represented.Composed.{text_under};
+ghost use Rattle.odb_sessions.specs.Represented.Composed.{IsFrame};
 
 use crate::monitor::Monitor;
 use crate::owed::Owed;
@@ -54,8 +52,7 @@ impl Monitor {
         number: Uuid,
         job: usize,
     ) -> Result<Message, AllocError>
-        ensures { IfOk result (λ message. (all : List model_job.Job) (d : Data) → composition_at all job ≡ Some (compact_text d)
-            → text_under all message ≡ Some (notified_text (uuid_of number) self.now d)) }
+        ensures { IfOk result (λ message. IsFrame message job (notified_text (uuid_of number) self.now)) }
     {
         let before = self.before_updates(alloc, number)?;
         let after = Vec::from_slice(alloc, after_updates())?;

@@ -7,12 +7,13 @@ ghost use Rattle.odb_service.specs.Session.{leaves, refilter};
 ghost use Rattle.odb_sessions.specs.Asked.{is_same};
 ghost use Rattle.std.specs.List.{All};
 ghost use Rattle.odb_sessions.specs.FirstTexts.{AreFirstTexts, IsOfNow};
-ghost use Rattle.odb_sessions.specs.Foreseen.{as_told, due_text, marks_ahead, seen_ahead, update_text};
+ghost use Rattle.odb_sessions.specs.Foreseen.{as_told, marks_ahead, seen_ahead};
 ghost use Rattle.odb_sessions.specs.Held.{marks_in, monitor_of, watch_of};
 ghost use Rattle.odb_sessions.specs.Planned.{due, plan_rest};
 ghost use Rattle.odb_sessions.specs.Jobs.{Keeps};
 ghost use Rattle.odb_sessions.specs.Represented.Composed.{Tells};
 ghost use Rattle.odb_sessions.specs.Represented.Under.{filters_in, item_in};
+ghost use Rattle.odb_sessions.specs.Sending.{due_sending, update_sending};
 ghost use Rattle.odb_sessions.specs.Tied.{AreLive};
 ghost use Rattle.odb_sessions.specs.Book.{revision_at};
 
@@ -70,7 +71,7 @@ impl<'a> Ahead<'a> {
     ) -> Result<Option<Message>, AllocError>
         requires { AreLive wanted.old.chains (marks_in self.now.held) }
         ensures text { IfOk result (λ message. (h : Service) → Tells wanted.new.jobs message
-            (update_text h (revision_at wanted.old.chains recent.now) (refilter (filters_in under.entry) (watch_of self.now.held).requests) (seen_ahead wanted.old.chains.db self.now))) }
+            (update_sending h (revision_at wanted.old.chains recent.now) (refilter (filters_in under.entry) (watch_of self.now.held).requests) (seen_ahead wanted.old.chains.db self.now))) }
         ensures jobs { Keeps wanted.old.jobs wanted.new.jobs }
         ensures chains { wanted.new.chains ≡ wanted.old.chains }
     {
@@ -127,7 +128,7 @@ fn pass<'a>(
 ) -> Result<Option<Message>, AllocError>
     requires { AreLive wanted.old.chains (marks_ahead monitors.old.items) }
     ensures text { IfOk result (λ message. (s : Schema) → Tells wanted.new.jobs message
-        (option_map (due_text (served_by s) (revision_at wanted.old.chains recent.now)) (due (served_by s) wanted.old.chains.db (item_in id.now under.entry) (map (seen_ahead wanted.old.chains.db) monitors.old.items)))) }
+        (option_map (due_sending (served_by s) (revision_at wanted.old.chains recent.now)) (due (served_by s) wanted.old.chains.db (item_in id.now under.entry) (map (seen_ahead wanted.old.chains.db) monitors.old.items)))) }
     ensures passed { OnOk result ((s : Schema) → map (seen_ahead wanted.old.chains.db) monitors.new.items
         ≡ leaves (served_by s) wanted.old.chains.db (item_in id.now under.entry) (map (seen_ahead wanted.old.chains.db) monitors.old.items)) }
     ensures jobs { Keeps wanted.old.jobs wanted.new.jobs }
@@ -161,7 +162,7 @@ fn rest_due<'a>(
     ensures monitors { IfOk result (λ rest. (h : Service)
         → rest.monitors ≡ (plan_rest h wanted.old.chains.db (map (seen_ahead wanted.old.chains.db) monitors.now)).monitors) }
     ensures text { IfOk result (λ rest. (h : Service) → Tells wanted.new.jobs rest.message
-        (option_map (due_text h (revision_at wanted.old.chains recent.now)) (plan_rest h wanted.old.chains.db (map (seen_ahead wanted.old.chains.db) monitors.now)).out)) }
+        (option_map (due_sending h (revision_at wanted.old.chains recent.now)) (plan_rest h wanted.old.chains.db (map (seen_ahead wanted.old.chains.db) monitors.now)).out)) }
     ensures jobs { Keeps wanted.old.jobs wanted.new.jobs }
     ensures chains { wanted.new.chains ≡ wanted.old.chains }
 {
@@ -235,7 +236,7 @@ impl<'a> Planner<'a> {
         recent: &Recent,
     ) -> Result<Option<Message>, AllocError>
         ensures text { IfOk result (λ message. (s : Schema) → Tells self.new.jobs message
-            (option_map (due_text (served_by s) (revision_at self.old.chains recent.now)) (due (served_by s) self.old.chains.db (item_in id.now under.entry) self.old.monitors))) }
+            (option_map (due_sending (served_by s) (revision_at self.old.chains recent.now)) (due (served_by s) self.old.chains.db (item_in id.now under.entry) self.old.monitors))) }
         ensures passed { OnOk result ((s : Schema) → self.new.monitors
             ≡ leaves (served_by s) self.old.chains.db (item_in id.now under.entry) self.old.monitors) }
         ensures jobs { Keeps self.old.jobs self.new.jobs }
@@ -250,7 +251,7 @@ impl<'a> Planner<'a> {
         ensures monitors { IfOk result (λ rest. (h : Service)
             → rest.monitors ≡ (plan_rest h self.old.chains.db self.old.monitors).monitors) }
         ensures text { IfOk result (λ rest. (h : Service) → Tells self.new.jobs rest.message
-            (option_map (due_text h (revision_at self.old.chains recent.now)) (plan_rest h self.old.chains.db self.old.monitors).out)) }
+            (option_map (due_sending h (revision_at self.old.chains recent.now)) (plan_rest h self.old.chains.db self.old.monitors).out)) }
         ensures jobs { Keeps self.old.jobs self.new.jobs }
         ensures chains { self.new.chains ≡ self.old.chains }
     {

@@ -1,13 +1,10 @@
 //! Replies that are begun, and wait for their results. [P 7.3, 9.8, 10.1]
-ghost use Rattle.std.specs.Prelude.{◌≡◌, false, IfOk, List, Some};
-ghost use Rattle.serde_json.specs.Data.{Data};
+ghost use Rattle.std.specs.Prelude.{◌≡◌, false, IfOk};
 ghost use Rattle.serde_json.specs.Written.{compact_text};
 ghost use Rattle.odb_atoms.specs.Represented.Atom.{uuid_of};
-ghost use Rattle.odb_monitor.specs.Job as model_job;
 ghost use Rattle.odb_rpc.specs.Message.{reply};
 ghost use Rattle.odb_rpc.specs.Since.{since_result};
-ghost use Rattle.odb_sessions.specs.Jobs.{composition_at};
-ghost use Rattle.odb_sessions.specs.Represented.Composed.{text_under};
+ghost use Rattle.odb_sessions.specs.Represented.Composed.{IsFrame};
 ghost use Rattle.odb_wire.specs.Message.{has_left_out, id_of};
 ghost use Rattle.odb_wire.specs.Shown.{request_data};
 
@@ -52,8 +49,7 @@ impl Origin {
 
     /// The reply, with the result that is composed of the job. O(n) for an id of n bytes.
     pub(crate) fn reply(&self, alloc: Global, job: usize) -> Result<Message, AllocError>
-        ensures { IfOk result (λ message. (all : List model_job.Job) (d : Data) → composition_at all job ≡ Some (compact_text d)
-            → text_under all message ≡ Some (compact_text (reply (id_of self.now) d))) }
+        ensures { IfOk result (λ message. IsFrame message job (λ d. compact_text (reply (id_of self.now) d))) }
     {
         let before = self.before.clone()?;
         let after = Vec::from_slice(alloc, after_result())?;
@@ -69,8 +65,7 @@ impl Origin {
         number: Uuid,
         job: usize,
     ) -> Result<Message, AllocError>
-        ensures { IfOk result (λ message. (all : List model_job.Job) (d : Data) → composition_at all job ≡ Some (compact_text d)
-            → text_under all message ≡ Some (compact_text (reply (id_of self.now) (since_result found (uuid_of number) d)))) }
+        ensures { IfOk result (λ message. IsFrame message job (λ d. compact_text (reply (id_of self.now) (since_result found (uuid_of number) d)))) }
     {
         let before = before_since(self.before.clone()?, found, number)?;
         let after = Vec::from_slice(alloc, after_updates())?;

@@ -1,19 +1,19 @@
 //! What is due to the client of a monitor, as it is planned. [P 9.5, 9.8, 10.1]
-ghost use Rattle.std.specs.Prelude.{◌≡◌, true, IfOk, List, Option, Some, length, map, option_map};
+ghost use Rattle.std.specs.Prelude.{◌≡◌, true, IfOk, List, Some, length, map, option_map, slice_get};
 ghost use Rattle.std.specs.List.{All};
-ghost use Rattle.serde_json.specs.Data.{Data};
-ghost use Rattle.serde_json.specs.Written.{compact_text};
 ghost use Rattle.odb_atoms.specs.Represented.Atom.{uuid_of};
 ghost use Rattle.odb_chain.specs.Chains as model;
 ghost use Rattle.odb_monitor.specs.Job as model_job;
+ghost use Rattle.odb_monitor.specs.Job.{updates_of};
 ghost use Rattle.odb_service.specs.Service.{Service};
 ghost use Rattle.odb_service.specs.Session.{refilter};
-ghost use Rattle.odb_sessions.specs.Composed.{AreNow, IsKnown, all_asked_as, notified_text, part_to};
-ghost use Rattle.odb_sessions.specs.Foreseen.{as_told, seen_ahead, update_text};
+ghost use Rattle.odb_sessions.specs.Composed.{AreNow, IsKnown, all_asked_as, part_to};
+ghost use Rattle.odb_sessions.specs.Foreseen.{as_told, seen_ahead};
 ghost use Rattle.odb_sessions.specs.Held.{marks_in, monitor_of, watch_of};
-ghost use Rattle.odb_sessions.specs.Jobs.{Keeps, certainly, composition_at};
-ghost use Rattle.odb_sessions.specs.Represented.Composed.{Tells, text_under};
+ghost use Rattle.odb_sessions.specs.Jobs.{Keeps, certainly, if_sent};
+ghost use Rattle.odb_sessions.specs.Represented.Composed.{Tells, sending_under};
 ghost use Rattle.odb_sessions.specs.Represented.Under.{filters_in};
+ghost use Rattle.odb_sessions.specs.Sending.{notifying, sent_with, update_sending};
 ghost use Rattle.odb_sessions.specs.Tied.{AreLive};
 ghost use Rattle.odb_sessions.specs.Book.{revision_at};
 
@@ -50,7 +50,7 @@ impl Monitor {
     ) -> Result<Option<Message>, AllocError>
         requires { AreLive wanted.old.chains (marks_in self.now) }
         ensures text { IfOk result (λ message. (h : Service) → Tells wanted.new.jobs message
-            (update_text h (revision_at wanted.old.chains recent.now) (refilter (filters_in under.entry) (watch_of self.now).requests) (seen_ahead wanted.old.chains.db (as_told self.now)))) }
+            (update_sending h (revision_at wanted.old.chains recent.now) (refilter (filters_in under.entry) (watch_of self.now).requests) (seen_ahead wanted.old.chains.db (as_told self.now)))) }
         ensures jobs { Keeps wanted.old.jobs wanted.new.jobs }
         ensures chains { wanted.new.chains ≡ wanted.old.chains }
     {
@@ -68,7 +68,7 @@ impl Monitor {
     ) -> Result<Option<Message>, AllocError>
         requires { AreLive wanted.old.chains (marks_in self.now) }
         ensures text { IfOk result (λ message. (h : Service) → Tells wanted.new.jobs message
-            (update_text h (revision_at wanted.old.chains recent.now) (watch_of self.now).requests (monitor_of self.now))) }
+            (update_sending h (revision_at wanted.old.chains recent.now) (watch_of self.now).requests (monitor_of self.now))) }
         ensures jobs { Keeps wanted.old.jobs wanted.new.jobs }
         ensures chains { wanted.new.chains ≡ wanted.old.chains }
     {
@@ -88,7 +88,7 @@ impl Monitor {
     ) -> Result<Option<Message>, AllocError>
         requires { AreLive wanted.old.chains (marks_in self.now) }
         ensures text { IfOk result (λ message. (h : Service) → Tells wanted.new.jobs message
-            (update_text h (revision_at wanted.old.chains recent.now) (refilter (filters_in under.entry) (watch_of self.now).requests) (monitor_of self.now))) }
+            (update_sending h (revision_at wanted.old.chains recent.now) (refilter (filters_in under.entry) (watch_of self.now).requests) (monitor_of self.now))) }
         ensures jobs { Keeps wanted.old.jobs wanted.new.jobs }
         ensures chains { wanted.new.chains ≡ wanted.old.chains }
     {
@@ -107,7 +107,7 @@ impl Monitor {
     ) -> Result<Option<Message>, AllocError>
         requires { AreLive wanted.old.chains (marks_in self.now) }
         ensures text { IfOk result (λ message. (h : Service) → Tells wanted.new.jobs message
-            (update_text h (revision_at wanted.old.chains recent.now) (refilter (filters_in under.entry) (watch_of self.now).requests) (seen_ahead wanted.old.chains.db (record { held = self.now; told = Some (filters_in told.entry) })))) }
+            (update_sending h (revision_at wanted.old.chains recent.now) (refilter (filters_in under.entry) (watch_of self.now).requests) (seen_ahead wanted.old.chains.db (record { held = self.now; told = Some (filters_in told.entry) })))) }
         ensures jobs { Keeps wanted.old.jobs wanted.new.jobs }
         ensures chains { wanted.new.chains ≡ wanted.old.chains }
     {
@@ -123,9 +123,9 @@ impl Monitor {
         number: Uuid,
         place: Option<usize>,
     ) -> Result<Option<Message>, AllocError>
-        ensures { IfOk result (λ message. (all : List model_job.Job) (o : Option Data)
-            → option_map (composition_at all) place ≡ option_map certainly (option_map compact_text o)
-            → option_map (text_under all) message ≡ option_map certainly (option_map (notified_text (uuid_of number) self.now) o)) }
+        ensures { IfOk result (λ message. (all : List model_job.Job) (job : model_job.Job)
+            → option_map (slice_get all) place ≡ option_map certainly (if_sent job)
+            → option_map (sending_under all) message ≡ option_map certainly (option_map (sent_with (notifying (uuid_of number) self.now job)) (updates_of job))) }
     {
         let Some(job) = place else {
             return Ok(None);

@@ -11,12 +11,12 @@ ghost use Rattle.odb_service.specs.Session.{take};
 ghost use Rattle.odb_service.specs.World.{World, revision_of};
 ghost use Rattle.odb_sessions.specs.FirstTexts.{IsFirstText, IsOfNow};
 ghost use Rattle.odb_sessions.specs.Held.{all_seen, seen};
-ghost use Rattle.odb_sessions.specs.Jobs.{AreOfJobs, Keeps};
+ghost use Rattle.odb_sessions.specs.Jobs.{AreMadeOf, AreOfJobs, IsOfJob, Keeps};
 ghost use Rattle.odb_sessions.specs.Planned.{AreOnce};
 ghost use Rattle.odb_sessions.specs.Posts.{at_number};
 ghost use Rattle.odb_sessions.specs.Represented.Out.{sent_in};
 ghost use Rattle.odb_sessions.specs.Represented.Ready.{pending_of, ready_of};
-ghost use Rattle.odb_sessions.specs.Represented.Taking.{pending_by, ready_by};
+ghost use Rattle.odb_sessions.specs.Represented.Taking.{pending_by, ready_by, text_planned};
 ghost use Rattle.odb_sessions.specs.Taken.{AreOf, AreReady, IsReadyFor, given_by, sessions_in, text_taken};
 ghost use Rattle.odb_sessions.specs.Tied.{AreAllLive};
 ghost use Rattle.odb_sessions.specs.Book.{book_with, revision_at, revision_in};
@@ -51,6 +51,8 @@ fn taking_at<'a>(
     ensures session { IfOk result (λ planned. planned.session ≡ session) }
     ensures ready { IfOk result (λ planned. (s : Schema) (all : List model_job.Job) → Keeps planner.new.jobs all
         → IsReadyFor s (revision_at planner.old.chains recent.now) (option_map seen (finite.get sessions.now session)) (ready_by all planned.taking)) }
+    ensures made { IfOk result (λ planned. (s : Schema) (all : List model_job.Job) → Keeps planner.new.jobs all
+        → IsOfJob s (revision_at planner.old.chains recent.now) all (option_map seen (finite.get sessions.now session)) (text_planned all planned.taking.coming)) }
     ensures jobs { Keeps planner.old.jobs planner.new.jobs }
     ensures chains { planner.new.chains ≡ planner.old.chains }
 {
@@ -73,6 +75,8 @@ fn takings_at<'a>(
     ensures sessions { IfOk result (λ planned. map (λ p. p.session) planned.items ≡ listed.now) }
     ensures ready { IfOk result (λ planned. (s : Schema) (all : List model_job.Job) → Keeps planner.new.jobs all
         → AreReady s (book_with planner.old.chains.db recent.now (all_seen sessions.now)) (map (pending_by all) planned.items)) }
+    ensures made { IfOk result (λ planned. (s : Schema) (all : List model_job.Job) → Keeps planner.new.jobs all
+        → AreMadeOf s (book_with planner.old.chains.db recent.now (all_seen sessions.now)) all (map (pending_by all) planned.items)) }
     ensures chains { OnOk result (planner.new.chains ≡ planner.old.chains) }
 {
     let mut takings = Vec::with_capacity(alloc, listed.len())?;
@@ -88,7 +92,7 @@ impl Sessions {
     pub fn jobs(&self, listed: &[SessionId]) -> Result<Jobs<'_>, AllocError>
         ensures sessions { IfOk result (λ jobs. sessions_in jobs.takings ≡ listed.now) }
         ensures ready { IfOk result (λ jobs. AreOf self.now jobs.takings) }
-        ensures jobs { IfOk result (λ jobs. AreOfJobs jobs.jobs jobs.takings) }
+        ensures jobs { IfOk result (λ jobs. AreOfJobs self.now jobs.jobs jobs.takings) }
         ensures now { IfOk result (λ jobs. All (IsOfNow self.now.db) jobs.jobs) }
     {
         let mut planner = Planner::new(self.alloc, self.past.chains(), self.past.firsts());

@@ -1,29 +1,25 @@
 //! Takings as they are planned: what they use up, and the text that comes. Nothing changes by them. [P 9.8, 10.1]
-ghost use Rattle.std.specs.Prelude.{◌≡◌, ◌≤◌, true, false, IfOk, IfSome, List, OnOk, Option, Some, flat_map, is_some, length, map, option_and_then, option_map, take};
+ghost use Rattle.std.specs.Prelude.{◌≡◌, ◌≤◌, true, false, IfOk, IfSome, List, OnOk, Option, Some, flat_map, is_some, length, map, option_and_then, option_map};
 ghost use Rattle.odb_atoms.specs.Represented.Atom.{uuid_of};
-ghost use Rattle.serde_json.specs.Written.{compact_text};
 ghost use Rattle.odb_monitor.specs.Job as model_job;
-ghost use Rattle.odb_recent.specs.Recent.{commits_ago, number_of};
-ghost use Rattle.odb_rpc.specs.Message.{reply};
-ghost use Rattle.odb_rpc.specs.Since.{since_result};
+ghost use Rattle.odb_recent.specs.Recent.{commits_ago};
 ghost use Rattle.odb_schema.specs.Schema.{Schema};
 ghost use Rattle.odb_service.specs.Server.{served_by};
 ghost use Rattle.odb_service.specs.Service.{Service};
 ghost use Rattle.odb_service.specs.Session as machine;
-ghost use Rattle.odb_service.specs.Session.{first_out, leaves};
-ghost use Rattle.odb_sessions.specs.Composed.{asked_of, first_updates, resumed_updates, text_since};
-ghost use Rattle.odb_sessions.specs.Foreseen.{due_text, finished_text};
+ghost use Rattle.odb_service.specs.Session.{leaves};
+ghost use Rattle.odb_sessions.specs.Foreseen.{finished_text};
 ghost use Rattle.odb_sessions.specs.Held.{item_seen, marks_due, marks_in, marks_of, seen, watch_of};
 ghost use Rattle.odb_sessions.specs.Planned.{due, first_due, plan, plan_from};
 ghost use Rattle.odb_sessions.specs.Jobs.{Keeps};
-ghost use Rattle.odb_sessions.specs.Represented.Composed.{text_under};
+ghost use Rattle.odb_sessions.specs.Represented.Composed.{sending_under};
 ghost use Rattle.odb_sessions.specs.Represented.Queued.{queued_of};
-ghost use Rattle.odb_sessions.specs.Represented.Taking.{Comes, Gives, coming_text, taking_text};
+ghost use Rattle.odb_sessions.specs.Represented.Taking.{Comes, Gives, coming_sending, taking_sending};
 ghost use Rattle.odb_sessions.specs.Represented.Under.{item_in};
+ghost use Rattle.odb_sessions.specs.Sending.{due_sending, found_sending, missed_sending, sending_since, whole_sending};
 ghost use Rattle.odb_sessions.specs.Tied.{AreLive};
 ghost use Rattle.odb_tables.specs.Database as model_db;
 ghost use Rattle.odb_sessions.specs.Book.{revision_at};
-ghost use Rattle.odb_wire.specs.Message.{id_of};
 
 use crate::composing::Message;
 use crate::foreseen::Planner;
@@ -59,7 +55,7 @@ pub(crate) struct Taking {
 /// A message comes, if there is one.
 fn composed(message: Option<Message>) -> Option<Coming>
     ensures comes { is_some result ≡ is_some message }
-    ensures text { (all : List model_job.Job) (last : Option machine.Item) → coming_text all result last ≡ option_and_then (text_under all) message }
+    ensures text { (all : List model_job.Job) (last : Option machine.Item) → coming_sending all result last ≡ option_and_then (sending_under all) message }
 {
     match message {
         Some(message) => Some(Coming::Composed(message)),
@@ -76,7 +72,7 @@ impl Start {
     ) -> Result<Message, AllocError>
         requires { AreLive wanted.old.chains (marks_in self.now.monitor) }
         ensures text { IfOk result (λ message. (h : Service) (all : List model_job.Job) → Keeps wanted.new.jobs all
-            → text_under all message ≡ Some (compact_text (first_out h (revision_at wanted.old.chains recent.now) self.now.origin (watch_of self.now.monitor)).message)) }
+            → sending_under all message ≡ Some (due_sending h (revision_at wanted.old.chains recent.now) (first_due self.now.origin (watch_of self.now.monitor)))) }
         ensures jobs { Keeps wanted.old.jobs wanted.new.jobs }
         ensures chains { wanted.new.chains ≡ wanted.old.chains }
     {
@@ -91,7 +87,7 @@ impl Start {
     fn whole_reply<'a>(&'a self, wanted: &mut Wanted<'a>) -> Result<Message, AllocError>
         requires { AreLive wanted.old.chains (marks_in self.now.monitor) }
         ensures text { IfOk result (λ message. (all : List model_job.Job) → Keeps wanted.new.jobs all
-            → text_under all message ≡ Some (compact_text (reply (id_of self.now.origin) (first_updates wanted.old.chains.db self.now.monitor.notation (asked_of self.now.monitor.tables))))) }
+            → sending_under all message ≡ Some (whole_sending wanted.old.chains.db self.now.origin self.now.monitor)) }
         ensures jobs { Keeps wanted.old.jobs wanted.new.jobs }
         ensures chains { wanted.new.chains ≡ wanted.old.chains }
     {
@@ -108,7 +104,7 @@ impl Start {
     ) -> Result<Message, AllocError>
         requires { AreLive wanted.old.chains (marks_in self.now.monitor) }
         ensures text { IfOk result (λ message. (all : List model_job.Job) → Keeps wanted.new.jobs all
-            → text_under all message ≡ Some (text_since recent.now wanted.old.chains self.now.origin self.now.monitor (uuid_of since))) }
+            → sending_under all message ≡ Some (sending_since recent.now wanted.old.chains.db self.now.origin self.now.monitor (uuid_of since))) }
         ensures kept { IfSome (commits_ago recent.now.most recent.now.run recent.now.commits (uuid_of since)) (λ ago. ago ≤ length recent.now.undos) }
         ensures jobs { Keeps wanted.old.jobs wanted.new.jobs }
         ensures chains { wanted.new.chains ≡ wanted.old.chains }
@@ -123,7 +119,7 @@ impl Start {
     fn not_found<'a>(&'a self, wanted: &mut Wanted<'a>, number: Uuid) -> Result<Message, AllocError>
         requires { AreLive wanted.old.chains (marks_in self.now.monitor) }
         ensures text { IfOk result (λ message. (all : List model_job.Job) → Keeps wanted.new.jobs all
-            → text_under all message ≡ Some (compact_text (reply (id_of self.now.origin) (since_result false (uuid_of number) (first_updates wanted.old.chains.db self.now.monitor.notation (asked_of self.now.monitor.tables)))))) }
+            → sending_under all message ≡ Some (missed_sending (uuid_of number) wanted.old.chains.db self.now.origin self.now.monitor)) }
         ensures jobs { Keeps wanted.old.jobs wanted.new.jobs }
         ensures chains { wanted.new.chains ≡ wanted.old.chains }
     {
@@ -141,7 +137,7 @@ impl Start {
     ) -> Result<Message, AllocError>
         requires { AreLive wanted.old.chains (marks_in self.now.monitor) }
         ensures text { IfOk result (λ message. (all : List model_job.Job) → Keeps wanted.new.jobs all
-            → text_under all message ≡ Some (compact_text (reply (id_of self.now.origin) (since_result true (number_of recent.now.run recent.now.commits) (resumed_updates (take ago recent.now.undos) wanted.old.chains.db self.now.monitor.notation (asked_of self.now.monitor.tables)))))) }
+            → sending_under all message ≡ Some (found_sending recent.now ago wanted.old.chains.db self.now.origin self.now.monitor)) }
         ensures jobs { Keeps wanted.old.jobs wanted.new.jobs }
         ensures chains { wanted.new.chains ≡ wanted.old.chains }
     {
@@ -173,7 +169,7 @@ impl<'a> Planner<'a> {
         requires { AreLive self.old.chains (marks_in start.now.monitor) }
         ensures comes { IfOk result (λ coming. is_some coming ≡ true) }
         ensures text { IfOk result (λ coming. (h : Service) (last : Option machine.Item) → Comes self.new.jobs coming last
-            (Some (due_text h (revision_at self.old.chains recent.now) (first_due start.now.origin (watch_of start.now.monitor))))) }
+            (Some (due_sending h (revision_at self.old.chains recent.now) (first_due start.now.origin (watch_of start.now.monitor))))) }
         ensures jobs { Keeps self.old.jobs self.new.jobs }
         ensures chains { self.new.chains ≡ self.old.chains }
     {
@@ -191,7 +187,7 @@ impl<'a> Planner<'a> {
         ensures comes { IfOk result (λ coming. (s : Schema) → is_some coming
             ≡ is_some (due (served_by s) self.old.chains.db (item_in id.now under.entry) self.old.monitors)) }
         ensures text { IfOk result (λ coming. (s : Schema) (last : Option machine.Item) → Comes self.new.jobs coming last
-            (option_map (due_text (served_by s) (revision_at self.old.chains recent.now)) (due (served_by s) self.old.chains.db (item_in id.now under.entry) self.old.monitors))) }
+            (option_map (due_sending (served_by s) (revision_at self.old.chains recent.now)) (due (served_by s) self.old.chains.db (item_in id.now under.entry) self.old.monitors))) }
         ensures passed { OnOk result ((s : Schema)
             → self.new.monitors ≡ leaves (served_by s) self.old.chains.db (item_in id.now under.entry) self.old.monitors) }
         ensures jobs { Keeps self.old.jobs self.new.jobs }
@@ -208,7 +204,7 @@ impl<'a> Planner<'a> {
         ensures comes { IfOk result (λ coming. (s : Schema) → is_some coming
             ≡ is_some (due (served_by s) self.old.chains.db (item_seen (queued_of item.now)) self.old.monitors)) }
         ensures text { IfOk result (λ coming. (s : Schema) → Comes self.new.jobs coming (Some (item_seen (queued_of item.now)))
-            (option_map (due_text (served_by s) (revision_at self.old.chains recent.now)) (due (served_by s) self.old.chains.db (item_seen (queued_of item.now)) self.old.monitors))) }
+            (option_map (due_sending (served_by s) (revision_at self.old.chains recent.now)) (due (served_by s) self.old.chains.db (item_seen (queued_of item.now)) self.old.monitors))) }
         ensures passed { IfOk result (λ coming. is_some coming ≡ false → (s : Schema)
             → self.new.monitors ≡ leaves (served_by s) self.old.chains.db (item_seen (queued_of item.now)) self.old.monitors) }
         ensures jobs { Keeps self.old.jobs self.new.jobs }
@@ -232,8 +228,8 @@ fn at_once(items: &VecDeque<Item>) -> Option<Taking>
     ensures monitors { IfSome result (λ taking. (s : Schema) (db : model_db.Db) (ms : List machine.Monitor) → taking.monitors
         ≡ (plan_from (served_by s) db (map item_seen (map queued_of items.now.items)) ms).monitors) }
     ensures text { IfSome result (λ taking. (s : Schema) (revision : machine.Revision) (ms : List machine.Monitor) (all : List model_job.Job)
-        → taking_text all taking (map item_seen (map queued_of items.now.items))
-        ≡ option_map (due_text (served_by s) revision) (plan_from (served_by s) revision.db (map item_seen (map queued_of items.now.items)) ms).out) }
+        → taking_sending all taking (map item_seen (map queued_of items.now.items))
+        ≡ option_map (due_sending (served_by s) revision) (plan_from (served_by s) revision.db (map item_seen (map queued_of items.now.items)) ms).out) }
 {
     let first = items.front()?;
     if !first.is_finished() {
@@ -259,7 +255,7 @@ fn taking_of<'a>(
     ensures monitors { IfOk result (λ taking. (s : Schema) → taking.monitors
         ≡ (plan_from (served_by s) planner.old.chains.db (map item_seen (map queued_of items.now.items)) planner.old.monitors).monitors) }
     ensures text { IfOk result (λ taking. (s : Schema) → Gives planner.new.jobs taking (map item_seen (map queued_of items.now.items))
-        (option_map (due_text (served_by s) (revision_at planner.old.chains recent.now))
+        (option_map (due_sending (served_by s) (revision_at planner.old.chains recent.now))
         (plan_from (served_by s) planner.old.chains.db (map item_seen (map queued_of items.now.items)) planner.old.monitors).out)) }
     ensures jobs { Keeps planner.old.jobs planner.new.jobs }
     ensures chains { planner.new.chains ≡ planner.old.chains }
@@ -296,7 +292,7 @@ impl Session {
         ensures monitors { IfOk result (λ taking. (s : Schema)
             → taking.monitors ≡ (plan (served_by s) planner.old.chains.db (seen self.now)).monitors) }
         ensures text { IfOk result (λ taking. (s : Schema) → Gives planner.new.jobs taking (seen self.now).queue
-            (option_map (due_text (served_by s) (revision_at planner.old.chains recent.now)) (plan (served_by s) planner.old.chains.db (seen self.now)).out)) }
+            (option_map (due_sending (served_by s) (revision_at planner.old.chains recent.now)) (plan (served_by s) planner.old.chains.db (seen self.now)).out)) }
         ensures jobs { Keeps planner.old.jobs planner.new.jobs }
         ensures chains { planner.new.chains ≡ planner.old.chains }
     {
@@ -317,8 +313,8 @@ impl Queue {
         ensures monitors { IfSome result (λ taking. (s : Schema) (db : model_db.Db) (ms : List machine.Monitor)
             → taking.monitors ≡ (plan_from (served_by s) db (map item_seen self.now) ms).monitors) }
         ensures text { IfSome result (λ taking. (s : Schema) (revision : machine.Revision) (ms : List machine.Monitor) (all : List model_job.Job)
-            → taking_text all taking (map item_seen self.now)
-            ≡ option_map (due_text (served_by s) revision) (plan_from (served_by s) revision.db (map item_seen self.now) ms).out) }
+            → taking_sending all taking (map item_seen self.now)
+            ≡ option_map (due_sending (served_by s) revision) (plan_from (served_by s) revision.db (map item_seen self.now) ms).out) }
     {
         at_once(&self.items)
     }
@@ -335,7 +331,7 @@ impl Queue {
         ensures monitors { IfOk result (λ taking. (s : Schema)
             → taking.monitors ≡ (plan_from (served_by s) planner.old.chains.db (map item_seen self.now) planner.old.monitors).monitors) }
         ensures text { IfOk result (λ taking. (s : Schema) → Gives planner.new.jobs taking (map item_seen self.now)
-            (option_map (due_text (served_by s) (revision_at planner.old.chains recent.now))
+            (option_map (due_sending (served_by s) (revision_at planner.old.chains recent.now))
             (plan_from (served_by s) planner.old.chains.db (map item_seen self.now) planner.old.monitors).out)) }
         ensures jobs { Keeps planner.old.jobs planner.new.jobs }
         ensures chains { planner.new.chains ≡ planner.old.chains }

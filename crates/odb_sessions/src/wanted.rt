@@ -4,10 +4,10 @@ ghost use Rattle.std.specs.Bool.{OnTrue};
 ghost use Rattle.odb_monitor.specs.Job as model_job;
 ghost use Rattle.odb_sessions.specs.Alike.{AreAlike};
 ghost use Rattle.std.specs.List.{All};
-ghost use Rattle.odb_sessions.specs.Composed.{asked_of, resumed_job, updates_for};
+ghost use Rattle.odb_sessions.specs.Composed.{asked_of, owed_job, resumed_job};
 ghost use Rattle.odb_sessions.specs.FirstTexts.{AreFirstTexts, IsOfNow};
 ghost use Rattle.odb_sessions.specs.Held.{marks_in};
-ghost use Rattle.odb_sessions.specs.Jobs.{IsFor, Keeps, composition, composition_at};
+ghost use Rattle.odb_sessions.specs.Jobs.{IsFor, Keeps, if_sent};
 ghost use Rattle.odb_sessions.specs.Represented.Job.{job_in};
 ghost use Rattle.odb_sessions.specs.Tied.{AreLive};
 ghost use Rattle.odb_sessions.specs.declared.way.Way.TheVariants as way;
@@ -130,7 +130,7 @@ impl<'a> Wanted<'a> {
     /// Else the costs are those of `want`.
     pub(crate) fn updates(&mut self, monitor: &'a Monitor) -> Result<Option<usize>, AllocError>
         requires { AreLive self.old.chains (marks_in monitor.now) }
-        ensures place { IfOk result (λ place. IsFor self.new.jobs (updates_for self.old.chains.db monitor.now) place) }
+        ensures place { IfOk result (λ place. IsFor self.new.jobs (if_sent (owed_job self.old.chains.db monitor.now)) place) }
         ensures jobs { Keeps self.old.jobs self.new.jobs }
         ensures chains { self.new.chains ≡ self.old.chains }
     {
@@ -145,7 +145,7 @@ impl<'a> Wanted<'a> {
     /// What was decided for a monitor that is like this one.
     fn remembered(&self, monitor: &Monitor) -> Option<Option<usize>>
         requires { AreLive self.now.chains (marks_in monitor.now) }
-        ensures { IfSome result (λ place. IsFor self.now.jobs (updates_for self.now.chains.db monitor.now) place) }
+        ensures { IfSome result (λ place. IsFor self.now.jobs (if_sent (owed_job self.now.chains.db monitor.now)) place) }
     {
         for decision in &self.last {
             if decision.serves(monitor) {
@@ -158,7 +158,7 @@ impl<'a> Wanted<'a> {
     /// Remembers what was decided for a monitor.
     fn remember(&mut self, monitor: &'a Monitor, place: Option<usize>) -> Result<(), AllocError>
         requires live { AreLive self.old.chains (marks_in monitor.now) }
-        requires decided { IsFor self.old.jobs (updates_for self.old.chains.db monitor.now) place }
+        requires decided { IsFor self.old.jobs (if_sent (owed_job self.old.chains.db monitor.now)) place }
         ensures { self.new ≡ self.old }
     {
         self.make_room();
@@ -185,7 +185,7 @@ impl<'a> Wanted<'a> {
         way: Way<'a>,
     ) -> Result<Option<usize>, AllocError>
         requires { AreLive self.old.chains (marks_in monitor.now) }
-        ensures place { IfOk result (λ place. IsFor self.new.jobs (composition (job_in self.old.chains.db monitor.now way.entry)) place) }
+        ensures place { IfOk result (λ place. IsFor self.new.jobs (if_sent (job_in self.old.chains.db monitor.now way.entry)) place) }
         ensures jobs { Keeps self.old.jobs self.new.jobs }
         ensures chains { self.new.chains ≡ self.old.chains }
     {
@@ -203,7 +203,7 @@ impl<'a> Wanted<'a> {
     pub(crate) fn first_reply(&mut self, monitor: &'a Monitor) -> Result<usize, AllocError>
         requires { AreLive self.old.chains (marks_in monitor.now) }
         ensures place { IfOk result (λ place. (all : List model_job.Job) → Keeps self.new.jobs all
-            → composition_at all place ≡ composition (job_in self.old.chains.db monitor.now way.First)) }
+            → slice_get all place ≡ Some (job_in self.old.chains.db monitor.now way.First)) }
         ensures jobs { Keeps self.old.jobs self.new.jobs }
         ensures chains { self.new.chains ≡ self.old.chains }
     {
@@ -222,7 +222,7 @@ impl<'a> Wanted<'a> {
     ) -> Result<usize, AllocError>
         requires { AreLive self.old.chains (marks_in monitor.now) }
         ensures place { IfOk result (λ place. (all : List model_job.Job) → Keeps self.new.jobs all
-            → composition_at all place ≡ composition (resumed_job (take ago recent.now.undos) self.old.chains.db monitor.now.notation (asked_of monitor.now.tables))) }
+            → slice_get all place ≡ Some (resumed_job (take ago recent.now.undos) self.old.chains.db monitor.now.notation (asked_of monitor.now.tables))) }
         ensures jobs { Keeps self.old.jobs self.new.jobs }
         ensures chains { self.new.chains ≡ self.old.chains }
     {

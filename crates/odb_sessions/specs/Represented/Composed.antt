@@ -1,18 +1,29 @@
 -- What messages and bodies stand for.
-use Rattle.std.specs.Prelude.{◌≡◌, ℕ, List, Option, Vec, option_map}
+use Rattle.std.specs.Prelude.{◌≡◌, ℕ, List, Option, Vec, option_and_then, option_map, slice_get}
 use Rattle.std.specs.declared.sync.Arc.{Arc}
-use Rattle.odb_monitor.specs.Job.{Job}
-use Rattle.odb_sessions.specs.Jobs.{Keeps, certainly, composition_at}
+use Rattle.serde_json.specs.Written.{compact_text}
+use Rattle.odb_monitor.specs.Job.{Job, updates_of}
+use Rattle.odb_schema.specs.Json.{Data}
+use Rattle.odb_sessions.specs.Jobs.{Keeps, certainly}
+use Rattle.odb_sessions.specs.Sending.{Framed, Sending, sent_with}
 use Rattle.odb_sessions.specs.Taken.{whole_text}
 use Rattle.odb_sessions.specs.declared.composing.Message.{Message}
 
--- the text of a message, by what is composed of its job; none, where nothing is
-abbrev pub text_under : List Job → Message → Option (List ℕ)
-text_under js m = option_map (λ body. whole_text m.before.items body m.after.items) (composition_at js m.job)
+-- the message of this job
+abbrev pub framing : Message → Job → Framed
+framing m j = record { job = j; text = λ d. whole_text m.before.items (compact_text d) m.after.items }
 
--- this is the text of the message, if there is one, by these jobs and by each list that keeps them
-abbrev pub Tells : List Job → Option Message → Option (List ℕ) → Type 0
-Tells js m text = (all : List Job) → Keeps js all → option_map (text_under all) m ≡ option_map certainly text
+-- what is sent by a message, by what is composed of its job; nothing, where nothing is
+abbrev pub sending_under : List Job → Message → Option Sending
+sending_under js m = option_and_then (λ j. option_map (sent_with (framing m j)) (updates_of j)) (slice_get js m.job)
+
+-- this is sent by the message, if there is one, by these jobs and by each list that keeps them
+abbrev pub Tells : List Job → Option Message → Option Sending → Type 0
+Tells js m sending = (all : List Job) → Keeps js all → option_map (sending_under all) m ≡ option_map certainly sending
+
+-- it is a message of the job at this place, with this text by the table updates
+abbrev pub IsFrame : Message → ℕ → (Data → List ℕ) → Type 0
+IsFrame m n text = (m.job ≡ n) × ((d : Data) → whole_text m.before.items (compact_text d) m.after.items ≡ text d)
 
 -- a body that may be shared
 abbrev pub bytes_of : {Y Z : Type 0} → Arc (Vec ℕ Y) Z → List ℕ

@@ -1,11 +1,13 @@
 -- The text that comes by a taking, once the jobs are composed.
-use Rattle.std.specs.Prelude.{◌≡◌, ℕ, List, Option, Some, None}
+use Rattle.std.specs.Prelude.{◌≡◌, ℕ, List, Option, Some, None, option_and_then, option_map}
 use Rattle.odb_monitor.specs.Job.{Job}
 use Rattle.odb_service.specs.Session.{Item}
-use Rattle.odb_sessions.specs.Foreseen.{last_used}
+use Rattle.odb_sessions.specs.Foreseen.{finished_text, last_used}
 use Rattle.odb_sessions.specs.Jobs.{Keeps, composition_at}
+use Rattle.odb_sessions.specs.Represented.Composed.{sending_under}
+use Rattle.odb_sessions.specs.Sending.{Sending, finished}
 use Rattle.odb_sessions.specs.Taken as model
-use Rattle.odb_sessions.specs.Taken.{Pending, composed_text, last_text, no_text, text_from}
+use Rattle.odb_sessions.specs.Taken.{Pending, composed_text, last_text, no_text}
 use Rattle.odb_sessions.specs.declared.jobs.Planned.{Planned}
 use Rattle.odb_sessions.specs.declared.taking.Coming.{Coming}
 use Rattle.odb_sessions.specs.declared.taking.Coming.TheVariants.{Composed, Queued}
@@ -21,21 +23,23 @@ text_planned js None = no_text
 text_planned js (Some Queued) = last_text
 text_planned js (Some (Composed m)) = text_around m.before.items (composition_at js m.job) m.after.items
 
--- what comes, where this is the last item that is used up
-abbrev pub coming_text : List Job → Option Coming → Option Item → Option (List ℕ)
-coming_text js c last = text_from (text_planned js c) last
+-- what is sent, where this is the last item that is used up
+abbrev pub coming_sending : List Job → Option Coming → Option Item → Option Sending
+coming_sending js None last = None
+coming_sending js (Some Queued) last = option_map finished (option_and_then finished_text last)
+coming_sending js (Some (Composed m)) last = sending_under js m
 
--- what comes of a session with this queue
-abbrev pub taking_text : List Job → Taking → List Item → Option (List ℕ)
-taking_text js t is = coming_text js t.coming (last_used t.items is)
+-- what is sent to a session with this queue
+abbrev pub taking_sending : List Job → Taking → List Item → Option Sending
+taking_sending js t is = coming_sending js t.coming (last_used t.items is)
 
--- this comes, by these jobs and by each list that keeps them
-abbrev pub Comes : List Job → Option Coming → Option Item → Option (List ℕ) → Type 0
-Comes js c last text = (all : List Job) → Keeps js all → coming_text all c last ≡ text
+-- this is sent, by these jobs and by each list that keeps them
+abbrev pub Comes : List Job → Option Coming → Option Item → Option Sending → Type 0
+Comes js c last sending = (all : List Job) → Keeps js all → coming_sending all c last ≡ sending
 
--- the same of a session with this queue
-abbrev pub Gives : List Job → Taking → List Item → Option (List ℕ) → Type 0
-Gives js t is text = (all : List Job) → Keeps js all → taking_text all t is ≡ text
+-- the same to a session with this queue
+abbrev pub Gives : List Job → Taking → List Item → Option Sending → Type 0
+Gives js t is sending = (all : List Job) → Keeps js all → taking_sending all t is ≡ sending
 
 abbrev pub ready_by : List Job → Taking → model.Ready
 ready_by js t = record { items = t.items; monitors = t.monitors; text = text_planned js t.coming }

@@ -1,10 +1,11 @@
 use Rattle.std.proofs.Common.{rules, ◌≡◌, ◌<◌, List, length, option_map, position, slice_index_or, Some, None, subst, sym, ap, ◌∙◌}
 use Rattle.odb_service.specs.Server.{served_by}
 use Rattle.odb_sessions.specs.Asked.{is_same}
-use Rattle.odb_sessions.specs.Foreseen.{Ahead, due_text}
+use Rattle.odb_sessions.specs.Foreseen.{Ahead}
 use Rattle.odb_sessions.specs.Jobs.{certainly}
 use Rattle.odb_sessions.specs.Held.{marks_in}
 use Rattle.odb_sessions.specs.Tied.{AreLive}
+use Rattle.odb_sessions.specs.Sending.{due_sending}
 use Rattle.odb_sessions.proofs.Aheads.{due_found, due_nowhere, leaves_found, leaves_nowhere, live_ahead, same_marks}
 use Rattle.odb_sessions.proofs.Places.{keeps_itself}
 use Rattle.odb_sessions.proofs.foreseen.pass.Goals as goal
@@ -13,7 +14,7 @@ use Rattle.odb_sessions.specs.Book.{revision_at}
 pub returns-in_default-clause-text : goal.returns-in_default-clause-text
 returns-in_default-clause-text c = λ s all kept.
     let none : position (λ (a : Ahead). is_same c.args.id.now a.held.id) c.args.monitors.now.items ≡ None = search rules in
-    ap (option_map certainly) (sym (ap (option_map (due_text (served_by s) (revision_at c.args.wanted.now.chains c.args.recent.now))) (due_nowhere s c.args.wanted.now.chains.db c.args.id.now c.args.under c.args.monitors.now.items none)))
+    ap (option_map certainly) (sym (ap (option_map (due_sending (served_by s) (revision_at c.args.wanted.now.chains c.args.recent.now))) (due_nowhere s c.args.wanted.now.chains.db c.args.id.now c.args.under c.args.monitors.now.items none)))
 
 pub returns-in_default-clause-passed : goal.returns-in_default-clause-passed
 returns-in_default-clause-passed c = λ s.
@@ -38,7 +39,7 @@ returns-clause-text c = λ s all kept.
     let x : Ahead = c.index.result.now in
     let some : position (λ (a : Ahead). is_same c.args.id.now a.held.id) xs ≡ Some k = search rules in
     let at : x ≡ slice_index_or xs k x = search rules in
-    c.in_ok-message.ensures.text (served_by s) all kept ∙ ap (option_map certainly) (sym (ap (option_map (due_text (served_by s) revision)) (due_found s db c.args.id.now c.args.under xs x k some at)))
+    c.in_ok-message.ensures.text (served_by s) all kept ∙ ap (option_map certainly) (sym (ap (option_map (due_sending (served_by s) revision)) (due_found s db c.args.id.now c.args.under xs x k some at)))
 
 pub returns-clause-passed : goal.returns-clause-passed
 returns-clause-passed c = λ s.

@@ -3,15 +3,16 @@ use Rattle.std.specs.Prelude.{option_and_then}
 use Rattle.std.proofs.lemmas.List.{drop_more}
 use Rattle.odb_chain.specs.Chains.{Chains}
 use Rattle.odb_monitor.specs.Job.{Job}
-use Rattle.odb_sessions.specs.Foreseen.{Ahead, due_text}
+use Rattle.odb_sessions.specs.Foreseen.{Ahead}
 use Rattle.odb_sessions.specs.Held.{marks_in}
 use Rattle.odb_sessions.specs.Jobs.{certainly}
 use Rattle.odb_sessions.specs.Planned.{Plan}
-use Rattle.odb_sessions.specs.Represented.Composed.{text_under}
+use Rattle.odb_sessions.specs.Represented.Composed.{sending_under}
 use Rattle.odb_sessions.specs.Tied.{AreLive}
+use Rattle.odb_sessions.specs.Sending.{due_sending}
 use Rattle.odb_sessions.proofs.Aheads.{live_ahead}
-use Rattle.odb_sessions.proofs.Places.{is_told, keeps_itself, keeps_on, still_told, told_text}
-use Rattle.odb_sessions.proofs.Rests.{found_monitors, found_out, none_yet, rest_done, rest_none, rest_of, text_at}
+use Rattle.odb_sessions.proofs.Places.{is_told, keeps_itself, keeps_on, still_told, told_sending}
+use Rattle.odb_sessions.proofs.Rests.{found_monitors, found_out, none_yet, rest_done, rest_none, rest_of, sending_at}
 use Rattle.odb_sessions.proofs.foreseen.rest_due.Goals as goal
 use Rattle.odb_sessions.specs.Book.{revision_at}
 
@@ -44,15 +45,15 @@ loop-place-preserved c =
     let at : x ≡ slice_index_or xs i x = search rules in
     let step : drop i xs ≡ x ∷ drop (i + 1) xs = drop_more xs i x low ∙ ap (λ (y : Ahead). y ∷ drop (i + 1) xs) (sym at) in
     let js : List Job = c.update.new.wanted.jobs in
-    let text = option_and_then (text_under js) c.in_ok-message.message in
+    let sent = option_and_then (sending_under js) c.in_ok-message.message in
     let none : is_some c.in_ok-message.message ≡ false = search rules in
     record {
       chains = c.update.ensures.chains ∙ c.loop-place.invariant.chains;
       jobs = keeps_on c.args.wanted.now.jobs c.loop-place.wanted.jobs js c.loop-place.invariant.jobs c.update.ensures.jobs;
       within = omega (arith, low);
       rest = λ h. c.loop-place.invariant.rest h
-          ∙ rest_none h revision xs i x step text (told_text (text_under js) c.in_ok-message.message _ (c.in_ok-message.ensures.text h js (keeps_itself js)) ∙ text_at h c.args.recent.now c.loop-place.wanted.chains c.args.wanted.now.chains x c.loop-place.invariant.chains)
-          (is_told (text_under js) c.in_ok-message.message _ (c.in_ok-message.ensures.text h js (keeps_itself js)) ∙ none);
+          ∙ rest_none h revision xs i x step sent (told_sending (sending_under js) c.in_ok-message.message _ (c.in_ok-message.ensures.text h js (keeps_itself js)) ∙ sending_at h c.args.recent.now c.loop-place.wanted.chains c.args.wanted.now.chains x c.loop-place.invariant.chains)
+          (is_told (sending_under js) c.in_ok-message.message _ (c.in_ok-message.ensures.text h js (keeps_itself js)) ∙ none);
     }
 
 pub returns-then-is_some-clause-monitors : goal.returns-then-is_some-clause-monitors
@@ -66,11 +67,11 @@ returns-then-is_some-clause-monitors c = λ h.
     let step : drop i xs ≡ x ∷ drop (i + 1) xs = drop_more xs i x low ∙ ap (λ (y : Ahead). y ∷ drop (i + 1) xs) (sym at) in
     let js : List Job = c.update.new.wanted.jobs in
     let told = c.in_ok-message.ensures.text h js (keeps_itself js) in
-    let text = option_and_then (text_under js) c.in_ok-message.message in
+    let sent = option_and_then (sending_under js) c.in_ok-message.message in
     let some : is_some c.in_ok-message.message ≡ true = search rules in
     sym (ap (λ (p : Plan). p.monitors) (c.loop-place.invariant.rest h)
-    ∙ found_monitors h revision xs i x step text (told_text (text_under js) c.in_ok-message.message _ told ∙ text_at h c.args.recent.now c.loop-place.wanted.chains c.args.wanted.now.chains x c.loop-place.invariant.chains)
-    (is_told (text_under js) c.in_ok-message.message _ told ∙ some))
+    ∙ found_monitors h revision xs i x step sent (told_sending (sending_under js) c.in_ok-message.message _ told ∙ sending_at h c.args.recent.now c.loop-place.wanted.chains c.args.wanted.now.chains x c.loop-place.invariant.chains)
+    (is_told (sending_under js) c.in_ok-message.message _ told ∙ some))
 
 pub returns-then-is_some-clause-text : goal.returns-then-is_some-clause-text
 returns-then-is_some-clause-text c = λ h all kept.
@@ -82,12 +83,12 @@ returns-then-is_some-clause-text c = λ h all kept.
     let at : x ≡ slice_index_or xs i x = search rules in
     let step : drop i xs ≡ x ∷ drop (i + 1) xs = drop_more xs i x low ∙ ap (λ (y : Ahead). y ∷ drop (i + 1) xs) (sym at) in
     let told = c.in_ok-message.ensures.text h all kept in
-    let text = option_and_then (text_under all) c.in_ok-message.message in
+    let sent = option_and_then (sending_under all) c.in_ok-message.message in
     let some : is_some c.in_ok-message.message ≡ true = search rules in
-    still_told (text_under all) c.in_ok-message.message _ _ told
-    (sym (ap (λ (p : Plan). option_map (due_text h revision) p.out) (c.loop-place.invariant.rest h)
-    ∙ found_out h revision xs i x step text (told_text (text_under all) c.in_ok-message.message _ told ∙ text_at h c.args.recent.now c.loop-place.wanted.chains c.args.wanted.now.chains x c.loop-place.invariant.chains)
-    (is_told (text_under all) c.in_ok-message.message _ told ∙ some)))
+    still_told (sending_under all) c.in_ok-message.message _ _ told
+    (sym (ap (λ (p : Plan). option_map (due_sending h revision) p.out) (c.loop-place.invariant.rest h)
+    ∙ found_out h revision xs i x step sent (told_sending (sending_under all) c.in_ok-message.message _ told ∙ sending_at h c.args.recent.now c.loop-place.wanted.chains c.args.wanted.now.chains x c.loop-place.invariant.chains)
+    (is_told (sending_under all) c.in_ok-message.message _ told ∙ some)))
 
 pub returns-then-is_some-clause-jobs : goal.returns-then-is_some-clause-jobs
 returns-then-is_some-clause-jobs c = keeps_on c.args.wanted.now.jobs c.loop-place.wanted.jobs c.update.new.wanted.jobs c.loop-place.invariant.jobs c.update.ensures.jobs
@@ -109,7 +110,7 @@ returns-clause-text c = λ h all kept.
     let xs : List Ahead = c.args.monitors.now in
     let past : length xs ≤ c.loop-place.place = search rules in
     let within : c.loop-place.place ≤ length xs = c.loop-place.invariant.within in
-    ap (option_map certainly) (sym (ap (λ (p : Plan). option_map (due_text h (revision_at c.args.wanted.now.chains c.args.recent.now)) p.out) (c.loop-place.invariant.rest h ∙ rest_done h c.args.wanted.now.chains.db xs c.loop-place.place c.loop-place.place past within (omega (arith, past, within)))))
+    ap (option_map certainly) (sym (ap (λ (p : Plan). option_map (due_sending h (revision_at c.args.wanted.now.chains c.args.recent.now)) p.out) (c.loop-place.invariant.rest h ∙ rest_done h c.args.wanted.now.chains.db xs c.loop-place.place c.loop-place.place past within (omega (arith, past, within)))))
 
 pub returns-clause-jobs : goal.returns-clause-jobs
 returns-clause-jobs c = c.loop-place.invariant.jobs

@@ -1,10 +1,16 @@
-use Rattle.std.proofs.Common.{rules, ◌≡◌, Option, Some, None, option_map, sym, subst}
+use Rattle.std.proofs.Common.{rules, ◌≡◌, Option, Some, None, option_map, sym, ap, subst, ◌∙◌}
 use Rattle.odb_atoms.specs.FinMap as finite
+use Rattle.odb_service.specs.Server.{served_by}
+use Rattle.odb_sessions.specs.Foreseen.{last_used}
 use Rattle.odb_sessions.specs.Held.{Kept, seen}
+use Rattle.odb_sessions.specs.Jobs.{IsOfJob}
+use Rattle.odb_sessions.specs.Planned.{plan}
 use Rattle.odb_sessions.specs.Represented.Taking.{ready_by, text_planned}
-use Rattle.odb_sessions.specs.Taken.{IsReadyFor}
-use Rattle.odb_sessions.proofs.Places.{keeps_itself}
-use Rattle.odb_sessions.proofs.Rounds.{ready_by_plan}
+use Rattle.odb_sessions.specs.Sending.{Sending}
+use Rattle.odb_sessions.specs.Taken.{IsReadyFor, Text}
+use Rattle.odb_sessions.proofs.Pendings.{made_of}
+use Rattle.odb_sessions.proofs.Places.{keeps_itself, text_comes}
+use Rattle.odb_sessions.proofs.Rounds.{ready_by_plan, texts_due}
 use Rattle.odb_sessions.proofs.round.taking_at.Goals as goal
 use Rattle.odb_sessions.specs.Book.{revision_at}
 
@@ -28,9 +34,26 @@ returns-clause-ready c = λ s all kept.
     let there : finite.get c.args.sessions.now c.args.session ≡ Some x = search rules in
     let t = c.in_ok-taking.taking in
     let planned : IsReadyFor s revision (Some (seen x)) (ready_by all t) =
-    ready_by_plan s revision (seen x) t.items t.monitors (text_planned all t.coming) (c.in_ok-taking.ensures.items s) (c.in_ok-taking.ensures.monitors s) (c.in_ok-taking.ensures.text s all kept)
+    ready_by_plan s revision (seen x) t.items t.monitors (text_planned all t.coming) (c.in_ok-taking.ensures.items s) (c.in_ok-taking.ensures.monitors s)
+    (text_comes all t.coming (last_used t.items (seen x).queue)
+    ∙ ap (option_map (λ (y : Sending). y.text)) (c.in_ok-taking.ensures.text s all kept)
+    ∙ texts_due s revision (plan (served_by s) revision.db (seen x)).out)
     in
     subst (λ (o : Option Kept). IsReadyFor s revision (option_map seen o) (ready_by all t)) (sym there) planned
+
+pub returns-in_default-clause-made : goal.returns-in_default-clause-made
+returns-in_default-clause-made c = λ s all kept.
+    let o = option_map seen (finite.get c.args.sessions.now c.args.session) in
+    subst (λ (t : Text). IsOfJob s (revision_at c.args.planner.now.chains c.args.recent.now) all o t) (sym (c.none.ensures.coming all)) tt
+
+pub returns-clause-made : goal.returns-clause-made
+returns-clause-made c = λ s all kept.
+    let revision = revision_at c.args.planner.now.chains c.args.recent.now in
+    let x : Kept = c.in-Some.of.now in
+    let there : finite.get c.args.sessions.now c.args.session ≡ Some x = search rules in
+    let t = c.in_ok-taking.taking in
+    let made : IsOfJob s revision all (Some (seen x)) (text_planned all t.coming) = made_of s revision all (seen x) t.coming (last_used t.items (seen x).queue) (c.in_ok-taking.ensures.text s all kept) in
+    subst (λ (o : Option Kept). IsOfJob s revision all (option_map seen o) (text_planned all t.coming)) (sym there) made
 
 pub returns-clause-jobs : goal.returns-clause-jobs
 returns-clause-jobs c = c.taking.ensures.jobs

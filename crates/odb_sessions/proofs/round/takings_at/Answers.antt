@@ -9,11 +9,12 @@ use Rattle.odb_schema.specs.Schema.{Schema}
 use Rattle.odb_service.specs.Session.{Session}
 use Rattle.odb_sessions.specs.Book.{Book, book_with, revision_at}
 use Rattle.odb_sessions.specs.Held.{Sessions, all_seen, seen}
-use Rattle.odb_sessions.specs.Jobs.{Keeps}
-use Rattle.odb_sessions.specs.Represented.Taking.{pending_by, ready_by}
+use Rattle.odb_sessions.specs.Jobs.{AreMadeOf, IsOfJob, Keeps}
+use Rattle.odb_sessions.specs.Represented.Taking.{pending_by, ready_by, text_planned}
 use Rattle.odb_sessions.specs.Taken.{AreReady, IsReadyFor}
 use Rattle.odb_sessions.specs.Tied.{AreAllLive}
 use Rattle.odb_sessions.specs.declared.jobs.Planned.{Planned}
+use Rattle.odb_sessions.proofs.Pendings.{made-append}
 use Rattle.odb_sessions.proofs.Places.{keeps_on}
 use Rattle.odb_sessions.proofs.Rounds.{ready-append}
 use Rattle.odb_sessions.proofs.Ties.{get-seen}
@@ -31,6 +32,7 @@ loop-session-init c =
       search rules,
       fits,
       refl,
+      λ s all kept. subst (λ (ps : List Planned). AreMadeOf s (book c.args.planner.now.chains c.args.recent.now c.args.sessions.now) all (map (pending_by all) ps)) (sym none) tt,
     )
 
 pub push_reserved-requires : goal.push_reserved-requires
@@ -58,6 +60,9 @@ loop-session-preserved c =
     let ready : (s : Schema) (all : List Job) → Keeps now all → IsReadyFor s (revision_at k r) (get (all_seen m) n) (ready_by all p.taking) =
     λ s all kept. subst (λ (o : Option Session). IsReadyFor s (revision_at k r) o (ready_by all p.taking)) (sym (get-seen m n)) (subst (λ (q : Chains). IsReadyFor s (revision_at q r) (option_map seen (get m n)) (ready_by all p.taking)) same (c.in_ok-taking_at.ensures.ready s all kept))
     in
+    let made : (s : Schema) (all : List Job) → Keeps now all → IsOfJob s (revision_at k r) all (get (all_seen m) n) (text_planned all p.taking.coming) =
+    λ s all kept. subst (λ (o : Option Session). IsOfJob s (revision_at k r) all o (text_planned all p.taking.coming)) (sym (get-seen m n)) (subst (λ (q : Chains). IsOfJob s (revision_at q r) all (option_map seen (get m n)) (text_planned all p.taking.coming)) same (c.in_ok-taking_at.ensures.made s all kept))
+    in
     let len : vec_len c.push_reserved.new.self ≡ vec_len c.loop-session.takings + 1 = search rules in
     let before : vec_len c.loop-session.takings ≡ i = c.loop-session.invariant.2 in
     let capacity : vec_capacity c.push_reserved.new.self ≡ vec_capacity c.loop-session.takings = search rules in
@@ -71,6 +76,10 @@ loop-session-preserved c =
       omega (arith, len, before),
       omega (arith, capacity, fits),
       c.taking_at.ensures.chains ∙ same,
+      λ s all kept. subst (AreMadeOf s (book k r m) all) (sym (ap (map (pending_by all)) grown ∙ map-append (pending_by all) ps (p ∷ [])))
+          (made-append s (book k r m) all (map (pending_by all) ps) (pending_by all p)
+          (c.loop-session.invariant.5 s all (keeps_on c.loop-session.planner.jobs now all c.taking_at.ensures.jobs kept))
+          (subst (λ (n : ℕ). IsOfJob s (revision_at k r) all (get (all_seen m) n) (text_planned all p.taking.coming)) (sym named) (made s all kept))),
     )
 
 pub returns-clause-sessions : goal.returns-clause-sessions
@@ -83,6 +92,9 @@ taking_at-requires c = subst (λ (k : Chains). AreAllLive k c.args.sessions.now)
 
 pub returns-clause-ready : goal.returns-clause-ready
 returns-clause-ready c = c.loop-session.invariant.1
+
+pub returns-clause-made : goal.returns-clause-made
+returns-clause-made c = c.loop-session.invariant.5
 
 pub returns-clause-chains : goal.returns-clause-chains
 returns-clause-chains c = c.loop-session.invariant.4

@@ -4,7 +4,7 @@ use Rattle.odb_monitor.specs.Job.{Job}
 use Rattle.odb_schema.specs.Schema.{Schema}
 use Rattle.odb_sessions.specs.Book.{book_with}
 use Rattle.odb_sessions.specs.Held.{all_seen}
-use Rattle.odb_sessions.specs.Jobs.{Keeps}
+use Rattle.odb_sessions.specs.Jobs.{AreMadeOf, Keeps}
 use Rattle.odb_sessions.specs.Represented.Taking.{pending_by}
 use Rattle.odb_sessions.specs.Taken.{AreReady}
 use Rattle.odb_sessions.specs.declared.jobs.Planned.{Planned}
@@ -16,3 +16,4 @@ invariant-loop-session l =
     × ((s : Schema) (all : List Job) → Keeps l.planner.jobs all → AreReady s (book_with l.initial.planner.chains.db l.recent (all_seen l.sessions)) (map (pending_by all) l.takings.items))
     × (vec_len l.takings ≡ l.session-index) × (length l.listed ≤ vec_capacity l.takings)
     × (l.planner.chains ≡ l.initial.planner.chains)
+    × ((s : Schema) (all : List Job) → Keeps l.planner.jobs all → AreMadeOf s (book_with l.initial.planner.chains.db l.recent (all_seen l.sessions)) all (map (pending_by all) l.takings.items))

@@ -3,16 +3,16 @@ use Rattle.std.proofs.lemmas.List.{drop_more}
 use Rattle.odb_chain.specs.Chains.{Chains}
 use Rattle.odb_service.specs.Server.{served_by}
 use Rattle.odb_service.specs.Session.{Monitor, Revision, leaves}
-use Rattle.odb_sessions.specs.Foreseen.{due_text}
 use Rattle.odb_sessions.specs.Held.{marks_due}
 use Rattle.odb_sessions.specs.Planned.{Plan, due, plan_rest}
-use Rattle.odb_sessions.specs.Represented.Composed.{text_under}
+use Rattle.odb_sessions.specs.Represented.Composed.{sending_under}
 use Rattle.odb_sessions.specs.Represented.Queued.{queued_of}
-use Rattle.odb_sessions.specs.Represented.Taking.{coming_text}
+use Rattle.odb_sessions.specs.Represented.Taking.{coming_sending}
 use Rattle.odb_sessions.specs.Tied.{AreLive}
 use Rattle.odb_sessions.specs.declared.item.Item.{Item}
+use Rattle.odb_sessions.specs.Sending.{due_sending}
 use Rattle.odb_sessions.proofs.Leading.{at_end, ended, goes_on, last_at, live_due, none_used, plan_at, seen_item}
-use Rattle.odb_sessions.proofs.Places.{keeps_itself, keeps_on, told_text}
+use Rattle.odb_sessions.proofs.Places.{keeps_itself, keeps_on, told_sending}
 use Rattle.odb_sessions.proofs.taking.taking_of.Goals as goal
 use Rattle.odb_tables.specs.Database.{Db}
 use Rattle.odb_sessions.specs.Book.{revision_at}
@@ -100,10 +100,10 @@ returns-then-is_some-clause-text c = λ s all kept.
     let step : drop i xs ≡ x ∷ drop (i + 1) xs = drop_more xs i x low ∙ ap (λ (y : Item). y ∷ drop (i + 1) xs) (sym at) in
     let same : c.loop-place.planner.chains.db ≡ revision.db = ap (λ (k : Chains). k.db) c.loop-place.invariant.chains in
     let some : is_some c.in_ok-coming.coming ≡ true = search rules in
-    ap (coming_text all c.in_ok-coming.coming) (last_at xs i x low at)
+    ap (coming_sending all c.in_ok-coming.coming) (last_at xs i x low at)
     ∙ c.in_ok-coming.ensures.text s all kept
-    ∙ ap (λ (k : Chains). option_map (due_text (served_by s) (revision_at k c.args.recent.now)) (due (served_by s) k.db (seen_item x) ms)) c.loop-place.invariant.chains
-    ∙ sym (ap (λ (p : Plan). option_map (due_text (served_by s) revision) p.out) (c.loop-place.invariant.rest s
+    ∙ ap (λ (k : Chains). option_map (due_sending (served_by s) (revision_at k c.args.recent.now)) (due (served_by s) k.db (seen_item x) ms)) c.loop-place.invariant.chains
+    ∙ sym (ap (λ (p : Plan). option_map (due_sending (served_by s) revision) p.out) (c.loop-place.invariant.rest s
     ∙ ended s revision.db xs i x step ms (ap (λ (d : Db). is_some (due (served_by s) d (seen_item x) ms)) (sym same) ∙ sym (c.in_ok-coming.ensures.comes s) ∙ some)))
 
 pub returns-clause-items : goal.returns-clause-items
@@ -135,9 +135,9 @@ returns-clause-text c = λ s all kept.
     let past : length xs ≤ i = search rules in
     let within : i ≤ length xs = c.loop-place.invariant.within in
     c.composed.ensures.text all _
-    ∙ told_text (text_under all) c.in_ok-rest.rest.message _ (c.in_ok-rest.ensures.text (served_by s) all kept)
-    ∙ ap (λ (k : Chains). option_map (due_text (served_by s) (revision_at k c.args.recent.now)) (plan_rest (served_by s) k.db ms).out) c.loop-place.invariant.chains
-    ∙ sym (ap (λ (p : Plan). option_map (due_text (served_by s) revision) p.out) (c.loop-place.invariant.rest s ∙ at_end s revision.db xs i i ms past within (omega (arith, past, within))))
+    ∙ told_sending (sending_under all) c.in_ok-rest.rest.message _ (c.in_ok-rest.ensures.text (served_by s) all kept)
+    ∙ ap (λ (k : Chains). option_map (due_sending (served_by s) (revision_at k c.args.recent.now)) (plan_rest (served_by s) k.db ms).out) c.loop-place.invariant.chains
+    ∙ sym (ap (λ (p : Plan). option_map (due_sending (served_by s) revision) p.out) (c.loop-place.invariant.rest s ∙ at_end s revision.db xs i i ms past within (omega (arith, past, within))))
 
 pub returns-then-is_some-clause-jobs : goal.returns-then-is_some-clause-jobs
 returns-then-is_some-clause-jobs c = keeps_on c.args.planner.now.jobs c.loop-place.planner.jobs c.give.new.self.jobs c.loop-place.invariant.jobs c.give.ensures.jobs

@@ -1,10 +1,11 @@
 use Rattle.std.proofs.Common.{rules, ◌≡◌, Some, None, option_map, sym, ap, ◌∙◌}
 use Rattle.std.proofs.lemmas.Result.{IfOk-weaker}
 use Rattle.odb_service.specs.Session.{refilter}
-use Rattle.odb_sessions.specs.Foreseen.{Ahead, as_told, seen_ahead, update_text}
+use Rattle.odb_sessions.specs.Foreseen.{Ahead, as_told, seen_ahead}
 use Rattle.odb_sessions.specs.Jobs.{certainly}
 use Rattle.odb_sessions.specs.Held.{Held, watch_of}
 use Rattle.odb_sessions.specs.Represented.Under.{filters_in}
+use Rattle.odb_sessions.specs.Sending.{update_sending}
 use Rattle.odb_sessions.proofs.foreseen.Ahead.update.Goals as goal
 use Rattle.odb_sessions.specs.Book.{revision_at}
 
@@ -17,7 +18,7 @@ returns-in-None-clause-text c =
     let none : c.self.inside.told ≡ None = search rules in
     let same : as_told x ≡ c.args.self.now = (λ i. let a : Ahead = record { held = x; told = option_map filters_in (sym none i) } in a) ∙ c.self.view_is in
     IfOk-weaker c.update.result _ _
-    (λ message e. λ h all kept. e h all kept ∙ ap (λ (a : Ahead). option_map certainly (update_text h revision (refilter fs (watch_of a.held).requests) (seen_ahead db a))) same)
+    (λ message e. λ h all kept. e h all kept ∙ ap (λ (a : Ahead). option_map certainly (update_sending h revision (refilter fs (watch_of a.held).requests) (seen_ahead db a))) same)
     c.update.ensures.text
 
 pub returns-in-Some-clause-text : goal.returns-in-Some-clause-text
@@ -31,5 +32,5 @@ returns-in-Some-clause-text c =
     let last : Ahead = record { held = x; told = Some (filters_in told) } in
     let same : last ≡ c.args.self.now = (λ i. let a : Ahead = record { held = x; told = option_map filters_in (sym some i) } in a) ∙ c.self.view_is in
     IfOk-weaker c.update_again.result _ _
-    (λ message e. λ h all kept. e h all kept ∙ ap (λ (a : Ahead). option_map certainly (update_text h revision (refilter fs (watch_of a.held).requests) (seen_ahead db a))) same)
+    (λ message e. λ h all kept. e h all kept ∙ ap (λ (a : Ahead). option_map certainly (update_sending h revision (refilter fs (watch_of a.held).requests) (seen_ahead db a))) same)
     c.update_again.ensures.text

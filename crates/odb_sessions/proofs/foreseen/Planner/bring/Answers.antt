@@ -1,12 +1,12 @@
 use Rattle.std.proofs.Common.{List, is_some, option_map, sym, ap, ◌∙◌}
 use Rattle.odb_monitor.specs.Job.{Job}
 use Rattle.odb_service.specs.Server.{served_by}
-use Rattle.odb_sessions.specs.Foreseen.{due_text}
 use Rattle.odb_sessions.specs.Jobs.{certainly}
 use Rattle.odb_sessions.specs.Planned.{due}
-use Rattle.odb_sessions.specs.Represented.Composed.{text_under}
+use Rattle.odb_sessions.specs.Represented.Composed.{sending_under}
 use Rattle.odb_sessions.specs.Represented.Under.{item_in}
-use Rattle.odb_sessions.proofs.Places.{keeps_itself, told_text}
+use Rattle.odb_sessions.specs.Sending.{due_sending}
+use Rattle.odb_sessions.proofs.Places.{keeps_itself, told_sending}
 use Rattle.odb_sessions.proofs.Rests.{is_mapped}
 use Rattle.odb_sessions.proofs.foreseen.Planner.bring.Goals as goal
 use Rattle.odb_sessions.specs.Book.{revision_at}
@@ -16,13 +16,13 @@ returns-clause-comes c = λ s.
     let db = c.args.self.now.chains.db in
     let revision = revision_at c.args.self.now.chains c.args.recent.now in
     let js : List Job = c.pass.new.self.jobs in
-    c.composed.ensures.comes ∙ sym (is_mapped (text_under js) c.in_ok-message.message)
+    c.composed.ensures.comes ∙ sym (is_mapped (sending_under js) c.in_ok-message.message)
     ∙ ap is_some (c.in_ok-message.ensures.text s js (keeps_itself js))
-    ∙ is_mapped certainly (option_map (due_text (served_by s) revision) (due (served_by s) db (item_in c.args.id.now c.args.under) c.args.self.now.monitors))
-    ∙ is_mapped (due_text (served_by s) revision) (due (served_by s) db (item_in c.args.id.now c.args.under) c.args.self.now.monitors)
+    ∙ is_mapped certainly (option_map (due_sending (served_by s) revision) (due (served_by s) db (item_in c.args.id.now c.args.under) c.args.self.now.monitors))
+    ∙ is_mapped (due_sending (served_by s) revision) (due (served_by s) db (item_in c.args.id.now c.args.under) c.args.self.now.monitors)
 
 pub returns-clause-text : goal.returns-clause-text
-returns-clause-text c = λ s last all kept. c.composed.ensures.text all last ∙ told_text (text_under all) c.in_ok-message.message _ (c.in_ok-message.ensures.text s all kept)
+returns-clause-text c = λ s last all kept. c.composed.ensures.text all last ∙ told_sending (sending_under all) c.in_ok-message.message _ (c.in_ok-message.ensures.text s all kept)
 
 pub returns-clause-jobs : goal.returns-clause-jobs
 returns-clause-jobs c = c.pass.ensures.jobs

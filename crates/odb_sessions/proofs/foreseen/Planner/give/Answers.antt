@@ -4,11 +4,11 @@ use Rattle.std.specs.Arc.{arc_value}
 use Rattle.odb_service.specs.Server.{served_by}
 use Rattle.odb_service.specs.Session as machine
 use Rattle.odb_service.specs.Session.{leaves, shift}
-use Rattle.odb_sessions.specs.Foreseen.{due_text}
 use Rattle.odb_sessions.specs.Planned.{due}
 use Rattle.odb_sessions.specs.Represented.Queued.{filters_of}
 use Rattle.odb_sessions.specs.declared.item.Item.{Item}
 use Rattle.odb_sessions.specs.declared.item.Item.TheVariants as item
+use Rattle.odb_sessions.specs.Sending.{due_sending}
 use Rattle.odb_sessions.proofs.Leading.{seen_item}
 use Rattle.odb_sessions.proofs.Places.{keeps_itself}
 use Rattle.odb_sessions.proofs.foreseen.Planner.give.Goals as goal
@@ -21,7 +21,7 @@ returns-in-Start-clause-text c =
     let ms = c.args.self.now.monitors in
     let is : c.args.item.now ≡ item.Start c.in-Start.start = search rules in
     IfOk-weaker c.begin.result _ _
-    (λ coming e. λ s all kept. e (served_by s) (Some (seen_item c.args.item.now)) all kept ∙ ap (λ (x : Item). option_map (due_text (served_by s) revision) (due (served_by s) db (seen_item x) ms)) (sym is))
+    (λ coming e. λ s all kept. e (served_by s) (Some (seen_item c.args.item.now)) all kept ∙ ap (λ (x : Item). option_map (due_sending (served_by s) revision) (due (served_by s) db (seen_item x) ms)) (sym is))
     c.begin.ensures.text
 
 pub returns-in-Shift-clause-comes : goal.returns-in-Shift-clause-comes
@@ -42,7 +42,7 @@ returns-in-Shift-clause-text c =
     let id : c.deref-in-Shift.result.now ≡ arc_value c.in-Shift.shift.id = search rules in
     let same : shift c.deref-in-Shift.result.now (filters_of c.in-Shift.shift.changes) ≡ seen_item c.args.item.now = (λ i. shift (id i) (filters_of c.in-Shift.shift.changes)) ∙ ap seen_item (sym is) in
     IfOk-weaker c.bring-in-Shift.result _ _
-    (λ coming e. λ s all kept. e s (Some (seen_item c.args.item.now)) all kept ∙ ap (λ (j : machine.Item). option_map (due_text (served_by s) revision) (due (served_by s) db j ms)) same)
+    (λ coming e. λ s all kept. e s (Some (seen_item c.args.item.now)) all kept ∙ ap (λ (j : machine.Item). option_map (due_sending (served_by s) revision) (due (served_by s) db j ms)) same)
     c.bring-in-Shift.ensures.text
 
 pub returns-in-Shift-clause-passed : goal.returns-in-Shift-clause-passed

@@ -4,12 +4,13 @@ use Rattle.odb_monitor.specs.Job.{Job}
 use Rattle.odb_schema.specs.Schema.{Schema}
 use Rattle.odb_service.specs.Server.{served_by}
 use Rattle.odb_service.specs.Session.{leaves}
-use Rattle.odb_sessions.specs.Foreseen.{Foreseen, due_text, marks_ahead, seen_ahead}
+use Rattle.odb_sessions.specs.Foreseen.{Foreseen, marks_ahead, seen_ahead}
 use Rattle.odb_sessions.specs.Jobs.{Keeps}
 use Rattle.odb_sessions.specs.Planned.{due}
 use Rattle.odb_sessions.specs.Represented.Composed.{Tells}
 use Rattle.odb_sessions.specs.Represented.Under.{item_in}
 use Rattle.odb_sessions.specs.Tied.{AreLive}
+use Rattle.odb_sessions.specs.Sending.{due_sending}
 use Rattle.odb_sessions.proofs.foreseen.Planner.pass.Goals as goal
 use Rattle.odb_sessions.specs.Book.{revision_at}
 
@@ -19,7 +20,7 @@ invariant_of-self c = subst (λ (k : Chains). AreLive k (marks_ahead c.pass.new.
 pub returns-clause-text : goal.returns-clause-text
 returns-clause-text c =
     subst (λ (f : Foreseen). IfOk c.pass.result (λ message. (s : Schema) → Tells c.pass.new.wanted.jobs message
-    (option_map (due_text (served_by s) (revision_at f.chains c.args.recent.now)) (due (served_by s) f.chains.db (item_in c.args.id.now c.args.under) f.monitors))))
+    (option_map (due_sending (served_by s) (revision_at f.chains c.args.recent.now)) (due (served_by s) f.chains.db (item_in c.args.id.now c.args.under) f.monitors))))
     c.self.view_is c.pass.ensures.text
 
 pub returns-clause-passed : goal.returns-clause-passed

@@ -2,10 +2,11 @@ use Rattle.std.proofs.Common.{rules, ◌≡◌, List, map, option_map, subst, sy
 use Rattle.std.proofs.lemmas.Result.{IfOk-weaker}
 use Rattle.odb_chain.specs.Chains.{Chains}
 use Rattle.odb_monitor.specs.Job.{Job}
-use Rattle.odb_sessions.specs.Foreseen.{Ahead, Foreseen, due_text, marks_ahead, seen_ahead}
+use Rattle.odb_sessions.specs.Foreseen.{Ahead, Foreseen, marks_ahead, seen_ahead}
 use Rattle.odb_sessions.specs.Jobs.{Keeps, certainly}
 use Rattle.odb_sessions.specs.Planned.{plan_rest}
 use Rattle.odb_sessions.specs.Tied.{AreLive}
+use Rattle.odb_sessions.specs.Sending.{due_sending}
 use Rattle.odb_sessions.proofs.foreseen.Planner.rest.Goals as goal
 use Rattle.odb_sessions.specs.Book.{revision_at}
 
@@ -28,8 +29,8 @@ returns-clause-text c =
     let slice : c.as_slice.result.now ≡ c.self.inside.monitors.items = search rules in
     IfOk-weaker c.rest_due.result _ _
     (λ rest e. λ h all kept. e h all kept
-    ∙ ap (option_map certainly) (ap (λ (xs : List Ahead). option_map (due_text h revision) (plan_rest h db (map (seen_ahead db) xs)).out) slice
-    ∙ ap (λ (f : Foreseen). option_map (due_text h (revision_at f.chains c.args.recent.now)) (plan_rest h f.chains.db f.monitors).out) c.self.view_is))
+    ∙ ap (option_map certainly) (ap (λ (xs : List Ahead). option_map (due_sending h revision) (plan_rest h db (map (seen_ahead db) xs)).out) slice
+    ∙ ap (λ (f : Foreseen). option_map (due_sending h (revision_at f.chains c.args.recent.now)) (plan_rest h f.chains.db f.monitors).out) c.self.view_is))
     c.rest_due.ensures.text
 
 pub returns-clause-jobs : goal.returns-clause-jobs

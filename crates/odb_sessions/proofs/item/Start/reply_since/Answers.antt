@@ -1,14 +1,10 @@
-use Rattle.std.proofs.Common.{rules, ◌≡◌, false, Some, None, ap, ◌∙◌}
+use Rattle.std.proofs.Common.{rules, ◌≡◌, Some, None, ap, ◌∙◌}
 use Rattle.std.proofs.lemmas.Result.{IfOk-weaker}
-use Rattle.serde_json.specs.Written.{compact_text}
 use Rattle.odb_atoms.specs.Represented.Atom.{uuid_of}
 use Rattle.odb_recent.specs.Recent.{Recent, commits_ago}
-use Rattle.odb_rpc.specs.Message.{reply}
-use Rattle.odb_rpc.specs.Since.{since_result}
-use Rattle.odb_sessions.specs.Composed.{asked_of, first_updates, result_since}
 use Rattle.odb_sessions.specs.Held.{Held}
+use Rattle.odb_sessions.specs.Sending.{missed_sending, sending_ago}
 use Rattle.odb_sessions.proofs.item.Start.reply_since.Goals as goal
-use Rattle.odb_wire.specs.Message.{id_of}
 
 pub returns-in-None-clause-text : goal.returns-in-None-clause-text
 returns-in-None-clause-text c =
@@ -18,8 +14,8 @@ returns-in-None-clause-text c =
     let found : None ≡ commits_ago r.most r.run r.commits (uuid_of c.args.since) = search rules in
     IfOk-weaker c.not_found.result _ _
     (λ message e. λ all kept. e all kept
-    ∙ ap (λ n. Some (compact_text (reply (id_of c.args.self.now.origin) (since_result false n (first_updates db x.notation (asked_of x.tables)))))) c.number.ensures
-    ∙ ap (λ o. Some (compact_text (reply (id_of c.args.self.now.origin) (result_since r db x o)))) found)
+    ∙ ap (λ n. Some (missed_sending n db c.args.self.now.origin x)) c.number.ensures
+    ∙ ap (λ o. Some (sending_ago r db c.args.self.now.origin x o)) found)
     c.not_found.ensures.text
 
 pub returns-in-Some-clause-text : goal.returns-in-Some-clause-text
@@ -29,5 +25,5 @@ returns-in-Some-clause-text c =
     let r : Recent = c.args.recent.now in
     let found : Some c.in-Some.ago ≡ commits_ago r.most r.run r.commits (uuid_of c.args.since) = search rules in
     IfOk-weaker c.found.result _ _
-    (λ message e. λ all kept. e all kept ∙ ap (λ o. Some (compact_text (reply (id_of c.args.self.now.origin) (result_since r db x o)))) found)
+    (λ message e. λ all kept. e all kept ∙ ap (λ o. Some (sending_ago r db c.args.self.now.origin x o)) found)
     c.found.ensures.text

@@ -1,16 +1,20 @@
-use Rattle.std.proofs.Common.{◌∙◌}
 use Rattle.std.proofs.lemmas.Result.{IfOk-weaker}
-use Rattle.odb_sessions.specs.Composed.{asked_of, first_updates}
+use Rattle.odb_sessions.specs.Composed.{asked_of, first_job, first_updates}
 use Rattle.odb_sessions.specs.Held.{Held}
-use Rattle.odb_sessions.proofs.Places.{first_composition}
+use Rattle.odb_sessions.specs.Sending.{replying}
+use Rattle.odb_sessions.proofs.Composed.{first_composed}
+use Rattle.odb_sessions.proofs.Places.{sent_by}
 use Rattle.odb_sessions.proofs.item.Start.whole_reply.Goals as goal
 
 pub returns-clause-text : goal.returns-clause-text
 returns-clause-text c =
     let db = c.args.wanted.now.chains.db in
     let x : Held = c.args.self.now.monitor in
+    let job = first_job db x.notation (asked_of x.tables) in
+    let text = (replying c.args.self.now.origin (λ u. u) job).text in
     IfOk-weaker c.reply.result _ _
-    (λ message e. λ all kept. e all (first_updates db x.notation (asked_of x.tables)) (c.in_ok-job.ensures.place all kept ∙ first_composition db x.notation (asked_of x.tables)))
+    (λ message e. λ all kept.
+    sent_by all message c.in_ok-job.job text job (first_updates db x.notation (asked_of x.tables)) e (c.in_ok-job.ensures.place all kept) (first_composed db x.notation (asked_of x.tables)))
     c.reply.ensures
 
 pub returns-clause-jobs : goal.returns-clause-jobs

@@ -2,12 +2,12 @@ use Rattle.std.proofs.Common.{rules, ◌≡◌, List, option_map, sym, ap, ◌�
 use Rattle.std.proofs.lemmas.Result.{IfOk-weaker}
 use Rattle.odb_request.specs.Request.{Request}
 use Rattle.odb_service.specs.Session.{refilter}
-use Rattle.odb_sessions.specs.Foreseen.{update_text}
 use Rattle.odb_sessions.specs.Jobs.{certainly}
 use Rattle.odb_sessions.specs.Held.{Held, monitor_of, watch_of}
 use Rattle.odb_sessions.specs.Represented.Under.{filters_in}
 use Rattle.odb_sessions.specs.declared.under.Under.{Under}
 use Rattle.odb_sessions.specs.declared.under.Under.TheVariants as under
+use Rattle.odb_sessions.specs.Sending.{update_sending}
 use Rattle.odb_sessions.proofs.Updates.{refilter_none}
 use Rattle.odb_sessions.proofs.monitor.Monitor.update.Goals as goal
 use Rattle.odb_sessions.specs.Book.{revision_at}
@@ -18,5 +18,5 @@ returns-in-Asked-clause-text c =
     let qs : List Request = (watch_of x).requests in
     let is : c.args.under ≡ under.Asked = search rules in
     IfOk-weaker c.update_asked.result _ _
-    (λ message e. λ h all kept. e h all kept ∙ ap (λ (rs : List Request). option_map certainly (update_text h (revision_at c.args.wanted.now.chains c.args.recent.now) rs (monitor_of x))) (sym (refilter_none qs) ∙ ap (λ (u : Under). refilter (filters_in u) qs) (sym is)))
+    (λ message e. λ h all kept. e h all kept ∙ ap (λ (rs : List Request). option_map certainly (update_sending h (revision_at c.args.wanted.now.chains c.args.recent.now) rs (monitor_of x))) (sym (refilter_none qs) ∙ ap (λ (u : Under). refilter (filters_in u) qs) (sym is)))
     c.update_asked.ensures.text

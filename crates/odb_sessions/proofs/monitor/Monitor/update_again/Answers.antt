@@ -1,13 +1,13 @@
-use Rattle.std.proofs.Common.{Option, option_map, ap, ◌∙◌}
+use Rattle.std.proofs.Common.{option_map, ap, ◌∙◌}
 use Rattle.std.proofs.lemmas.Result.{IfOk-weaker}
-use Rattle.odb_monitor.specs.Job.{updates_of}
-use Rattle.odb_schema.specs.Json.{Data}
+use Rattle.odb_monitor.specs.Job.{Job, updates_of}
 use Rattle.odb_service.specs.Session.{refilter}
-use Rattle.odb_sessions.specs.Composed.{asked_of, later_job, notified_text}
+use Rattle.odb_sessions.specs.Composed.{asked_of, later_job}
 use Rattle.odb_sessions.specs.Foreseen.{all_parts_again}
 use Rattle.odb_sessions.specs.Jobs.{certainly}
 use Rattle.odb_sessions.specs.Held.{Held}
 use Rattle.odb_sessions.specs.Represented.Under.{filters_in}
+use Rattle.odb_sessions.specs.Sending.{notifying, sent_with}
 use Rattle.odb_sessions.proofs.Updates.{sent_again}
 use Rattle.odb_sessions.proofs.monitor.Monitor.update_again.Goals as goal
 use Rattle.odb_sessions.specs.Book.{revision_at}
@@ -19,9 +19,10 @@ returns-clause-text c =
     let x : Held = c.args.self.now in
     let fs = filters_in c.args.under in
     let gs = filters_in c.args.told in
-    let updates : Option Data = updates_of (later_job x.notation (all_parts_again db gs x.tables (refilter fs (asked_of x.tables)))) in
+    let job : Job = later_job x.notation (all_parts_again db gs x.tables (refilter fs (asked_of x.tables))) in
     IfOk-weaker c.notification.result _ _
-    (λ message told. λ h all kept. told all updates (c.in_ok-place.ensures.place all kept) ∙ ap (option_map certainly) (ap (λ v. option_map (notified_text v x) updates) c.number.ensures ∙ sent_again h revision gs fs x))
+    (λ message told. λ h all kept. told all job (c.in_ok-place.ensures.place all kept)
+    ∙ ap (option_map certainly) (ap (λ v. option_map (sent_with (notifying v x job)) (updates_of job)) c.number.ensures ∙ sent_again h revision gs fs x))
     c.notification.ensures
 
 pub returns-clause-jobs : goal.returns-clause-jobs

@@ -1,16 +1,16 @@
-use Rattle.std.proofs.Common.{rules, ◌≡◌, true, List, map, Option, option_map, subst, sym, ap, ◌∙◌}
+use Rattle.std.proofs.Common.{rules, ◌≡◌, true, List, option_map, subst, sym, ap, ◌∙◌}
 use Rattle.std.proofs.lemmas.Result.{IfOk-weaker}
 use Rattle.std.specs.List.{All}
 use Rattle.odb_chain.specs.Chains.{Chains}
-use Rattle.odb_monitor.specs.Job.{updates_of}
-use Rattle.odb_schema.specs.Json.{Data}
-use Rattle.odb_sessions.specs.Composed.{AreNow, IsKnown, later_job, notified_text, part_to}
+use Rattle.odb_monitor.specs.Job.{Job, updates_of}
+use Rattle.odb_sessions.specs.Composed.{AreNow, IsKnown, owed_job}
 use Rattle.odb_sessions.specs.Jobs.{certainly}
 use Rattle.odb_sessions.specs.Held.{Held, Watched, marks_in}
 use Rattle.odb_sessions.specs.Tied.{AreLive}
 use Rattle.odb_sessions.proofs.Places.{keeps_itself}
 use Rattle.odb_sessions.proofs.Quiet.{quiet}
 use Rattle.odb_sessions.proofs.Theirs.{known_all}
+use Rattle.odb_sessions.specs.Sending.{notifying, sent_with}
 use Rattle.odb_sessions.proofs.Updates.{sent_asked}
 use Rattle.odb_sessions.proofs.monitor.Monitor.update_asked.Goals as goal
 use Rattle.odb_sessions.specs.Book.{revision_at}
@@ -39,9 +39,10 @@ returns-clause-text c =
     let db = c.args.wanted.now.chains.db in
     let revision = revision_at c.args.wanted.now.chains c.args.recent.now in
     let x : Held = c.args.self.now in
-    let updates : Option Data = updates_of (later_job x.notation (map (part_to db) x.tables)) in
+    let job : Job = owed_job db x in
     IfOk-weaker c.notification.result _ _
-    (λ message told. λ h all kept. told all updates (c.in_ok-place.ensures.place all kept) ∙ ap (option_map certainly) (ap (λ v. option_map (notified_text v x) updates) c.number.ensures ∙ sent_asked h revision x))
+    (λ message told. λ h all kept. told all job (c.in_ok-place.ensures.place all kept)
+    ∙ ap (option_map certainly) (ap (λ v. option_map (sent_with (notifying v x job)) (updates_of job)) c.number.ensures ∙ sent_asked h revision x))
     c.notification.ensures
 
 pub returns-clause-jobs : goal.returns-clause-jobs

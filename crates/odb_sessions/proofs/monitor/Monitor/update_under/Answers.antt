@@ -1,12 +1,12 @@
-use Rattle.std.proofs.Common.{map, Option, option_map, ap, ◌∙◌}
+use Rattle.std.proofs.Common.{map, option_map, ap, ◌∙◌}
 use Rattle.std.proofs.lemmas.Result.{IfOk-weaker}
-use Rattle.odb_monitor.specs.Job.{updates_of}
-use Rattle.odb_schema.specs.Json.{Data}
+use Rattle.odb_monitor.specs.Job.{Job, updates_of}
 use Rattle.odb_service.specs.Session.{refilter}
-use Rattle.odb_sessions.specs.Composed.{all_asked_as, asked_of, later_job, notified_text, part_to}
+use Rattle.odb_sessions.specs.Composed.{all_asked_as, asked_of, later_job, part_to}
 use Rattle.odb_sessions.specs.Jobs.{certainly}
 use Rattle.odb_sessions.specs.Held.{Held}
 use Rattle.odb_sessions.specs.Represented.Under.{filters_in}
+use Rattle.odb_sessions.specs.Sending.{notifying, sent_with}
 use Rattle.odb_sessions.proofs.Updates.{sent_under}
 use Rattle.odb_sessions.proofs.monitor.Monitor.update_under.Goals as goal
 use Rattle.odb_sessions.specs.Book.{revision_at}
@@ -17,9 +17,10 @@ returns-clause-text c =
     let revision = revision_at c.args.wanted.now.chains c.args.recent.now in
     let x : Held = c.args.self.now in
     let fs = filters_in c.args.under in
-    let updates : Option Data = updates_of (later_job x.notation (map (part_to db) (all_asked_as x.tables (refilter fs (asked_of x.tables))))) in
+    let job : Job = later_job x.notation (map (part_to db) (all_asked_as x.tables (refilter fs (asked_of x.tables)))) in
     IfOk-weaker c.notification.result _ _
-    (λ message told. λ h all kept. told all updates (c.in_ok-place.ensures.place all kept) ∙ ap (option_map certainly) (ap (λ v. option_map (notified_text v x) updates) c.number.ensures ∙ sent_under h revision fs x))
+    (λ message told. λ h all kept. told all job (c.in_ok-place.ensures.place all kept)
+    ∙ ap (option_map certainly) (ap (λ v. option_map (sent_with (notifying v x job)) (updates_of job)) c.number.ensures ∙ sent_under h revision fs x))
     c.notification.ensures
 
 pub returns-clause-jobs : goal.returns-clause-jobs

@@ -1,10 +1,10 @@
 use Rattle.std.proofs.Common.{◌≡◌, List, map, option_map, subst}
 use Rattle.std.proofs.lemmas.Result.{IfOk-weaker}
 use Rattle.odb_service.specs.Server.{served_by}
-use Rattle.odb_sessions.specs.Foreseen.{due_text}
 use Rattle.odb_sessions.specs.Held.{Queued, item_seen}
 use Rattle.odb_sessions.specs.Planned.{plan_from}
-use Rattle.odb_sessions.specs.Represented.Taking.{taking_text}
+use Rattle.odb_sessions.specs.Represented.Taking.{taking_sending}
+use Rattle.odb_sessions.specs.Sending.{due_sending}
 use Rattle.odb_sessions.proofs.queue.Queue.taking.Goals as goal
 use Rattle.odb_sessions.specs.Book.{revision_at}
 
@@ -15,5 +15,5 @@ returns-clause-text c =
     let ms = c.args.planner.now.monitors in
     IfOk-weaker c.taking_of.result _ _
     (λ taking e. λ s all kept.
-    subst (λ (q : List Queued). taking_text all taking (map item_seen q) ≡ option_map (due_text (served_by s) revision) (plan_from (served_by s) db (map item_seen q) ms).out) c.self.view_is (e s all kept))
+    subst (λ (q : List Queued). taking_sending all taking (map item_seen q) ≡ option_map (due_sending (served_by s) revision) (plan_from (served_by s) db (map item_seen q) ms).out) c.self.view_is (e s all kept))
     c.taking_of.ensures.text

@@ -3,11 +3,11 @@ use Rattle.std.proofs.lemmas.Result.{IfOk-weaker}
 use Rattle.odb_chain.specs.Chains.{Chains, Mark}
 use Rattle.odb_service.specs.Server.{served_by}
 use Rattle.odb_service.specs.Session.{Monitor}
-use Rattle.odb_sessions.specs.Foreseen.{due_text}
 use Rattle.odb_sessions.specs.Held.{Held, Kept, item_seen, marks_due, marks_in, marks_of, monitor_of, seen}
 use Rattle.odb_sessions.specs.Planned.{plan, plan_from}
-use Rattle.odb_sessions.specs.Represented.Taking.{taking_text}
+use Rattle.odb_sessions.specs.Represented.Taking.{taking_sending}
 use Rattle.odb_sessions.specs.Tied.{AreLive}
+use Rattle.odb_sessions.specs.Sending.{due_sending}
 use Rattle.odb_sessions.proofs.Places.{keeps_itself, keeps_on, keeps_same}
 use Rattle.odb_sessions.proofs.Releases.{live-left, live-right}
 use Rattle.odb_sessions.proofs.session.Session.taking.Goals as goal
@@ -17,7 +17,7 @@ pub returns-in-Some-clause-text : goal.returns-in-Some-clause-text
 returns-in-Some-clause-text c = λ s all kept.
     let x : Kept = record { queue = c.self.inside.queue; monitors = c.self.inside.monitors.items } in
     let revision = revision_at c.args.planner.now.chains c.args.recent.now in
-    subst (λ (y : Kept). taking_text all c.in-Some.taking (seen y).queue ≡ option_map (due_text (served_by s) revision) (plan (served_by s) revision.db (seen y)).out) c.self.view_is
+    subst (λ (y : Kept). taking_sending all c.in-Some.taking (seen y).queue ≡ option_map (due_sending (served_by s) revision) (plan (served_by s) revision.db (seen y)).out) c.self.view_is
     (c.in-Some.ensures.text s revision (seen x).monitors all)
 
 pub turn_to-requires : goal.turn_to-requires
@@ -69,9 +69,9 @@ returns-clause-text c =
     let revision = revision_at c.args.planner.now.chains c.args.recent.now in
     let queue = ap (λ (y : Kept). (seen y).queue) c.self.view_is in
     IfOk-weaker c.taking.result _ _
-    (λ taking e. λ s all kept. sym (ap (taking_text all taking) queue) ∙ e s all kept
-    ∙ (λ i. let k : Chains = chains i in let ms : List Monitor = monitors i in option_map (due_text (served_by s) (revision_at k c.args.recent.now)) (plan_from (served_by s) k.db (map item_seen x.queue) ms).out)
-    ∙ ap (λ (y : Kept). option_map (due_text (served_by s) revision) (plan (served_by s) db (seen y)).out) c.self.view_is)
+    (λ taking e. λ s all kept. sym (ap (taking_sending all taking) queue) ∙ e s all kept
+    ∙ (λ i. let k : Chains = chains i in let ms : List Monitor = monitors i in option_map (due_sending (served_by s) (revision_at k c.args.recent.now)) (plan_from (served_by s) k.db (map item_seen x.queue) ms).out)
+    ∙ ap (λ (y : Kept). option_map (due_sending (served_by s) revision) (plan (served_by s) db (seen y)).out) c.self.view_is)
     c.taking.ensures.text
 
 pub returns-clause-chains : goal.returns-clause-chains

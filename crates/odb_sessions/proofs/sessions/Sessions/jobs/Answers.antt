@@ -7,11 +7,11 @@ use Rattle.odb_sessions.specs.FirstTexts.{IsOfNow}
 use Rattle.odb_tables.specs.Database.{Db}
 use Rattle.odb_sessions.specs.Foreseen.{Foreseen}
 use Rattle.odb_sessions.specs.Held.{all_seen}
-use Rattle.odb_sessions.specs.Jobs.{AreOfJobs, Round}
+use Rattle.odb_sessions.specs.Jobs.{AreMadeOf, Round}
 use Rattle.odb_sessions.specs.Represented.Taking.{pending_by}
 use Rattle.odb_sessions.specs.Taken.{AreReady, sessions_in}
 use Rattle.odb_sessions.specs.Tied.{AreAllLive}
-use Rattle.odb_sessions.proofs.Pendings.{of_jobs, sessions_by}
+use Rattle.odb_sessions.proofs.Pendings.{sessions_by}
 use Rattle.odb_sessions.proofs.Places.{keeps_same}
 use Rattle.odb_sessions.proofs.sessions.Sessions.jobs.Goals as goal
 
@@ -32,7 +32,12 @@ returns-clause-ready c = λ s.
     subst (λ (r : Round). AreReady s c.args.self.now r.takings) (sym c.new.ensures) (subst (λ (b : Book). AreReady s b (map (pending_by js) c.in_ok-takings.takings.items)) same ready)
 
 pub returns-clause-jobs : goal.returns-clause-jobs
-returns-clause-jobs c = subst (λ (r : Round). AreOfJobs r.jobs r.takings) (sym c.new.ensures) (of_jobs c.into_jobs.result.items c.in_ok-takings.takings.items)
+returns-clause-jobs c = λ s.
+    let js : List Job = c.into_jobs.result.items in
+    let planner : c.new-planner.result.chains ≡ c.self.inside.past = ap (λ (f : Foreseen). f.chains) c.new-planner.ensures ∙ c.chains.ensures in
+    let same = (λ i. let k : Chains = planner i in book_with k.db c.self.inside.recent (all_seen c.self.inside.sessions)) ∙ c.self.view_is in
+    let made = c.in_ok-takings.ensures.made s js (keeps_same c.takings_at.new.planner.jobs js c.into_jobs.ensures.jobs) in
+    subst (λ (r : Round). AreMadeOf s c.args.self.now r.jobs r.takings) (sym c.new.ensures) (subst (λ (b : Book). AreMadeOf s b js (map (pending_by js) c.in_ok-takings.takings.items)) same made)
 
 pub returns-clause-now : goal.returns-clause-now
 returns-clause-now c =

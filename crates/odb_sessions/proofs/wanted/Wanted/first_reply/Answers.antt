@@ -1,14 +1,13 @@
-use Rattle.std.proofs.Common.{◌≡◌, subst, sym, ap, ◌∙◌}
+use Rattle.std.proofs.Common.{◌≡◌, Some, subst, sym, ap, ◌∙◌}
 use Rattle.std.proofs.lemmas.Result.{IfOk-weaker}
 use Rattle.odb_monitor.specs.Job.{Job}
 use Rattle.odb_sessions.specs.FirstTexts.{IsOfNow}
 use Rattle.odb_sessions.specs.Held.{Held, marks_in}
-use Rattle.odb_sessions.specs.Jobs.{Wanted, composition}
+use Rattle.odb_sessions.specs.Jobs.{Wanted}
 use Rattle.odb_sessions.specs.Represented.Job.{job_in}
 use Rattle.odb_sessions.specs.Tied.{AreLive}
 use Rattle.odb_sessions.specs.declared.way.Way.TheVariants as way
 use Rattle.odb_sessions.proofs.FirstTexts.{of_now, some_then}
-use Rattle.odb_sessions.proofs.Places.{placed_at}
 use Rattle.odb_sessions.proofs.wanted.Wanted.first_reply.Goals as goal
 
 pub first-job-requires-clause-live : goal.first-job-requires-clause-live
@@ -29,7 +28,7 @@ returns-clause-place c =
     let is : job ≡ job_in c.args.self.now.chains.db c.args.monitor.now way.First =
     c.first-job.ensures ∙ ap (λ (w : Wanted). job_in w.chains.db c.args.monitor.now way.First) c.self.view_is
     in
-    IfOk-weaker c.add.result _ _ (λ place at. λ all kept. placed_at c.add.new.self.jobs job place at all kept ∙ ap composition is) c.add.ensures.place
+    IfOk-weaker c.add.result _ _ (λ place at. λ all kept. kept place job at ∙ ap (λ (j : Job). Some j) is) c.add.ensures.place
 
 pub returns-clause-jobs : goal.returns-clause-jobs
 returns-clause-jobs c = c.add.ensures.jobs

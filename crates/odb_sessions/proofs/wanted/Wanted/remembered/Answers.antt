@@ -3,9 +3,9 @@ use Rattle.std.specs.Bool.{OnTrue}
 use Rattle.odb_chain.specs.Chains.{Chains}
 use Rattle.odb_monitor.specs.Job.{Job}
 use Rattle.odb_sessions.specs.Alike.{AreAlike}
-use Rattle.odb_sessions.specs.Composed.{updates_for}
+use Rattle.odb_sessions.specs.Composed.{owed_job}
 use Rattle.odb_sessions.specs.Held.{Held, marks_in}
-use Rattle.odb_sessions.specs.Jobs.{Decision, IsDecided, IsFor, Wanted}
+use Rattle.odb_sessions.specs.Jobs.{Decision, IsDecided, IsFor, Wanted, if_sent}
 use Rattle.odb_sessions.specs.Tied.{AreLive}
 use Rattle.odb_sessions.proofs.Places.{serves_for}
 use Rattle.odb_sessions.proofs.wanted.Wanted.remembered.Goals as goal
@@ -25,5 +25,5 @@ returns-then-serves c =
     let alike : AreAlike x.held y = subst (λ b. OnTrue b (AreAlike x.held y)) serves c.serves.ensures in
     let live : AreLive k (marks_in y) = subst (λ (w : Wanted). AreLive w.chains (marks_in y)) (sym c.self.view_is) c.requires in
     let place : c.place.result ≡ x.place = search rules in
-    let here : IsFor js (updates_for k.db y) c.place.result = subst (IsFor js (updates_for k.db y)) (sym place) (serves_for k js x y alike decided live) in
-    subst (λ (w : Wanted). IsFor w.jobs (updates_for w.chains.db y) c.place.result) c.self.view_is here
+    let here : IsFor js (if_sent (owed_job k.db y)) c.place.result = subst (IsFor js (if_sent (owed_job k.db y))) (sym place) (serves_for k js x y alike decided live) in
+    subst (λ (w : Wanted). IsFor w.jobs (if_sent (owed_job w.chains.db y)) c.place.result) c.self.view_is here

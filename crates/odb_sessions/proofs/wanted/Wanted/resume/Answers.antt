@@ -1,14 +1,13 @@
-use Rattle.std.proofs.Common.{◌≡◌, take, subst, sym, ap, ◌∙◌}
+use Rattle.std.proofs.Common.{◌≡◌, take, Some, subst, sym, ap, ◌∙◌}
 use Rattle.std.proofs.lemmas.Result.{IfOk-weaker}
 use Rattle.odb_monitor.specs.Job.{Job}
 use Rattle.odb_sessions.specs.Composed.{asked_of, resumed_job}
 use Rattle.odb_sessions.specs.FirstTexts.{IsOfNow}
 use Rattle.odb_sessions.specs.Held.{Held, marks_in}
-use Rattle.odb_sessions.specs.Jobs.{Wanted, composition}
+use Rattle.odb_sessions.specs.Jobs.{Wanted}
 use Rattle.odb_sessions.specs.Tied.{AreLive}
 use Rattle.odb_sessions.specs.declared.way.Way.TheVariants as way
 use Rattle.odb_sessions.proofs.FirstTexts.{of_now}
-use Rattle.odb_sessions.proofs.Places.{placed_at}
 use Rattle.odb_sessions.proofs.wanted.Wanted.resume.Goals as goal
 
 pub new-requires : goal.new-requires
@@ -29,7 +28,7 @@ returns-clause-place c =
     let is : job ≡ resumed_job (take c.args.ago c.args.recent.now.undos) c.args.self.now.chains.db x.notation (asked_of x.tables) =
     c.in_ok-job.ensures ∙ ap (λ (w : Wanted). resumed_job (take c.args.ago c.args.recent.now.undos) w.chains.db x.notation (asked_of x.tables)) c.self.view_is
     in
-    IfOk-weaker c.add.result _ _ (λ place at. λ all kept. placed_at c.add.new.self.jobs job place at all kept ∙ ap composition is) c.add.ensures.place
+    IfOk-weaker c.add.result _ _ (λ place at. λ all kept. kept place job at ∙ ap (λ (j : Job). Some j) is) c.add.ensures.place
 
 pub returns-clause-jobs : goal.returns-clause-jobs
 returns-clause-jobs c = c.add.ensures.jobs

@@ -1,8 +1,8 @@
 use Rattle.std.proofs.Common.{subst, sym}
 use Rattle.odb_chain.specs.Chains.{Chains}
-use Rattle.odb_sessions.specs.Composed.{updates_for}
+use Rattle.odb_sessions.specs.Composed.{owed_job}
 use Rattle.odb_sessions.specs.Held.{marks_in}
-use Rattle.odb_sessions.specs.Jobs.{IsFor, Keeps, Wanted}
+use Rattle.odb_sessions.specs.Jobs.{IsFor, Keeps, Wanted, if_sent}
 use Rattle.odb_sessions.specs.Tied.{AreLive}
 use Rattle.odb_sessions.proofs.Places.{keeps_itself}
 use Rattle.odb_sessions.proofs.wanted.Wanted.updates.Goals as goal
@@ -15,13 +15,13 @@ remember-requires-clause-live c = subst (λ (k : Chains). AreLive k (marks_in c.
 
 pub remember-requires-clause-decided : goal.remember-requires-clause-decided
 remember-requires-clause-decided c =
-    subst (λ (k : Chains). IsFor c.want.new.self.jobs (updates_for k.db c.args.monitor.now) c.in_ok-place.place) (sym c.want.ensures.chains) c.in_ok-place.ensures.place
+    subst (λ (k : Chains). IsFor c.want.new.self.jobs (if_sent (owed_job k.db c.args.monitor.now)) c.in_ok-place.place) (sym c.want.ensures.chains) c.in_ok-place.ensures.place
 
 pub returns-in_err-remember-clause-jobs : goal.returns-in_err-remember-clause-jobs
 returns-in_err-remember-clause-jobs c = subst (λ (w : Wanted). Keeps c.args.self.now.jobs w.jobs) (sym c.remember.ensures) c.want.ensures.jobs
 
 pub returns-clause-place : goal.returns-clause-place
-returns-clause-place c = subst (λ (w : Wanted). IsFor w.jobs (updates_for c.args.self.now.chains.db c.args.monitor.now) c.in_ok-place.place) (sym c.remember.ensures) c.in_ok-place.ensures.place
+returns-clause-place c = subst (λ (w : Wanted). IsFor w.jobs (if_sent (owed_job c.args.self.now.chains.db c.args.monitor.now)) c.in_ok-place.place) (sym c.remember.ensures) c.in_ok-place.ensures.place
 
 pub returns-clause-jobs : goal.returns-clause-jobs
 returns-clause-jobs c = subst (λ (w : Wanted). Keeps c.args.self.now.jobs w.jobs) (sym c.remember.ensures) c.want.ensures.jobs

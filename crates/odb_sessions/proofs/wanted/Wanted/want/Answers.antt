@@ -2,7 +2,7 @@ use Rattle.std.proofs.Common.{rules, ◌≡◌, true, false, is_some, Some, None
 use Rattle.odb_monitor.specs.Job.{Job, updates_of}
 use Rattle.odb_sessions.specs.FirstTexts.{IsOfNow}
 use Rattle.odb_sessions.specs.Held.{marks_in}
-use Rattle.odb_sessions.specs.Jobs.{IsFor, Wanted, composition}
+use Rattle.odb_sessions.specs.Jobs.{IsFor, Wanted, if_sent}
 use Rattle.odb_sessions.specs.Represented.Job.{job_in}
 use Rattle.odb_sessions.specs.Tied.{AreLive}
 use Rattle.odb_sessions.proofs.FirstTexts.{of_now}
@@ -19,7 +19,7 @@ returns-then-not-is_sent-clause-place c =
     let is : job ≡ job_in c.args.self.now.chains.db c.args.monitor.now c.args.way =
     c.in_ok-job.ensures ∙ ap (λ (w : Wanted). job_in w.chains.db c.args.monitor.now c.args.way) c.self.view_is
     in
-    subst (λ (j : Job). IsFor c.args.self.now.jobs (composition j) None) is (none_for c.args.self.now.jobs job none)
+    subst (λ (j : Job). IsFor c.args.self.now.jobs (if_sent j) None) is (none_for c.args.self.now.jobs job none)
 
 pub returns-then-not-is_sent-clause-jobs : goal.returns-then-not-is_sent-clause-jobs
 returns-then-not-is_sent-clause-jobs c = keeps_itself c.args.self.now.jobs
@@ -38,7 +38,7 @@ returns-clause-place c =
     let is : job ≡ job_in c.args.self.now.chains.db c.args.monitor.now c.args.way =
     c.in_ok-job.ensures ∙ ap (λ (w : Wanted). job_in w.chains.db c.args.monitor.now c.args.way) c.self.view_is
     in
-    subst (λ (j : Job). IsFor c.add.new.self.jobs (composition j) (Some c.in_ok-place.place)) is (some_for c.add.new.self.jobs job c.in_ok-place.place c.in_ok-place.ensures.place some)
+    subst (λ (j : Job). IsFor c.add.new.self.jobs (if_sent j) (Some c.in_ok-place.place)) is (some_for c.add.new.self.jobs job c.in_ok-place.place c.in_ok-place.ensures.place some)
 
 pub returns-clause-jobs : goal.returns-clause-jobs
 returns-clause-jobs c = c.add.ensures.jobs
