@@ -18,9 +18,10 @@ use std::sync::Arc;
 /// How many texts are kept at most.
 const MOST_KEPT: usize = 8;
 
-/// The table updates of a first reply as text, and what was asked.
+/// The table updates of a first reply as text, and what was asked: until the database changes, whoever asks the same is
+/// told the same by it, if it is kept ([`Sessions::keep`](crate::Sessions::keep)).
 #[derive(Drop)]
-pub(crate) struct FirstText {
+pub struct FirstText {
     kind: Kind,
     requests: Vec<Request>,
     text: Arc<Vec<u8>>,

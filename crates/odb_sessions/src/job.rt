@@ -16,7 +16,7 @@ ghost use Rattle.odb_tables.specs.Database as model_db;
 use crate::again::parts_again;
 use crate::composing::parts_of;
 use crate::first_texts::FirstText;
-use crate::monitor::Monitor;
+use crate::monitor::{Monitor, Watching};
 use crate::planning::parts_under;
 use crate::resuming::parts_since;
 use crate::under::{Under, requests_under};
@@ -31,6 +31,9 @@ use std::sync::Arc;
 
 /// From how many bytes on the text of a first reply is kept: a shorter one is composed as fast as it is found.
 const LEAST_KEPT: usize = 4096;
+
+/// As how many rows a job weighs that tells of what changed: about as many as change at once.
+const FEW_ROWS: usize = 8;
 
 /// What is to be composed for the client of a monitor, and its text where that is kept. Contracts see the job of
 /// `odb_monitor` that it is.
@@ -128,6 +131,17 @@ impl<'a> Job<'a> {
         Ok(Some(Arc::new(alloc, text)?))
     }
 
+    /// Says about how many rows are looked at to compose it, at least 1. O(n) for n tables. No contract speaks of it.
+    pub(crate) fn weight(&self) -> usize {
+        if self.text.is_some() {
+            return 1;
+        }
+        match self.way {
+            Way::Asked => FEW_ROWS,
+            _ => self.monitor.rows(self.chains),
+        }
+    }
+
     /// What is to be kept of it, of which this was composed: where it is that of a first reply, a long text that isn't
     /// kept. O(n) for n tables.
     pub(crate) fn first_text(
@@ -188,6 +202,14 @@ impl<'a> Job<'a> {
     }
 }
 
+/// Counts the rows of the table that is watched.
+fn rows_of(chains: &Chains, table: &Watching) -> usize {
+    match chains.db().table(table.request.table()) {
+        Some(table) => table.len(),
+        None => 0,
+    }
+}
+
 /// What is asked of the monitor's tables under other filters; nothing where it is told under its own.
 fn requests_of(alloc: Global, monitor: &Monitor, way: Way<'_>) -> Result<Vec<Request>, AllocError>
     ensures { IfOk result (λ requests. requests.items ≡ asked_by monitor.now.tables (filters_by way.entry)) }
@@ -199,6 +221,15 @@ fn requests_of(alloc: Global, monitor: &Monitor, way: Way<'_>) -> Result<Vec<Req
 }
 
 impl Monitor {
+    /// Adds up how many rows its tables have, and 1.
+    fn rows(&self, chains: &Chains) -> usize {
+        let mut rows: usize = 1;
+        for table in &self.tables {
+            rows = rows.saturating_add(rows_of(chains, table));
+        }
+        rows
+    }
+
     /// The job of its first reply, or of what its client lacks.
     fn own_job<'a>(
         &'a self,

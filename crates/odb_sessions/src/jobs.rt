@@ -112,6 +112,11 @@ impl<'a> Jobs<'a> {
         }
     }
 
+    /// Returns the allocator with which the round was planned. O(1).
+    pub fn alloc(&self) -> Global {
+        self.alloc
+    }
+
     /// The jobs, each of which is to be composed. O(1).
     pub fn list(&self) -> &[Job<'a>]
         ensures { result.now ≡ self.now.jobs }
@@ -126,9 +131,19 @@ impl<'a> Jobs<'a> {
         compose_all(self.alloc, self.jobs.as_slice())
     }
 
-    /// The text of a first reply among these bodies, which are composed of the jobs, that is to be kept: of the last.
-    /// O(n) for n jobs.
-    pub(crate) fn first_text(
+    /// Adds up about how many rows are looked at to compose the jobs, at least 1 for each; more than 2^64-1 count as so
+    /// many. O(n) for n tables of all jobs. No contract speaks of it.
+    pub fn weight(&self) -> usize {
+        let mut weight: usize = 0;
+        for job in &self.jobs {
+            weight = weight.saturating_add(job.weight());
+        }
+        weight
+    }
+
+    /// Finds what is to be kept of these bodies, which are composed of the jobs: the text of the last first reply among
+    /// them that is long and isn't kept yet. An error says that memory was refused. O(n) for n jobs.
+    pub fn first_text(
         &self,
         bodies: &[Option<Arc<Vec<u8>>>],
     ) -> Result<Option<FirstText>, AllocError>

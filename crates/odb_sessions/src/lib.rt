@@ -46,6 +46,7 @@ mod wanted;
 mod way;
 
 pub use changing::Changing;
+pub use first_texts::FirstText;
 pub use id::Id;
 pub use item::Changes;
 pub use job::Job;

@@ -119,8 +119,9 @@ impl Sessions {
         Ok(Composed { prepared, first })
     }
 
-    /// Keeps the text of a first reply, if there is one.
-    fn keep(&mut self, first: Option<FirstText>)
+    /// Keeps the text of a first reply, if there is one, until the database changes: who asks the same is told the same by
+    /// it. Where memory is refused it isn't kept. O(1), and what letting eight texts go costs.
+    pub fn keep(&mut self, first: Option<FirstText>)
         requires { IfSome first (IsFirstText self.old.db) }
         ensures { self.new ≡ self.old }
     {
