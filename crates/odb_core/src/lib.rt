@@ -18,6 +18,6 @@ mod waiting;
 mod waiting_list;
 
 pub use odb_locks::SessionId;
-pub use odb_sessions::{Job, Jobs, Out, Prepared};
+pub use odb_sessions::{FirstText, Job, Jobs, Out, Prepared};
 pub use refused::Refused;
 pub use server::Core;

@@ -1,6 +1,7 @@
 //! The server as a machine over events. [P 10.3, 13.1, 14]
 
-ghost use Rattle.std.specs.Prelude.{◌≡◌, ◌≤◌, ◌↔◌, ℕ, List, [], flat_map, map, length, Ok, OnOk, OnErr, IfOk, IfErr, IsErrOf};
+ghost use Rattle.std.specs.Prelude.{◌≡◌, ◌≤◌, ◌↔◌, ℕ, List, [], flat_map, map, length, Ok, OnOk, OnErr, IfOk, IfErr, IfSome, IsErrOf};
+ghost use Rattle.std.specs.List.{All};
 ghost use Rattle.odb_atoms.specs.FinMap.{len};
 ghost use Rattle.odb_atoms.specs.Represented.Atom.{uuid_of};
 ghost use Rattle.odb_wire.specs.Message.{inserts_of};
@@ -14,7 +15,7 @@ use crate::state::State;
 use odb_locks::SessionId;
 use odb_queue::ServedSchema;
 use odb_schema::Schema;
-use odb_sessions::{Jobs, Out, Prepared};
+use odb_sessions::{FirstText, Jobs, Out, Prepared};
 use odb_wire::Request;
 use std::alloc::{AllocError, Global};
 use std::collections::BTreeSet;
@@ -57,6 +58,7 @@ impl Core {
     ghost use Rattle.odb_service.specs.Server.{serve};
     ghost use Rattle.odb_core.specs.Represented.Core.{IsQuietBut, new_server};
     ghost use Rattle.odb_core.specs.Represented.Rounds.{AreRound, AreRoundOf, book_in};
+    ghost use Rattle.odb_sessions.specs.FirstTexts.{IsFirstText, IsOfNow};
     ghost use Rattle.odb_sessions.specs.Jobs.{AreOfJobs};
     ghost use Rattle.odb_sessions.specs.Taken.{given_by, sessions_in};
     ghost use Rattle.odb_sessions.specs.Represented.Out.{sent_in};
@@ -208,9 +210,20 @@ impl Core {
     pub fn jobs(&self, ready: &[SessionId]) -> Result<Jobs<'_>, AllocError>
         ensures round { IfOk result (λ jobs. AreRoundOf ready.now self.now jobs.takings) }
         ensures jobs { IfOk result (λ jobs. AreOfJobs (book_in self.now.world) jobs.jobs jobs.takings) }
+        ensures now { IfOk result (λ jobs. All (IsOfNow self.now.world.db) jobs.jobs) }
     {
         let listed = once(self.alloc, ready)?;
         self.state.jobs(listed.as_slice())
+    }
+
+    /// Keeps the text of a first reply, if there is one, which [`Jobs::first_text`] found for this core as it is: until the
+    /// database changes, who asks the same is told the same by it. Where memory is refused it isn't kept. O(1), and what
+    /// letting eight texts go costs.
+    pub fn keep(&mut self, first: Option<FirstText>)
+        requires { IfSome first (IsFirstText self.old.world.db) }
+        ensures { self.new ≡ self.old }
+    {
+        self.state.keep_first(first);
     }
 
     /// Carries out a round that was planned for this core as it is, and of which everything is composed: then it is a

@@ -1,7 +1,9 @@
 use Rattle.std.proofs.Common.{rules, ◌≡◌, List, ℕ, subst, ◌∙◌}
 use Rattle.std.proofs.lemmas.Result.{IfOk-weaker}
 use Rattle.odb_service.specs.Server.{Server}
+use Rattle.odb_sessions.specs.FirstTexts.{IsOfNow}
 use Rattle.odb_sessions.specs.Jobs.{AreMadeOf}
+use Rattle.std.specs.List.{All}
 use Rattle.odb_sessions.specs.Taken.{AreReady}
 use Rattle.odb_core.specs.Represented.Rounds.{book_in}
 use Rattle.odb_core.proofs.CoreInvariant.{if_both}
@@ -15,3 +17,6 @@ returns-clause-round c =
 
 pub returns-clause-jobs : goal.returns-clause-jobs
 returns-clause-jobs c = IfOk-weaker c.jobs.result _ _ (λ jobs made. λ s. subst (λ (v : Server). AreMadeOf s (book_in v.world) jobs.jobs jobs.takings) c.self.view_is (made s)) c.jobs.ensures.jobs
+
+pub returns-clause-now : goal.returns-clause-now
+returns-clause-now c = IfOk-weaker c.jobs.result _ _ (λ jobs now. subst (λ (v : Server). All (IsOfNow v.world.db) jobs.jobs) c.self.view_is now) c.jobs.ensures.now
