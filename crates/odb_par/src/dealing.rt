@@ -1,5 +1,5 @@
 //! What the workers composed, in the order of the jobs.
-ghost use Rattle.std.specs.Prelude.{◌≡◌, ◌<◌, ◌≤◌, IfOk, Some, length, map, slice_get};
+ghost use Rattle.std.specs.Prelude.{◌≡◌, ◌≤◌, IfOk, map};
 ghost use Rattle.odb_par.specs.Shares.{AreShares};
 ghost use Rattle.odb_sessions.specs.Jobs.{composition};
 ghost use Rattle.odb_sessions.specs.Represented.Composed.{bytes_in};
@@ -22,27 +22,12 @@ pub(crate) fn in_order(
 {
     let mut bodies = Vec::with_capacity(alloc, jobs.len())?;
     for place in 0..jobs.len() {
-        bodies.push_reserved(body_of(jobs, workers, shares, place)?);
+        let Ok(own) = &shares[place % workers] else {
+            return Err(AllocError);
+        };
+        bodies.push_reserved(shared(&own[place / workers])?);
     }
     Ok(bodies)
-}
-
-/// Finds the body of the job at this place. O(1).
-fn body_of(
-    _jobs: &[Job<'_>],
-    workers: usize,
-    shares: &[Share],
-    place: usize,
-) -> Result<Option<Arc<Vec<u8>>>, AllocError>
-    requires workers { 1 ≤ workers }
-    requires shares { AreShares workers (map composition _jobs.now) shares.now }
-    requires place { place < length _jobs.now }
-    ensures { IfOk result (λ body. slice_get (map composition _jobs.now) place ≡ Some (bytes_in body)) }
-{
-    match &shares[place % workers] {
-        Ok(bodies) => shared(&bodies[place / workers]),
-        Err(_) => Err(AllocError),
-    }
 }
 
 /// Shares the body. O(1).

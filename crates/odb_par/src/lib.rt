@@ -7,6 +7,8 @@ mod composing;
 mod dealing;
 mod gate;
 mod worker;
+mod workers;
 
 pub use composing::compose_all;
 pub use gate::{Gate, Open};
+pub use workers::Workers;
