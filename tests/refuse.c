@@ -8,6 +8,7 @@ enum { ASKED = 7340032, MOST = 1000000 };
 void *__libc_malloc(size bytes);
 void *__libc_realloc(void *old, size bytes);
 int dprintf(int file, const char *format, ...);
+_Noreturn void _Exit(int status);
 
 static size left;    /* how many requests it is to the one that is refused; 0 where none is to be */
 static int refused;  /* whether it came */
@@ -37,4 +38,10 @@ void *realloc(void *old, size bytes) {
 
 __attribute__((destructor)) static void say(void) {
     dprintf(2, "refused %lu\n", all);
+}
+
+/* A program that may have threads ends so, and runs no destructor. */
+_Noreturn void _exit(int status) {
+    say();
+    _Exit(status);
 }

@@ -9,10 +9,12 @@ use crate::seat::Seat;
 use crate::state::HubState;
 use crate::submission::Submission;
 use odb_core::{Core, Refused, SessionId};
+use odb_par::{Gate, Workers};
 use std::alloc::{AllocError, Global};
 use std::marker::Model;
 use std::snapshot::Snapshot;
 use std::sync::ledger::{Blank, Book, Ledger, Share};
+use std::thread::Threads;
 use std::time::Clock;
 
 /// What came of a turn of a batch.
@@ -178,14 +180,19 @@ impl<L: Ledger> Counted<L> {
     }
 
     /// As [`HubState::round`].
-    pub fn round(&mut self) -> Result<usize, AllocError>
+    pub fn round<R: Threads + Sync, G: Gate + Sync>(
+        &mut self,
+        rt: &R,
+        workers: Workers,
+        gate: &G,
+    ) -> Result<usize, AllocError>
         ensures ok { IfOk result (λ count. TakesRound count self.old.kept self.new.kept) }
         ensures count { SameCount self.old self.new }
         ensures err { OnErr result (self.new.kept.server ≡ self.old.kept.server) }
         ensures journal { OnErr result ((self.new.kept.base ≡ self.old.kept.base) × (self.new.kept.events ≡ self.old.kept.events)) }
         ensures flushed { OnErr result ((s : ℕ) → IsFlushedAt (get self.old.kept.rings s) (get self.new.kept.rings s)) }
     {
-        self.state.round()
+        self.state.round(rt, workers, gate)
     }
 
     /// As [`HubState::next_deadline`].

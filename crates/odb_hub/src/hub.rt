@@ -8,9 +8,11 @@ use crate::seat::Seat;
 use crate::submission::Submission;
 use crate::turn::Turn;
 use odb_core::{Core, Refused, SessionId};
+use odb_par::{Gate, Workers};
 use std::alloc::{AllocError, Global};
 use std::sync::ledger::{Blank, Ledger};
 use std::sync::{Mutex, MutexGuard, Wait};
+use std::thread::Threads;
 use std::time::{Clock, Duration};
 
 /// What a round did.
@@ -109,15 +111,20 @@ impl<L: Ledger> Hub<L> {
         self.enter(rt).tick(now)
     }
 
-    /// Gives each session its next message.
-    pub fn round<R: Wait + Clock>(&self, rt: &R) -> Result<Round, AllocError>
+    /// Gives each session its next message. The workers compose what is to be composed, while the lock is held.
+    pub fn round<R: Threads + Wait + Clock + Sync, G: Gate + Sync>(
+        &self,
+        rt: &R,
+        workers: Workers,
+        gate: &G,
+    ) -> Result<Round, AllocError>
         ensures ok { UnderLock (λ old new. IfOk result (λ round. TakesRound round.given old.kept new.kept)) }
         ensures quiet { UnderLock (λ old new. IfOk result (λ round. round.owes ≡ false → IsQuiet new.kept.server)) }
         ensures deadline { UnderLock (λ old new. IfOk result (λ round. round.deadline ≡ earliest new.kept.server.world.waiting)) }
     {
         let mut state = self.enter(rt);
         let turn = Turn::begin(rt);
-        let given = state.round()?;
+        let given = state.round(rt, workers, gate)?;
         Ok(Round {
             given,
             more: state.has_more(),

@@ -5,6 +5,7 @@
 #![tactic(auto)]
 
 mod bell;
+mod composing;
 mod counted;
 mod hub;
 mod journal;

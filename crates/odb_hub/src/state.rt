@@ -7,16 +7,19 @@ ghost use Rattle.odb_core.specs.declared.refused.Refused.TheVariants as refused;
 ghost use Rattle.odb_service.specs.Run.{closed, opened, round, submitted, ticked};
 
 use crate::bell::Bell;
+use crate::composing::round_by;
 use crate::journal::{Happened, Journal};
 use crate::mailbox::Mailbox;
 use crate::rings::Rings;
 use crate::submission::Submission;
 use crate::turn::Turn;
 use odb_core::{Core, Refused, SessionId};
+use odb_par::{Gate, Workers};
 use std::alloc::{AllocError, Global};
 use std::marker::Model;
 use std::snapshot::Snapshot;
 use std::sync::Arc;
+use std::thread::Threads;
 use std::time::Clock;
 
 /// How many submissions one turn takes at most.
@@ -205,10 +208,15 @@ impl HubState {
 
     /// Gives each open session its next message, if it has one and none is held back for it. What is held back is sent
     /// first, where its ring has room now; then each message goes into its session's ring, or is held back where that
-    /// is full. It returns how many messages there were. An error says that memory was refused: then what was held back
-    /// may have been sent, and nothing else changed. O(k log n) where k sessions may be owed something or have a message
-    /// held back.
-    pub fn round(&mut self) -> Result<usize, AllocError>
+    /// is full. The workers compose what is to be composed. It returns how many messages there were. An error says that
+    /// memory was refused: then what was held back may have been sent, and nothing else changed. O(k log n) where k sessions
+    /// may be owed something or have a message held back, and what is composed, and a thread for each worker but one.
+    pub fn round<R: Threads + Sync, G: Gate + Sync>(
+        &mut self,
+        rt: &R,
+        workers: Workers,
+        gate: &G,
+    ) -> Result<usize, AllocError>
         ensures ok { IfOk result (λ count. TakesRound count self.old self.new) }
         ensures err { OnErr result (self.new.server ≡ self.old.server) }
         ensures journal { OnErr result ((self.new.base ≡ self.old.base) × (self.new.events ≡ self.old.events)) }
@@ -216,7 +224,7 @@ impl HubState {
     {
         let listed = self.rings.ready(self.core.owed())?;
         let event = Happened::Round(Snapshot::of(&self.rings));
-        let outs = self.core.round(listed.as_slice())?;
+        let outs = round_by(rt, &mut self.core, listed.as_slice(), workers, gate)?;
         let count = outs.len();
         self.rings.hand_over(outs);
         self.journal = self.journal.with(event);

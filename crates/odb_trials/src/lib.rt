@@ -18,4 +18,6 @@ mod sizes;
 #[cfg(test)]
 mod streams;
 #[cfg(test)]
+mod workers;
+#[cfg(test)]
 mod writers;

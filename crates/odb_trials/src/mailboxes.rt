@@ -6,12 +6,14 @@ ghost use Rattle.odb_atoms.specs.FinMap.{empty};
 use crate::requests::{NET, core, note, request};
 use odb_core::{Core, Out, Refused};
 use odb_hub::{Hub, Mailbox, Seat};
+use odb_par::{Open, Workers};
 use std::alloc::{AllocError, Global};
 use std::hash::RandomState;
 use std::marker::Brand;
 use std::sync::Wait;
 use std::sync::ledger::{Blank, Ledger};
 use std::test::Fail;
+use std::thread::Threads;
 use std::time::Clock;
 
 /// More than any count here comes to.
@@ -106,9 +108,12 @@ fn take(mailbox: &mut Mailbox, text: &mut Vec<u8>) -> Result<(), AllocError> {
 }
 
 /// Rounds until one gives nothing.
-fn run_rounds<L: Ledger, R: Wait + Clock>(rt: &R, hub: &Hub<L>) -> Result<(), AllocError> {
+fn run_rounds<L: Ledger, R: Threads + Wait + Clock + Sync>(
+    rt: &R,
+    hub: &Hub<L>,
+) -> Result<(), AllocError> {
     for _ in 0..MOST {
-        if hub.round(rt)?.given == 0 {
+        if hub.round(rt, Workers::new(1, 0), &Open)?.given == 0 {
             break;
         }
     }
@@ -128,7 +133,7 @@ pub(crate) fn part<L: Ledger, R: Wait>(rt: &R, hub: &Hub<L>, seat: Seat<L>) {
 }
 
 /// What another session is sent.
-fn other<L: Ledger, R: Wait + Clock>(
+fn other<L: Ledger, R: Threads + Wait + Clock + Sync>(
     rt: &R,
     alloc: Global,
     hub: &Hub<L>,
@@ -144,7 +149,7 @@ fn other<L: Ledger, R: Wait + Clock>(
     Ok(text)
 }
 
-fn ask_all<L: Ledger, R: Wait + Clock>(
+fn ask_all<L: Ledger, R: Threads + Wait + Clock + Sync>(
     rt: &R,
     alloc: Global,
     hub: &Hub<L>,
@@ -160,7 +165,7 @@ fn ask_all<L: Ledger, R: Wait + Clock>(
 }
 
 /// What is counted of a session that takes nothing until it is Busy, and then, where it is asked, what its ring has.
-fn find<L: Ledger, R: Wait + Clock>(
+fn find<L: Ledger, R: Threads + Wait + Clock + Sync>(
     rt: &R,
     alloc: Global,
     hub: &Hub<L>,
@@ -193,7 +198,7 @@ fn find<L: Ledger, R: Wait + Clock>(
 
 /// What is found, and how many events two new journals ended with at once after that, and one after another session came
 /// and went.
-fn trial<L: Ledger, R: Wait + Clock>(
+fn trial<L: Ledger, R: Threads + Wait + Clock + Sync>(
     rt: &R,
     alloc: Global,
     core: Core,
@@ -229,7 +234,7 @@ fn come_and_go<L: Ledger, R: Wait + Clock>(
 }
 
 /// What another session is sent that is alone.
-fn alone<L: Ledger, R: Wait + Clock>(
+fn alone<L: Ledger, R: Threads + Wait + Clock + Sync>(
     rt: &R,
     alloc: Global,
     core: Core,

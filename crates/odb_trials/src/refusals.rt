@@ -25,6 +25,7 @@ use std::marker::Brand;
 use std::sync::Wait;
 use std::sync::ledger::Blank;
 use std::test::Fail;
+use std::thread::Threads;
 use std::time::Clock;
 
 /// More requests for memory than any script makes.
@@ -43,7 +44,7 @@ enum Way {
     Hub,
 }
 
-fn play<R: Wait + Clock>(
+fn play<R: Threads + Wait + Clock + Sync>(
     rt: &R,
     alloc: Global,
     hashing: RandomState,
@@ -59,7 +60,7 @@ fn play<R: Wait + Clock>(
 
 /// The number of the first request for memory that makes a difference where it is refused, if one does; 0 where memory is refused
 /// though nobody refuses any.
-fn first_wrong<R: Wait + Clock>(
+fn first_wrong<R: Threads + Wait + Clock + Sync>(
     rt: &R,
     alloc: Global,
     hashing: RandomState,

@@ -18,7 +18,11 @@ const INSERT: &[u8] =
 const CLIENTS: usize = 64;
 
 /// A session that submits the request of this text.
-fn submitter(alloc: Global, core: &mut Core, text: &[u8]) -> Result<SessionId, AllocError> {
+pub(crate) fn submitter(
+    alloc: Global,
+    core: &mut Core,
+    text: &[u8],
+) -> Result<SessionId, AllocError> {
     let Ok(session) = core.open() else {
         return Err(AllocError);
     };

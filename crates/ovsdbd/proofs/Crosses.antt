@@ -7,6 +7,8 @@ use Rattle.std.specs.contracts.net.tcp.TcpStream as TcpStream
 use Rattle.std.specs.contracts.time.Instant as Instant
 use Rattle.std.specs.declared.sync.ledger.Ledger.{Ghosts}
 use Rattle.odb_hub.proofs.Crossing.{Hub-sync}
+use Rattle.odb_par.proofs.workers.Workers.TheSendSync as workers
+use Rattle.odb_par.specs.contracts.workers.Workers as Workers
 use Rattle.ovsdbd.proofs.crew.Crew.TheSendSync as crew
 use Rattle.ovsdbd.proofs.daemon.Patience.TheSendSync as patience
 use Rattle.ovsdbd.proofs.pace.Pace.TheSendSync as pace
@@ -29,6 +31,9 @@ Patience-sync = patience.the_sync
 Pace-sync : IsSync Pace.the_row
 Pace-sync = pace.the_sync
 
+Workers-sync : IsSync Workers.the_row
+Workers-sync = workers.the_sync
+
 pub Pair-sync : IsSync Pair.the_row
 Pair-sync = pair.the_sync
 
@@ -36,6 +41,6 @@ Instant-sync : IsSync Instant.the_row
 Instant-sync = search (sendable, heap.crosses) depth 20
 
 pub Daemon-sync : (L : RattleType) (g : Ghosts L.Denot) → IsSend L → IsSync (Daemon.the_field L g).row
-Daemon-sync L g s = search (Hub-sync, Crew-sync, Patience-sync, Pace-sync, Instant-sync, sendable, heap.crosses) depth 40 fits 20000
+Daemon-sync L g s = search (Hub-sync, Crew-sync, Patience-sync, Pace-sync, Workers-sync, Instant-sync, sendable, heap.crosses) depth 40 fits 20000
 
 pub ruleset crosses = (Daemon-sync, Pair-sync, TcpStream-send, sendable, heap.crosses)

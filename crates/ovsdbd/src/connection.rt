@@ -64,7 +64,7 @@ fn run_pair<'s, E, L: Ledger + Send + Sync, R: Threads + Wait + Clock + RandomSo
 }
 
 /// Opens a session, and reads until it ends.
-fn run_session<L: Ledger, R: Wait + Clock>(
+fn run_session<L: Ledger, R: Threads + Wait + Clock + Sync>(
     rt: &R,
     daemon: &Daemon<L>,
     pair: &Pair,
@@ -195,7 +195,7 @@ fn ask(stream: &TcpStream) -> io::Result<()> {
 
 /// Reads requests and submits them, until the stream ends or is at a fault, the peer says nothing for too long, memory is
 /// refused, or writing fails.
-fn read_for_session<L: Ledger, R: Wait + Clock>(
+fn read_for_session<L: Ledger, R: Threads + Wait + Clock + Sync>(
     rt: &R,
     daemon: &Daemon<L>,
     seat: &mut Seat<L>,
@@ -252,7 +252,7 @@ impl From<AllocError> for Stopped {
 }
 
 /// Submits the messages, and what that gives the session goes into its ring.
-fn submit_messages<L: Ledger, R: Wait + Clock>(
+fn submit_messages<L: Ledger, R: Threads + Wait + Clock + Sync>(
     rt: &R,
     daemon: &Daemon<L>,
     seat: &mut Seat<L>,
@@ -298,7 +298,7 @@ fn submission_of(
 
 /// Submits them all, a turn after the other, and the other sessions are told. The thread sleeps while a message is held
 /// back, since the client doesn't read what it was given, and on Busy until the session was given something.
-fn submit_all<L: Ledger, R: Wait + Clock>(
+fn submit_all<L: Ledger, R: Threads + Wait + Clock + Sync>(
     rt: &R,
     daemon: &Daemon<L>,
     seat: &mut Seat<L>,
@@ -322,7 +322,7 @@ fn submit_all<L: Ledger, R: Wait + Clock>(
 }
 
 /// Submits a turn of them, and the other sessions are told.
-fn submit_turn<L: Ledger, R: Wait + Clock>(
+fn submit_turn<L: Ledger, R: Threads + Wait + Clock + Sync>(
     rt: &R,
     daemon: &Daemon<L>,
     seat: &mut Seat<L>,

@@ -4,10 +4,12 @@ use crate::crew::Crew;
 use crate::pace::Pace;
 use odb_core::{Core, SessionId};
 use odb_hub::Hub;
+use odb_par::{Open, Workers};
 use std::alloc::Global;
 use std::sync::Wait;
 use std::sync::atomic::{AtomicU64, Ordering};
 use std::sync::ledger::{Blank, Ledger};
+use std::thread::Threads;
 use std::time::{Clock, Duration, Instant};
 
 /// After how many turns of the pump the journal begins anew.
@@ -40,6 +42,7 @@ pub(crate) struct Daemon<L: Ledger> {
     pub(crate) pace: Pace,
     pub(crate) crew: Crew,
     pub(crate) patience: Patience,
+    workers: Workers,
     start: Instant,
     ended: AtomicU64,
 }
@@ -49,7 +52,13 @@ impl<L: Ledger> Daemon<L> {
     ghost use Rattle.odb_atoms.specs.FinMap.{empty};
 
     /// A daemon over a core without sessions.
-    pub(crate) fn new(begun: Begun, blank: Blank, seats: u64, patience: Patience) -> Daemon<L>
+    pub(crate) fn new(
+        begun: Begun,
+        blank: Blank,
+        seats: u64,
+        patience: Patience,
+        workers: Workers,
+    ) -> Daemon<L>
         requires core { (begun.core.world.sessions ≡ empty) × (begun.core.opened ≡ 0) }
         requires ledger { (blank.name ≡ L.name) × (blank.parts ≡ L.parts) }
         requires parts { blank.parts ≡ seats + 1 }
@@ -61,6 +70,7 @@ impl<L: Ledger> Daemon<L> {
             pace: Pace::new(),
             crew: Crew::new(alloc),
             patience,
+            workers,
             start,
             ended: AtomicU64::new(0),
         }
@@ -91,10 +101,11 @@ impl<L: Ledger> Daemon<L> {
     }
 
     /// Gives each session its next message where few are owed something, and where the pump sleeps and that is brief, so
-    /// that an update doesn't wait for the pump. The pump does the rest.
-    pub(crate) fn tell_all<R: Wait + Clock>(&self, rt: &R, few: bool) {
+    /// that an update doesn't wait for the pump. The pump does the rest. Step: `keeps_silent`, where few are owed something
+    /// and the round leaves nothing owed; else it tells the pump.
+    pub(crate) fn tell_all<R: Threads + Wait + Clock + Sync>(&self, rt: &R, few: bool) {
         if few || self.pace.lets_others() {
-            if let Ok(round) = self.hub.round(rt) {
+            if let Ok(round) = self.hub.round(rt, self.workers, &Open) {
                 self.pace.note(round);
                 if few && !round.owes {
                     return;
@@ -105,7 +116,7 @@ impl<L: Ledger> Daemon<L> {
     }
 
     /// What the pump does until the daemon ends.
-    pub(crate) fn pump<R: Wait + Clock>(&self, rt: &R) {
+    pub(crate) fn pump<R: Threads + Wait + Clock + Sync>(&self, rt: &R) {
         let mut turns: u64 = 0;
         for _ in rt.forever() {
             if self.ended.load(Ordering::SeqCst) != 0 {
@@ -122,10 +133,10 @@ impl<L: Ledger> Daemon<L> {
 
     /// Tries the transactions that are due, gives each session its next message, and pauses: it rests where more may come,
     /// and sleeps where nothing is owed until something may be, or a transaction may be due.
-    fn turn<R: Wait + Clock>(&self, rt: &R) {
+    fn turn<R: Threads + Wait + Clock + Sync>(&self, rt: &R) {
         self.pace.begin();
         drop(self.hub.tick(rt, self.now(rt)));
-        match self.hub.round(rt) {
+        match self.hub.round(rt, self.workers, &Open) {
             Ok(round) => self.pace.pause(rt, round, self.left(rt, round.deadline)),
             Err(_) => self.pace.rest(rt, Duration::from_millis(REFUSED), None),
         }
@@ -148,6 +159,7 @@ impl<L: Ledger> Drop for Daemon<L> {
             pace: _,
             crew: _,
             patience: _,
+            workers: _,
             start: _,
             ended: _,
         } = self;

@@ -19,6 +19,7 @@ use crate::daemon::Patience;
 use crate::serve::{Memory, Terms, begin, serve_all};
 use clap::builder::ValueParser;
 use clap::{Arg, ArgAction, ArgMatches, Command, Error};
+use odb_par::Workers;
 use odb_schema::{Schema, SchemaFault};
 use odb_script::{RunFault, Watched, run_script};
 use rand::make_rng;
@@ -34,7 +35,7 @@ use std::rt::Files;
 use std::sync::Wait;
 use std::thread::Threads;
 use std::time::{Clock, Duration};
-use std::{env, fs};
+use std::{env, fs, thread};
 use thiserror::Error as ErrorText;
 
 /// Why the program ends with status 1.
@@ -104,6 +105,13 @@ const KEPT: u64 = 100;
 
 /// Of how many at most.
 const MOST_KEPT: u64 = 1_000_000;
+
+/// How many threads may compose what clients are sent.
+const MOST_WORKERS: u64 = 64;
+
+/// From which weight on the jobs of a round are composed by more than one: about how many rows are looked at in the time
+/// that a thread takes to start.
+const HEAVY: usize = 4_000;
 
 /// What the help ends with: an example, exit statuses, and the numbers of schema faults. [P 1.4, 15.1, 15.2]
 const AFTER_HELP: &str = "Example:
@@ -176,7 +184,8 @@ fn serve_command<'a>(alloc: Global) -> Result<Command<'a>, Error> {
         .arg(sessions_word(alloc))?
         .arg(probe_word(alloc))?
         .arg(stall_word(alloc))?
-        .arg(kept_word(alloc))?;
+        .arg(kept_word(alloc))?
+        .arg(workers_word(alloc))?;
     Ok(serve)
 }
 
@@ -232,6 +241,17 @@ fn kept_word<'a>(alloc: Global) -> Arg<'a> {
         .action(ArgAction::Set)
 }
 
+fn workers_word<'a>(alloc: Global) -> Arg<'a> {
+    Arg::new(alloc, "workers")
+        .long("workers")
+        .value_name("N")
+        .help(
+            "How many threads compose what clients are told where that is much, 1 to 64; one for each processor if absent",
+        )
+        .value_parser(ValueParser::Unsigned(1, MOST_WORKERS))
+        .action(ArgAction::Set)
+}
+
 fn schema_word<'a>(alloc: Global) -> Arg<'a> {
     Arg::new(alloc, "schema")
         .long("schema")
@@ -278,7 +298,7 @@ fn listen<
         kept: words.get_one("kept").unwrap_or(KEPT) as usize,
     };
     match begin(rt, alloc, schema, hashing, memory) {
-        Ok(begun) => serve_all(rt, begun, &listener, terms(words)).map_err(Failure::Run),
+        Ok(begun) => serve_all(rt, begun, &listener, terms(rt, words)).map_err(Failure::Run),
         Err(fault) => Err(Failure::Run(fault)),
     }
 }
@@ -291,13 +311,33 @@ fn run_word<R: RandomSource>(rt: &R) -> Result<u64, Failure> {
 }
 
 /// Whom the daemon is to serve.
-fn terms(words: &ArgMatches<'_>) -> Terms {
+fn terms<R: Threads>(rt: &R, words: &ArgMatches<'_>) -> Terms {
     Terms {
         sessions: words.get_one("sessions"),
         patience: Patience {
             probe: milliseconds(words, "probe"),
             stall: milliseconds(words, "stall"),
         },
+        workers: workers(rt, words),
+    }
+}
+
+/// By how many threads rounds are composed: as many as there are processors where the word is absent, and one where that
+/// can't be told.
+fn workers<R: Threads>(rt: &R, words: &ArgMatches<'_>) -> Workers {
+    let asked: Option<u64> = words.get_one("workers");
+    let count = match asked {
+        Some(count) => count as usize,
+        None => processors(rt),
+    };
+    Workers::new(count, HEAVY)
+}
+
+/// Counts the processors, and says 1 where they can't be counted.
+fn processors<R: Threads>(rt: &R) -> usize {
+    match thread::available_parallelism(rt) {
+        Ok(count) => count.get(),
+        Err(_) => 1,
     }
 }
 

@@ -6,6 +6,7 @@ ghost use Rattle.odb_atoms.specs.FinMap.{empty};
 use crate::connection::{STACK, serve_connections};
 use crate::daemon::{Begun, Daemon, Patience};
 use odb_core::Core;
+use odb_par::Workers;
 use odb_schema::Schema;
 use odb_script::RunFault;
 use std::alloc::Global;
@@ -31,6 +32,8 @@ pub(crate) struct Terms {
     /// How many connections it serves before it ends; none: it goes on.
     pub(crate) sessions: Option<u64>,
     pub(crate) patience: Patience,
+    /// How many threads compose the jobs of a round.
+    pub(crate) workers: Workers,
 }
 
 /// By what clients that come back are known to have held the content that a commit made.
@@ -85,7 +88,7 @@ fn serve_under<L: Ledger + Send + Sync, R: Threads + Wait + Clock + RandomSource
     requires ledger { (blank.name ≡ L.name) × (blank.parts ≡ L.parts) }
     requires parts { blank.parts ≡ 4097 }
 {
-    let daemon: Daemon<L> = Daemon::new(begun, blank, SEATS, terms.patience);
+    let daemon: Daemon<L> = Daemon::new(begun, blank, SEATS, terms.patience, terms.workers);
     serve_with(rt, &daemon, listener, terms.sessions)
 }
 

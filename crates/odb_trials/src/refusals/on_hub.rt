@@ -7,10 +7,12 @@ use crate::refusals::scripts::MOMENT;
 use crate::refusals::sent::Sent;
 use crate::requests::note;
 use odb_core::{Core, Refused};
-use odb_hub::{Hub, Mailbox, Seat};
+use odb_hub::{Hub, Mailbox, Round, Seat};
+use odb_par::{Open, Workers};
 use std::alloc::{AllocError, Global};
 use std::sync::Wait;
 use std::sync::ledger::{Blank, Ledger};
+use std::thread::Threads;
 use std::time::Clock;
 
 /// More rounds, and more messages, than any script has.
@@ -53,7 +55,7 @@ struct Stage<'a, L: Ledger, R> {
     hub: &'a Hub<L>,
 }
 
-impl<'a, L: Ledger, R: Wait + Clock> Stage<'a, L, R> {
+impl<'a, L: Ledger, R: Threads + Wait + Clock + Sync> Stage<'a, L, R> {
     fn play(&self, script: &[&str]) -> Result<Sent, AllocError> {
         let sent = Sent::new(self.alloc)?;
         let first = self.open()?;
@@ -142,15 +144,21 @@ impl<'a, L: Ledger, R: Wait + Clock> Stage<'a, L, R> {
     fn give(&self, players: &mut Players<L>) -> Result<(), AllocError> {
         for _ in 0..MOST {
             let taken = players.take()?;
-            let round = match self.hub.round(self.rt) {
-                Ok(round) => round,
-                Err(_) => self.hub.round(self.rt)?,
-            };
+            let round = self.round()?;
             if taken == 0 && round.given == 0 {
                 return Ok(());
             }
         }
         Err(AllocError)
+    }
+
+    /// Gives each session its next message. One worker composes them, so that memory is asked for in the same order each time.
+    fn round(&self) -> Result<Round, AllocError> {
+        let one = Workers::new(1, 0);
+        match self.hub.round(self.rt, one, &Open) {
+            Ok(round) => Ok(round),
+            Err(_) => self.hub.round(self.rt, one, &Open),
+        }
     }
 
     /// The first ends, and then the second, with what it was given when the first ended.
@@ -164,10 +172,7 @@ impl<'a, L: Ledger, R: Wait + Clock> Stage<'a, L, R> {
         } = players;
         let Ends { seat, mailbox: _ } = first;
         self.part(seat);
-        let given = match self.hub.round(self.rt) {
-            Ok(_) => Ok(()),
-            Err(_) => self.hub.round(self.rt).map(|_| ()),
-        };
+        let given = self.round();
         let Ends { seat, mailbox } = second;
         self.part(seat);
         given?;
@@ -202,7 +207,7 @@ fn take(mailbox: &mut Mailbox, text: &mut Vec<u8>) -> Result<usize, AllocError> 
 }
 
 /// What is sent for a script.
-pub(crate) fn play_to_hub<L: Ledger, R: Wait + Clock>(
+pub(crate) fn play_to_hub<L: Ledger, R: Threads + Wait + Clock + Sync>(
     rt: &R,
     alloc: Global,
     core: Core,

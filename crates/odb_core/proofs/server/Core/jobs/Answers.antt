@@ -1,9 +1,9 @@
 use Rattle.std.proofs.Common.{rules, ◌≡◌, List, ℕ, subst, ◌∙◌}
 use Rattle.std.proofs.lemmas.Result.{IfOk-weaker}
+use Rattle.std.specs.List.{All}
 use Rattle.odb_service.specs.Server.{Server}
 use Rattle.odb_sessions.specs.FirstTexts.{IsOfNow}
 use Rattle.odb_sessions.specs.Jobs.{AreMadeOf}
-use Rattle.std.specs.List.{All}
 use Rattle.odb_sessions.specs.Taken.{AreReady}
 use Rattle.odb_core.specs.Represented.Rounds.{book_in}
 use Rattle.odb_core.proofs.CoreInvariant.{if_both}

@@ -12,44 +12,44 @@ use Rattle.odb_hub.proofs.Keeping.{counted_more, rooms, round_taken, same_opened
 use Rattle.odb_hub.proofs.state.HubState.round.Goals as goal
 
 pub hand_over-requires : goal.hand_over-requires
-hand_over-requires c =
+hand_over-requires g c =
     let core = c.self.inside.core in
     let m : Rings = c.ready.new.self in
     let outs : List (ℕ × Text) = map sent_in c.in_ok-outs.outs.items in
     let listed : c.as_slice.result.now ≡ filter (contains nat_cmp c.owed.result.now) (free_of m) = search rules in
-    let went : serve (round c.as_slice.result.now) core ≡ Ok (c.round.new.self, outs) = search rules in
-    rooms m core c.round.new.self outs (round_among c.owed.result.now core c.owed.ensures (free_of m) ∙ ap (λ ss. serve (round ss) core) (sym listed) ∙ went)
+    let went : serve (round c.as_slice.result.now) core ≡ Ok (c.round_by.new.core, outs) = search rules in
+    rooms m core c.round_by.new.core outs (round_among c.owed.result.now core c.owed.ensures (free_of m) ∙ ap (λ ss. serve (round ss) core) (sym listed) ∙ went)
 
 pub invariant_of-self-2 : goal.invariant_of-self-2
-invariant_of-self-2 c =
+invariant_of-self-2 g c =
     let i = c.self.inside in
     let m : Rings = c.ready.new.self in
     let outs : List (ℕ × Text) = map sent_in c.in_ok-outs.outs.items in
     let k : Kept = record { server = i.core; base = i.journal.base; events = i.journal.events; rings = i.rings } in
-    let n : Kept = record { server = c.round.new.self; base = c.with-self-inside.result.base; events = c.with-self-inside.result.events; rings = c.hand_over.new.self } in
+    let n : Kept = record { server = c.round_by.new.core; base = c.with-self-inside.result.base; events = c.with-self-inside.result.events; rings = c.hand_over.new.self } in
     let listed : c.as_slice.result.now ≡ filter (contains nat_cmp c.owed.result.now) (free_of m) = search rules in
-    let went : serve (round c.as_slice.result.now) i.core ≡ Ok (c.round.new.self, outs) = search rules in
-    let went_free : serve (round (free_of m)) i.core ≡ Ok (c.round.new.self, outs) = round_among c.owed.result.now i.core c.owed.ensures (free_of m) ∙ ap (λ ss. serve (round ss) i.core) (sym listed) ∙ went in
+    let went : serve (round c.as_slice.result.now) i.core ≡ Ok (c.round_by.new.core, outs) = search rules in
+    let went_free : serve (round (free_of m)) i.core ≡ Ok (c.round_by.new.core, outs) = round_among c.owed.result.now i.core c.owed.ensures (free_of m) ∙ ap (λ ss. serve (round ss) i.core) (sym listed) ∙ went in
     let events_free : n.events ≡ k.events ++ round (free_of m) ∷ [] = search rules in
     let base : n.base ≡ k.base = search rules in
     let takes : Takes (round (free_of m)) k n outs = (went_free, events_free, base) in
     let t : TakesRound (length outs) k n = round_taken k n m outs c.ready.ensures.flushed takes c.hand_over.ensures in (
       takes_round_kept k n c.self.invariant.0 (length outs) t,
-      c.self.invariant.1 ∙ sym (same_opened (round (free_of m)) i.core c.round.new.self outs went_free),
+      c.self.invariant.1 ∙ sym (same_opened (round (free_of m)) i.core c.round_by.new.core outs went_free),
       unused_round k n i.opened (length outs) t c.self.invariant.2,
       c.saturating_add-self-inside.ensures ∙ counted_more i.since_base k.events n.events (round (free_of m)) c.self.invariant.3 events_free,
     )
 
 pub returns-clause-ok : goal.returns-clause-ok
-returns-clause-ok c =
+returns-clause-ok g c =
     let i = c.self.inside in
     let m : Rings = c.ready.new.self in
     let outs : List (ℕ × Text) = map sent_in c.in_ok-outs.outs.items in
     let k : Kept = record { server = i.core; base = i.journal.base; events = i.journal.events; rings = i.rings } in
-    let n : Kept = record { server = c.round.new.self; base = c.with-self-inside.result.base; events = c.with-self-inside.result.events; rings = c.hand_over.new.self } in
+    let n : Kept = record { server = c.round_by.new.core; base = c.with-self-inside.result.base; events = c.with-self-inside.result.events; rings = c.hand_over.new.self } in
     let listed : c.as_slice.result.now ≡ filter (contains nat_cmp c.owed.result.now) (free_of m) = search rules in
-    let went : serve (round c.as_slice.result.now) i.core ≡ Ok (c.round.new.self, outs) = search rules in
-    let went_free : serve (round (free_of m)) i.core ≡ Ok (c.round.new.self, outs) = round_among c.owed.result.now i.core c.owed.ensures (free_of m) ∙ ap (λ ss. serve (round ss) i.core) (sym listed) ∙ went in
+    let went : serve (round c.as_slice.result.now) i.core ≡ Ok (c.round_by.new.core, outs) = search rules in
+    let went_free : serve (round (free_of m)) i.core ≡ Ok (c.round_by.new.core, outs) = round_among c.owed.result.now i.core c.owed.ensures (free_of m) ∙ ap (λ ss. serve (round ss) i.core) (sym listed) ∙ went in
     let events_free : n.events ≡ k.events ++ round (free_of m) ∷ [] = search rules in
     let base : n.base ≡ k.base = search rules in
     let takes : Takes (round (free_of m)) k n outs = (went_free, events_free, base) in
