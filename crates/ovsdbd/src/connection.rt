@@ -104,7 +104,7 @@ fn part<L: Ledger, R: Wait + Clock>(rt: &R, daemon: &Daemon<L>, seat: Seat<L>) {
         match daemon.hub.part(rt, seat) {
             Ok(()) => {
                 // Those who own its locks now are to be told.
-                daemon.pace.tell();
+                daemon.pace.tell(1);
                 return;
             }
             Err(back) => seat = back,
@@ -329,12 +329,14 @@ fn submit_turn<L: Ledger, R: Threads + Wait + Clock + Sync>(
     submissions: &mut Vec<Submission>,
 ) -> Result<(), Stopped> {
     let now = daemon.now(rt);
+    let before = submissions.len();
     let submitted = daemon.hub.submit_turn(rt, seat, submissions, now);
+    let taken = before.saturating_sub(submissions.len());
     if submitted.due_sooner {
         daemon.pace.wake();
     }
     if !is_quiet(&submitted.owes) {
-        daemon.tell_all(rt, submitted.few);
+        daemon.tell_all(rt, submitted.few, taken.max(1) as u64);
     }
     match submitted.owes {
         Ok(_) => Ok(()),

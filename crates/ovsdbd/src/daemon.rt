@@ -95,15 +95,20 @@ impl<L: Ledger> Daemon<L> {
     pub(crate) fn refill<R: Wait>(&self, rt: &R, session: SessionId) -> bool {
         let given = self.hub.rounds_for(rt, session).is_ok();
         if !given {
-            self.pace.tell();
+            self.pace.tell(1);
         }
         given
     }
 
-    /// Gives each session its next message where few are owed something, and where the pump sleeps and that is brief, so
-    /// that an update doesn't wait for the pump. The pump does the rest. Step: `keeps_silent`, where few are owed something
-    /// and the round leaves nothing owed; else it tells the pump.
-    pub(crate) fn tell_all<R: Threads + Wait + Clock + Sync>(&self, rt: &R, few: bool) {
+    /// Gives each session its next message after so many requests, one or more, where few are owed something, and where the
+    /// pump sleeps and that is brief, so that an update doesn't wait for the pump. The pump does the rest. Step:
+    /// `keeps_silent`, where few are owed something and the round leaves nothing owed; else it tells the pump.
+    pub(crate) fn tell_all<R: Threads + Wait + Clock + Sync>(
+        &self,
+        rt: &R,
+        few: bool,
+        requests: u64,
+    ) {
         if few || self.pace.lets_others() {
             if let Ok(round) = self.hub.round(rt, self.workers, &Open) {
                 self.pace.note(round);
@@ -112,7 +117,7 @@ impl<L: Ledger> Daemon<L> {
                 }
             }
         }
-        self.pace.tell();
+        self.pace.tell(requests);
     }
 
     /// What the pump does until the daemon ends.

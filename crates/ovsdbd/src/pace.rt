@@ -6,22 +6,28 @@ use std::sync::atomic::{AtomicU64, Ordering};
 use std::thread::Parker;
 use std::time::Duration;
 
-/// How many times as long as its round took the pump rests.
-const REST: u32 = 3;
+/// How many times as long as its round took the pump rests at most, where much comes.
+const REST: u64 = 3;
 
 /// For how many microseconds it rests at least. A round that took less is brief.
 const BRIEF: u64 = 100;
 
-/// For how many milliseconds it rests at most.
-const LONG: u64 = 100;
+/// For how many microseconds it rests at most before it looks whether much comes.
+const SOON: u64 = 500;
 
-/// For how many microseconds it rests at most for each message that its round gave, also where the processor was taken away
-/// in the midst of it.
-const EACH: u64 = 100;
+/// How many milliseconds of what a round took count at most.
+const LONG: u64 = 33;
+
+/// How many microseconds of it count at most for each message that it gave, also where the processor was taken away in the
+/// midst of it.
+const EACH: u64 = 33;
+
+/// What a call adds to what the pump was told: more than it is told in one rest.
+const CALLED: u64 = 4_294_967_296;
 
 /// What the pump sleeps by. One that sleeps begins at once when it is told that something may be owed. While it is awake it
-/// rests after rounds, so that it holds the lock and wakes writers for a part of the time, and replies have the rest; but
-/// not while more messages are queued than one round gives.
+/// rests after rounds, so that it holds the lock and wakes writers for a part of the time, and replies have the rest, longer
+/// where commits follow each other fast; but not while more messages are queued than one round gives.
 ///
 /// What it does with flags and parker are the steps of the pump of `odb_waking`, which loses no wake-up: each call names
 /// its own, and they are to stay in this order.
@@ -29,6 +35,7 @@ const EACH: u64 = 100;
 pub(crate) struct Pace {
     pump: Parker,
     awake: AtomicU64,
+    /// How many requests it was told of since its turn began, and `CALLED` for each call.
     told: AtomicU64,
     /// For how many microseconds the latest round took that gave something.
     took: AtomicU64,
@@ -45,10 +52,10 @@ impl Pace {
         }
     }
 
-    /// Tells the pump that a session may be owed something: a round is run, at once if the pump sleeps, and when it has rested
-    /// if it is awake. Steps: `tells`, `looks`, `wakes`.
-    pub(crate) fn tell(&self) {
-        self.told.store(1, Ordering::SeqCst);
+    /// Tells the pump that sessions may be owed something by so many requests, one or more: a round is run, at once if the pump
+    /// sleeps, and when it has rested if it is awake. Steps: `tells`, `looks`, `wakes`.
+    pub(crate) fn tell(&self, requests: u64) {
+        self.told.fetch_add(requests, Ordering::SeqCst);
         if self.sleeps() {
             self.pump.unpark();
         }
@@ -69,7 +76,7 @@ impl Pace {
 
     /// Lets the pump go on at once, also if it rests. Steps: `calls`, `wakes`.
     pub(crate) fn wake(&self) {
-        self.told.store(1, Ordering::SeqCst);
+        self.told.fetch_add(CALLED, Ordering::SeqCst);
         self.pump.unpark();
     }
 
@@ -87,7 +94,7 @@ impl Pace {
             return;
         }
         if round.given > 0 || self.is_told() {
-            self.rest(rt, rest_after(round), left);
+            self.rest_after(rt, round, left);
         } else {
             self.sleep(rt, left);
         }
@@ -97,6 +104,25 @@ impl Pace {
     pub(crate) fn rest<R: Wait>(&self, rt: &R, long: Duration, left: Option<Duration>) {
         let rest = long.max(Duration::from_micros(BRIEF));
         self.pump.park_timeout(rt, rest.min(left.unwrap_or(rest)));
+    }
+
+    /// Rests for as long as the round took, half a millisecond at most. Then, where it was told of two requests or more
+    /// meanwhile, it rests for as long as the round took, and so up to three times: the next round has many requests at once.
+    fn rest_after<R: Wait>(&self, rt: &R, round: Round, left: Option<Duration>) {
+        let long = rest_of(round);
+        let mut left = left;
+        let mut before = 0;
+        let mut next = long.min(Duration::from_micros(SOON));
+        for _ in 0..=REST {
+            self.rest(rt, next, left);
+            let told = self.told.load(Ordering::SeqCst);
+            left = after(left, next);
+            if told >= CALLED || told.saturating_sub(before) < 2 || left == Some(Duration::ZERO) {
+                return;
+            }
+            before = told;
+            next = long;
+        }
     }
 
     /// Sleeps until the pump is told something or woken, or `left` is over. Steps: `lies_down`, `looks_again`, `sleeps`.
@@ -121,13 +147,14 @@ impl Pace {
     }
 }
 
-/// How long the pump rests after a round.
-fn rest_after(round: Round) -> Duration {
+/// How much of what a round took counts.
+fn rest_of(round: Round) -> Duration {
     let given = u64::try_from(round.given).unwrap_or(u64::MAX);
     let most = Duration::from_micros(given.saturating_mul(EACH));
-    round
-        .took
-        .saturating_mul(REST)
-        .min(most)
-        .min(Duration::from_millis(LONG))
+    round.took.min(most).min(Duration::from_millis(LONG))
+}
+
+/// What is left of it once this is over.
+fn after(left: Option<Duration>, over: Duration) -> Option<Duration> {
+    Some(left?.saturating_sub(over))
 }
