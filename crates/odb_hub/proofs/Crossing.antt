@@ -1,4 +1,4 @@
--- A hub may be used by several threads at once.
+-- A hub may be used by several threads at once, and an outbox may go to another.
 use denote.RattleType.{RattleType}
 use denote.Param.Send.{IsSend, IsSync, sendable}
 use Rattle.std.proofs.Crossing as heap
@@ -9,15 +9,20 @@ use Rattle.std.specs.contracts.sync.ledger.Share as Share
 use Rattle.std.specs.declared.sync.ledger.Ledger.{Ghosts}
 use Rattle.odb_core.proofs.Crossing.{Core-send}
 use Rattle.odb_hub.proofs.journal.Journal.TheSendSync as journal
+use Rattle.odb_hub.proofs.outbox.Outbox.TheSendSync as outbox
 use Rattle.odb_hub.proofs.rings.Rings.TheSendSync as rings
 use Rattle.odb_hub.specs.contracts.counted.Counted as Counted
 use Rattle.odb_hub.specs.contracts.hub.Hub as Hub
 use Rattle.odb_hub.specs.contracts.journal.Journal as Journal
+use Rattle.odb_hub.specs.contracts.outbox.Outbox as Outbox
 use Rattle.odb_hub.specs.contracts.rings.Rings as Rings
 use Rattle.odb_hub.specs.contracts.state.HubState as HubState
 
 Journal-send : IsSend (Journal.the_field).row
 Journal-send = journal.the_send
+
+pub Outbox-send : IsSend (Outbox.the_field).row
+Outbox-send = outbox.the_send
 
 Rings-send : IsSend (Rings.the_field).row
 Rings-send = rings.the_send

@@ -13,18 +13,18 @@ both_true true b e = e
 both_true false b e = absurd (true≢false (sym e))
 
 -- where there is room for a message its size is counted exactly
-pub room_most : (xs : List ℕ) (n most : ℕ) → has_room xs n ≡ true → n ≤ most → 524288 ≤ most → total xs + n ≤ most
+pub room_most : (xs : List ℕ) (n most : ℕ) → has_room xs n ≡ true → n ≤ most → 262144 ≤ most → total xs + n ≤ most
 room_most [] n most room fits large = omega (arith, fits)
 room_most (x ∷ xs) n most room fits large =
-    let sum : nat_le (total (x ∷ xs) + n) 524288 ≡ true = both_true (nat_lt (length (x ∷ xs)) 64) _ room in
-    let below : total (x ∷ xs) + n ≤ 524288 = grind (arith, nat_tests, sum) in
+    let sum : nat_le (total (x ∷ xs) + n) 262144 ≡ true = both_true (nat_lt (length (x ∷ xs)) 64) _ room in
+    let below : total (x ∷ xs) + n ≤ 262144 = grind (arith, nat_tests, sum) in
     omega (arith, below, large)
 
 -- where there is room, one message more is in the ring than may be known
 pub room_left : (xs : List ℕ) (n : ℕ) → has_room xs n ≡ true → length xs + 1 ≤ 64
 room_left [] n room = omega arith
 room_left (x ∷ xs) n room =
-    let long : nat_lt (length (x ∷ xs)) 64 ≡ true = first_true (nat_lt (length (x ∷ xs)) 64) (nat_le (total (x ∷ xs) + n) 524288) room in
+    let long : nat_lt (length (x ∷ xs)) 64 ≡ true = first_true (nat_lt (length (x ∷ xs)) 64) (nat_le (total (x ∷ xs) + n) 262144) room in
     grind (arith, nat_tests, long)
   where
     first_true : (a b : Bool) → (a && b) ≡ true → a ≡ true

@@ -2,6 +2,7 @@ pub mod Batch
 pub mod Counted
 pub mod EventCode
 pub mod Kept
+pub mod Outbox
 pub mod Own
 pub mod Probe
 pub mod Represented

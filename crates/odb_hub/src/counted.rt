@@ -4,6 +4,7 @@ ghost use Rattle.odb_core.specs.declared.refused.Refused.TheVariants as refused;
 ghost use Rattle.odb_hub.specs.Batch as batch;
 ghost use Rattle.odb_service.specs.Run.{closed, opened, ticked};
 
+use crate::bell::Bell;
 use crate::mailbox::Mailbox;
 use crate::seat::Seat;
 use crate::state::HubState;
@@ -97,7 +98,7 @@ impl<L: Ledger> Counted<L> {
 
     /// Opens a session, with a seat that was answered nothing. It is refused as [`HubState::open`] is, and with `Memory`
     /// where all seats are given. O(log n).
-    pub fn open(&mut self) -> Result<(Seat<L>, Mailbox), Refused>
+    pub fn open(&mut self, bell: Bell) -> Result<(Seat<L>, Mailbox), Refused>
         ensures ok { IfOk result (λ ends. Takes (opened ends.0.session) self.old.kept self.new.kept []) }
         ensures ring { IfOk result (λ ends. self.new.kept.rings ≡ insert self.old.kept.rings ends.0.session (fresh_ring (name_of ends.1))) }
         ensures mailbox { IfOk result (λ ends. taken ends.1 ≡ []) }
@@ -109,17 +110,10 @@ impl<L: Ledger> Counted<L> {
         if self.seats == 0 {
             return Err(Refused::Memory);
         }
-        let (session, mailbox, bell) = self.state.open()?;
+        let (session, mailbox) = self.state.open(bell)?;
         let share = self.parted.split_off(1, 0);
         self.seats -= 1;
-        Ok((
-            Seat {
-                session,
-                share,
-                bell,
-            },
-            mailbox,
-        ))
+        Ok((Seat { session, share }, mailbox))
     }
 
     /// Submits a turn of the batch as [`HubState::submit_turn`] does, and then gives the session what it is owed
@@ -236,12 +230,7 @@ impl<L: Ledger> Counted<L> {
         if !self.close(seat.session) {
             return Err(seat);
         }
-        let Seat {
-            session: _,
-            share,
-            bell,
-        } = seat;
-        drop(bell);
+        let Seat { session: _, share } = seat;
         self.parted.merge(share);
         self.seats = self.seats.saturating_add(1);
         Ok(())

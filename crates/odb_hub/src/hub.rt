@@ -2,6 +2,7 @@
 ghost use Rattle.std.specs.Prelude.{◌≡◌, ◌+◌, ◌-◌, [], false, length, IfErr, IfOk, OnOk};
 ghost use Rattle.odb_service.specs.Run.{opened, ticked};
 
+use crate::bell::Bell;
 use crate::counted::{BatchOutcome, Counted};
 use crate::mailbox::Mailbox;
 use crate::seat::Seat;
@@ -75,12 +76,12 @@ impl<L: Ledger> Hub<L> {
 
     /// Opens a session, with a seat that was answered nothing and a mailbox that nothing was taken out of. It is refused
     /// as [`Counted::open`] is.
-    pub fn open<R: Wait>(&self, rt: &R) -> Result<(Seat<L>, Mailbox), Refused>
+    pub fn open<R: Wait>(&self, rt: &R, bell: Bell) -> Result<(Seat<L>, Mailbox), Refused>
         ensures ok { UnderLock (λ old new. IfOk result (λ ends. Takes (opened ends.0.session) old.kept new.kept [])) }
         ensures seat { IfOk result (λ ends. ends.0.answered ≡ 0) }
         ensures mailbox { IfOk result (λ ends. taken ends.1 ≡ []) }
     {
-        self.enter(rt).open()
+        self.enter(rt).open(bell)
     }
 
     /// Submits a turn of the batch, from its last to its first: at most 64, and none after the first once 200 microseconds

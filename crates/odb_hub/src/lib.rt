@@ -5,11 +5,15 @@
 #![tactic(auto)]
 
 mod bell;
+mod buffer;
+mod calls;
 mod composing;
 mod counted;
 mod hub;
 mod journal;
 mod mailbox;
+mod outbox;
+mod rest;
 mod ring;
 mod rings;
 mod seat;
@@ -19,9 +23,11 @@ mod turn;
 mod waiting;
 
 pub use bell::Bell;
+pub use calls::Calls;
 pub use counted::{BatchOutcome, Counted};
 pub use hub::{Hub, Round};
-pub use mailbox::{Mailbox, write_outs, write_probe};
+pub use mailbox::Mailbox;
+pub use outbox::Outbox;
 pub use seat::Seat;
 pub use state::HubState;
 pub use submission::Submission;

@@ -42,15 +42,14 @@ impl Ring {
     ghost use Rattle.odb_hub.specs.Rings.{IsFlushed, IsLookedAt, IsPut, IsUnsent, fresh_ring};
     ghost use Rattle.odb_hub.specs.Room.{has_room};
 
-    /// A ring that nothing was sent into, the mailbox where it comes out, and the bell that both ring.
-    pub(crate) fn new(alloc: Global) -> Result<(Ring, Mailbox, Arc<Bell>), AllocError>
+    /// A ring that nothing was sent into, which rings this bell, and the mailbox where it comes out.
+    pub(crate) fn new(alloc: Global, bell: Bell) -> Result<(Ring, Mailbox), AllocError>
         ensures ring { IfOk result (λ ends. ends.0 ≡ fresh_ring (name_of ends.1)) }
         ensures mailbox { IfOk result (λ ends. taken ends.1 ≡ []) }
     {
         let (producer, consumer) = RingBuffer::new(alloc, ROOM)?;
-        let bell = Arc::new(alloc, Bell::new())?;
-        let writers = Arc::try_clone(&bell)?;
-        let readers = Arc::try_clone(&bell)?;
+        let bell = Arc::new(alloc, bell)?;
+        let also = Arc::try_clone(&bell)?;
         let ring = Ring {
             producer,
             waiting: Waiting::new(alloc)?,
@@ -59,9 +58,9 @@ impl Ring {
         };
         let mailbox = Mailbox {
             consumer,
-            bell: writers,
+            bell: also,
         };
-        Ok((ring, mailbox, readers))
+        Ok((ring, mailbox))
     }
 
     /// Whether a message is held back.
@@ -91,8 +90,8 @@ impl Ring {
         self.put(out);
     }
 
-    /// Sends a message, or holds it back where the ring has no room, and wakes both threads. Of a session of `odb_waking` this
-    /// is the step `puts`, and all that the thread does which has the lock.
+    /// Sends a message, or holds it back where the ring has no room, and calls the thread that serves the session. Of the
+    /// loop of `odb_waking` these are the steps `puts` and `giver_goes_on`: all that the thread does which has the lock.
     pub(crate) fn put(&mut self, out: Out)
         requires { self.old.held ≡ None }
         ensures { IsPut (text_of_out out) self.old self.new }

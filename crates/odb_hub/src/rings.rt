@@ -12,7 +12,6 @@ use std::alloc::{AllocError, Global};
 use std::collections::{BTreeMap, BTreeSet};
 use std::marker::Model;
 use std::mem;
-use std::sync::Arc;
 
 /// The rings of the open sessions by their numbers, and the sessions for which a message may be held back.
 pub(crate) struct Rings {
@@ -87,14 +86,14 @@ impl Rings {
     }
 
     /// A ring for a session, and the mailbox where it comes out. O(log n).
-    pub(crate) fn add(&mut self, session: SessionId) -> Result<(Mailbox, Arc<Bell>), AllocError>
-        ensures ok { IfOk result (λ ends. self.new ≡ insert self.old session (fresh_ring (name_of ends.0))) }
-        ensures mailbox { IfOk result (λ ends. taken ends.0 ≡ []) }
+    pub(crate) fn add(&mut self, session: SessionId, bell: Bell) -> Result<Mailbox, AllocError>
+        ensures ok { IfOk result (λ mailbox. self.new ≡ insert self.old session (fresh_ring (name_of mailbox))) }
+        ensures mailbox { IfOk result (λ mailbox. taken mailbox ≡ []) }
         ensures err { OnErr result (self.new ≡ self.old) }
     {
-        let (ring, mailbox, bell) = Ring::new(self.alloc)?;
+        let (ring, mailbox) = Ring::new(self.alloc, bell)?;
         drop(self.rings.insert(session, ring)?);
-        Ok((mailbox, bell))
+        Ok(mailbox)
     }
 
     /// The ring of a session goes, with what is held back. O(log n).

@@ -1,10 +1,8 @@
 //! The right to submit for a session.
 ghost use Rattle.std.specs.Prelude.{◌≡◌};
 
-use crate::bell::Bell;
 use odb_core::SessionId;
 use std::marker::Model;
-use std::sync::Arc;
 use std::sync::ledger::{Ledger, Share};
 
 /// The right to submit for a session, and how many submits it was answered. It can't be copied or dropped:
@@ -12,7 +10,6 @@ use std::sync::ledger::{Ledger, Share};
 pub struct Seat<L: Ledger> {
     pub(crate) session: SessionId,
     pub(crate) share: Share<L>,
-    pub(crate) bell: Arc<Bell>,
 }
 
 impl<L: Ledger> Model for Seat<L> {
@@ -34,10 +31,5 @@ impl<L: Ledger> Seat<L> {
         ensures { result ≡ self.now.session }
     {
         self.session
-    }
-
-    /// What wakes the threads of the session.
-    pub fn bell(&self) -> &Bell {
-        &*self.bell
     }
 }

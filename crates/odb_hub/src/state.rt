@@ -18,7 +18,6 @@ use odb_par::{Gate, Workers};
 use std::alloc::{AllocError, Global};
 use std::marker::Model;
 use std::snapshot::Snapshot;
-use std::sync::Arc;
 use std::thread::Threads;
 use std::time::Clock;
 
@@ -92,10 +91,10 @@ impl HubState {
         self.since_base
     }
 
-    /// Opens a session, with a ring of its own, the mailbox where that comes out, and the bell of both. Ring and mailbox
+    /// Opens a session, with a ring of its own that rings this bell, and the mailbox where that comes out. Ring and mailbox
     /// are the two ends of one ring, so the mailbox gives just what is sent into it. It is refused with `TooMany` where
     /// 4,096 sessions are open, and with `Memory`, also where no number is left. O(log n).
-    pub fn open(&mut self) -> Result<(SessionId, Mailbox, Arc<Bell>), Refused>
+    pub fn open(&mut self, bell: Bell) -> Result<(SessionId, Mailbox), Refused>
         ensures ok { IfOk result (λ ends. Takes (opened ends.0) self.old self.new []) }
         ensures ring { IfOk result (λ ends. self.new.rings ≡ insert self.old.rings ends.0 (fresh_ring (name_of ends.1))) }
         ensures mailbox { IfOk result (λ ends. taken ends.1 ≡ []) }
@@ -106,13 +105,13 @@ impl HubState {
         if number == usize::MAX {
             return Err(Refused::Memory);
         }
-        let (mailbox, bell) = self.rings.add(number)?;
+        let mailbox = self.rings.add(number, bell)?;
         match self.core.open() {
             Ok(session) => {
                 self.journal = self.journal.with(Happened::Opened(session));
                 self.since_base = self.since_base.saturating_add(1);
                 self.opened = number + 1;
-                Ok((session, mailbox, bell))
+                Ok((session, mailbox))
             }
             Err(why) => {
                 self.rings.remove(number);

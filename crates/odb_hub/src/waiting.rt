@@ -9,7 +9,7 @@ use std::marker::Model;
 pub(crate) const ROOM: usize = 64;
 
 /// For how many bytes of text a ring has room, besides a message that finds it empty.
-const TEXT: usize = 524_288;
+const TEXT: usize = 262_144;
 
 /// How many bytes the messages have that may be in a ring still, the oldest first.
 #[derive(Drop)]

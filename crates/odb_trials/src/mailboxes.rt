@@ -5,13 +5,13 @@ ghost use Rattle.odb_atoms.specs.FinMap.{empty};
 
 use crate::requests::{NET, core, note, request};
 use odb_core::{Core, Out, Refused};
-use odb_hub::{Hub, Mailbox, Seat};
+use odb_hub::{Bell, Calls, Hub, Mailbox, Seat};
 use odb_par::{Open, Workers};
 use std::alloc::{AllocError, Global};
 use std::hash::RandomState;
 use std::marker::Brand;
-use std::sync::Wait;
 use std::sync::ledger::{Blank, Ledger};
+use std::sync::{Arc, Wait};
 use std::test::Fail;
 use std::thread::Threads;
 use std::time::Clock;
@@ -43,6 +43,11 @@ struct Counts {
 struct Found {
     counts: Counts,
     other: Vec<u8>,
+}
+
+/// A bell that calls nobody who hears.
+pub(crate) fn bell(alloc: Global) -> Result<Bell, AllocError> {
+    Ok(Bell::new(Arc::new(alloc, Calls::new(alloc)?)?, 0))
 }
 
 /// Submits a request of this text. It returns whether it was taken, or met Busy.
@@ -138,7 +143,7 @@ fn other<L: Ledger, R: Threads + Wait + Clock + Sync>(
     alloc: Global,
     hub: &Hub<L>,
 ) -> Result<Vec<u8>, AllocError> {
-    let Ok((mut seat, mut mailbox)) = hub.open(rt) else {
+    let Ok((mut seat, mut mailbox)) = hub.open(rt, bell(alloc)?) else {
         return Err(AllocError);
     };
     let sent = ask_all(rt, alloc, hub, &mut seat);
@@ -171,7 +176,7 @@ fn find<L: Ledger, R: Threads + Wait + Clock + Sync>(
     hub: &Hub<L>,
     is_asked: bool,
 ) -> Result<Found, AllocError> {
-    let Ok((mut seat, mut mailbox)) = hub.open(rt) else {
+    let Ok((mut seat, mut mailbox)) = hub.open(rt, bell(alloc)?) else {
         return Err(AllocError);
     };
     let taken = taken(rt, alloc, hub, &mut seat);
@@ -223,7 +228,7 @@ fn come_and_go<L: Ledger, R: Wait + Clock>(
     alloc: Global,
     hub: &Hub<L>,
 ) -> Result<(), AllocError> {
-    let Ok((mut seat, mailbox)) = hub.open(rt) else {
+    let Ok((mut seat, mailbox)) = hub.open(rt, bell(alloc)?) else {
         return Err(AllocError);
     };
     let taken = submit(rt, alloc, hub, &mut seat, OTHER[3].as_bytes());

@@ -3,6 +3,7 @@
 ghost use Rattle.std.specs.Prelude.{◌≡◌};
 ghost use Rattle.odb_atoms.specs.FinMap.{empty};
 
+use crate::mailboxes::bell;
 use crate::requests::{NET, core, note, request};
 use crate::sharing::submitter;
 use odb_core::Core;
@@ -85,7 +86,7 @@ impl<'a, R: Clock> Gate for Meeting<'a, R> {
 
 /// Opens a session, which submits the request of this text, and returns where its messages come out.
 fn asks(alloc: Global, state: &mut HubState, text: &[u8]) -> Result<Mailbox, AllocError> {
-    let Ok((session, mailbox, _)) = state.open() else {
+    let Ok((session, mailbox)) = state.open(bell(alloc)?) else {
         return Err(AllocError);
     };
     match state.submit(session, request(alloc, text)?, 0) {

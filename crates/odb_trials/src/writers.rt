@@ -1,22 +1,31 @@
-//! Writers that take a byte a call and, at each place in turn of what a mailbox gives, fail, or take none.
+//! Writers that take a byte a call and, at each place in turn of what an outbox gives, fail, or take none; and good ones, to
+//! which it is written on.
 ghost use Rattle.std.specs.Prelude.{◌≡◌};
 ghost use Rattle.odb_atoms.specs.FinMap.{empty};
 
-use crate::mailboxes::{part, submit};
-use crate::requests::{NET, core, note};
+use crate::mailboxes::{bell, part, submit};
+use crate::requests::{core, note};
 use crate::streams::{Taken, Writer};
 use odb_core::Core;
-use odb_hub::{Hub, Mailbox, Seat, write_outs};
+use odb_hub::{Hub, Mailbox, Outbox, Seat};
 use std::alloc::{AllocError, Global};
 use std::hash::RandomState;
+use std::io::ErrorKind;
 use std::marker::Brand;
 use std::sync::Wait;
 use std::sync::ledger::{Blank, Ledger};
 use std::test::Fail;
 use std::time::Clock;
 
-const INSERT: &str =
-    r#"{"method":"transact","params":["net",{"op":"insert","table":"T","row":{"k":1}}],"id":0}"#;
+/// A schema with one table of one column.
+const TEXTS: &[u8] =
+    b"{\"name\":\"net\",\"version\":\"1.0.0\",\"tables\":{\"T\":{\"isRoot\":true,\"columns\":{\"s\":{\"type\":\"string\"}}}}}";
+
+/// What inserts a row, around its text.
+const INSERT: [&str; 2] = [
+    r#"{"method":"transact","params":["net",{"op":"insert","table":"T","row":{"s":""#,
+    r#""}}],"id":0}"#,
+];
 
 /// What is asked for each place anew: the first reply of a monitor, which has a body, comes between two others.
 const ASKED: [&str; 3] = [
@@ -25,109 +34,177 @@ const ASKED: [&str; 3] = [
     r#"{"method":"monitor_cancel","params":["m"],"id":3}"#,
 ];
 
+/// The request by which a peer is asked whether it is there.
+const PROBE: &str = r#"{"id":"echo","method":"echo","params":[]}"#;
+
+/// How many bytes an outbox has ready at most.
+const PIECE: usize = 16_384;
+
+/// How long the row's text is, and how far apart the places are at which a writer stops.
+#[derive(Clone, Copy)]
+struct Sizes {
+    text: usize,
+    step: usize,
+}
+
 /// A session of a hub, whose messages are written.
 #[derive(Drop)]
 struct Session<'a, L: Ledger, R> {
     rt: &'a R,
     alloc: Global,
     hub: &'a Hub<L>,
-    mailbox: &'a mut Mailbox,
+    outbox: &'a mut Outbox,
 }
 
-/// The three messages, one after another, and how much of this there is when each of them ends.
-#[derive(Drop)]
-struct Whole {
-    text: Vec<u8>,
-    ends: Vec<usize>,
+/// Where a writer stops, and whether it fails there, or takes none.
+#[derive(Clone, Copy)]
+struct Stop {
+    most: usize,
+    fails: bool,
+}
+
+impl Stop {
+    /// What a writer that stops so says of a text, if it isn't written whole.
+    fn fault_in(self, whole: &[u8]) -> Option<ErrorKind> {
+        if self.most >= whole.len() {
+            return None;
+        }
+        if self.fails {
+            return Some(ErrorKind::BrokenPipe);
+        }
+        Some(ErrorKind::WriteZero)
+    }
+
+    /// Whether a message is in the midst then, which isn't ready whole.
+    fn is_midway(self, whole: &[u8]) -> bool {
+        self.most < PIECE && PIECE < whole.len()
+    }
 }
 
 impl<'a, L: Ledger, R: Wait + Clock> Session<'a, L, R> {
-    fn ask(&self, seat: &mut Seat<L>) -> Result<(), AllocError> {
-        for text in ASKED {
-            submit(self.rt, self.alloc, self.hub, seat, text.as_bytes())?;
-        }
-        Ok(())
-    }
-
-    /// Takes the three messages out of the mailbox, one by one.
-    fn whole(&mut self, seat: &mut Seat<L>) -> Result<Whole, AllocError> {
-        self.ask(seat)?;
-        let mut text = Vec::new(self.alloc);
-        let mut ends = Vec::new(self.alloc);
-        for _ in ASKED {
-            take_one(self.mailbox, &mut text)?;
-            ends.push(text.len())?;
-        }
-        Ok(Whole { text, ends })
-    }
-
-    /// Whether a writer that takes so many bytes was written just these, and what comes after the message that is cut off
-    /// is still in the mailbox. Where it takes all, three messages were written.
-    fn writes(
-        &mut self,
-        seat: &mut Seat<L>,
-        whole: &Whole,
-        most: usize,
-        fails: bool,
-    ) -> Result<bool, AllocError> {
-        self.ask(seat)?;
+    /// Whether a writer that stops so was written just what comes before, whether the peer may be asked then, and whether a
+    /// good writer is written the rest, each byte once.
+    fn writes(&mut self, seat: &mut Seat<L>, whole: &[u8], stop: Stop) -> Result<bool, AllocError> {
+        ask(self.rt, self.alloc, self.hub, seat)?;
         let mut taken = Taken::new(self.alloc);
-        let mut writer = Writer {
-            taken: &mut taken,
-            most,
-            fails,
-            failing: 0,
+        let fault = write_on(self.outbox, &mut taken, stop);
+        if fault != stop.fault_in(whole)
+            || self.outbox.has_rest() != fault.is_some()
+            || whole.get(..stop.most) != Some(taken.text.as_slice())
+        {
+            return Ok(false);
+        }
+        let asks = self.outbox.ask()?;
+        let good = Stop {
+            most: usize::MAX,
+            fails: true,
         };
-        let written = write_outs(self.mailbox, &mut writer);
-        drop(writer);
-        let before = whole.ends.iter().filter(|end| **end <= most).count();
-        let left = left(self.mailbox);
-        let is_right = match written {
-            Ok(count) => count == 3 && before == 3 && left == 0,
-            Err(_) => before.saturating_add(left) == 2,
-        };
-        Ok(is_right && whole.text.get(..most) == Some(taken.text.as_slice()))
+        let fault = write_on(self.outbox, &mut taken, good);
+        let is_done = fault.is_none() && !self.outbox.has_rest();
+        Ok(is_done && asks != stop.is_midway(whole) && is_all(&taken.text, whole, asks))
     }
 }
 
-fn take_one(mailbox: &mut Mailbox, text: &mut Vec<u8>) -> Result<(), AllocError> {
-    match mailbox.next() {
-        Some(out) => note(text, &out),
-        None => Err(AllocError),
-    }
-}
-
-/// How many messages the mailbox has. They are taken out.
-fn left(mailbox: &mut Mailbox) -> usize {
-    for count in 0..ASKED.len() {
-        if mailbox.next().is_none() {
-            return count;
+/// Writes until all is written, or the writer stops. It returns what it said then.
+fn write_on(outbox: &mut Outbox, taken: &mut Taken, stop: Stop) -> Option<ErrorKind> {
+    let mut writer = Writer {
+        taken,
+        most: stop.most,
+        fails: stop.fails,
+        failing: 0,
+    };
+    for _ in 0..u64::MAX {
+        match outbox.write_to(&mut writer) {
+            Ok(true) => return None,
+            Ok(false) => {}
+            Err(error) => return Some(error.kind()),
         }
     }
-    ASKED.len()
+    None
 }
 
-/// The number of bytes at which a writer that takes no more isn't written just these, if there is one.
+/// Whether this is the whole, and the request after it where the peer was asked.
+fn is_all(text: &Vec<u8>, whole: &[u8], asks: bool) -> bool {
+    let behind = if asks { PROBE } else { "" };
+    text.get(..whole.len()) == Some(whole) && text.get(whole.len()..) == Some(behind.as_bytes())
+}
+
+fn ask<L: Ledger, R: Wait + Clock>(
+    rt: &R,
+    alloc: Global,
+    hub: &Hub<L>,
+    seat: &mut Seat<L>,
+) -> Result<(), AllocError> {
+    for text in ASKED {
+        submit(rt, alloc, hub, seat, text.as_bytes())?;
+    }
+    Ok(())
+}
+
+/// Inserts a row.
+fn insert<L: Ledger, R: Wait + Clock>(
+    rt: &R,
+    alloc: Global,
+    hub: &Hub<L>,
+    seat: &mut Seat<L>,
+    length: usize,
+) -> Result<(), AllocError> {
+    let mut text = Vec::new(alloc);
+    text.resize(length, b'x')?;
+    let mut request = Vec::new(alloc);
+    request.extend_from_slice(INSERT[0].as_bytes())?;
+    request.extend_from_slice(text.as_slice())?;
+    request.extend_from_slice(INSERT[1].as_bytes())?;
+    submit(rt, alloc, hub, seat, request.as_slice())?;
+    Ok(())
+}
+
+/// What the mailbox gives, one message after another.
+fn take(alloc: Global, mailbox: &mut Mailbox) -> Result<Vec<u8>, AllocError> {
+    let mut text = Vec::new(alloc);
+    for _ in ASKED {
+        match mailbox.next() {
+            Some(out) => note(&mut text, &out)?,
+            None => return Err(AllocError),
+        }
+    }
+    Ok(text)
+}
+
+/// Inserts a row, and returns what a session is sent that asks.
+fn whole<L: Ledger, R: Wait + Clock>(
+    rt: &R,
+    alloc: Global,
+    hub: &Hub<L>,
+    length: usize,
+) -> Result<Vec<u8>, AllocError> {
+    let Ok((mut seat, mut mailbox)) = hub.open(rt, bell(alloc)?) else {
+        return Err(AllocError);
+    };
+    let inserted = insert(rt, alloc, hub, &mut seat, length);
+    drop(mailbox.next());
+    let asked = ask(rt, alloc, hub, &mut seat);
+    part(rt, hub, seat);
+    inserted?;
+    asked?;
+    take(alloc, &mut mailbox)
+}
+
+/// The number of bytes at which a writer that stops isn't written just these, and then the rest, if there is one.
 fn first_wrong<L: Ledger, R: Wait + Clock>(
     session: &mut Session<'_, L, R>,
     seat: &mut Seat<L>,
+    whole: &[u8],
+    step: usize,
 ) -> Result<Option<usize>, AllocError> {
-    if !submit(
-        session.rt,
-        session.alloc,
-        session.hub,
-        seat,
-        INSERT.as_bytes(),
-    )? || left(session.mailbox) != 1
-    {
-        return Ok(Some(0));
-    }
-    let whole = session.whole(seat)?;
-    for most in 0..=whole.text.len() {
-        if !session.writes(seat, &whole, most, true)?
-            || !session.writes(seat, &whole, most, false)?
-        {
-            return Ok(Some(most));
+    for most in 0..=whole.len() {
+        if most < whole.len() && most.checked_rem(step) != Some(0) {
+            continue;
+        }
+        for fails in [true, false] {
+            if !session.writes(seat, whole, Stop { most, fails })? {
+                return Ok(Some(most));
+            }
         }
     }
     Ok(None)
@@ -138,22 +215,25 @@ fn trial<L: Ledger, R: Wait + Clock>(
     alloc: Global,
     core: Core,
     blank: Blank,
+    sizes: Sizes,
 ) -> Result<Option<usize>, AllocError>
     requires core { (core.world.sessions ≡ empty) × (core.opened ≡ 0) }
     requires ledger { (blank.name ≡ L.name) × (blank.parts ≡ L.parts) }
     requires parts { blank.parts ≡ 3 }
 {
     let hub: Hub<L> = Hub::new(alloc, core, blank, 2);
-    let Ok((mut seat, mut mailbox)) = hub.open(rt) else {
+    let whole = whole(rt, alloc, &hub, sizes.text)?;
+    let Ok((mut seat, mailbox)) = hub.open(rt, bell(alloc)?) else {
         return Err(AllocError);
     };
+    let mut outbox = Outbox::new(alloc, mailbox);
     let mut session = Session {
         rt,
         alloc,
         hub: &hub,
-        mailbox: &mut mailbox,
+        outbox: &mut outbox,
     };
-    let found = first_wrong(&mut session, &mut seat);
+    let found = first_wrong(&mut session, &mut seat, whole.as_slice(), sizes.step);
     drop(session);
     part(rt, &hub, seat);
     found
@@ -161,8 +241,11 @@ fn trial<L: Ledger, R: Wait + Clock>(
 
 #[test]
 fn writers_that_are_short_or_fail(rt: HostRuntime) -> Result<(), Fail> {
-    let core = core(rt.alloc(), RandomState::new(&rt)?, NET)?;
-    let found = trial::<Brand, _>(&rt, rt.alloc(), core, Blank::new(3))?;
-    assert_eq!(rt; found, None);
+    for (text, step) in [(1, 1), (20_000, 1_024)] {
+        let core = core(rt.alloc(), RandomState::new(&rt)?, TEXTS)?;
+        let sizes = Sizes { text, step };
+        let found = trial::<Brand, _>(&rt, rt.alloc(), core, Blank::new(3), sizes)?;
+        assert_eq!(rt; found, None);
+    }
     Ok(())
 }

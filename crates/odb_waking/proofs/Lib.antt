@@ -1,2 +1,2 @@
-pub mod BellKept
+pub mod LoopKept
 pub mod PumpKept

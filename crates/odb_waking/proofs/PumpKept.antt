@@ -1,7 +1,7 @@
 -- Each step keeps what makes the pump wake, so every run does.
 use Rattle.std.proofs.Common.{◌≡◌, ℕ, zero, suc, ◌<◌, ◌+◌, arith, Bool, true, false, not, List, [], ◌∷◌, refl, sym, true≢false}
 use Rattle.std.specs.Prelude.{◌||◌, fold}
-use Rattle.odb_waking.specs.Bell.{some}
+use Rattle.odb_waking.specs.Loop.{some}
 use Rattle.odb_waking.specs.Pump.{Place, begins, forgets, gives, decides, rests, lies_down, looks_again, sleeps, Pump, Step, goes_on, owes, nears, tells, calls, looks, wakes, keeps_silent, gives_all, NoPumpOversleeps, begun, is_asleep, next}
 
 pub no : {A : Type 0} → false ≡ true → A

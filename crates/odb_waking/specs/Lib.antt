@@ -1,2 +1,2 @@
-pub mod Bell
+pub mod Loop
 pub mod Pump

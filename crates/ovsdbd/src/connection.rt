@@ -1,266 +1,404 @@
-//! A connection: a thread that reads from it, and one that writes to it. [P 15.2]
+//! A connection and its session, as the thread that serves it has them. [P 15.2]
 
-ghost use Rattle.std.specs.Io.{ReadsAtMost};
-
-use crate::daemon::Daemon;
-use crate::pair::{Pair, Work};
-use crate::piece::Piece;
-use odb_core::{Refused, SessionId};
-use odb_hub::{Mailbox, Seat, Submission, write_outs, write_probe};
+use crate::daemon::{Daemon, Patience};
+use mio::event::Event;
+use mio::net::TcpStream;
+use odb_core::Refused;
+use odb_hub::{Mailbox, Outbox, Seat, Submission};
 use odb_wire::{Framer, Message, Request};
-use rand::make_rng;
 use rand::rngs::StdRng;
-use rand_core::Rng;
 use std::alloc::{AllocError, Global};
-use std::io::{self, BufWriter, ErrorKind, Read, Write};
-use std::net::{Shutdown, TcpStream};
-use std::random::RandomSource;
+use std::io::{self, ErrorKind, Read};
+use std::net::Shutdown;
+use std::sync::Wait;
 use std::sync::ledger::Ledger;
-use std::sync::{Arc, Wait};
-use std::thread;
-use std::thread::{Builder, Scope, Threads};
+use std::thread::Threads;
 use std::time::{Clock, Duration};
+use std::{mem, thread};
 use uuid::Uuid;
 
-/// The stack of a thread of a connection, in bytes.
-pub(crate) const STACK: usize = 131_072;
+/// How many bytes are read at once.
+pub(crate) const PIECE: usize = 8_192;
 
-/// Serves a connection as a session of its own, until it ends, and then others, as long as they come. It is closed where no
-/// session can be opened.
-pub(crate) fn serve_connections<
-    L: Ledger + Send + Sync,
-    R: Threads + Wait + Clock + RandomSource + Sync,
->(rt: &R, daemon: &Daemon<L>, stream: TcpStream) {
-    let pair = Pair::new();
-    let pair = &pair;
-    thread::scope(thread::scope_env(), rt, |scope| {
-        drop(run_pair(rt, scope, daemon, pair, stream))
-    });
+/// For how many milliseconds a thread pauses where memory was refused for the end of a session.
+const PAUSE: u64 = 1;
+
+/// How often what is held back is sent for, before other connections have their turn.
+const REFILLS: usize = 8;
+
+/// What a thread that serves connections has for each of them in turn.
+pub(crate) struct Tools<'a, L: Ledger, R> {
+    pub(crate) rt: &'a R,
+    pub(crate) daemon: &'a Daemon<L>,
+    /// Where bytes are read.
+    pub(crate) piece: Vec<u8>,
+    pub(crate) rng: StdRng,
+    /// The milliseconds since the start, where the daemon's patience has an end.
+    pub(crate) moment: u64,
 }
 
-/// Starts the thread that writes, and reads from one connection after another.
-fn run_pair<'s, E, L: Ledger + Send + Sync, R: Threads + Wait + Clock + RandomSource + Sync>(
-    rt: &'s R,
-    scope: &'s Scope<'s, E>,
-    daemon: &'s Daemon<L>,
-    pair: &'s Pair,
+/// What comes next of a connection.
+#[derive(Clone, Copy, PartialEq)]
+pub(crate) enum Next {
+    /// Nothing, until there is an event, or it is called.
+    Rests,
+    /// Another turn.
+    GoesOn,
+    /// It is to be closed.
+    Ends,
+}
+
+/// How far the messages of a session were written.
+#[derive(Clone, Copy, PartialEq)]
+enum Written {
+    All,
+    /// There may be more to write.
+    Some,
+    /// The peer takes nothing now.
+    Blocked,
+}
+
+/// A connection, with its session as long as that is open.
+pub(crate) struct Connection<L: Ledger> {
     stream: TcpStream,
-) -> io::Result<()> {
-    let mut rng: StdRng = make_rng(rt)?;
-    let writer = Builder::new()
-        .stack_size(STACK)
-        .spawn_scoped(scope, move || write_for_pair(rt, daemon, pair))?;
-    drop(writer);
-    let mut next = Some(stream);
-    for _ in rt.forever() {
-        let Some(stream) = next else {
-            break;
-        };
-        drop(run_session(rt, daemon, pair, stream, &mut rng));
-        next = daemon.crew.next(rt);
-    }
-    pair.end();
-    Ok(())
+    seat: Option<Seat<L>>,
+    outbox: Outbox,
+    framer: Framer,
+    /// The requests that were read and aren't submitted yet, the first of them last.
+    submissions: Vec<Submission>,
+    /// Whether more is read once these are submitted.
+    reads: bool,
+    is_readable: bool,
+    is_writable: bool,
+    /// Whether the peer sends no more than what there is to read.
+    is_closed: bool,
+    /// Whether the next submission met Busy, and nothing was given to the session since.
+    is_busy: bool,
+    /// Whether the session ends at once, since writing failed or the daemon's patience is at its end.
+    is_cut_off: bool,
+    /// Whether the connection is among those that have a turn next.
+    pub(crate) is_queued: bool,
+    /// When the peer sent something, and when it took something, in milliseconds since the start.
+    heard: u64,
+    took: u64,
+    /// Whether the peer was asked whether it is there, since it was heard, and whether that is still to be written.
+    was_asked: bool,
+    asks: bool,
 }
 
-/// Opens a session, and reads until it ends.
-fn run_session<L: Ledger, R: Threads + Wait + Clock + Sync>(
-    rt: &R,
-    daemon: &Daemon<L>,
-    pair: &Pair,
-    stream: TcpStream,
-    rng: &mut StdRng,
-) -> io::Result<()> {
-    drop(stream.set_nodelay(true));
-    drop(stream.set_read_timeout(daemon.patience.probe));
-    drop(stream.set_write_timeout(daemon.patience.stall));
-    let stream = Arc::new(daemon.alloc, stream)?;
-    let also = Arc::try_clone(&stream)?;
-    let Ok((mut seat, mailbox)) = daemon.hub.open(rt) else {
-        return Ok(());
-    };
-    let session = seat.session();
-    pair.hand(
-        rt,
-        Work {
-            session,
-            mailbox,
-            stream: also,
-        },
-    );
-    drop(read_for_session(rt, daemon, &mut seat, &*stream, rng));
-    seat.bell().end();
-    let mailbox = pair.wait(rt);
-    part(rt, daemon, seat);
-    drop(write_the_rest(daemon.alloc, mailbox, &*stream));
-    drop(stream.shutdown(Shutdown::Both));
-    Ok(())
-}
-
-/// Ends the session. Where memory is refused it tries again, since a session that stayed would keep its locks.
-fn part<L: Ledger, R: Wait + Clock>(rt: &R, daemon: &Daemon<L>, seat: Seat<L>) {
-    let mut seat = seat;
-    for _ in rt.forever() {
-        match daemon.hub.part(rt, seat) {
-            Ok(()) => {
-                // Those who own its locks now are to be told.
-                daemon.pace.tell(1);
-                return;
-            }
-            Err(back) => seat = back,
+impl<L: Ledger> Connection<L> {
+    /// Makes that of a session that was just opened, at this moment.
+    pub(crate) fn new(
+        alloc: Global,
+        stream: TcpStream,
+        seat: Seat<L>,
+        mailbox: Mailbox,
+        moment: u64,
+    ) -> Connection<L> {
+        Connection {
+            stream,
+            seat: Some(seat),
+            outbox: Outbox::new(alloc, mailbox),
+            framer: Framer::new(alloc),
+            submissions: Vec::new(alloc),
+            reads: true,
+            is_readable: true,
+            is_writable: true,
+            is_closed: false,
+            is_busy: false,
+            is_cut_off: false,
+            is_queued: false,
+            heard: moment,
+            took: moment,
+            was_asked: false,
+            asks: false,
         }
-        thread::sleep(rt, Duration::from_millis(1));
     }
-    unreachable!()
-}
 
-/// What the ring still has when the session has ended.
-fn write_the_rest(alloc: Global, mailbox: Mailbox, stream: &TcpStream) -> io::Result<()> {
-    let mut mailbox = mailbox;
-    if mailbox.bell().has_failed() {
-        return Ok(());
+    /// Learns what the poll tells of the connection.
+    pub(crate) fn notice(&mut self, event: &Event, moment: u64) {
+        let is_over = event.is_error() || event.is_write_closed();
+        if event.is_readable() || event.is_read_closed() || is_over {
+            self.is_readable = true;
+        }
+        if event.is_read_closed() || is_over {
+            self.is_closed = true;
+        }
+        if event.is_writable() || is_over {
+            self.is_writable = true;
+            self.took = moment;
+        }
     }
-    while_there_are_outs(alloc, &mut mailbox, stream)
-}
 
-/// Writes for the sessions that the pair has, one after another.
-fn write_for_pair<L: Ledger, R: Wait>(rt: &R, daemon: &Daemon<L>, pair: &Pair) {
-    for _ in rt.forever() {
-        let Some(work) = pair.next(rt) else {
+    /// Learns that something was given to its session.
+    pub(crate) fn hear(&mut self) {
+        self.is_busy = false;
+    }
+
+    /// Has a turn: it writes what it can, and reads and submits a piece of what there is.
+    pub(crate) fn serve<R: Threads + Wait + Clock + Sync>(
+        &mut self,
+        tools: &mut Tools<'_, L, R>,
+    ) -> Next {
+        if !self.is_cut_off {
+            match self.turn(tools) {
+                Ok(next) => return next,
+                Err(_) => self.is_cut_off = true,
+            }
+        }
+        if self.part(tools) {
+            Next::Ends
+        } else {
+            Next::GoesOn
+        }
+    }
+
+    /// Has the session end at its next turn, and the peer learn it.
+    pub(crate) fn cut_off(&mut self) {
+        self.is_cut_off = true;
+        drop(self.stream.shutdown(Shutdown::Both));
+    }
+
+    /// Ends the session, if that is open. False says that memory was refused: then it pauses, as the session is to end once
+    /// there is memory, since one that stayed would keep its locks.
+    fn part<R: Wait + Clock>(&mut self, tools: &Tools<'_, L, R>) -> bool {
+        let Some(seat) = self.seat.take() else {
+            return true;
+        };
+        let Err(back) = tools.daemon.part(tools.rt, seat) else {
+            return true;
+        };
+        if let Some(other) = mem::replace(&mut self.seat, Some(back)) {
+            part_at_last(tools.rt, tools.daemon, other);
+        }
+        thread::sleep(tools.rt, Duration::from_millis(PAUSE));
+        false
+    }
+
+    fn turn<R: Threads + Wait + Clock + Sync>(
+        &mut self,
+        tools: &mut Tools<'_, L, R>,
+    ) -> io::Result<Next> {
+        let mut written = self.write(tools)?;
+        if self.may_submit() {
+            if self.may_read() && self.is_readable {
+                self.read(tools);
+            }
+            if !self.submissions.is_empty() {
+                self.submit(tools);
+                written = self.write(tools)?;
+            }
+        }
+        Ok(self.next(tools, written))
+    }
+
+    /// Whether a request may be submitted: none waits since it met Busy, and no message is held back, since then the client
+    /// doesn't read what it was given.
+    fn may_submit(&self) -> bool {
+        !self.is_busy && !self.outbox.bell().is_held_back()
+    }
+
+    /// Whether more may be read: all that was read was submitted.
+    fn may_read(&self) -> bool {
+        self.reads && self.submissions.is_empty() && self.may_submit()
+    }
+
+    /// Says whether there are requests to submit, or bytes to read.
+    pub(crate) fn has_requests(&self) -> bool {
+        !self.submissions.is_empty() || self.reads && self.is_readable
+    }
+
+    /// Notes that the peer sent something, or couldn't.
+    fn hear_peer(&mut self, moment: u64) {
+        self.heard = moment;
+        self.was_asked = false;
+    }
+
+    /// What comes next, after so much was written.
+    fn next<R: Wait + Clock>(&mut self, tools: &Tools<'_, L, R>, written: Written) -> Next {
+        if !self.reads && self.submissions.is_empty() {
+            return self.end(tools, written);
+        }
+        if written == Written::Some || self.has_requests() && self.may_submit() {
+            return Next::GoesOn;
+        }
+        Next::Rests
+    }
+
+    /// What comes next of a connection of which nothing more is read: what the session is given is written, then the session
+    /// ends, and what it was given by then is written.
+    fn end<R: Wait + Clock>(&mut self, tools: &Tools<'_, L, R>, written: Written) -> Next {
+        match written {
+            Written::All if !self.outbox.bell().is_held_back() => {}
+            Written::Some => return Next::GoesOn,
+            _ => return Next::Rests,
+        }
+        if self.seat.is_none() {
+            return Next::Ends;
+        }
+        self.part(tools);
+        Next::GoesOn
+    }
+
+    /// Writes what the session is given, as far as the peer takes it. Steps: `writes`, `takes`, `looks`, `refills`.
+    fn write<R: Wait>(&mut self, tools: &Tools<'_, L, R>) -> io::Result<Written> {
+        if !self.is_writable {
+            return Ok(Written::Blocked);
+        }
+        for _ in 0..REFILLS {
+            let mut writer = &self.stream;
+            match self.outbox.write_to(&mut writer) {
+                Ok(false) => return Ok(Written::Some),
+                Ok(true) => if !self.refill(tools)? {
+                    return Ok(Written::All);
+                },
+                Err(error) if error.kind() == ErrorKind::WouldBlock => {
+                    self.is_writable = false;
+                    self.took = tools.moment;
+                    return Ok(Written::Blocked);
+                }
+                Err(error) => return Err(error),
+            }
+        }
+        Ok(Written::Some)
+    }
+
+    /// Has what is held back sent, and the peer asked where that is due, once all else is written. True says that there may
+    /// be more to write.
+    fn refill<R: Wait>(&mut self, tools: &Tools<'_, L, R>) -> io::Result<bool> {
+        if self.asks {
+            self.asks = false;
+            return Ok(self.outbox.ask()?);
+        }
+        match &self.seat {
+            Some(seat) if self.outbox.bell().is_held_back() => {
+                Ok(tools.daemon.refill(tools.rt, seat.session()))
+            }
+            _ => Ok(false),
+        }
+    }
+
+    /// Reads a piece, and finds the requests in it. Nothing more is read where the stream ends or is at a fault, and where
+    /// memory is refused.
+    fn read<R>(&mut self, tools: &mut Tools<'_, L, R>) {
+        let mut reader = &self.stream;
+        match reader.read(tools.piece.as_mut_slice()) {
+            Ok(read) if read > 0 => {
+                self.is_readable = read == tools.piece.len() || self.is_closed;
+                self.hear_peer(tools.moment);
+                if self.take_in(tools, read).is_err() {
+                    self.stop();
+                }
+            }
+            Err(error) if error.kind() == ErrorKind::WouldBlock => self.is_readable = false,
+            Err(error) if error.kind() == ErrorKind::Interrupted => {}
+            _ => self.stop(),
+        }
+    }
+
+    /// Reads and submits nothing more.
+    fn stop(&mut self) {
+        self.reads = false;
+        self.submissions.clear();
+    }
+
+    /// Finds the requests among so many bytes that were read.
+    fn take_in<R>(&mut self, tools: &mut Tools<'_, L, R>, read: usize) -> Result<(), AllocError> {
+        let Some(bytes) = tools.piece.get(..read) else {
+            return Ok(());
+        };
+        let messages = self.feed(bytes)?;
+        let alloc = tools.daemon.alloc;
+        self.submissions = submissions_of(alloc, messages, &mut tools.rng)?;
+        Ok(())
+    }
+
+    /// Finds the messages that end in these bytes. A fault that comes after them stops the reading.
+    fn feed(&mut self, bytes: &[u8]) -> Result<Vec<Message>, AllocError> {
+        let fed = self.framer.feed(bytes)?;
+        self.reads = fed.fault.is_none();
+        Ok(fed.messages)
+    }
+
+    /// Submits a turn of the requests, and the other sessions are told. Step: `submits`.
+    fn submit<R: Threads + Wait + Clock + Sync>(&mut self, tools: &Tools<'_, L, R>) {
+        let Some(seat) = &mut self.seat else {
             return;
         };
-        pair.give_back(rt, write_for_session(rt, daemon, work));
-    }
-    unreachable!()
-}
-
-/// Writes what the session is given, and sleeps in between, until the session ends or writing fails.
-fn write_for_session<L: Ledger, R: Wait>(rt: &R, daemon: &Daemon<L>, work: Work) -> Mailbox {
-    let Work {
-        session,
-        mut mailbox,
-        stream,
-    } = work;
-    if write_until_end(rt, daemon, session, &mut mailbox, &*stream).is_err() {
-        mailbox.bell().fail();
-        drop(stream.shutdown(Shutdown::Both));
-    }
-    mailbox
-}
-
-fn write_until_end<L: Ledger, R: Wait>(
-    rt: &R,
-    daemon: &Daemon<L>,
-    session: SessionId,
-    mailbox: &mut Mailbox,
-    stream: &TcpStream,
-) -> io::Result<()> {
-    for _ in rt.forever() {
-        let ended = mailbox.bell().has_ended();
-        while_there_are_outs(daemon.alloc, mailbox, stream)?;
-        if mailbox.bell().is_to_ask() {
-            ask(stream)?;
-        }
-        if mailbox.bell().is_held_back() && daemon.refill(rt, session) {
-            continue;
-        }
-        if ended && !mailbox.bell().is_held_back() {
-            return Ok(());
-        }
-        mailbox.bell().wait_to_write(rt);
-    }
-    unreachable!()
-}
-
-/// Writes until the mailbox gives nothing.
-fn while_there_are_outs(
-    alloc: Global,
-    mailbox: &mut Mailbox,
-    stream: &TcpStream,
-) -> io::Result<()> {
-    let mut writer = BufWriter::new(alloc, stream)?;
-    for _ in 0..u64::MAX {
-        if write_outs(mailbox, &mut writer)? == 0 {
-            break;
+        let daemon = tools.daemon;
+        match daemon.submit_turn(tools.rt, seat, &mut self.submissions) {
+            Ok(()) => {}
+            Err(Refused::Busy) => self.is_busy = true,
+            Err(_) => self.stop(),
         }
     }
-    writer.flush()
-}
 
-/// Asks the peer whether it is there, between two messages.
-fn ask(stream: &TcpStream) -> io::Result<()> {
-    let mut stream = stream;
-    write_probe(&mut stream)
-}
-
-/// Reads requests and submits them, until the stream ends or is at a fault, the peer says nothing for too long, memory is
-/// refused, or writing fails.
-fn read_for_session<L: Ledger, R: Threads + Wait + Clock + Sync>(
-    rt: &R,
-    daemon: &Daemon<L>,
-    seat: &mut Seat<L>,
-    stream: &TcpStream,
-    rng: &mut StdRng,
-) -> io::Result<()> {
-    let mut framer = Framer::new(daemon.alloc);
-    let mut piece = Piece::new(daemon.alloc)?;
-    for _ in 0..u64::MAX {
-        let read = read_piece(seat, stream, piece.bytes.as_mut_slice())?;
-        if read == 0 || seat.bell().has_failed() {
-            return Ok(());
+    /// Says whether the daemon's patience with the peer is at its end at this moment. Before that the peer is asked whether it
+    /// is there, which is to be written. A peer that isn't read isn't silent.
+    pub(crate) fn has_expired(&mut self, patience: Patience, moment: u64) -> bool {
+        let Patience { probe, stall } = patience;
+        if !self.may_read() {
+            self.hear_peer(moment);
         }
-        let Ok(fed) = framer.feed(&piece.bytes[..read]) else {
-            return Ok(());
+        let silent = moment.saturating_sub(self.heard);
+        let is_silent = match probe {
+            Some(probe) => self.is_silent(silent, probe),
+            None => false,
         };
-        if submit_messages(rt, daemon, seat, fed.messages, rng).is_err() {
-            return Ok(());
-        }
-        // A fault that comes after the messages stops the reading at once.
-        if fed.fault.is_some() {
-            return Ok(());
-        }
-        piece.fit(read)?;
+        let is_stalled = match stall {
+            Some(stall) => !self.is_writable && moment.saturating_sub(self.took) >= stall,
+            None => false,
+        };
+        is_silent || is_stalled
     }
-    Ok(())
-}
 
-/// Reads what there is, at most a piece. Where the peer says nothing for as long as the daemon has patience it is asked
-/// whether it is there; where it says nothing for as long again it counts as gone, and the connection is cut off.
-fn read_piece<L: Ledger>(seat: &Seat<L>, stream: &TcpStream, piece: &mut [u8]) -> io::Result<usize>
-    ensures { ReadsAtMost result piece.new }
-{
-    let mut reader = stream;
-    match reader.read(piece) {
-        Err(error) if error.kind() == ErrorKind::WouldBlock => seat.bell().ask(),
-        read => return read,
+    /// Says whether a peer counts as gone that said nothing for so long; it is asked after half of that time.
+    fn is_silent(&mut self, silent: u64, probe: u64) -> bool {
+        if !self.was_asked && silent >= probe {
+            self.was_asked = true;
+            self.asks = true;
+        }
+        silent >= probe.saturating_mul(2)
     }
-    let read = reader.read(piece);
-    if read.is_err() {
+
+    /// Closes the connection, and ends its session if that is open.
+    pub(crate) fn close<R: Wait + Clock>(self, rt: &R, daemon: &Daemon<L>) {
+        let Connection {
+            stream,
+            seat,
+            outbox: _,
+            framer: _,
+            submissions: _,
+            reads: _,
+            is_readable: _,
+            is_writable: _,
+            is_closed: _,
+            is_busy: _,
+            is_cut_off: _,
+            is_queued: _,
+            heard: _,
+            took: _,
+            was_asked: _,
+            asks: _,
+        } = self;
         drop(stream.shutdown(Shutdown::Both));
-    }
-    read
-}
-
-/// Why reading stops.
-#[derive(Drop)]
-struct Stopped;
-
-impl From<AllocError> for Stopped {
-    fn from(_refused: AllocError) -> Stopped {
-        Stopped
+        if let Some(seat) = seat {
+            part_at_last(rt, daemon, seat);
+        }
     }
 }
 
-/// Submits the messages, and what that gives the session goes into its ring.
-fn submit_messages<L: Ledger, R: Threads + Wait + Clock + Sync>(
-    rt: &R,
-    daemon: &Daemon<L>,
-    seat: &mut Seat<L>,
-    messages: Vec<Message>,
-    rng: &mut StdRng,
-) -> Result<(), Stopped> {
-    let submissions = submissions_of(daemon.alloc, messages, rng)?;
-    submit_all(rt, daemon, seat, submissions)
+/// Ends a session. Where memory is refused it tries again.
+fn part_at_last<L: Ledger, R: Wait + Clock>(rt: &R, daemon: &Daemon<L>, seat: Seat<L>) {
+    let mut seat = seat;
+    for _ in rt.forever() {
+        match daemon.part(rt, seat) {
+            Ok(()) => return,
+            Err(back) => seat = back,
+        }
+        thread::sleep(rt, Duration::from_millis(PAUSE));
+    }
+    unreachable!()
 }
 
 /// The requests among the messages, the first of them last.
@@ -294,61 +432,4 @@ fn submission_of(
         fresh.push(Uuid::new_v4(rng))?;
     }
     Ok(Submission::new(request, fresh))
-}
-
-/// Submits them all, a turn after the other, and the other sessions are told. The thread sleeps while a message is held
-/// back, since the client doesn't read what it was given, and on Busy until the session was given something.
-fn submit_all<L: Ledger, R: Threads + Wait + Clock + Sync>(
-    rt: &R,
-    daemon: &Daemon<L>,
-    seat: &mut Seat<L>,
-    submissions: Vec<Submission>,
-) -> Result<(), Stopped> {
-    let mut submissions = submissions;
-    for _ in rt.forever() {
-        if submissions.is_empty() {
-            return Ok(());
-        }
-        if seat.bell().has_failed() {
-            return Err(Stopped);
-        }
-        if seat.bell().is_held_back() {
-            seat.bell().wait_to_submit(rt);
-            continue;
-        }
-        submit_turn(rt, daemon, seat, &mut submissions)?;
-    }
-    unreachable!()
-}
-
-/// Submits a turn of them, and the other sessions are told.
-fn submit_turn<L: Ledger, R: Threads + Wait + Clock + Sync>(
-    rt: &R,
-    daemon: &Daemon<L>,
-    seat: &mut Seat<L>,
-    submissions: &mut Vec<Submission>,
-) -> Result<(), Stopped> {
-    let now = daemon.now(rt);
-    let before = submissions.len();
-    let submitted = daemon.hub.submit_turn(rt, seat, submissions, now);
-    let taken = before.saturating_sub(submissions.len());
-    if submitted.due_sooner {
-        daemon.pace.wake();
-    }
-    if !is_quiet(&submitted.owes) {
-        daemon.tell_all(rt, submitted.few, taken.max(1) as u64);
-    }
-    match submitted.owes {
-        Ok(_) => Ok(()),
-        Err(Refused::Busy) => {
-            seat.bell().wait_to_submit(rt);
-            Ok(())
-        }
-        Err(_) => Err(Stopped),
-    }
-}
-
-/// Whether nothing was refused, and no session is owed anything.
-fn is_quiet(submitted: &Result<bool, Refused>) -> bool {
-    matches!(submitted, Ok(false))
 }

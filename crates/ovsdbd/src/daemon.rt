@@ -1,9 +1,10 @@
 //! What all threads of the daemon share. [P 15.2]
 
-use crate::crew::Crew;
+use crate::desk::Desk;
 use crate::pace::Pace;
-use odb_core::{Core, SessionId};
-use odb_hub::Hub;
+use crate::serve::Terms;
+use odb_core::{Core, Refused, SessionId};
+use odb_hub::{Hub, Seat, Submission};
 use odb_par::{Open, Workers};
 use std::alloc::Global;
 use std::sync::Wait;
@@ -26,21 +27,28 @@ pub(crate) struct Begun {
     pub(crate) start: Instant,
 }
 
-/// How long the daemon bears a peer; none: for ever.
+/// How many milliseconds the daemon bears a peer; none: for ever.
 #[derive(Clone, Copy)]
 pub(crate) struct Patience {
     /// For how long a peer may say nothing before it is asked whether it is there, and then before it counts as gone.
-    pub(crate) probe: Option<Duration>,
+    pub(crate) probe: Option<u64>,
     /// For how long a peer may take nothing before it counts as gone.
-    pub(crate) stall: Option<Duration>,
+    pub(crate) stall: Option<u64>,
 }
 
-/// The server, the clock, the threads of connections, and what the pump sleeps by.
+impl Patience {
+    /// Says whether the daemon bears each peer for ever.
+    pub(crate) fn is_endless(&self) -> bool {
+        self.probe.is_none() && self.stall.is_none()
+    }
+}
+
+/// The server, the clock, the desks of the threads that serve connections, and what the pump sleeps by.
 pub(crate) struct Daemon<L: Ledger> {
     pub(crate) alloc: Global,
     pub(crate) hub: Hub<L>,
     pub(crate) pace: Pace,
-    pub(crate) crew: Crew,
+    pub(crate) desks: Vec<Desk>,
     pub(crate) patience: Patience,
     workers: Workers,
     start: Instant,
@@ -56,8 +64,8 @@ impl<L: Ledger> Daemon<L> {
         begun: Begun,
         blank: Blank,
         seats: u64,
-        patience: Patience,
-        workers: Workers,
+        desks: Vec<Desk>,
+        terms: Terms,
     ) -> Daemon<L>
         requires core { (begun.core.world.sessions ≡ empty) × (begun.core.opened ≡ 0) }
         requires ledger { (blank.name ≡ L.name) × (blank.parts ≡ L.parts) }
@@ -68,9 +76,9 @@ impl<L: Ledger> Daemon<L> {
             alloc,
             hub: Hub::new(alloc, core, blank, seats),
             pace: Pace::new(),
-            crew: Crew::new(alloc),
-            patience,
-            workers,
+            desks,
+            patience: terms.patience,
+            workers: terms.workers,
             start,
             ended: AtomicU64::new(0),
         }
@@ -90,6 +98,51 @@ impl<L: Ledger> Daemon<L> {
         self.pace.wake();
     }
 
+    /// Tells each thread that serves connections that none will come any more.
+    pub(crate) fn close<R: Wait>(&self, rt: &R) {
+        for desk in &self.desks {
+            desk.close(rt);
+        }
+    }
+
+    /// Wakes the threads whose sessions were given something.
+    fn wake_called(&self) {
+        for desk in &self.desks {
+            desk.wake_if_called();
+        }
+    }
+
+    /// Submits a turn of the requests, gives their session what it is owed, and tells the other sessions.
+    pub(crate) fn submit_turn<R: Threads + Wait + Clock + Sync>(
+        &self,
+        rt: &R,
+        seat: &mut Seat<L>,
+        submissions: &mut Vec<Submission>,
+    ) -> Result<(), Refused> {
+        let before = submissions.len();
+        let submitted = self.hub.submit_turn(rt, seat, submissions, self.now(rt));
+        let taken = before.saturating_sub(submissions.len());
+        if submitted.due_sooner {
+            self.pace.wake();
+        }
+        self.wake_called();
+        if !is_quiet(&submitted.owes) {
+            self.tell_all(rt, submitted.few, taken.max(1) as u64);
+        }
+        submitted.owes.map(|_| ())
+    }
+
+    /// Ends a session, and has those told who own its locks then. Where memory is refused the seat comes back.
+    pub(crate) fn part<R: Wait>(&self, rt: &R, seat: Seat<L>) -> Result<(), Seat<L>> {
+        match self.hub.part(rt, seat) {
+            Ok(()) => {
+                self.pace.tell(1);
+                Ok(())
+            }
+            Err(back) => Err(back),
+        }
+    }
+
     /// Gives a session what it is owed, as its ring has room again. False says that memory was refused, and that the pump
     /// does it.
     pub(crate) fn refill<R: Wait>(&self, rt: &R, session: SessionId) -> bool {
@@ -103,14 +156,10 @@ impl<L: Ledger> Daemon<L> {
     /// Gives each session its next message after so many requests, one or more, where few are owed something, and where the
     /// pump sleeps and that is brief, so that an update doesn't wait for the pump. The pump does the rest. Step:
     /// `keeps_silent`, where few are owed something and the round leaves nothing owed; else it tells the pump.
-    pub(crate) fn tell_all<R: Threads + Wait + Clock + Sync>(
-        &self,
-        rt: &R,
-        few: bool,
-        requests: u64,
-    ) {
+    fn tell_all<R: Threads + Wait + Clock + Sync>(&self, rt: &R, few: bool, requests: u64) {
         if few || self.pace.lets_others() {
             if let Ok(round) = self.hub.round(rt, self.workers, &Open) {
+                self.wake_called();
                 self.pace.note(round);
                 if few && !round.owes {
                     return;
@@ -141,7 +190,9 @@ impl<L: Ledger> Daemon<L> {
     fn turn<R: Threads + Wait + Clock + Sync>(&self, rt: &R) {
         self.pace.begin();
         drop(self.hub.tick(rt, self.now(rt)));
-        match self.hub.round(rt, self.workers, &Open) {
+        let round = self.hub.round(rt, self.workers, &Open);
+        self.wake_called();
+        match round {
             Ok(round) => self.pace.pause(rt, round, self.left(rt, round.deadline)),
             Err(_) => self.pace.rest(rt, Duration::from_millis(REFUSED), None),
         }
@@ -155,6 +206,11 @@ impl<L: Ledger> Daemon<L> {
     }
 }
 
+/// Whether nothing was refused, and no session is owed anything.
+fn is_quiet(owes: &Result<bool, Refused>) -> bool {
+    matches!(owes, Ok(false))
+}
+
 // Written, and not derived, so that each end of a scope is one call to prove.
 impl<L: Ledger> Drop for Daemon<L> {
     fn drop(self) {
@@ -162,7 +218,7 @@ impl<L: Ledger> Drop for Daemon<L> {
             alloc: _,
             hub: _,
             pace: _,
-            crew: _,
+            desks: _,
             patience: _,
             workers: _,
             start: _,

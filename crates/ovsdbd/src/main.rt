@@ -7,12 +7,11 @@
 //! command line are wrong.
 #![tactic(auto)]
 
+mod clerk;
 mod connection;
-mod crew;
 mod daemon;
+mod desk;
 mod pace;
-mod pair;
-mod piece;
 mod serve;
 
 use crate::daemon::Patience;
@@ -34,7 +33,7 @@ use std::random::RandomSource;
 use std::rt::Files;
 use std::sync::Wait;
 use std::thread::Threads;
-use std::time::{Clock, Duration};
+use std::time::Clock;
 use std::{env, fs, thread};
 use thiserror::Error as ErrorText;
 
@@ -106,8 +105,8 @@ const KEPT: u64 = 100;
 /// Of how many at most.
 const MOST_KEPT: u64 = 1_000_000;
 
-/// How many threads may compose what clients are sent.
-const MOST_WORKERS: u64 = 64;
+/// How many threads may serve connections, and how many compose what clients are sent.
+const MOST_THREADS: u64 = 64;
 
 /// From which weight on the jobs of a round are composed by more than one: about how many rows are looked at in the time
 /// that a thread takes to start.
@@ -185,6 +184,7 @@ fn serve_command<'a>(alloc: Global) -> Result<Command<'a>, Error> {
         .arg(probe_word(alloc))?
         .arg(stall_word(alloc))?
         .arg(kept_word(alloc))?
+        .arg(threads_word(alloc))?
         .arg(workers_word(alloc))?;
     Ok(serve)
 }
@@ -241,6 +241,15 @@ fn kept_word<'a>(alloc: Global) -> Arg<'a> {
         .action(ArgAction::Set)
 }
 
+fn threads_word<'a>(alloc: Global) -> Arg<'a> {
+    Arg::new(alloc, "threads")
+        .long("threads")
+        .value_name("N")
+        .help("How many threads serve connections, 1 to 64; one for each processor if absent")
+        .value_parser(ValueParser::Unsigned(1, MOST_THREADS))
+        .action(ArgAction::Set)
+}
+
 fn workers_word<'a>(alloc: Global) -> Arg<'a> {
     Arg::new(alloc, "workers")
         .long("workers")
@@ -248,7 +257,7 @@ fn workers_word<'a>(alloc: Global) -> Arg<'a> {
         .help(
             "How many threads compose what clients are told where that is much, 1 to 64; one for each processor if absent",
         )
-        .value_parser(ValueParser::Unsigned(1, MOST_WORKERS))
+        .value_parser(ValueParser::Unsigned(1, MOST_THREADS))
         .action(ArgAction::Set)
 }
 
@@ -318,19 +327,19 @@ fn terms<R: Threads>(rt: &R, words: &ArgMatches<'_>) -> Terms {
             probe: milliseconds(words, "probe"),
             stall: milliseconds(words, "stall"),
         },
-        workers: workers(rt, words),
+        threads: threads(rt, words, "threads"),
+        workers: Workers::new(threads(rt, words, "workers"), HEAVY),
     }
 }
 
-/// By how many threads rounds are composed: as many as there are processors where the word is absent, and one where that
-/// can't be told.
-fn workers<R: Threads>(rt: &R, words: &ArgMatches<'_>) -> Workers {
-    let asked: Option<u64> = words.get_one("workers");
-    let count = match asked {
+/// How many threads a word asks for: as many as there are processors where it is absent, at most 64.
+fn threads<R: Threads>(rt: &R, words: &ArgMatches<'_>, name: &str) -> usize {
+    let most = MOST_THREADS as usize;
+    let asked: Option<u64> = words.get_one(name);
+    match asked {
         Some(count) => count as usize,
-        None => processors(rt),
-    };
-    Workers::new(count, HEAVY)
+        None => processors(rt).min(most),
+    }
 }
 
 /// Counts the processors, and says 1 where they can't be counted.
@@ -342,12 +351,12 @@ fn processors<R: Threads>(rt: &R) -> usize {
 }
 
 /// So many milliseconds; none where the word is absent or 0.
-fn milliseconds(words: &ArgMatches<'_>, name: &str) -> Option<Duration> {
+fn milliseconds(words: &ArgMatches<'_>, name: &str) -> Option<u64> {
     let count: u64 = words.get_one(name)?;
     if count == 0 {
         return None;
     }
-    Some(Duration::from_millis(count))
+    Some(count)
 }
 
 /// The schema in a file.

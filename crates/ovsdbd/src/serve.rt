@@ -1,10 +1,12 @@
-//! The daemon: it listens, and serves each connection by two threads of its own. [P 15.2]
+//! The daemon: it listens, and serves the connections by a few threads, each many of them. [P 15.2]
 
 ghost use Rattle.std.specs.Prelude.{◌≡◌, IfOk};
 ghost use Rattle.odb_atoms.specs.FinMap.{empty};
 
-use crate::connection::{STACK, serve_connections};
+use crate::clerk::serve_desk;
 use crate::daemon::{Begun, Daemon, Patience};
+use crate::desk::Desk;
+use mio::{Poll, net};
 use odb_core::Core;
 use odb_par::Workers;
 use odb_schema::Schema;
@@ -12,16 +14,19 @@ use odb_script::RunFault;
 use std::alloc::Global;
 use std::hash::RandomState;
 use std::marker::Brand;
-use std::net::{TcpListener, TcpStream};
+use std::net::{Net, TcpListener, TcpStream};
 use std::random::RandomSource;
 use std::sync::Wait;
 use std::sync::ledger::{Blank, Ledger};
-use std::thread;
 use std::thread::{Builder, Scope, Threads};
 use std::time::{Clock, Duration, Instant};
+use std::{io, thread};
 
 /// How many seats may be given at once. No core has more sessions open.
 const SEATS: u64 = 4_096;
+
+/// The stack of a thread, in bytes.
+const STACK: usize = 262_144;
 
 /// For how many milliseconds the daemon waits after a connection couldn't be accepted, as where no file descriptor is left.
 const PAUSE: u64 = 100;
@@ -32,6 +37,8 @@ pub(crate) struct Terms {
     /// How many connections it serves before it ends; none: it goes on.
     pub(crate) sessions: Option<u64>,
     pub(crate) patience: Patience,
+    /// How many threads serve connections.
+    pub(crate) threads: usize,
     /// How many threads compose the jobs of a round.
     pub(crate) workers: Workers,
 }
@@ -65,7 +72,7 @@ pub(crate) fn begin<R: Clock>(
 }
 
 /// Serves all that connect. With `terms.sessions` it accepts so many connections and returns when they have ended.
-pub(crate) fn serve_all<R: Threads + Wait + Clock + RandomSource + Sync>(
+pub(crate) fn serve_all<R: Net + Threads + Wait + Clock + RandomSource + Sync>(
     rt: &R,
     begun: Begun,
     listener: &TcpListener,
@@ -77,7 +84,7 @@ pub(crate) fn serve_all<R: Threads + Wait + Clock + RandomSource + Sync>(
 }
 
 /// Serves all that connect, under the ledger that the blank names.
-fn serve_under<L: Ledger + Send + Sync, R: Threads + Wait + Clock + RandomSource + Sync>(
+fn serve_under<L: Ledger + Send + Sync, R: Net + Threads + Wait + Clock + RandomSource + Sync>(
     rt: &R,
     begun: Begun,
     blank: Blank,
@@ -88,14 +95,30 @@ fn serve_under<L: Ledger + Send + Sync, R: Threads + Wait + Clock + RandomSource
     requires ledger { (blank.name ≡ L.name) × (blank.parts ≡ L.parts) }
     requires parts { blank.parts ≡ 4097 }
 {
-    let daemon: Daemon<L> = Daemon::new(begun, blank, SEATS, terms.patience, terms.workers);
-    serve_with(rt, &daemon, listener, terms.sessions)
+    let Ok((desks, polls)) = open_desks(rt, begun.alloc, terms.threads) else {
+        return Err(RunFault::Memory);
+    };
+    let daemon: Daemon<L> = Daemon::new(begun, blank, SEATS, desks, terms);
+    serve_with(rt, &daemon, polls, listener, terms.sessions)
+}
+
+/// Makes the desks of so many threads, and what each of them sleeps by.
+fn open_desks<R: Net>(rt: &R, alloc: Global, threads: usize) -> io::Result<(Vec<Desk>, Vec<Poll>)> {
+    let mut desks = Vec::with_capacity(alloc, threads)?;
+    let mut polls = Vec::with_capacity(alloc, threads)?;
+    for _ in 0..threads {
+        let poll = Poll::new(rt)?;
+        desks.push(Desk::new(alloc, &poll)?)?;
+        polls.push(poll)?;
+    }
+    Ok((desks, polls))
 }
 
 /// Serves all that connect, while the pump runs.
 fn serve_with<L: Ledger + Send + Sync, R: Threads + Wait + Clock + RandomSource + Sync>(
     rt: &R,
     daemon: &Daemon<L>,
+    polls: Vec<Poll>,
     listener: &TcpListener,
     sessions: Option<u64>,
 ) -> Result<(), RunFault> {
@@ -106,9 +129,9 @@ fn serve_with<L: Ledger + Send + Sync, R: Threads + Wait + Clock + RandomSource 
         if pump.is_err() {
             return Err(RunFault::Memory);
         }
-        accept_and_wait(rt, daemon, listener, sessions);
+        let served = accept_and_wait(rt, daemon, polls, listener, sessions);
         daemon.end();
-        Ok(())
+        served
     })
 }
 
@@ -116,19 +139,44 @@ fn serve_with<L: Ledger + Send + Sync, R: Threads + Wait + Clock + RandomSource 
 fn accept_and_wait<L: Ledger + Send + Sync, R: Threads + Wait + Clock + RandomSource + Sync>(
     rt: &R,
     daemon: &Daemon<L>,
+    polls: Vec<Poll>,
     listener: &TcpListener,
     sessions: Option<u64>,
-) {
+) -> Result<(), RunFault> {
     thread::scope(thread::scope_env(), rt, |scope| {
-        accept_all(rt, scope, daemon, listener, sessions);
-        daemon.crew.close(rt);
-    });
+        let started = start_clerks(rt, scope, daemon, polls);
+        if started.is_ok() {
+            accept_all(rt, daemon, listener, sessions);
+        }
+        daemon.close(rt);
+        started.map_err(|_| RunFault::Memory)
+    })
 }
 
-fn accept_all<'s, E, L: Ledger + Send + Sync, R: Threads + Wait + Clock + RandomSource + Sync>(
+/// Starts the threads that serve connections, one for each desk.
+fn start_clerks<'s, E, L: Ledger + Send + Sync, R: Threads + Wait + Clock + RandomSource + Sync>(
     rt: &'s R,
     scope: &'s Scope<'s, E>,
     daemon: &'s Daemon<L>,
+    polls: Vec<Poll>,
+) -> io::Result<()> {
+    for (desk, poll) in daemon.desks.iter().zip(polls) {
+        drop(
+            Builder::new()
+                .stack_size(STACK)
+                .spawn_scoped(scope, move || {
+                    if serve_desk(rt, daemon, desk, poll).is_err() {
+                        desk.leave(rt);
+                    }
+                })?,
+        );
+    }
+    Ok(())
+}
+
+fn accept_all<L: Ledger, R: Threads + Wait + Clock>(
+    rt: &R,
+    daemon: &Daemon<L>,
     listener: &TcpListener,
     sessions: Option<u64>,
 ) {
@@ -136,7 +184,7 @@ fn accept_all<'s, E, L: Ledger + Send + Sync, R: Threads + Wait + Clock + Random
     for stream in listener.incoming() {
         match stream {
             Ok(stream) => {
-                start_connection(rt, scope, daemon, stream);
+                drop(give(rt, daemon, stream));
                 accepted = accepted.saturating_add(1);
             }
             Err(error) => {
@@ -150,19 +198,13 @@ fn accept_all<'s, E, L: Ledger + Send + Sync, R: Threads + Wait + Clock + Random
     }
 }
 
-/// Gives the connection to threads that have none, or starts two; it is closed where there are none to be had.
-fn start_connection<
-    's,
-    E,
-    L: Ledger + Send + Sync,
-    R: Threads + Wait + Clock + RandomSource + Sync,
->(rt: &'s R, scope: &'s Scope<'s, E>, daemon: &'s Daemon<L>, stream: TcpStream) {
-    let Err(stream) = daemon.crew.give(rt, stream) else {
-        return;
-    };
-    drop(
-        Builder::new()
-            .stack_size(STACK)
-            .spawn_scoped(scope, move || serve_connections(rt, daemon, stream)),
-    );
+/// Gives the connection to the thread that has the fewest; it is closed where that can't be.
+fn give<L: Ledger, R: Wait>(rt: &R, daemon: &Daemon<L>, stream: TcpStream) -> io::Result<()> {
+    stream.set_nonblocking(true)?;
+    drop(stream.set_nodelay(true));
+    let stream = net::TcpStream::from_std(stream);
+    match daemon.desks.iter().min_by_key(|desk| desk.count()) {
+        Some(desk) => Ok(desk.give(rt, stream)?),
+        None => Ok(()),
+    }
 }

@@ -2,6 +2,7 @@
 ghost use Rattle.std.specs.Prelude.{◌≡◌};
 ghost use Rattle.odb_atoms.specs.FinMap.{empty};
 
+use crate::mailboxes::bell;
 use crate::refusals::made::submission;
 use crate::refusals::scripts::MOMENT;
 use crate::refusals::sent::Sent;
@@ -81,11 +82,14 @@ impl<'a, L: Ledger, R: Threads + Wait + Clock + Sync> Stage<'a, L, R> {
     }
 
     fn open(&self) -> Result<Ends<L>, AllocError> {
-        let opened = match self.hub.open(self.rt) {
+        match self.open_once() {
             Ok(opened) => Ok(opened),
-            Err(_) => self.hub.open(self.rt),
-        };
-        match opened {
+            Err(_) => self.open_once(),
+        }
+    }
+
+    fn open_once(&self) -> Result<Ends<L>, AllocError> {
+        match self.hub.open(self.rt, bell(self.alloc)?) {
             Ok((seat, mailbox)) => Ok(Ends { seat, mailbox }),
             Err(_) => Err(AllocError),
         }

@@ -1,12 +1,15 @@
-use Rattle.odb_waking.proofs.BellKept.{no_reader_oversleeps, no_writer_oversleeps}
+use Rattle.odb_waking.proofs.LoopKept.{no_message_is_left, no_request_is_left, no_socket_is_left}
 use Rattle.odb_waking.proofs.PumpKept.{no_pump_oversleeps}
 use Rattle.odb_waking.proofs.law.Goals as goal
 
 pub returns-clause-pump : goal.returns-clause-pump
 returns-clause-pump c = no_pump_oversleeps
 
-pub returns-clause-writer : goal.returns-clause-writer
-returns-clause-writer c = no_writer_oversleeps
+pub returns-clause-message : goal.returns-clause-message
+returns-clause-message c = no_message_is_left
 
-pub returns-clause-reader : goal.returns-clause-reader
-returns-clause-reader c = no_reader_oversleeps
+pub returns-clause-request : goal.returns-clause-request
+returns-clause-request c = no_request_is_left
+
+pub returns-clause-socket : goal.returns-clause-socket
+returns-clause-socket c = no_socket_is_left

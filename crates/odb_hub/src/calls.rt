@@ -1,0 +1,85 @@
+//! At which sessions a thread is to look.
+
+use std::alloc::{AllocError, Global};
+use std::sync::atomic::{AtomicU64, Ordering};
+
+/// How many places there are for sessions of one thread.
+const PLACES: usize = 4_096;
+
+/// How many places are in one word.
+const WORD: usize = 64;
+
+/// The places of a thread's sessions at which it is to look, since something was given to them. Any thread may call; the one
+/// whose sessions they are hears. No contract speaks of it. What is done with it are steps of the loop of `odb_waking`, which
+/// loses no call: each method names its own, and they are to stay in this order.
+#[derive(Drop)]
+pub struct Calls {
+    any: AtomicU64,
+    words: Vec<AtomicU64>,
+}
+
+impl Calls {
+    /// Makes calls of which there are none. An error says that memory was refused.
+    pub fn new(alloc: Global) -> Result<Calls, AllocError> {
+        let mut words = Vec::with_capacity(alloc, PLACES / WORD)?;
+        for _ in 0..PLACES / WORD {
+            words.push(AtomicU64::new(0))?;
+        }
+        Ok(Calls {
+            any: AtomicU64::new(0),
+            words,
+        })
+    }
+
+    /// Says whether a session may have a place of this number: it is below 4,096.
+    pub fn has_place(place: usize) -> bool {
+        place < PLACES
+    }
+
+    /// Calls for a look at the session at this place; of a place that isn't one nothing is called. O(1). Steps: those of
+    /// `giver_goes_on` at `calls` and `tells`.
+    pub fn call(&self, place: usize) {
+        if let Some(word) = self.words.get(place / WORD) {
+            set(word, 1u64 << (place % WORD));
+            self.any.store(1, Ordering::SeqCst);
+        }
+    }
+
+    /// Says whether something was called that wasn't heard.
+    pub fn is_any(&self) -> bool {
+        self.any.load(Ordering::SeqCst) != 0
+    }
+
+    /// Says whether something was called since the last time, which it forgets: then all words are to be heard. Step: `begins`.
+    pub fn begin(&self) -> bool {
+        self.any.swap(0, Ordering::SeqCst) != 0
+    }
+
+    /// How many words there are to hear, each of 64 places.
+    pub fn words(&self) -> usize {
+        self.words.len()
+    }
+
+    /// Hears what was called in a word of places since the last time: a bit for each of its places, the first the lowest.
+    /// Step: `collects`.
+    pub fn hear(&self, word: usize) -> u64 {
+        match self.words.get(word) {
+            Some(word) if word.load(Ordering::SeqCst) != 0 => word.swap(0, Ordering::SeqCst),
+            _ => 0,
+        }
+    }
+}
+
+/// Sets a bit of a word, whatever others set meanwhile.
+fn set(word: &AtomicU64, bit: u64) {
+    let mut seen = word.load(Ordering::SeqCst);
+    for _ in 0..u64::MAX {
+        if seen & bit != 0 {
+            return;
+        }
+        match word.compare_exchange(seen, seen | bit, Ordering::SeqCst, Ordering::SeqCst) {
+            Ok(_) => return,
+            Err(now) => seen = now,
+        }
+    }
+}

@@ -1,0 +1,205 @@
+//! Where a session's messages are written, as far as a writer takes them.
+ghost use Rattle.std.specs.Prelude.{◌≡◌, ◌≢◌, ◌==◌, [], length, map, not, true, false, IfOk, OnErr, OnOk};
+ghost use Rattle.std.specs.Io.KnownBytes.{Keeps};
+ghost use Rattle.odb_sessions.specs.Represented.Out.{text_of_out};
+ghost use Rattle.odb_hub.specs.Outbox.{bytes_of};
+ghost use Rattle.odb_hub.specs.Represented.Mailbox.{name_of, taken};
+
+use crate::bell::Bell;
+use crate::buffer::{Buffer, PIECE};
+use crate::mailbox::Mailbox;
+use crate::rest::Rest;
+use std::alloc::{AllocError, Global};
+use std::io::{self, Write};
+use std::marker::Model;
+
+/// A mailbox, and what was taken out of it and isn't written yet: the bytes of a buffer, and then the rest of a message.
+pub struct Outbox {
+    mailbox: Mailbox,
+    rest: Option<Rest>,
+    buffer: Buffer,
+}
+
+impl Model for Outbox {
+    ghost use Rattle.std.specs.Prelude.{map, ◌++◌};
+    ghost use Rattle.odb_sessions.specs.Represented.Out.{text_of_out};
+    ghost use Rattle.odb_hub.specs.Represented.Mailbox.{name_of, taken};
+    ghost use Rattle.odb_hub.specs.Outbox as model;
+
+    ghost Value = { model.Outbox };
+
+    ghost coded = { model.outbox_code };
+
+    ghost view = { λ o. record { name = name_of o.mailbox; taken = map text_of_out (taken o.mailbox); left = o.buffer ++ model.bytes_of o.rest } };
+}
+
+/// The request by which a peer is asked whether it is there (RFC 7047, 4.1.11).
+const PROBE: &[u8] = b"{\"id\":\"echo\",\"method\":\"echo\",\"params\":[]}";
+
+/// How many pieces are written in a turn at most.
+const TURN: usize = 64;
+
+impl Outbox {
+    ghost use Rattle.odb_hub.specs.Outbox.{AsksBy, Moves, MovesSome, Takes};
+
+    /// Makes the outbox of a mailbox. Of what was taken out before nothing is left.
+    pub fn new(alloc: Global, mailbox: Mailbox) -> Outbox
+        ensures { result ≡ record { name = name_of mailbox; taken = map text_of_out (taken mailbox); left = [] } }
+    {
+        Outbox {
+            mailbox,
+            rest: None,
+            buffer: Buffer::new(alloc),
+        }
+    }
+
+    /// What wakes the thread that takes messages out.
+    pub fn bell(&self) -> &Bell {
+        self.mailbox.bell()
+    }
+
+    /// Says whether something was taken out that isn't written yet.
+    pub fn has_rest(&self) -> bool
+        ensures { result ≡ not (length self.now.left == 0) }
+    {
+        !self.buffer.is_empty() || !is_moved(&self.rest)
+    }
+
+    /// Writes what is left, and then the messages that the mailbox gives, in order: until it gives none, which is true, or
+    /// for a turn of some 1 MiB. An error is the writer's (also `WouldBlock`), or says that the writer took nothing or that
+    /// memory was refused; whatever comes, nothing is lost or written twice. O(what is written).
+    pub fn write_to<W: Write>(&mut self, writer: &mut W) -> io::Result<bool>
+        ensures moves { Moves self.old self.new (W.contents writer.old) (W.contents writer.new) }
+        ensures done { IfOk result (λ done. done ≡ true → self.new.left ≡ []) }
+        ensures some { IfOk result (λ done. done ≡ false → MovesSome self.old self.new (W.contents writer.old) (W.contents writer.new)) }
+        ensures err { OnErr result (self.new.left ≢ []) }
+    {
+        for _ in 0..TURN {
+            if !self.write_piece(writer)? {
+                return Ok(true);
+            }
+        }
+        Ok(false)
+    }
+
+    /// Adds the request by which the peer is asked whether it is there, unless a message is in the midst: false. [P 15.2]
+    pub fn ask(&mut self) -> Result<bool, AllocError>
+        ensures ok { IfOk result (λ asked. AsksBy asked self.old self.new) }
+        ensures err { OnErr result (self.new ≡ self.old) }
+    {
+        let is_whole = is_moved(&self.rest);
+        if !is_whole {
+            return Ok(false);
+        }
+        self.buffer.put(PROBE)?;
+        Ok(true)
+    }
+
+    /// Writes a piece of what is left. False: nothing is left, and the mailbox gave nothing.
+    fn write_piece<W: Write>(&mut self, writer: &mut W) -> io::Result<bool>
+        ensures moves { Moves self.old self.new (W.contents writer.old) (W.contents writer.new) }
+        ensures done { IfOk result (λ wrote. wrote ≡ false → self.new.left ≡ []) }
+        ensures some { IfOk result (λ wrote. wrote ≡ true → MovesSome self.old self.new (W.contents writer.old) (W.contents writer.new)) }
+        ensures err { OnErr result (self.new.left ≢ []) }
+    {
+        if !self.fill()? {
+            return Ok(false);
+        }
+        self.write_buffer(writer)?;
+        Ok(true)
+    }
+
+    /// Writes a beginning of the buffer.
+    fn write_buffer<W: Write>(&mut self, writer: &mut W) -> io::Result<()>
+        ensures ok { OnOk result (MovesSome self.old self.new (W.contents writer.old) (W.contents writer.new)) }
+        ensures err { OnErr result ((self.new ≡ self.old) × Keeps (W.contents writer.old) (W.contents writer.new)) }
+    {
+        self.buffer.write_some(writer)
+    }
+
+    /// Moves texts into the buffer, up to a piece. False: there are none, and nothing is left.
+    fn fill(&mut self) -> Result<bool, AllocError>
+        ensures takes { Takes self.old self.new }
+        ensures ok { IfOk result (λ some. some ≡ not (length self.new.left == 0)) }
+        ensures err { OnErr result (self.new.left ≢ []) }
+    {
+        self.forget_written();
+        for _ in 0..PIECE {
+            if !self.has_next() {
+                return Ok(self.settle());
+            }
+            self.move_rest()?;
+        }
+        Ok(self.settle())
+    }
+
+    /// Says whether there is a text to move and room for it. It takes the next message out where none is in the midst.
+    fn has_next(&mut self) -> bool
+        ensures { Takes self.old self.new }
+    {
+        if self.buffer.is_full() {
+            return false;
+        }
+        if !is_moved(&self.rest) {
+            return true;
+        }
+        let Some(out) = self.mailbox.next() else {
+            return false;
+        };
+        self.rest = Some(Rest::new(out));
+        true
+    }
+
+    /// Moves a piece of the message in the midst.
+    fn move_rest(&mut self) -> Result<(), AllocError>
+        ensures same { self.new ≡ self.old }
+        ensures err { OnErr result (self.new.left ≢ []) }
+    {
+        let Some(mut rest) = self.rest.take() else {
+            return Ok(());
+        };
+        let moved = rest.move_to(&mut self.buffer);
+        self.rest = rest.unless_empty();
+        moved
+    }
+
+    /// Says whether something is left. Where nothing is, the buffer's room is given back.
+    fn settle(&mut self) -> bool
+        ensures same { self.new ≡ self.old }
+        ensures some { result ≡ not (length self.new.left == 0) }
+    {
+        if self.has_rest() {
+            return true;
+        }
+        self.buffer.give_back();
+        false
+    }
+
+    /// Forgets the bytes of the buffer that were written, where these are all.
+    fn forget_written(&mut self)
+        ensures { self.new ≡ self.old }
+    {
+        self.buffer.forget_written();
+    }
+}
+
+/// Says whether no message is in the midst.
+fn is_moved(rest: &Option<Rest>) -> bool
+    ensures { result ≡ (length (bytes_of rest.now) == 0) }
+{
+    match rest {
+        Some(rest) => rest.is_empty(),
+        None => true,
+    }
+}
+
+// Written, and not derived, so that each end of a scope is one call to prove.
+impl Drop for Outbox {
+    fn drop(self) {
+        let Outbox {
+            mailbox: _,
+            rest: _,
+            buffer: _,
+        } = self;
+    }
+}

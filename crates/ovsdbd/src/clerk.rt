@@ -1,0 +1,370 @@
+//! A thread that serves connections, by events. [P 15.2]
+
+use crate::connection::{Connection, Next, PIECE, Tools};
+use crate::daemon::Daemon;
+use crate::desk::Desk;
+use mio::net::TcpStream;
+use mio::{Events, Interest, Poll, Token};
+use odb_hub::{Bell, Calls};
+use rand::make_rng;
+use std::alloc::{AllocError, Global};
+use std::collections::VecDeque;
+use std::io::{self, Error, ErrorKind};
+use std::mem;
+use std::random::RandomSource;
+use std::sync::ledger::Ledger;
+use std::sync::{Arc, Wait};
+use std::thread::Threads;
+use std::time::{Clock, Duration};
+
+/// How many events are taken at once.
+const EVENTS: usize = 256;
+
+/// How many of those that ask something, and of the others, have a turn before it looks for events again.
+const TURNS: usize = 32;
+
+/// How many times as often as its patience is long the daemon looks whether that is at its end.
+const LOOKS: u64 = 8;
+
+/// The connections of a thread, and those that have a turn next.
+pub(crate) struct Clerk<'a, L: Ledger, R> {
+    tools: Tools<'a, L, R>,
+    desk: &'a Desk,
+    poll: Poll,
+    /// The connections at their places, and the places that are vacant.
+    connections: Vec<Option<Connection<L>>>,
+    vacant: Vec<usize>,
+    /// The places of those that have a turn next: of those that ask something, and of the others.
+    asking: VecDeque<usize>,
+    queue: VecDeque<usize>,
+    /// Whether no connection will come any more.
+    is_closed: bool,
+    /// When it is looked next whether patience is at its end, in milliseconds since the start.
+    looks: u64,
+}
+
+/// Serves the connections that come to the desk, until no more will come and all have ended.
+pub(crate) fn serve_desk<L: Ledger, R: Threads + Wait + Clock + RandomSource + Sync>(
+    rt: &R,
+    daemon: &Daemon<L>,
+    desk: &Desk,
+    poll: Poll,
+) -> io::Result<()> {
+    let mut piece = Vec::new(daemon.alloc);
+    piece.resize(PIECE, 0u8)?;
+    let mut events = Events::with_capacity(daemon.alloc, EVENTS)?;
+    let clerk = Clerk {
+        tools: Tools {
+            rt,
+            daemon,
+            piece,
+            rng: make_rng(rt)?,
+            moment: daemon.now(rt),
+        },
+        desk,
+        poll,
+        connections: Vec::new(daemon.alloc),
+        vacant: Vec::new(daemon.alloc),
+        asking: VecDeque::new(daemon.alloc),
+        queue: VecDeque::new(daemon.alloc),
+        is_closed: false,
+        looks: 0,
+    };
+    clerk.run(&mut events);
+    Ok(())
+}
+
+impl<'a, L: Ledger, R: Threads + Wait + Clock + RandomSource + Sync> Clerk<'a, L, R> {
+    fn run(self, events: &mut Events) {
+        let mut clerk = self;
+        for _ in clerk.tools.rt.forever() {
+            clerk.turn(events);
+            if clerk.is_over() {
+                break;
+            }
+        }
+        let Clerk {
+            tools: Tools {
+                rt,
+                daemon,
+                piece: _,
+                rng: _,
+                moment: _,
+            },
+            desk: _,
+            poll: _,
+            connections,
+            vacant: _,
+            asking: _,
+            queue: _,
+            is_closed: _,
+            looks: _,
+        } = clerk;
+        close_all(rt, daemon, connections);
+    }
+
+    /// Serves some of those that were called or have events, and sleeps where nothing is left to do.
+    fn turn(&mut self, events: &mut Events) {
+        self.take_connections();
+        self.hear_calls();
+        self.serve_some();
+        // What was given by this very turn.
+        self.hear_calls();
+        let wait = self.wait_for();
+        drop(self.poll.poll(events, wait));
+        self.desk.gets_up();
+        self.notice(events);
+        self.look_at_all();
+    }
+}
+
+impl<'a, L: Ledger, R: Wait + Clock> Clerk<'a, L, R> {
+    /// Takes the connections that were given to it.
+    fn take_connections(&mut self) {
+        let Some((streams, is_closed)) = self.desk.take(self.tools.rt) else {
+            return;
+        };
+        self.is_closed = is_closed;
+        for stream in streams {
+            if self.open(stream).is_err() {
+                self.desk.let_go();
+            }
+        }
+    }
+
+    /// Opens a session for a connection; an error says that it is closed, since no session can be opened.
+    fn open(&mut self, stream: TcpStream) -> io::Result<()> {
+        let mut stream = stream;
+        let place = self.vacate()?;
+        let registry = self.poll.registry();
+        registry.register(
+            &mut stream,
+            Token(place),
+            Interest::READABLE | Interest::WRITABLE,
+        )?;
+        let daemon = self.tools.daemon;
+        let bell = Bell::new(Arc::try_clone(&self.desk.calls)?, place);
+        let Ok((seat, mailbox)) = daemon.hub.open(self.tools.rt, bell) else {
+            return Err(Error::from(ErrorKind::OutOfMemory));
+        };
+        let connection = Connection::new(daemon.alloc, stream, seat, mailbox, self.tools.moment);
+        drop(self.vacant.pop());
+        self.put(place, connection);
+        self.enqueue(place);
+        Ok(())
+    }
+
+    /// The place that is the last of those that are vacant, of which there is one then. There is room in the queue for all.
+    fn vacate(&mut self) -> io::Result<usize> {
+        if let Some(place) = self.vacant.last() {
+            return Ok(*place);
+        }
+        let place = self.connections.len();
+        if !Calls::has_place(place) {
+            return Err(Error::from(ErrorKind::OutOfMemory));
+        }
+        self.vacant.reserve(place.saturating_add(1))?;
+        self.asking.reserve(place.saturating_add(1))?;
+        self.queue.reserve(place.saturating_add(1))?;
+        self.connections.reserve(1)?;
+        self.connections.push_reserved(None);
+        self.vacant.push(place)?;
+        Ok(place)
+    }
+
+    fn put(&mut self, place: usize, connection: Connection<L>) {
+        let (rt, daemon) = (self.tools.rt, self.tools.daemon);
+        match self.connections.get_mut(place) {
+            Some(slot) => if let Some(other) = mem::replace(slot, Some(connection)) {
+                other.close(rt, daemon);
+            },
+            None => connection.close(rt, daemon),
+        }
+    }
+
+    /// Has a connection served next, if it is there.
+    fn enqueue(&mut self, place: usize) {
+        let Some(connection) = at(self.connections.as_mut_slice(), place) else {
+            return;
+        };
+        if connection.is_queued {
+            return;
+        }
+        // There is room for each connection once.
+        connection.is_queued = if connection.has_requests() {
+            self.asking.push_back(place).is_ok()
+        } else {
+            self.queue.push_back(place).is_ok()
+        };
+    }
+
+    /// Has those served next to whose sessions something was given. Steps: `begins`, `collects`.
+    fn hear_calls(&mut self) {
+        if !self.desk.calls.begin() {
+            return;
+        }
+        let mut first: usize = 0;
+        for word in 0..self.desk.calls.words() {
+            self.hear_word(first, self.desk.calls.hear(word));
+            first = first.saturating_add(u64::BITS as usize);
+        }
+    }
+
+    /// Hears those of the 64 places from the first on that have a bit.
+    fn hear_word(&mut self, first: usize, bits: u64) {
+        let mut bits = bits;
+        for _ in 0..u64::BITS {
+            if bits == 0 {
+                break;
+            }
+            self.hear(first.saturating_add(bits.trailing_zeros() as usize));
+            bits &= bits - 1;
+        }
+    }
+
+    fn hear(&mut self, place: usize) {
+        if let Some(connection) = at(self.connections.as_mut_slice(), place) {
+            connection.hear();
+        }
+        self.enqueue(place);
+    }
+
+    /// Whether it has no connection, and none will come.
+    fn is_over(&self) -> bool {
+        self.is_closed && self.vacant.len() == self.connections.len()
+    }
+
+    /// Whether some have a turn next.
+    fn has_next(&self) -> bool {
+        !self.asking.is_empty() || !self.queue.is_empty()
+    }
+
+    /// For how long to wait for events: not at all where some have a turn next.
+    fn wait_for(&mut self) -> Option<Duration> {
+        if self.has_next() || self.is_over() || !self.desk.lies_down() {
+            return Some(Duration::ZERO);
+        }
+        self.interval()
+    }
+
+    /// Learns what the poll tells.
+    fn notice(&mut self, events: &Events) {
+        if !self.tools.daemon.patience.is_endless() {
+            self.tools.moment = self.tools.daemon.now(self.tools.rt);
+        }
+        for event in events.iter() {
+            let place = event.token().0;
+            if let Some(connection) = at(self.connections.as_mut_slice(), place) {
+                connection.notice(event, self.tools.moment);
+            }
+            self.enqueue(place);
+        }
+    }
+
+    /// How often to look whether the daemon's patience is at its end; not at all where it has none.
+    fn interval(&self) -> Option<Duration> {
+        let patience = &self.tools.daemon.patience;
+        let shortest = match (patience.probe, patience.stall) {
+            (Some(probe), Some(stall)) => probe.min(stall),
+            (Some(probe), None) => probe,
+            (None, stall) => stall?,
+        };
+        Some(Duration::from_millis((shortest / LOOKS).max(1)))
+    }
+
+    /// Looks at all connections, where that is due, for those with which the daemon's patience is at its end.
+    fn look_at_all(&mut self) {
+        let moment = self.tools.moment;
+        let Some(interval) = self.interval() else {
+            return;
+        };
+        if moment < self.looks {
+            return;
+        }
+        self.looks = moment.saturating_add(u64::try_from(interval.as_millis()).unwrap_or(1));
+        for place in 0..self.connections.len() {
+            self.look_at(place);
+        }
+    }
+
+    fn look_at(&mut self, place: usize) {
+        let Some(connection) = at(self.connections.as_mut_slice(), place) else {
+            return;
+        };
+        if connection.has_expired(self.tools.daemon.patience, self.tools.moment) {
+            connection.cut_off();
+        }
+        self.enqueue(place);
+    }
+
+    /// Closes a connection.
+    fn close(&mut self, place: usize) {
+        let Some(slot) = self.connections.get_mut(place) else {
+            return;
+        };
+        if let Some(connection) = mem::replace(slot, None) {
+            connection.close(self.tools.rt, self.tools.daemon);
+            self.desk.let_go();
+            // There is room for each place once.
+            drop(self.vacant.push(place));
+        }
+    }
+}
+
+impl<'a, L: Ledger, R: Threads + Wait + Clock + Sync> Clerk<'a, L, R> {
+    /// Gives a turn to some of those that ask something, and to as many of the others, so that neither wait for all of the
+    /// others.
+    fn serve_some(&mut self) {
+        for _ in 0..TURNS {
+            if !self.has_next() {
+                return;
+            }
+            if let Some(place) = self.asking.pop_front() {
+                self.serve(place);
+            }
+            if let Some(place) = self.queue.pop_front() {
+                self.serve(place);
+            }
+        }
+    }
+
+    fn serve(&mut self, place: usize) {
+        let Some(connection) = at(self.connections.as_mut_slice(), place) else {
+            return;
+        };
+        connection.is_queued = false;
+        match connection.serve(&mut self.tools) {
+            Next::Rests => {}
+            Next::GoesOn => self.enqueue(place),
+            Next::Ends => self.close(place),
+        }
+    }
+}
+
+/// The connection at a place, if there is one.
+fn at<L: Ledger>(
+    connections: &mut [Option<Connection<L>>],
+    place: usize,
+) -> Option<&mut Connection<L>> {
+    connections.get_mut(place)?.as_mut()
+}
+
+/// Closes what is left of these connections.
+fn close_all<L: Ledger, R: Wait + Clock>(
+    rt: &R,
+    daemon: &Daemon<L>,
+    connections: Vec<Option<Connection<L>>>,
+) {
+    let mut connections = connections;
+    for _ in rt.forever() {
+        match connections.pop() {
+            Some(Some(connection)) => connection.close(rt, daemon),
+            Some(None) => {}
+            None => {
+                connections.destroy_empty();
+                return;
+            }
+        }
+    }
+    unreachable!()
+}
