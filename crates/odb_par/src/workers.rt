@@ -1,5 +1,7 @@
 //! How many threads compose the jobs of a round.
-ghost use Rattle.std.specs.Prelude.{◌≤◌};
+ghost use Rattle.std.specs.Prelude.{◌≡◌, ◌≤◌};
+
+use std::marker::Model;
 
 /// How many workers there are at most.
 const MOST: usize = 64;
@@ -11,19 +13,36 @@ pub struct Workers {
     from: usize,
 }
 
+impl Model for Workers {
+    ghost use Rattle.odb_par.specs.Workers as model;
+
+    ghost Value = { model.Workers };
+
+    ghost coded = { model.workers_code };
+
+    ghost view = { λ w. record { count = w.count; from = w.from } };
+
+    ghost inverse = { λ w. record { count = w.count; from = w.from } };
+}
+
 impl Workers {
-    /// Makes so many workers, 1 where there are fewer and 64 where there are more, for jobs that weigh `from` or more.
-    pub fn new(count: usize, from: usize) -> Workers {
+    ghost use Rattle.odb_par.specs.Workers.{count_for};
+
+    /// Makes so many workers, 1 where there are none and 64 where there are more, for jobs that weigh `from` or more.
+    pub fn new(count: usize, from: usize) -> Workers
+        ensures { result ≡ record { count = count; from = from } }
+    {
         Workers { count, from }
     }
 
     /// Returns how many of them compose jobs of this weight. O(1).
     pub fn for_weight(self, weight: usize) -> usize
-        ensures { (1 ≤ result) × (result ≤ 64) }
+        ensures count { result ≡ count_for weight self }
+        ensures some { (1 ≤ result) × (result ≤ 64) }
     {
-        if weight < self.from {
+        if weight < self.from || self.count == 0 {
             return 1;
         }
-        self.count.clamp(1, MOST)
+        self.count.min(MOST)
     }
 }

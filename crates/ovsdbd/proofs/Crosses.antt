@@ -29,7 +29,7 @@ Patience-sync = patience.the_sync
 Pace-sync : IsSync Pace.the_row
 Pace-sync = pace.the_sync
 
-Workers-sync : IsSync Workers.the_row
+Workers-sync : IsSync (Workers.the_field).row
 Workers-sync = workers.the_sync
 
 Instant-sync : IsSync Instant.the_row

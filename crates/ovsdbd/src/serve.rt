@@ -98,8 +98,9 @@ fn serve_under<L: Ledger + Send + Sync, R: Net + Threads + Wait + Clock + Random
     let Ok((desks, polls)) = open_desks(rt, begun.alloc, terms.threads) else {
         return Err(RunFault::Memory);
     };
+    let sessions = terms.sessions;
     let daemon: Daemon<L> = Daemon::new(begun, blank, SEATS, desks, terms);
-    serve_with(rt, &daemon, polls, listener, terms.sessions)
+    serve_with(rt, &daemon, polls, listener, sessions)
 }
 
 /// Makes the desks of so many threads, and what each of them sleeps by.
