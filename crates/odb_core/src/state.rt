@@ -22,7 +22,7 @@ ghost use Rattle.odb_service.specs.Server.{printed, served_by};
 ghost use Rattle.odb_service.specs.Session.{say, to};
 ghost use Rattle.odb_sessions.specs.Asked.{ended_in};
 ghost use Rattle.odb_sessions.specs.FirstTexts.{IsFirstText, IsOfNow};
-ghost use Rattle.odb_sessions.specs.Jobs.{AreOfJobs};
+ghost use Rattle.odb_sessions.specs.Jobs.{AreEachOnce, AreOfJobs};
 ghost use Rattle.odb_sessions.specs.Planned.{AreOnce};
 ghost use Rattle.odb_sessions.specs.Posts.{at_number};
 ghost use Rattle.odb_sessions.specs.Represented.Out.{sent_in};
@@ -499,6 +499,7 @@ impl State {
         ensures ready { IfOk result (λ jobs. AreOf (book_in self.entry.now) jobs.takings) }
         ensures jobs { IfOk result (λ jobs. AreOfJobs (book_in self.entry.now) jobs.jobs jobs.takings) }
         ensures now { IfOk result (λ jobs. All (IsOfNow self.entry.now.db) jobs.jobs) }
+        ensures once { IfOk result (λ jobs. AreEachOnce self.entry.now.db jobs.jobs jobs.likenesses) }
     {
         self.sessions.jobs(listed)
     }

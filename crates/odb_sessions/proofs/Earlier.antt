@@ -1,12 +1,11 @@
 -- What can be found of earlier contents, after one commit more.
-use Rattle.std.proofs.Common.{◌≡◌, ◌-◌, drop, take, List, [], ◌∷◌, refl, ap, sym, subst, ◌∙◌}
-use Rattle.std.specs.Prelude.{ℕ}
+use Rattle.std.proofs.Common.{◌≡◌, ◌-◌, drop, take, List, [], ◌∷◌, refl, ap, ◌∙◌}
 use Rattle.odb_recent.specs.Kept.{kept_of}
-use Rattle.odb_recent.specs.Recent.{Recent, committed, kept_undo, noted}
+use Rattle.odb_recent.specs.Recent.{Recent, kept_undo, noted}
 use Rattle.odb_recent.specs.Undo.{Undo}
 use Rattle.odb_recent.proofs.Undoing.{contents_are_kept}
-use Rattle.odb_service.specs.Session.{Earlier, with_content}
-use Rattle.odb_sessions.specs.Book.{Book, Sessions, book_with, earlier_of}
+use Rattle.odb_service.specs.Session.{Earlier}
+use Rattle.odb_sessions.specs.Book.{Book, Sessions, book_with}
 use Rattle.odb_sessions.specs.Committed.{changed_with}
 use Rattle.odb_tables.specs.Change.{Changes, all_changed_by}
 use Rattle.odb_tables.specs.Database.{Db}

@@ -5,16 +5,19 @@ mod Books
 mod Brought
 mod Carried
 mod CarriedOut
+mod Columns
 mod Composed
 mod Copies
 mod Counted
 pub mod Crossing
+mod Decisions
 mod Earlier
 mod Endings
 mod FirstTexts
 mod Firsts
 mod Interests
 mod Leading
+mod Likenesses
 mod Loops
 mod Moved
 mod Moves
@@ -37,8 +40,8 @@ mod Replays
 mod Rests
 mod Room
 pub mod Rounds
-mod SameUpdates
 mod Seen
+mod Steps
 mod StillQuiet
 mod Stops
 mod Sums

@@ -1,28 +1,21 @@
 -- Jobs by their places, in lists that grow, and what is sent of them.
 use Rattle.std.proofs.Common.{◌≡◌, ◌<◌, ℕ, zero, suc, arith, ◌++◌, true, false, List, [], ◌∷◌, is_some, length, map, slice_get, slice_index_or, Option, Some, None, refl, sym, ap, ◌∙◌, true≢false}
-use Rattle.std.specs.List.{All}
 use Rattle.std.specs.Prelude.{option_and_then, option_map}
 use Rattle.std.proofs.lemmas.List.{length-map}
 use Rattle.std.proofs.lemmas.Option.{none-some, same_Some}
 use Rattle.serde_json.specs.Written.{compact_text}
-use Rattle.odb_chain.specs.Chains.{Chains}
 use Rattle.odb_monitor.specs.Job.{Job, updates_of}
 use Rattle.odb_schema.specs.Json.{Data}
 use Rattle.odb_service.specs.Session.{Item}
-use Rattle.odb_sessions.specs.Alike.{AreAlike}
-use Rattle.odb_sessions.specs.Composed.{owed_job}
 use Rattle.odb_sessions.specs.Foreseen.{finished_text}
-use Rattle.odb_sessions.specs.Held.{Held, marks_in}
-use Rattle.odb_sessions.specs.Jobs.{Decision, IsDecided, IsFor, Keeps, certainly, composition, composition_at, if_sent}
+use Rattle.odb_sessions.specs.Jobs.{IsFor, Keeps, certainly, composition, composition_at, if_sent}
 use Rattle.odb_sessions.specs.Represented.Composed.{IsFrame, framing, sending_under}
 use Rattle.odb_sessions.specs.Represented.Taking.{coming_sending, text_around, text_planned}
 use Rattle.odb_sessions.specs.Sending.{Sending, finished, sent_with}
 use Rattle.odb_sessions.specs.Taken.{text_from, whole_text}
-use Rattle.odb_sessions.specs.Tied.{AreLive}
 use Rattle.odb_sessions.specs.declared.composing.Message.{Message}
 use Rattle.odb_sessions.specs.declared.taking.Coming.{Coming}
 use Rattle.odb_sessions.specs.declared.taking.Coming.TheVariants.{Composed, Queued}
-use Rattle.odb_sessions.proofs.SameUpdates.{same_owed}
 
 -- ---- lists that keep their jobs
 
@@ -36,12 +29,12 @@ keeps_on a b c one two n j at = two n j (one n j at)
 pub keeps_same : (a b : List Job) → b ≡ a → Keeps a b
 keeps_same a b same n j at = ap (λ (js : List Job). slice_get js n) same ∙ at
 
-front_kept : {A : Type 0} (xs : List A) (y : A) (n : ℕ) (x : A) → slice_get xs n ≡ Some x → slice_get (xs ++ y ∷ []) n ≡ Some x
+pub front_kept : {A : Type 0} (xs : List A) (y : A) (n : ℕ) (x : A) → slice_get xs n ≡ Some x → slice_get (xs ++ y ∷ []) n ≡ Some x
 front_kept [] y n x at = absurd (none-some x at)
 front_kept (z ∷ xs) y zero x at = at
 front_kept (z ∷ xs) y (suc n) x at = front_kept xs y n x at
 
-last_at : {A : Type 0} (xs : List A) (y : A) → slice_get (xs ++ y ∷ []) (length xs) ≡ Some y
+pub last_at : {A : Type 0} (xs : List A) (y : A) → slice_get (xs ++ y ∷ []) (length xs) ≡ Some y
 last_at [] y = refl
 last_at (x ∷ xs) y = last_at xs y
 
@@ -83,16 +76,6 @@ some_for js j n at some all kept = ap (λ (o : Option Job). Some o) (kept n j at
 -- a place is for the same in a list that keeps the jobs
 pub still_for : (a b : List Job) (job : Option Job) (place : Option ℕ) → Keeps a b → IsFor a job place → IsFor b job place
 still_for a b job place kept was all more = was all (keeps_on a b all kept more)
-
-pub still_decided : (k : Chains) (a b : List Job) (ds : List Decision) → Keeps a b → All (IsDecided k a) ds → All (IsDecided k b) ds
-still_decided k a b ds kept was i d low = again (slice_index_or ds i d) (was i d low)
-  where
-    again : (x : Decision) → IsDecided k a x → IsDecided k b x
-    again x h = (h.0, still_for a b (if_sent (owed_job k.db x.held)) x.place kept h.1)
-
--- what was decided for a monitor serves each that is alike
-pub serves_for : (k : Chains) (js : List Job) (d : Decision) (y : Held) → AreAlike d.held y → IsDecided k js d → AreLive k (marks_in y) → IsFor js (if_sent (owed_job k.db y)) d.place
-serves_for k js d y alike decided live all kept = decided.1 all kept ∙ ap (λ (j : Job). option_map certainly (if_sent j)) (same_owed k d.held y alike decided.0 live)
 
 -- ---- messages
 

@@ -1,5 +1,5 @@
 -- The database, its last commits and the open sessions, as the service machine has them.
-use Rattle.std.specs.Prelude.{ℕ, ◌+◌, drop, List, []}
+use Rattle.std.specs.Prelude.{ℕ, drop, []}
 use Rattle.std.specs.Ordering.{nat_cmp}
 use Rattle.odb_atoms.specs.FinMap.{FinMap, empty}
 use Rattle.odb_chain.specs.Chains.{Chains}

@@ -1,5 +1,6 @@
 -- The compositions that a round needs, each once, as a list of jobs. A message names by a place in the list what it tells. [P 9.2, 10.3]
 use Rattle.std.specs.Prelude.{◌≡◌, ℕ, List, [], ◌∷◌, Option, Some, option_and_then, option_map, slice_get}
+use Rattle.std.specs.List.{AllZip}
 use Rattle.serde_json.specs.Written.{compact_text}
 use Rattle.odb_atoms.specs.FinMap.{get}
 use Rattle.odb_chain.specs.Chains.{Chains}
@@ -7,13 +8,12 @@ use Rattle.odb_monitor.specs.Job.{Job, updates_of}
 use Rattle.odb_schema.specs.Schema.{Schema}
 use Rattle.odb_service.specs.Server.{served_by}
 use Rattle.odb_service.specs.Session.{Revision, Session}
+use Rattle.odb_sessions.specs.Alike.{AreUnlike, Contents, IsLike, Likeness}
 use Rattle.odb_sessions.specs.Book.{Book, revision_in}
-use Rattle.odb_sessions.specs.Composed.{owed_job}
-use Rattle.odb_sessions.specs.Held.{Held, marks_in}
 use Rattle.odb_sessions.specs.Planned.{plan}
 use Rattle.odb_sessions.specs.Sending.{Framed, framed_due}
 use Rattle.odb_sessions.specs.Taken.{Pending, Text, composed_text, last_text, no_text, whole_text}
-use Rattle.odb_sessions.specs.Tied.{AreLive}
+use Rattle.odb_tables.specs.Database.{Db}
 
 -- what is composed of a job: a text, where something is sent
 abbrev pub composition : Job → Option (List ℕ)
@@ -43,18 +43,15 @@ pub record Wanted : Type 0 where
   pub chains : Chains
   pub jobs : List Job
 
--- a monitor, and the place of the job for its client, if something is sent
+-- a likeness, and the place of its job, if something is sent
 pub record Decision : Type 0 where
-  pub held : Held
+  pub likeness : Likeness
   pub place : Option ℕ
 
--- what the client was told is kept, and the place is that of the job of what it is owed
-abbrev pub IsDecided : Chains → List Job → Decision → Type 0
-IsDecided k js d = AreLive k (marks_in d.held) × IsFor js (if_sent (owed_job k.db d.held)) d.place
-
--- a round as it is planned: the jobs, and each taking with the text that comes of it once these are composed
+-- a round as it is planned: the jobs, what each is alike by, and each taking with the text that comes of it once these are composed
 pub record Round : Type 0 where
   pub jobs : List Job
+  pub likenesses : List (Option Likeness)
   pub takings : List Pending
 
 -- the message that is due to the session, if it is one that is composed
@@ -76,3 +73,7 @@ AreMadeOf s b js (p ∷ ps) = IsOfJob s (revision_in b) js (get b.sessions p.0) 
 -- the same, whatever the schema
 abbrev pub AreOfJobs : Book → List Job → List Pending → Type 0
 AreOfJobs b js ps = (s : Schema) → AreMadeOf s b js ps
+
+-- each job is that of its likeness, whatever the tables were before, and no two have one
+abbrev pub AreEachOnce : Db → List Job → List (Option Likeness) → Type 0
+AreEachOnce db js ls = AreUnlike ls × ((past : Contents) × AllZip (IsLike past db) js ls)

@@ -1,5 +1,8 @@
+pub mod Alike
 pub mod Codes
 pub mod Composed
+pub mod Decided
+pub mod Digest
 pub mod Job
 pub mod Origin
 pub mod Out

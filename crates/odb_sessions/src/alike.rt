@@ -1,58 +1,161 @@
-//! Monitors whose clients are owed the same. [P 9.2, 10.1]
-ghost use Rattle.std.specs.Prelude.{◌≡◌, map};
-ghost use Rattle.std.specs.Bool.{OnTrue};
-ghost use Rattle.odb_sessions.specs.Alike.{AreAlike, stands};
+//! What jobs are alike by. [P 9.2, 10.1]
+ghost use Rattle.std.specs.Prelude.{◌≡◌, map, option_map};
+ghost use Rattle.std.specs.Arc.{arc_value};
+ghost use Rattle.std.specs.Bool.{Decides};
+ghost use Rattle.odb_sessions.specs.Represented.Alike.{filter_in, is_first, likeness_in, place_in, stand_in, told_in};
 
 use crate::monitor::{Monitor, Watching};
+use crate::shapes::asks_like;
+use crate::under::filter_under;
+use crate::way::Way;
+use odb_chain::Mark;
+use odb_cond::Filter;
+use odb_request::Request;
+use odb_schema::TableId;
 
-impl Monitor {
-    /// Whether its client is owed what the client of the other is: both are of one kind and ask the same of the
-    /// same tables, and both clients were told of these at the same changes, under what is asked. `false` says
-    /// nothing. O(n) times what comparing two requests costs, for n tables.
-    pub(crate) fn is_like(&self, other: &Monitor) -> bool
-        ensures { OnTrue result (AreAlike self.now other.now) }
+impl<'a> Way<'a> {
+    /// Whether it is a first reply with all that the monitor selects.
+    pub(crate) fn is_first(self) -> bool
+        ensures { result ≡ is_first self.entry }
     {
-        self.kind == other.kind && are_alike(self.tables.as_slice(), other.tables.as_slice())
+        match self {
+            Way::First => true,
+            Way::Asked => false,
+            Way::Changed(_) => false,
+            Way::Again(_, _) => false,
+            Way::Since(_, _) => false,
+        }
+    }
+
+    /// The filter that is asked of a table. O(1), and under other filters what one is looked up in.
+    pub(crate) fn filter(self, request: &'a Request) -> &'a Filter
+        ensures { result.now ≡ filter_in self.entry request.now }
+    {
+        match self.under() {
+            Some(under) => filter_under(under, request),
+            None => request.filter(),
+        }
+    }
+
+    /// The filter under which the client was told of a table, if it counts. The costs are those of `filter`.
+    fn told(self, table: &'a Watching) -> Option<&'a Filter>
+        ensures { option_map (λ f. f.now) result ≡ told_in self.entry table.now }
+    {
+        match self {
+            Way::First => None,
+            Way::Asked => Some(table.told_filter()),
+            Way::Changed(_) => Some(table.told_filter()),
+            Way::Again(told, _) => Some(filter_under(told, &table.request)),
+            Way::Since(_, _) => None,
+        }
+    }
+
+    /// At which change of which table the client was told, if it counts. O(1).
+    pub(crate) fn place(self, mark: &Mark) -> Option<(TableId, u64)>
+        ensures { result ≡ place_in self.entry mark.now }
+    {
+        match self {
+            Way::First => None,
+            Way::Asked => Some((mark.table(), mark.place())),
+            Way::Changed(_) => Some((mark.table(), mark.place())),
+            Way::Again(_, _) => None,
+            Way::Since(_, _) => None,
+        }
     }
 }
 
-/// Whether of each of these tables the same is asked, and was told.
-fn are_alike(tables: &[Watching], others: &[Watching]) -> bool
-    ensures { OnTrue result (map stands tables.now ≡ map stands others.now) }
+/// Whether both are the same change of the same table, or none.
+fn same_place(place: Option<(TableId, u64)>, other: Option<(TableId, u64)>) -> bool
+    ensures { Decides result (place ≡ other) }
+{
+    match (place, other) {
+        (Some(place), Some(other)) => place.1 == other.1 && place.0 == other.0,
+        (None, None) => true,
+        _ => false,
+    }
+}
+
+/// Whether both are the same filter, or none.
+fn same_told(told: Option<&Filter>, other: Option<&Filter>) -> bool
+    ensures { Decides result (option_map (λ f. f.now) told.entry ≡ option_map (λ f. f.now) other.entry) }
+{
+    match (told, other) {
+        (Some(told), Some(other)) => told.same(other),
+        (None, None) => true,
+        _ => false,
+    }
+}
+
+/// Whether the same is asked of both.
+fn same_asked<'a>(
+    request: &'a Request,
+    way: Way<'a>,
+    other: &'a Request,
+    other_way: Way<'a>,
+) -> bool
+    ensures { Decides result (record request.now { filter = filter_in way.entry request.now } ≡ record other.now { filter = filter_in other_way.entry other.now }) }
+{
+    way.filter(request).same(other_way.filter(other)) && asks_like(request, other)
+}
+
+/// Whether both clients stand to the tables in the same way.
+fn stand_alike<'a>(
+    table: &'a Watching,
+    way: Way<'a>,
+    other: &'a Watching,
+    other_way: Way<'a>,
+) -> bool
+    ensures { Decides result (stand_in way.entry table.now ≡ stand_in other_way.entry other.now) }
+{
+    same_place(way.place(&table.mark), other_way.place(&other.mark))
+        && same_told(way.told(table), other_way.told(other))
+        && same_asked(&table.request, way, &other.request, other_way)
+}
+
+/// Whether both clients stand to each of these tables in the same way.
+fn all_stand_alike<'a>(
+    tables: &'a [Watching],
+    way: Way<'a>,
+    others: &'a [Watching],
+    other_way: Way<'a>,
+) -> bool
+    ensures { Decides result (map (stand_in way.entry) tables.now ≡ map (stand_in other_way.entry) others.now) }
 {
     if tables.len() != others.len() {
         return false;
     }
     for place in 0..tables.len() {
-        if !tables[place].is_like(&others[place]) {
+        if !stand_alike(&tables[place], way, &others[place], other_way) {
             return false;
         }
     }
     true
 }
 
-impl Watching {
-    /// Whether the same is asked and was told as of the other.
-    fn is_like(&self, other: &Watching) -> bool
-        ensures { OnTrue result (stands self.now ≡ stands other.now) }
+impl Monitor {
+    /// Whether what is composed for its client in this way is what is composed for the client of the other in the other
+    /// way. O(n) times what comparing two requests costs, for n tables.
+    pub(crate) fn is_like<'a>(
+        &'a self,
+        way: Way<'a>,
+        other: &'a Monitor,
+        other_way: Way<'a>,
+    ) -> bool
+        ensures { Decides result (likeness_in self.now way.entry ≡ likeness_in other.now other_way.entry) }
     {
-        self.stands_with(other)
-            && self.is_plain()
-            && other.is_plain()
-            && self.request.same(&other.request)
+        self.is_told_like(way, other, other_way)
+            && all_stand_alike(
+                self.tables.as_slice(),
+                way,
+                other.tables.as_slice(),
+                other_way,
+            )
     }
 
-    /// Whether both clients were told of the same table at the same change.
-    fn stands_with(&self, other: &Watching) -> bool
-        ensures { OnTrue result ((self.now.mark.table ≡ other.now.mark.table) × (self.now.mark.place ≡ other.now.mark.place)) }
+    /// Whether both clients are told in one notation, and both for the first time or both later.
+    fn is_told_like(&self, way: Way<'_>, other: &Monitor, other_way: Way<'_>) -> bool
+        ensures { Decides result ((self.now.notation ≡ other.now.notation) × (is_first way.entry ≡ is_first other_way.entry)) }
     {
-        self.mark.place() == other.mark.place() && self.mark.table() == other.mark.table()
-    }
-
-    /// Whether the client was told under what is asked. `false` says nothing.
-    fn is_plain(&self) -> bool
-        ensures { OnTrue result (self.now.told ≡ self.now.request.filter) }
-    {
-        self.told.is_none()
+        self.kind == other.kind && way.is_first() == other_way.is_first()
     }
 }

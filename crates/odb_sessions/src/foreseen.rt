@@ -10,7 +10,7 @@ ghost use Rattle.odb_sessions.specs.FirstTexts.{AreFirstTexts, IsOfNow};
 ghost use Rattle.odb_sessions.specs.Foreseen.{as_told, marks_ahead, seen_ahead};
 ghost use Rattle.odb_sessions.specs.Held.{marks_in, monitor_of, watch_of};
 ghost use Rattle.odb_sessions.specs.Planned.{due, plan_rest};
-ghost use Rattle.odb_sessions.specs.Jobs.{Keeps};
+ghost use Rattle.odb_sessions.specs.Jobs.{AreEachOnce, Keeps};
 ghost use Rattle.odb_sessions.specs.Represented.Composed.{Tells};
 ghost use Rattle.odb_sessions.specs.Represented.Under.{filters_in, item_in};
 ghost use Rattle.odb_sessions.specs.Sending.{due_sending, update_sending};
@@ -20,10 +20,9 @@ ghost use Rattle.odb_sessions.specs.Book.{revision_at};
 use crate::composing::Message;
 use crate::first_texts::FirstTexts;
 use crate::id::Id;
-use crate::job::Job;
 use crate::monitor::Monitor;
 use crate::under::Under;
-use crate::wanted::Wanted;
+use crate::wanted::{Listed, Wanted};
 use odb_chain::Chains;
 use odb_recent::Recent;
 use std::alloc::{AllocError, Global};
@@ -258,10 +257,11 @@ impl<'a> Planner<'a> {
         rest_due(&mut self.wanted, self.monitors.as_slice(), recent)
     }
 
-    /// The jobs.
-    pub(crate) fn into_jobs(self) -> Vec<Job<'a>>
-        ensures jobs { result.items ≡ self.entry.jobs }
-        ensures now { All (IsOfNow self.entry.chains.db) result.items }
+    /// The jobs, and what each is composed for.
+    pub(crate) fn into_jobs(self) -> Listed<'a>
+        ensures jobs { result.jobs.items ≡ self.entry.jobs }
+        ensures now { All (IsOfNow self.entry.chains.db) result.jobs.items }
+        ensures once { AreEachOnce self.entry.chains.db result.jobs.items result.askings.items }
     {
         let Planner {
             wanted,

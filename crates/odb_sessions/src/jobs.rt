@@ -15,6 +15,7 @@ use crate::job::Job;
 use crate::out::Out;
 use crate::ready::{Ready, with_bodies};
 use crate::taking::Taking;
+use crate::wanted::{Asking, Listed};
 use odb_locks::SessionId;
 use std::alloc::{AllocError, Global};
 use std::marker::Model;
@@ -85,6 +86,7 @@ fn all_ready(
 pub struct Jobs<'a> {
     alloc: Global,
     jobs: Vec<Job<'a>>,
+    askings: Vec<Option<Asking<'a>>>,
     takings: Vec<Planned>,
 }
 
@@ -98,16 +100,18 @@ impl<'a> Model for Jobs<'a> {
 
     ghost coded = { round_code };
 
-    ghost view = { λ j. record { jobs = j.jobs.items; takings = map (pending_by j.jobs.items) j.takings.items } };
+    ghost view = { λ j. record { jobs = j.jobs.items; likenesses = j.askings.items; takings = map (pending_by j.jobs.items) j.takings.items } };
 }
 
 impl<'a> Jobs<'a> {
-    pub(crate) fn new(alloc: Global, jobs: Vec<Job<'a>>, takings: Vec<Planned>) -> Jobs<'a>
-        ensures { result ≡ record { jobs = jobs.entry.items; takings = map (pending_by jobs.entry.items) takings.items } }
+    pub(crate) fn new(alloc: Global, listed: Listed<'a>, takings: Vec<Planned>) -> Jobs<'a>
+        ensures { result ≡ record { jobs = listed.entry.jobs.items; likenesses = listed.entry.askings.items; takings = map (pending_by listed.entry.jobs.items) takings.items } }
     {
+        let Listed { jobs, askings } = listed;
         Jobs {
             alloc,
             jobs,
+            askings,
             takings,
         }
     }
@@ -162,6 +166,7 @@ impl<'a> Jobs<'a> {
         let Jobs {
             alloc,
             jobs: _,
+            askings: _,
             takings,
         } = self;
         let outs = Vec::with_capacity(alloc, takings.len())?;
@@ -230,6 +235,7 @@ impl Drop for Jobs<'_> {
         let Jobs {
             alloc: _,
             jobs: _,
+            askings: _,
             takings: _,
         } = self;
     }

@@ -115,7 +115,7 @@ impl Watching {
     }
 
     /// The filter under which the client was told.
-    fn told_filter(&self) -> &Filter
+    pub(crate) fn told_filter(&self) -> &Filter
         ensures { result.now ≡ self.now.told }
     {
         match &self.told {

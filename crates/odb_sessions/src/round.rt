@@ -11,7 +11,7 @@ ghost use Rattle.odb_service.specs.Session.{take};
 ghost use Rattle.odb_service.specs.World.{World, revision_of};
 ghost use Rattle.odb_sessions.specs.FirstTexts.{IsFirstText, IsOfNow};
 ghost use Rattle.odb_sessions.specs.Held.{all_seen, seen};
-ghost use Rattle.odb_sessions.specs.Jobs.{AreMadeOf, AreOfJobs, IsOfJob, Keeps};
+ghost use Rattle.odb_sessions.specs.Jobs.{AreEachOnce, AreMadeOf, AreOfJobs, IsOfJob, Keeps};
 ghost use Rattle.odb_sessions.specs.Planned.{AreOnce};
 ghost use Rattle.odb_sessions.specs.Posts.{at_number};
 ghost use Rattle.odb_sessions.specs.Represented.Out.{sent_in};
@@ -87,13 +87,14 @@ fn takings_at<'a>(
 }
 
 impl Sessions {
-    /// A round of these sessions, as it is planned: nothing is composed, and nothing is taken. What clients of several
-    /// are owed alike is one job.
+    /// A round of these sessions, as it is planned: nothing is composed, and nothing is taken. No two jobs are alike, but
+    /// of replies to who resumes: what clients of several are owed alike is one.
     pub fn jobs(&self, listed: &[SessionId]) -> Result<Jobs<'_>, AllocError>
         ensures sessions { IfOk result (λ jobs. sessions_in jobs.takings ≡ listed.now) }
         ensures ready { IfOk result (λ jobs. AreOf self.now jobs.takings) }
         ensures jobs { IfOk result (λ jobs. AreOfJobs self.now jobs.jobs jobs.takings) }
         ensures now { IfOk result (λ jobs. All (IsOfNow self.now.db) jobs.jobs) }
+        ensures once { IfOk result (λ jobs. AreEachOnce self.now.db jobs.jobs jobs.likenesses) }
     {
         let mut planner = Planner::new(self.alloc, self.past.chains(), self.past.firsts());
         let takings = takings_at(

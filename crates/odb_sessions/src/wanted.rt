@@ -1,17 +1,18 @@
 //! The compositions that a round needs: clients that are owed the same are told it by one of them. [P 10.1, 10.3]
-ghost use Rattle.std.specs.Prelude.{◌≡◌, [], IfOk, IfSome, List, Some, slice_get, take};
-ghost use Rattle.std.specs.Bool.{OnTrue};
-ghost use Rattle.odb_monitor.specs.Job as model_job;
-ghost use Rattle.odb_sessions.specs.Alike.{AreAlike};
+ghost use Rattle.std.specs.Prelude.{◌≡◌, ◌++◌, ◌∷◌, [], false, IfOk, List, None, OnErr, OnOk, Some, length, slice_get, take};
 ghost use Rattle.std.specs.List.{All};
+ghost use Rattle.odb_monitor.specs.Job as model_job;
 ghost use Rattle.odb_sessions.specs.Composed.{asked_of, owed_job, resumed_job};
 ghost use Rattle.odb_sessions.specs.FirstTexts.{AreFirstTexts, IsOfNow};
 ghost use Rattle.odb_sessions.specs.Held.{marks_in};
-ghost use Rattle.odb_sessions.specs.Jobs.{IsFor, Keeps, if_sent};
+ghost use Rattle.odb_sessions.specs.Jobs.{AreEachOnce, IsFor, Keeps, if_sent};
+ghost use Rattle.odb_sessions.specs.Represented.Alike.{is_resumed, likeness_in};
+ghost use Rattle.odb_sessions.specs.Represented.Decided.{IsSame, Puts};
 ghost use Rattle.odb_sessions.specs.Represented.Job.{job_in};
 ghost use Rattle.odb_sessions.specs.Tied.{AreLive};
 ghost use Rattle.odb_sessions.specs.declared.way.Way.TheVariants as way;
 
+use crate::decided::{Decided, Decision};
 use crate::first_texts::FirstTexts;
 use crate::job::Job;
 use crate::monitor::Monitor;
@@ -21,67 +22,108 @@ use odb_recent::Recent;
 use std::alloc::{AllocError, Global};
 use std::marker::Model;
 
-/// How many decisions are remembered at most.
-const MOST_REMEMBERED: usize = 8;
-
-/// A monitor, and the place of the job for its client; `None` where nothing is sent.
+/// What a job is composed for: the client of a monitor, and in which way.
 #[derive(Drop)]
-pub(crate) struct Decision<'a> {
+pub(crate) struct Asking<'a> {
     monitor: &'a Monitor,
-    place: Option<usize>,
+    way: Way<'a>,
 }
 
-impl<'a> Model for Decision<'a> {
-    ghost use Rattle.odb_sessions.specs.Jobs as model;
-    ghost use Rattle.odb_sessions.specs.Represented.Codes.{decision_code};
+impl<'a> Model for Asking<'a> {
+    ghost use Rattle.odb_sessions.specs.Alike as model;
+    ghost use Rattle.odb_sessions.specs.Represented.Alike.{likeness_in};
+    ghost use Rattle.odb_sessions.specs.Represented.Codes.{likeness_code};
 
-    ghost Value = { model.Decision };
+    ghost Value = { model.Likeness };
 
-    ghost coded = { decision_code };
+    ghost coded = { likeness_code };
 
-    ghost view = { λ d. record { held = d.monitor.now; place = d.place } };
+    ghost view = { λ a. likeness_in a.monitor.now a.way };
 }
 
-impl<'a> Decision<'a> {
-    /// Whether the client of this monitor is owed the same. `false` says nothing.
-    fn serves(&self, monitor: &Monitor) -> bool
-        ensures { OnTrue result (AreAlike self.now.held monitor.now) }
+/// Jobs, and what each is composed for; `None` where others may be composed for the same.
+#[derive(Drop)]
+pub(crate) struct Listed<'a> {
+    pub(crate) jobs: Vec<Job<'a>>,
+    pub(crate) askings: Vec<Option<Asking<'a>>>,
+}
+
+impl<'a> Listed<'a> {
+    /// No jobs. O(1).
+    fn new(alloc: Global) -> Listed<'a>
+        ensures jobs { result.jobs.items ≡ [] }
+        ensures askings { result.askings.items ≡ [] }
     {
-        let own = self.monitor;
-        own.is_like(monitor)
+        Listed {
+            jobs: Vec::new(alloc),
+            askings: Vec::new(alloc),
+        }
     }
 
-    fn place(&self) -> Option<usize>
-        ensures { result ≡ self.now.place }
+    /// The place of one job more, which is decided.
+    fn add(
+        &mut self,
+        decided: &mut Decided<'a>,
+        job: Job<'a>,
+        monitor: &'a Monitor,
+        way: Way<'a>,
+    ) -> Result<usize, AllocError>
+        ensures place { IfOk result (λ place. place ≡ length self.old.jobs.items) }
+        ensures jobs { OnOk result (self.new.jobs.items ≡ self.old.jobs.items ++ job.entry ∷ []) }
+        ensures askings { OnOk result (self.new.askings.items ≡ self.old.askings.items ++ Some (likeness_in monitor.now way.entry) ∷ []) }
+        ensures decided { OnOk result (Puts decided.old decided.new (record { likeness = likeness_in monitor.now way.entry; place = Some (length self.old.jobs.items) })) }
+        ensures kept { OnErr result (self.new.jobs.items ≡ self.old.jobs.items) }
+        ensures known { OnErr result (self.new.askings.items ≡ self.old.askings.items) }
+        ensures undecided { OnErr result (IsSame decided.old decided.new) }
     {
-        self.place
+        let place = self.jobs.len();
+        self.jobs.reserve(1)?;
+        self.askings.reserve(1)?;
+        decided.put(Decision::new(monitor, way, Some(place)))?;
+        self.jobs.push_reserved(job);
+        self.askings.push_reserved(Some(Asking { monitor, way }));
+        Ok(place)
+    }
+
+    /// The place of one job more, which isn't looked up.
+    fn add_alone(&mut self, job: Job<'a>) -> Result<usize, AllocError>
+        ensures place { IfOk result (λ place. place ≡ length self.old.jobs.items) }
+        ensures jobs { OnOk result (self.new.jobs.items ≡ self.old.jobs.items ++ job.entry ∷ []) }
+        ensures askings { OnOk result (self.new.askings.items ≡ self.old.askings.items ++ None ∷ []) }
+        ensures kept { OnErr result (self.new.jobs.items ≡ self.old.jobs.items) }
+        ensures known { OnErr result (self.new.askings.items ≡ self.old.askings.items) }
+    {
+        let place = self.jobs.len();
+        self.jobs.reserve(1)?;
+        self.askings.reserve(1)?;
+        self.jobs.push_reserved(job);
+        self.askings.push_reserved(None);
+        Ok(place)
     }
 }
 
-/// The jobs that a round needs, in the database with its past, with the texts of first replies that are kept, and the
-/// last decisions.
+/// The jobs that a round needs, in the database with its past, with the texts of first replies that are kept, and what
+/// was decided.
 pub(crate) struct Wanted<'a> {
     alloc: Global,
     chains: &'a Chains,
     firsts: &'a FirstTexts,
-    jobs: Vec<Job<'a>>,
-    last: Vec<Decision<'a>>,
+    listed: Listed<'a>,
+    decided: Decided<'a>,
 }
 
 impl<'a> Model for Wanted<'a> {
-    ghost use Rattle.std.specs.List.{All};
-    ghost use Rattle.odb_sessions.specs.FirstTexts.{AreFirstTexts, IsOfNow};
     ghost use Rattle.odb_sessions.specs.Jobs as model;
-    ghost use Rattle.odb_sessions.specs.Jobs.{IsDecided};
     ghost use Rattle.odb_sessions.specs.Represented.Codes.{wanted_code};
+    ghost use Rattle.odb_sessions.specs.Represented.Decided.{IsPlanned};
 
     ghost Value = { model.Wanted };
 
     ghost coded = { wanted_code };
 
-    ghost view = { λ w. record { chains = w.chains.now; jobs = w.jobs.items } };
+    ghost view = { λ w. record { chains = w.chains.now; jobs = w.listed.jobs.items } };
 
-    ghost invariant = { λ w. All (IsDecided w.chains.now w.jobs.items) w.last.items × AreFirstTexts w.chains.now.db w.firsts.now × All (IsOfNow w.chains.now.db) w.jobs.items };
+    ghost invariant = { λ w. IsPlanned w.chains.now w.firsts.now w.listed.jobs.items w.listed.askings.items w.decided };
 }
 
 impl<'a> Wanted<'a> {
@@ -94,8 +136,8 @@ impl<'a> Wanted<'a> {
             alloc,
             chains,
             firsts,
-            jobs: Vec::new(alloc),
-            last: Vec::new(alloc),
+            listed: Listed::new(alloc),
+            decided: Decided::new(alloc),
         }
     }
 
@@ -110,96 +152,80 @@ impl<'a> Wanted<'a> {
         self.chains
     }
 
-    /// The jobs.
-    pub(crate) fn into_jobs(self) -> Vec<Job<'a>>
-        ensures jobs { result.items ≡ self.entry.jobs }
-        ensures now { All (IsOfNow self.entry.chains.db) result.items }
+    /// The jobs, and what each is composed for.
+    pub(crate) fn into_jobs(self) -> Listed<'a>
+        ensures jobs { result.jobs.items ≡ self.entry.jobs }
+        ensures now { All (IsOfNow self.entry.chains.db) result.jobs.items }
+        ensures once { AreEachOnce self.entry.chains.db result.jobs.items result.askings.items }
     {
         let Wanted {
             alloc: _,
             chains: _,
             firsts: _,
-            jobs,
-            last: _,
+            listed,
+            decided: _,
         } = self;
-        jobs
+        listed
     }
 
     /// The place of the job for the client of a monitor, for the table updates that it is owed; `None` where nothing
-    /// is sent. What was decided for a monitor that is alike serves again: at most eight comparisons of monitors.
-    /// Else the costs are those of `want`.
+    /// is sent. The costs are those of `want`.
     pub(crate) fn updates(&mut self, monitor: &'a Monitor) -> Result<Option<usize>, AllocError>
         requires { AreLive self.old.chains (marks_in monitor.now) }
         ensures place { IfOk result (λ place. IsFor self.new.jobs (if_sent (owed_job self.old.chains.db monitor.now)) place) }
         ensures jobs { Keeps self.old.jobs self.new.jobs }
         ensures chains { self.new.chains ≡ self.old.chains }
     {
-        if let Some(place) = self.remembered(monitor) {
-            return Ok(place);
-        }
-        let place = self.want(monitor, Way::Asked)?;
-        self.remember(monitor, place)?;
-        Ok(place)
+        self.want(monitor, Way::Asked)
     }
 
-    /// What was decided for a monitor that is like this one.
-    fn remembered(&self, monitor: &Monitor) -> Option<Option<usize>>
-        requires { AreLive self.now.chains (marks_in monitor.now) }
-        ensures { IfSome result (λ place. IsFor self.now.jobs (if_sent (owed_job self.now.chains.db monitor.now)) place) }
-    {
-        for decision in &self.last {
-            if decision.serves(monitor) {
-                return Some(decision.place());
-            }
-        }
-        None
-    }
-
-    /// Remembers what was decided for a monitor.
-    fn remember(&mut self, monitor: &'a Monitor, place: Option<usize>) -> Result<(), AllocError>
-        requires live { AreLive self.old.chains (marks_in monitor.now) }
-        requires decided { IsFor self.old.jobs (if_sent (owed_job self.old.chains.db monitor.now)) place }
-        ensures { self.new ≡ self.old }
-    {
-        self.make_room();
-        if self.last.push(Decision { monitor, place }).is_err() {
-            return Err(AllocError);
-        }
-        Ok(())
-    }
-
-    /// Forgets all where as much is remembered as may be.
-    fn make_room(&mut self)
-        ensures { self.new ≡ self.old }
-    {
-        if self.last.len() >= MOST_REMEMBERED {
-            self.last.clear();
-        }
-    }
-
-    /// The place of a new job for the client of a monitor; `None` where nothing is sent. The costs are those of
-    /// `Job::has_updates`.
+    /// The place of the job for the client of a monitor; `None` where nothing is sent. What was decided of what is alike
+    /// serves again: the costs are those of `Decided::find`, and else those of `Job::has_updates` too.
     pub(crate) fn want(
         &mut self,
         monitor: &'a Monitor,
         way: Way<'a>,
     ) -> Result<Option<usize>, AllocError>
-        requires { AreLive self.old.chains (marks_in monitor.now) }
+        requires live { AreLive self.old.chains (marks_in monitor.now) }
+        requires shared { is_resumed way ≡ false }
         ensures place { IfOk result (λ place. IsFor self.new.jobs (if_sent (job_in self.old.chains.db monitor.now way.entry)) place) }
         ensures jobs { Keeps self.old.jobs self.new.jobs }
         ensures chains { self.new.chains ≡ self.old.chains }
     {
-        let job = Job::new(self.alloc, self.chains, monitor, way)?;
+        if let Some(place) = self.decided.find(monitor, way) {
+            return Ok(place);
+        }
+        let job = self.job(monitor, way)?;
         let is_sent = job.has_updates(self.alloc)?;
         if !is_sent {
+            self.decided.put(Decision::new(monitor, way, None))?;
             return Ok(None);
         }
-        let place = self.add(job)?;
+        let place = self.listed.add(&mut self.decided, job, monitor, way)?;
         Ok(Some(place))
     }
 
-    /// The place of a new job for the client of a monitor: its first reply, with its text where that is kept. The costs
-    /// are those of `FirstTexts::find`.
+    /// The job for the client of a monitor, that of a first reply with its text where that is kept.
+    fn job(&self, monitor: &'a Monitor, way: Way<'a>) -> Result<Job<'a>, AllocError>
+        requires { AreLive self.now.chains (marks_in monitor.now) }
+        ensures { IfOk result (λ job. job ≡ job_in self.now.chains.db monitor.now way.entry) }
+    {
+        if way.is_first() {
+            return Ok(self.first_job(monitor));
+        }
+        Job::new(self.alloc, self.chains, monitor, way)
+    }
+
+    /// The job of the first reply of a monitor, with its text where that is kept.
+    fn first_job(&self, monitor: &'a Monitor) -> Job<'a>
+        requires { AreLive self.now.chains (marks_in monitor.now) }
+        ensures { result ≡ job_in self.now.chains.db monitor.now way.First }
+    {
+        let text = self.firsts.find(monitor);
+        Job::first(self.alloc, self.chains, monitor, text)
+    }
+
+    /// The place of the job for the client of a monitor: its first reply. The costs are those of `want`.
     pub(crate) fn first_reply(&mut self, monitor: &'a Monitor) -> Result<usize, AllocError>
         requires { AreLive self.old.chains (marks_in monitor.now) }
         ensures place { IfOk result (λ place. (all : List model_job.Job) → Keeps self.new.jobs all
@@ -207,9 +233,11 @@ impl<'a> Wanted<'a> {
         ensures jobs { Keeps self.old.jobs self.new.jobs }
         ensures chains { self.new.chains ≡ self.old.chains }
     {
-        let text = self.firsts.find(monitor);
-        let job = Job::first(self.alloc, self.chains, monitor, text);
-        self.add(job)
+        let place = self.want(monitor, Way::First)?;
+        let Some(place) = place else {
+            unreachable!();
+        };
+        Ok(place)
     }
 
     /// The place of a new job for the client of a monitor: the reply to it, if it has what the monitor selected so many
@@ -227,20 +255,7 @@ impl<'a> Wanted<'a> {
         ensures chains { self.new.chains ≡ self.old.chains }
     {
         let job = Job::new(self.alloc, self.chains, monitor, Way::Since(recent, ago))?;
-        self.add(job)
-    }
-
-    /// The place of one job more.
-    fn add(&mut self, job: Job<'a>) -> Result<usize, AllocError>
-        requires { IsOfNow self.old.chains.db job }
-        ensures place { IfOk result (λ place. slice_get self.new.jobs place ≡ Some job.entry) }
-        ensures jobs { Keeps self.old.jobs self.new.jobs }
-        ensures chains { self.new.chains ≡ self.old.chains }
-    {
-        let place = self.jobs.len();
-        if self.jobs.push(job).is_err() {
-            return Err(AllocError);
-        }
+        let place = self.listed.add_alone(job)?;
         Ok(place)
     }
 }
@@ -252,8 +267,8 @@ impl Drop for Wanted<'_> {
             alloc: _,
             chains: _,
             firsts: _,
-            jobs: _,
-            last: _,
+            listed: _,
+            decided: _,
         } = self;
     }
 }

@@ -1,8 +1,8 @@
 -- The codes of what contracts see of the code's types.
-use Rattle.std.specs.Prelude.{◌≡◌, ◌⊎◌, ℕ, List, Option, Some, None, refl}
+use Rattle.std.specs.Prelude.{◌≡◌, ◌⊎◌, ℕ, Bool, List, Option, Some, None, refl}
 use mathlib.Core.Logic.{inl, inr}
 use Rattle.std.specs.Ordering.{nat_cmp}
-use Rattle.std.specs.Coded.{Coded, code_by, coded×, coded⊎, coded_ℕ, coded_list, coded_option}
+use Rattle.std.specs.Coded.{Coded, code_by, coded×, coded⊎, coded_bool, coded_ℕ, coded_list, coded_option}
 use Rattle.odb_atoms.specs.FinMap as map
 use Rattle.odb_atoms.specs.Uuid.{Uuid, uuid_code}
 use Rattle.odb_chain.specs.Chains.{Chains, Mark}
@@ -17,6 +17,7 @@ use Rattle.odb_schema.specs.JsonCode.{data_code}
 use Rattle.odb_service.specs.Session.{Earlier, Item, Monitor, Session, Watch}
 use Rattle.odb_service.specs.WorldCode.{earlier_code, item_code, monitor_code, session_code, watch_code}
 use Rattle.odb_tables.specs.Database.{Db, db_code}
+use Rattle.odb_sessions.specs.Alike.{Likeness, Stand}
 use Rattle.odb_sessions.specs.Book.{Book}
 use Rattle.odb_sessions.specs.FirstTexts.{FirstText}
 use Rattle.odb_sessions.specs.Foreseen.{Ahead, Filters, Foreseen}
@@ -79,8 +80,21 @@ filters_code = coded_list (coded× (coded_list coded_ℕ) filter_code)
 abbrev pub ahead_code : Coded Ahead
 ahead_code = code_by (Held × Option Filters) (coded× held_code (coded_option filters_code)) (λ a. (a.held, a.told)) (λ p. record { held = p.0; told = p.1 }) (λ a. refl)
 
+abbrev pub stand_code : Coded Stand
+stand_code =
+    code_by (Request × (Option Filter × Option (ℕ × ℕ))) (coded× request_code (coded× (coded_option filter_code) (coded_option (coded× coded_ℕ coded_ℕ))))
+    (λ s. (s.request, (s.told, s.place))) (λ p. record { request = p.0; told = p.1.0; place = p.1.1 }) (λ s. refl)
+
+abbrev pub likeness_code : Coded Likeness
+likeness_code =
+    code_by (Notation × (Bool × List Stand)) (coded× notation_code (coded× coded_bool (coded_list stand_code)))
+    (λ l. (l.notation, (l.first, l.stands))) (λ p. record { notation = p.0; first = p.1.0; stands = p.1.1 }) (λ l. refl)
+
 abbrev pub decision_code : Coded Decision
-decision_code = code_by (Held × Option ℕ) (coded× held_code (coded_option coded_ℕ)) (λ d. (d.held, d.place)) (λ p. record { held = p.0; place = p.1 }) (λ d. refl)
+decision_code = code_by (Likeness × Option ℕ) (coded× likeness_code (coded_option coded_ℕ)) (λ d. (d.likeness, d.place)) (λ p. record { likeness = p.0; place = p.1 }) (λ d. refl)
+
+abbrev pub bucket_code : Coded (List Decision)
+bucket_code = coded_list decision_code
 
 abbrev pub first_text_code : Coded FirstText
 first_text_code = code_by (Notation × (List Request × List ℕ)) (coded× notation_code (coded× (coded_list request_code) (coded_list coded_ℕ))) (λ f. (f.notation, (f.requests, f.text))) (λ p. record { notation = p.0; requests = p.1.0; text = p.1.1 }) (λ f. refl)
@@ -123,4 +137,6 @@ abbrev pub pendings_code : Coded (List Pending)
 pendings_code = coded_list (coded× coded_ℕ ready_code)
 
 abbrev pub round_code : Coded Round
-round_code = code_by (List Job × List Pending) (coded× (coded_list job_code) pendings_code) (λ r. (r.jobs, r.takings)) (λ p. record { jobs = p.0; takings = p.1 }) (λ r. refl)
+round_code =
+    code_by (List Job × (List (Option Likeness) × List Pending)) (coded× (coded_list job_code) (coded× (coded_list (coded_option likeness_code)) pendings_code))
+    (λ r. (r.jobs, (r.likenesses, r.takings))) (λ p. record { jobs = p.0; likenesses = p.1.0; takings = p.1.1 }) (λ r. refl)

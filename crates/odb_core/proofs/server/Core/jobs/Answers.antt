@@ -3,7 +3,7 @@ use Rattle.std.proofs.lemmas.Result.{IfOk-weaker}
 use Rattle.std.specs.List.{All}
 use Rattle.odb_service.specs.Server.{Server}
 use Rattle.odb_sessions.specs.FirstTexts.{IsOfNow}
-use Rattle.odb_sessions.specs.Jobs.{AreMadeOf}
+use Rattle.odb_sessions.specs.Jobs.{AreEachOnce, AreMadeOf}
 use Rattle.odb_sessions.specs.Taken.{AreReady}
 use Rattle.odb_core.specs.Represented.Rounds.{book_in}
 use Rattle.odb_core.proofs.CoreInvariant.{if_both}
@@ -20,3 +20,6 @@ returns-clause-jobs c = IfOk-weaker c.jobs.result _ _ (λ jobs made. λ s. subst
 
 pub returns-clause-now : goal.returns-clause-now
 returns-clause-now c = IfOk-weaker c.jobs.result _ _ (λ jobs now. subst (λ (v : Server). All (IsOfNow v.world.db) jobs.jobs) c.self.view_is now) c.jobs.ensures.now
+
+pub returns-clause-once : goal.returns-clause-once
+returns-clause-once c = IfOk-weaker c.jobs.result _ _ (λ jobs once. subst (λ (v : Server). AreEachOnce v.world.db jobs.jobs jobs.likenesses) c.self.view_is once) c.jobs.ensures.once

@@ -7,7 +7,7 @@ use Rattle.odb_sessions.specs.FirstTexts.{IsOfNow}
 use Rattle.odb_tables.specs.Database.{Db}
 use Rattle.odb_sessions.specs.Foreseen.{Foreseen}
 use Rattle.odb_sessions.specs.Held.{all_seen}
-use Rattle.odb_sessions.specs.Jobs.{AreMadeOf, Round}
+use Rattle.odb_sessions.specs.Jobs.{AreEachOnce, AreMadeOf, Round}
 use Rattle.odb_sessions.specs.Represented.Taking.{pending_by}
 use Rattle.odb_sessions.specs.Taken.{AreReady, sessions_in}
 use Rattle.odb_sessions.specs.Tied.{AreAllLive}
@@ -21,11 +21,11 @@ takings_at-requires c =
     subst (λ (k : Chains). AreAllLive k c.self.inside.sessions) (sym planner) c.self.invariant.0.2
 
 pub returns-clause-sessions : goal.returns-clause-sessions
-returns-clause-sessions c = ap (λ (r : Round). sessions_in r.takings) c.new.ensures ∙ sessions_by c.into_jobs.result.items c.in_ok-takings.takings.items ∙ c.in_ok-takings.ensures.sessions
+returns-clause-sessions c = ap (λ (r : Round). sessions_in r.takings) c.new.ensures ∙ sessions_by c.into_jobs.result.jobs.items c.in_ok-takings.takings.items ∙ c.in_ok-takings.ensures.sessions
 
 pub returns-clause-ready : goal.returns-clause-ready
 returns-clause-ready c = λ s.
-    let js : List Job = c.into_jobs.result.items in
+    let js : List Job = c.into_jobs.result.jobs.items in
     let planner : c.new-planner.result.chains ≡ c.self.inside.past = ap (λ (f : Foreseen). f.chains) c.new-planner.ensures ∙ c.chains.ensures in
     let same = (λ i. let k : Chains = planner i in book_with k.db c.self.inside.recent (all_seen c.self.inside.sessions)) ∙ c.self.view_is in
     let ready = c.in_ok-takings.ensures.ready s js (keeps_same c.takings_at.new.planner.jobs js c.into_jobs.ensures.jobs) in
@@ -33,7 +33,7 @@ returns-clause-ready c = λ s.
 
 pub returns-clause-jobs : goal.returns-clause-jobs
 returns-clause-jobs c = λ s.
-    let js : List Job = c.into_jobs.result.items in
+    let js : List Job = c.into_jobs.result.jobs.items in
     let planner : c.new-planner.result.chains ≡ c.self.inside.past = ap (λ (f : Foreseen). f.chains) c.new-planner.ensures ∙ c.chains.ensures in
     let same = (λ i. let k : Chains = planner i in book_with k.db c.self.inside.recent (all_seen c.self.inside.sessions)) ∙ c.self.view_is in
     let made = c.in_ok-takings.ensures.made s js (keeps_same c.takings_at.new.planner.jobs js c.into_jobs.ensures.jobs) in
@@ -43,4 +43,10 @@ pub returns-clause-now : goal.returns-clause-now
 returns-clause-now c =
     let planner : c.new-planner.result.chains ≡ c.self.inside.past = ap (λ (f : Foreseen). f.chains) c.new-planner.ensures ∙ c.chains.ensures in
     let db : c.takings_at.new.planner.chains.db ≡ c.args.self.now.db = ap (λ (k : Chains). k.db) (c.in_ok-takings.ensures.chains ∙ planner) ∙ ap (λ (b : Book). b.db) c.self.view_is in
-    subst (λ (r : Round). All (IsOfNow c.args.self.now.db) r.jobs) (sym c.new.ensures) (subst (λ (d : Db). All (IsOfNow d) c.into_jobs.result.items) db c.into_jobs.ensures.now)
+    subst (λ (r : Round). All (IsOfNow c.args.self.now.db) r.jobs) (sym c.new.ensures) (subst (λ (d : Db). All (IsOfNow d) c.into_jobs.result.jobs.items) db c.into_jobs.ensures.now)
+
+pub returns-clause-once : goal.returns-clause-once
+returns-clause-once c =
+    let planner : c.new-planner.result.chains ≡ c.self.inside.past = ap (λ (f : Foreseen). f.chains) c.new-planner.ensures ∙ c.chains.ensures in
+    let db : c.takings_at.new.planner.chains.db ≡ c.args.self.now.db = ap (λ (k : Chains). k.db) (c.in_ok-takings.ensures.chains ∙ planner) ∙ ap (λ (b : Book). b.db) c.self.view_is in
+    subst (λ (r : Round). AreEachOnce c.args.self.now.db r.jobs r.likenesses) (sym c.new.ensures) (subst (λ (d : Db). AreEachOnce d c.into_jobs.result.jobs.items c.into_jobs.result.askings.items) db c.into_jobs.ensures.once)

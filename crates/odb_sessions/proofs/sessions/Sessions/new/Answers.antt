@@ -2,7 +2,7 @@ use Rattle.std.proofs.Common.{rules, ◌≡◌, subst, sym, ap, ◌∙◌}
 use Rattle.odb_atoms.specs.FinMap as finite
 use Rattle.odb_chain.specs.Chains.{Chains, IsNow, chains_of}
 use Rattle.odb_recent.specs.Recent.{Recent, recent_of}
-use Rattle.odb_sessions.specs.Book.{Book, book_with}
+use Rattle.odb_sessions.specs.Book.{book_with}
 use Rattle.odb_sessions.specs.Held.{Sessions, all_seen}
 use Rattle.odb_sessions.specs.Tied.{IsTied}
 use Rattle.odb_sessions.specs.Book.{book_of}

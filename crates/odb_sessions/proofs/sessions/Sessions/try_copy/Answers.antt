@@ -1,6 +1,6 @@
 use Rattle.std.proofs.Common.{rules, ◌≡◌, subst, sym, ◌∙◌}
 use Rattle.odb_chain.specs.Chains.{Chains}
-use Rattle.odb_sessions.specs.Book.{Book, book_with}
+use Rattle.odb_sessions.specs.Book.{book_with}
 use Rattle.odb_sessions.specs.Held.{Sessions, all_seen}
 use Rattle.std.specs.List.{AllZip}
 use Rattle.odb_interest.specs.Represented.Lists.{IsSame}

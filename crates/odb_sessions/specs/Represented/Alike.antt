@@ -1,0 +1,55 @@
+-- The likeness of a job: of a monitor, in each of the ways.
+use Rattle.std.specs.Prelude.{ℕ, Bool, true, false, [], map as map_list, Option, Some, None, option_map, unwrap_or}
+use Rattle.odb_atoms.specs.FinMap as map
+use Rattle.odb_chain.specs.Chains.{Chains, Mark, standing}
+use Rattle.odb_cond.specs.Filter.{Filter}
+use Rattle.odb_request.specs.Request.{Request}
+use Rattle.odb_service.specs.Session.{filter_of}
+use Rattle.odb_sessions.specs.Alike.{Contents, Likeness, Stand}
+use Rattle.odb_sessions.specs.Held.{Held, Watched}
+use Rattle.odb_sessions.specs.Represented.Job.{filters_by}
+use Rattle.odb_sessions.specs.Represented.Under.{filters_in}
+use Rattle.odb_sessions.specs.declared.way.Way.{Way}
+use Rattle.odb_sessions.specs.declared.way.Way.TheVariants as way
+
+-- what marks stand for, by their tables and places
+abbrev pub contents : Chains → Contents
+contents k t p = unwrap_or (option_map (λ s. s.content) (standing k t p)) map.empty
+
+abbrev pub is_first : Way → Bool
+is_first way.First = true
+is_first way.Asked = false
+is_first (way.Changed u) = false
+is_first (way.Again told u) = false
+is_first (way.Since r n) = false
+
+abbrev pub is_resumed : Way → Bool
+is_resumed way.First = false
+is_resumed way.Asked = false
+is_resumed (way.Changed u) = false
+is_resumed (way.Again told u) = false
+is_resumed (way.Since r n) = true
+
+-- the filter that is asked
+abbrev pub filter_in : Way → Request → Filter
+filter_in w q = filter_of (unwrap_or (filters_by w) []) q.shape.name q.filter
+
+abbrev pub told_in : Way → Watched → Option Filter
+told_in way.First w = None
+told_in way.Asked w = Some w.told
+told_in (way.Changed u) w = Some w.told
+told_in (way.Again told u) w = Some (filter_of (filters_in told) w.request.shape.name w.request.filter)
+told_in (way.Since r n) w = None
+
+abbrev pub place_in : Way → Mark → Option (ℕ × ℕ)
+place_in way.First m = None
+place_in way.Asked m = Some (m.table, m.place)
+place_in (way.Changed u) m = Some (m.table, m.place)
+place_in (way.Again told u) m = None
+place_in (way.Since r n) m = None
+
+abbrev pub stand_in : Way → Watched → Stand
+stand_in v w = record { request = record (w.request) { filter = filter_in v w.request }; told = told_in v w; place = place_in v w.mark }
+
+abbrev pub likeness_in : Held → Way → Likeness
+likeness_in x w = record { notation = x.notation; first = is_first w; stands = map_list (stand_in w) x.tables }

@@ -1,0 +1,111 @@
+//! Digests: numbers by which decisions are found. [P 10.1]
+ghost use Rattle.std.specs.Prelude.{◌≡◌, map};
+ghost use Rattle.odb_atoms.specs.Represented.Atom.{atom_of};
+ghost use Rattle.odb_cond.specs.Represented.Filter.{member_of};
+ghost use Rattle.odb_tables.specs.Represented.Digest.{after_atom};
+ghost use Rattle.odb_sessions.specs.Represented.Alike.{likeness_in, stand_in};
+ghost use Rattle.odb_sessions.specs.Represented.Digest as spec;
+
+use crate::monitor::{Monitor, Watching};
+use crate::way::Way;
+use odb_atoms::{Atom, Entries, Value};
+use odb_cond::{Filter, Member};
+use odb_schema::TableId;
+use odb_tables::Key;
+use std::hash::{DefaultHasher, Hash, Hasher};
+
+/// The digest of what is composed for the client of a monitor in this way: what is alike has the same, other seldom has.
+/// O(n) for n tables, and the members of their filters with the bytes of their first atoms.
+pub(crate) fn digest_of<'a>(monitor: &'a Monitor, way: Way<'a>) -> u64
+    ensures { result ≡ spec.digest (likeness_in monitor.now way.entry) }
+{
+    let mut state = DefaultHasher::new();
+    feed_tables(&mut state, monitor.tables.as_slice(), way);
+    state.finish()
+}
+
+/// Feeds how the client stands to each of these tables.
+fn feed_tables<'a>(state: &mut DefaultHasher, tables: &'a [Watching], way: Way<'a>)
+    ensures { state.new ≡ spec.after_stands state.old (map (stand_in way.entry) tables.now) }
+{
+    for table in tables {
+        feed_table(state, table, way);
+    }
+}
+
+/// Feeds the table, at which change of it the client was told, and what it asks.
+fn feed_table<'a>(state: &mut DefaultHasher, table: &'a Watching, way: Way<'a>)
+    ensures { state.new ≡ spec.after_stand state.old (stand_in way.entry table.now) }
+{
+    table.request.table().place().hash(state);
+    feed_place(state, way.place(&table.mark));
+    feed_filter(state, way.filter(&table.request));
+}
+
+/// Feeds at which change the client was told, if it counts.
+fn feed_place(state: &mut DefaultHasher, place: Option<(TableId, u64)>)
+    ensures { state.new ≡ spec.after_place state.old place }
+{
+    match place {
+        Some(place) => place.1.hash(state),
+        None => {}
+    }
+}
+
+/// Feeds the first atom in each member of the filter. O(the members and the bytes of these atoms).
+fn feed_filter(state: &mut DefaultHasher, filter: &Filter)
+    ensures { state.new ≡ spec.after_filter state.old filter.now }
+{
+    feed_members(state, filter.members());
+}
+
+/// Feeds the first atom in each of the members.
+fn feed_members(state: &mut DefaultHasher, members: &[Member])
+    ensures { state.new ≡ spec.after_filter state.old (map member_of members.now) }
+{
+    for member in members {
+        feed_member(state, member);
+    }
+}
+
+/// Feeds the first atom in the member.
+fn feed_member(state: &mut DefaultHasher, member: &Member)
+    ensures { state.new ≡ spec.after_member state.old (member_of member.now) }
+{
+    match member {
+        Member::Always(_) => {}
+        Member::When(clause) => feed_value(state, clause.value()),
+    }
+}
+
+/// Feeds the first element of a set, and nothing of a map.
+fn feed_value(state: &mut DefaultHasher, value: &Value)
+    ensures { state.new ≡ spec.after_value state.old value.now }
+{
+    match value.entries() {
+        Entries::Set(atoms) => feed_first(state, atoms),
+        Entries::Map(_) => {}
+    }
+}
+
+/// Feeds the first of these atoms.
+fn feed_first(state: &mut DefaultHasher, atoms: &[Atom])
+    ensures { state.new ≡ spec.after_first state.old (map atom_of atoms.now) }
+{
+    match atoms {
+        [first, ..] => feed_atom(state, first),
+        [] => {}
+    }
+}
+
+/// Feeds an atom.
+fn feed_atom(state: &mut DefaultHasher, atom: &Atom)
+    ensures { state.new ≡ after_atom state.old (atom_of atom.now) }
+{
+    match atom {
+        Atom::Integer(integer) => integer.hash(state),
+        Atom::Boolean(boolean) => boolean.hash(state),
+        Atom::Text(text) => text.as_str().hash(state),
+        Atom::Uuid(uuid) => Key::of(*uuid).hash(state),
+    }
+}

@@ -1,0 +1,159 @@
+//! Whether two monitors ask the same of a table. [P 9.2]
+ghost use Rattle.std.specs.Prelude.{◌≡◌, map};
+ghost use Rattle.std.specs.Arc.{arc_value};
+ghost use Rattle.std.specs.Bool.{Decides};
+ghost use Rattle.odb_atoms.specs.Atom.{uuids};
+ghost use Rattle.odb_atoms.specs.ColType.{scalar};
+ghost use Rattle.odb_atoms.specs.Represented.ColType.{type_of};
+ghost use Rattle.odb_cond.specs.Represented.Clause.{selector_of};
+ghost use Rattle.odb_request.specs.Represented.Parts.{monitored_as};
+ghost use Rattle.odb_request.specs.Represented.Shape.{asked_by};
+ghost use Rattle.odb_schema.specs.Schema.{column_type, selector_name, selector_type};
+
+use crate::types::same_type;
+use odb_atoms::{ColType, Kind};
+use odb_cond::Selector;
+use odb_request::{Request, Shape};
+use odb_schema::TableSchema;
+
+/// The name of a column of the table.
+fn name_of<'a>(table: &'a TableSchema, column: Selector) -> &'a str
+    ensures { result.now ≡ selector_name table.now.columns (selector_of column) }
+{
+    match column {
+        Selector::Uuid => "_uuid",
+        Selector::Version => "_version",
+        Selector::Declared(place) => match table.columns().get(place) {
+            Some(column) => column.name(),
+            None => "",
+        },
+    }
+}
+
+/// Whether it is the type of a column that the schema hasn't.
+fn is_missing(column: &ColType) -> bool
+    ensures { Decides result (type_of column.now ≡ scalar uuids) }
+{
+    same_type(column, &ColType::scalar(Kind::Uuid))
+}
+
+/// Whether the columns at the place have the same type.
+fn same_declared(table: &TableSchema, other: &TableSchema, place: usize) -> bool
+    ensures { Decides result
+        (column_type table.now.columns place ≡ column_type other.now.columns place) }
+{
+    match (table.columns().get(place), other.columns().get(place)) {
+        (Some(column), Some(other)) => same_type(column.column_type(), other.column_type()),
+        (Some(column), None) => is_missing(column.column_type()),
+        (None, Some(other)) => is_missing(other.column_type()),
+        (None, None) => true,
+    }
+}
+
+/// Whether the column has the same type in both tables.
+fn same_type_of(table: &TableSchema, other: &TableSchema, column: Selector) -> bool
+    ensures { Decides result (selector_type table.now.columns (selector_of column)
+        ≡ selector_type other.now.columns (selector_of column)) }
+{
+    match column {
+        Selector::Uuid | Selector::Version => true,
+        Selector::Declared(place) => same_declared(table, other, place),
+    }
+}
+
+/// Whether the column has the same name in both tables.
+fn same_name_of(table: &TableSchema, other: &TableSchema, column: Selector) -> bool
+    ensures { Decides result (selector_name table.now.columns (selector_of column)
+        ≡ selector_name other.now.columns (selector_of column)) }
+{
+    name_of(table, column) == name_of(other, column)
+}
+
+/// Whether the column is the same in both tables.
+fn same_in(table: &TableSchema, other: &TableSchema, column: Selector) -> bool
+    ensures { Decides result
+        (monitored_as table.now.columns column ≡ monitored_as other.now.columns column) }
+{
+    same_name_of(table, other, column) && same_type_of(table, other, column)
+}
+
+/// Whether the two columns are the same.
+fn same_column(
+    table: &TableSchema,
+    column: &Selector,
+    other_table: &TableSchema,
+    other: &Selector,
+) -> bool
+    ensures { Decides result
+        (monitored_as table.now.columns column.now ≡ monitored_as other_table.now.columns other.now) }
+{
+    *column == *other && same_in(table, other_table, *column)
+}
+
+/// Whether the two lists have the same columns, one by one.
+fn same_columns(
+    table: &TableSchema,
+    columns: &[Selector],
+    other: &TableSchema,
+    others: &[Selector],
+) -> bool
+    ensures { Decides result (map (monitored_as table.now.columns) columns.now
+        ≡ map (monitored_as other.now.columns) others.now) }
+{
+    if columns.len() != others.len() {
+        return false;
+    }
+    for place in 0..columns.len() {
+        if !same_column(table, &columns[place], other, &others[place]) {
+            return false;
+        }
+    }
+    true
+}
+
+/// Whether the two show the same columns.
+fn shows_like(shape: &Shape, other: &Shape) -> bool
+    ensures { Decides result (shape.now.shape.columns ≡ other.now.shape.columns) }
+{
+    same_columns(
+        shape.table_schema(),
+        shape.columns(),
+        other.table_schema(),
+        other.columns(),
+    )
+}
+
+/// Whether the two are of tables with the same name.
+fn names_like(shape: &Shape, other: &Shape) -> bool
+    ensures { Decides result (shape.now.shape.name ≡ other.now.shape.name) }
+{
+    shape.table_schema().name() == other.table_schema().name()
+}
+
+/// Whether the two have the same names and columns.
+fn reads_like(shape: &Shape, other: &Shape) -> bool
+    ensures { Decides result (shape.now.shape ≡ other.now.shape) }
+{
+    names_like(shape, other) && shows_like(shape, other)
+}
+
+/// Whether the two have the same place and the same kinds of change.
+fn selects_like(shape: &Shape, other: &Shape) -> bool
+    ensures { Decides result ((shape.now.place ≡ other.now.place) × (shape.now.select ≡ other.now.select)) }
+{
+    shape.table() == other.table() && shape.select() == other.select()
+}
+
+/// Whether the two ask the same of the same table, but for the filter. O(the columns with their constraints).
+fn same_shape(shape: &Shape, other: &Shape) -> bool
+    ensures { Decides result (shape.now ≡ other.now) }
+{
+    selects_like(shape, other) && reads_like(shape, other)
+}
+
+/// Whether the two ask the same but for their filters.
+pub(crate) fn asks_like(request: &Request, other: &Request) -> bool
+    ensures { Decides result (asked_by request.now ≡ asked_by other.now) }
+{
+    same_shape(request.shape(), other.shape())
+}
