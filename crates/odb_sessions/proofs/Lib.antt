@@ -11,6 +11,7 @@ mod Copies
 mod Counted
 pub mod Crossing
 mod Decisions
+mod Digests
 mod Earlier
 mod Endings
 mod FirstTexts

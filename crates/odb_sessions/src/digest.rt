@@ -2,7 +2,8 @@
 ghost use Rattle.std.specs.Prelude.{◌≡◌, map};
 ghost use Rattle.odb_atoms.specs.Represented.Atom.{atom_of};
 ghost use Rattle.odb_cond.specs.Represented.Filter.{member_of};
-ghost use Rattle.odb_tables.specs.Represented.Digest.{after_atom};
+ghost use Rattle.odb_atoms.specs.Represented.Value.{pair_of};
+ghost use Rattle.odb_tables.specs.Represented.Digest.{after_atom, after_atoms, after_pairs, after_value};
 ghost use Rattle.odb_sessions.specs.Represented.Alike.{likeness_in, stand_in};
 ghost use Rattle.odb_sessions.specs.Represented.Digest as spec;
 
@@ -15,7 +16,7 @@ use odb_tables::Key;
 use std::hash::{DefaultHasher, Hash, Hasher};
 
 /// The digest of what is composed for the client of a monitor in this way: what is alike has the same, other seldom has.
-/// O(n) for n tables, and the members of their filters with the bytes of their first atoms.
+/// O(n) for n tables, and the members and atoms of their filters, with their bytes.
 pub(crate) fn digest_of<'a>(monitor: &'a Monitor, way: Way<'a>) -> u64
     ensures { result ≡ spec.digest (likeness_in monitor.now way.entry) }
 {
@@ -52,14 +53,14 @@ fn feed_place(state: &mut DefaultHasher, place: Option<(TableId, u64)>)
     }
 }
 
-/// Feeds the first atom in each member of the filter. O(the members and the bytes of these atoms).
+/// Feeds the atoms in each member of the filter.
 fn feed_filter(state: &mut DefaultHasher, filter: &Filter)
     ensures { state.new ≡ spec.after_filter state.old filter.now }
 {
     feed_members(state, filter.members());
 }
 
-/// Feeds the first atom in each of the members.
+/// Feeds the atoms in each of the members.
 fn feed_members(state: &mut DefaultHasher, members: &[Member])
     ensures { state.new ≡ spec.after_filter state.old (map member_of members.now) }
 {
@@ -68,7 +69,7 @@ fn feed_members(state: &mut DefaultHasher, members: &[Member])
     }
 }
 
-/// Feeds the first atom in the member.
+/// Feeds the atoms in the member.
 fn feed_member(state: &mut DefaultHasher, member: &Member)
     ensures { state.new ≡ spec.after_member state.old (member_of member.now) }
 {
@@ -78,23 +79,30 @@ fn feed_member(state: &mut DefaultHasher, member: &Member)
     }
 }
 
-/// Feeds the first element of a set, and nothing of a map.
+/// Feeds the atoms of the value.
 fn feed_value(state: &mut DefaultHasher, value: &Value)
-    ensures { state.new ≡ spec.after_value state.old value.now }
+    ensures { state.new ≡ after_value state.old value.now }
 {
     match value.entries() {
-        Entries::Set(atoms) => feed_first(state, atoms),
-        Entries::Map(_) => {}
+        Entries::Set(elements) => feed_elements(state, elements),
+        Entries::Map(pairs) => feed_pairs(state, pairs),
     }
 }
 
-/// Feeds the first of these atoms.
-fn feed_first(state: &mut DefaultHasher, atoms: &[Atom])
-    ensures { state.new ≡ spec.after_first state.old (map atom_of atoms.now) }
+fn feed_elements(state: &mut DefaultHasher, elements: &[Atom])
+    ensures { state.new ≡ after_atoms state.old (map atom_of elements.now) }
 {
-    match atoms {
-        [first, ..] => feed_atom(state, first),
-        [] => {}
+    for element in elements {
+        feed_atom(state, element);
+    }
+}
+
+fn feed_pairs(state: &mut DefaultHasher, pairs: &[(Atom, Atom)])
+    ensures { state.new ≡ after_pairs state.old (map pair_of pairs.now) }
+{
+    for pair in pairs {
+        feed_atom(state, &pair.0);
+        feed_atom(state, &pair.1);
     }
 }
 

@@ -1,24 +1,13 @@
--- By what number decisions are found: what a hasher makes of where clients stand, and of the first atoms in their filters.
+-- By what number decisions are found: what a hasher makes of where clients stand, and of the atoms in their filters.
 use Rattle.std.specs.Prelude.{ℕ, List, [], ◌∷◌, fold, Option, Some, None}
 use Rattle.std.specs.Hash.{u64, usize}
 use Rattle.std.specs.Hash.DefaultHasher as sip
 use Rattle.std.specs.declared.hash.DefaultHasher.{DefaultHasher}
-use Rattle.odb_atoms.specs.Atom.{Atom}
 use Rattle.odb_cond.specs.Filter.{Filter, Member, always, when}
-use Rattle.odb_atoms.specs.FinSet as set
-use Rattle.odb_atoms.specs.Value.{Value, map_of, set_of}
 use Rattle.odb_sessions.specs.Alike.{Likeness, Stand}
-use Rattle.odb_tables.specs.Represented.Digest.{after_atom}
+use Rattle.odb_tables.specs.Represented.Digest.{after_value}
 
-abbrev pub after_first : DefaultHasher → List Atom → DefaultHasher
-after_first h [] = h
-after_first h (a ∷ more) = after_atom h a
-
-abbrev pub after_value : DefaultHasher → Value → DefaultHasher
-after_value h (set_of s) = after_first h (set.items s)
-after_value h (map_of m) = h
-
--- the hasher after the first atom in the member
+-- the hasher after the atoms in the member
 abbrev pub after_member : DefaultHasher → Member → DefaultHasher
 after_member h (always b) = h
 after_member h (when c) = after_value h c.value
