@@ -261,7 +261,8 @@ impl Value {
     }
 
     /// Whether each element or pair of `other` is in this value, which a set and a map never say of
-    /// each other (RFC 7047, section 5.1, `<condition>`: "includes"). O(m + n).
+    /// each other (RFC 7047, section 5.1, `<condition>`: "includes"). O(m + n)
+    /// comparisons for m of `other` and n of this, O(m log n) where m is less than n / 16.
     pub fn includes(&self, other: &Value) -> bool
         ensures { result ≡ model.includes_all self.now other.now }
     {
@@ -273,7 +274,8 @@ impl Value {
     }
 
     /// Whether no element or pair of `other` is in this value, which a set and a map never say of
-    /// each other (RFC 7047, section 5.1, `<condition>`: "excludes"). O(m + n).
+    /// each other (RFC 7047, section 5.1, `<condition>`: "excludes"). O(m + n)
+    /// comparisons for m of `other` and n of this, O(m log n) where m is less than n / 16.
     pub fn excludes(&self, other: &Value) -> bool
         ensures { result ≡ excludes_all self.now other.now }
     {

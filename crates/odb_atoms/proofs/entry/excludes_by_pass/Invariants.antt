@@ -1,7 +1,7 @@
 use Rattle.std.proofs.Common.{◌≡◌, map, not, ◌+◌, length}
 use Rattle.std.specs.List.{list_all}
 use Rattle.odb_atoms.specs.Represented.Entry.{has_entry, IsRising}
-use Rattle.odb_atoms.proofs.entry.excludes.Given as goal
+use Rattle.odb_atoms.proofs.entry.excludes_by_pass.Given as goal
 
 abbrev pub invariant-loop-entries_left : goal.invariant-loop-entries_left
 invariant-loop-entries_left g l =

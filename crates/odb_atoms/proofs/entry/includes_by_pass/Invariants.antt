@@ -1,7 +1,7 @@
 use Rattle.std.proofs.Common.{◌≡◌, map, length}
 use Rattle.std.specs.List.{list_all}
 use Rattle.odb_atoms.specs.Represented.Entry.{has_entry, IsRising}
-use Rattle.odb_atoms.proofs.entry.includes.Given as goal
+use Rattle.odb_atoms.proofs.entry.includes_by_pass.Given as goal
 
 abbrev pub invariant-loop-wanted_left : goal.invariant-loop-wanted_left
 invariant-loop-wanted_left g l =
