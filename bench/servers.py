@@ -1,8 +1,9 @@
 """The servers that benches measure, ours and ovsdb-server where that is installed, with clients that take as little time as
 Python lets them. A bench sets SCHEMA; both servers listen on the loopback over it.
 
-ovsdb-server is Debian's package openvswitch-switch; tests/daemon.py says how it is found. (It asks a client that says nothing
-for 5 seconds whether it is there, and leaves it after 10: no client here is needed for as long.)
+ovsdb-server is Debian's package openvswitch-switch; tests/daemon.py says how it is found. It asks a client that says nothing
+for 5 seconds whether it is there, and leaves it after 10; so it does where it was too busy to hear the answer. A bench that
+keeps it as busy measures `Patient`, which doesn't ask.
 """
 
 import json
@@ -10,6 +11,7 @@ import multiprocessing
 import os
 import resource
 import shlex
+import subprocess
 import sys
 import time
 
@@ -39,10 +41,34 @@ class Theirs(daemon.OvsdbServer):
         super().__init__(schema_in(folder))
 
 
-def kinds():
+REMOTES = {
+    "name": "Remotes",
+    "version": "1.0.0",
+    "tables": {
+        "All": {"columns": {"remotes": {"type": {"key": {"type": "uuid", "refTable": "Remote"}}}}, "isRoot": True},
+        "Remote": {"columns": {"target": {"type": "string"}, "inactivity_probe": {"type": {"key": "integer", "min": 0, "max": 1}}}},
+    },
+}
+
+
+class Patient(Theirs):
+    """ovsdb-server, which doesn't ask its clients whether they are there: a second database says how it listens."""
+
+    def listening(self):
+        schema, database = (os.path.join(self.folder.name, name) for name in ("remotes.json", "remotes"))
+        with open(schema, "w") as file:
+            json.dump(REMOTES, file)
+        remote = {"op": "insert", "table": "Remote", "uuid-name": "it", "row": {"target": "ptcp:0:127.0.0.1", "inactivity_probe": 0}}
+        every = {"op": "insert", "table": "All", "row": {"remotes": ["named-uuid", "it"]}}
+        for words in (["create", database, schema], ["transact", database, json.dumps(["Remotes", remote, every])]):
+            subprocess.run([TOOL, *words], stdout=subprocess.DEVNULL, check=True)
+        return ["--remote=db:Remotes,All,remotes", database]
+
+
+def kinds(theirs=Theirs):
     """The servers that are there. Where ovsdb-server isn't, it says so."""
     if SERVER and TOOL:
-        return [Ours, Theirs]
+        return [Ours, theirs]
     print("ovsdb-server isn't installed (Debian's package openvswitch-switch): nothing is beside ours")
     return [Ours]
 

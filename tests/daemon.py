@@ -152,7 +152,7 @@ class OvsdbServer(Served):
         if made.returncode:
             self.folder.cleanup()
             raise Wrong(made.stderr.strip())
-        words = [SERVER, "--remote=ptcp:0:127.0.0.1", "--no-chdir", f"--unixctl={self.folder.name}/ctl", f"--log-file={log}", "-vfile:info", "-vconsole:off", database]
+        words = [SERVER, *self.listening(), "--no-chdir", f"--unixctl={self.folder.name}/ctl", f"--log-file={log}", "-vfile:info", "-vconsole:off", database]
         super().__init__(subprocess.Popen(words, stdout=subprocess.DEVNULL, stderr=subprocess.DEVNULL))
         try:
             until(lambda: self.listens(log), "ovsdb-server listens")
@@ -163,6 +163,10 @@ class OvsdbServer(Served):
     def made(self, database, schema):
         """The command that makes the file of the database."""
         return [TOOL, "create", database, schema]
+
+    def listening(self):
+        """The words by which it listens."""
+        return ["--remote=ptcp:0:127.0.0.1"]
 
     def listens(self, log):
         if os.path.exists(log):
