@@ -14,6 +14,7 @@ use crate::columns::Columns;
 use crate::printer::Printer;
 use crate::row_cells::RowCells;
 use crate::value::put_value;
+use json::Token;
 use odb_atoms::Value;
 use odb_cond::Selector;
 use std::alloc::AllocError;
@@ -35,7 +36,7 @@ pub enum Form<'a> {
 fn put_member(out: &mut Printer, name: &str, value: &Value) -> Result<(), AllocError>
     ensures { OnOk result (out.new ≡ out.old ++ token.key name.now ∷ tokens_of (write_value value.now)) }
 {
-    out.key(name)?;
+    out.put(Token::Key(name))?;
     put_value(out, value)
 }
 
@@ -123,7 +124,7 @@ pub fn put_object(
         (row_object (map (monitored_as columns.now) named.now)
         (map (named_by form.now) (map (monitored_as columns.now) named.now)))) }
 {
-    out.begin_object()?;
+    out.put(Token::BeginObject)?;
     put_columns(out, columns, named, form)?;
-    out.end_object()
+    out.put(Token::EndObject)
 }

@@ -10,6 +10,7 @@ ghost use Rattle.odb_request.specs.Represented.Kind.{notation_of};
 
 use crate::part::Part;
 use crate::printer::Printer;
+use json::Token;
 use odb_request::Kind;
 use std::alloc::{AllocError, Global};
 use std::marker::Model;
@@ -123,9 +124,9 @@ fn put_object(
     ensures tokens { OnOk result (out.new ≡ out.old ++ (begin_object ∷ (flat_map (part_tokens (notation_of kind) first) parts.now ++ end_object ∷ []))) }
     ensures shown { IfOk result (λ shown. shown ≡ list_any (λ p. not (is_silent first p)) parts.now) }
 {
-    out.begin_object()?;
+    out.put(Token::BeginObject)?;
     let shown = put_parts(alloc, kind, first, parts, out)?;
-    out.end_object()?;
+    out.put(Token::EndObject)?;
     Ok(shown)
 }
 

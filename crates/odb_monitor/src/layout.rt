@@ -17,6 +17,7 @@ use crate::line::{Change, Line};
 use crate::printer::Printer;
 use crate::row_cells::RowCells;
 use crate::value::put_key;
+use json::Token;
 use odb_atoms::Row;
 use odb_cond::Selector;
 use odb_request::{Kind, Shape};
@@ -84,10 +85,10 @@ impl<'a> Layout<'a> {
         ensures { OnOk result (out.new ≡ out.old ++ tokens_of
             (one name.now (row_object self.now.columns (map (named_by form.now) self.now.columns)))) }
     {
-        out.begin_object()?;
-        out.key(name)?;
+        out.put(Token::BeginObject)?;
+        out.put(Token::Key(name))?;
         self.put_object(out, form)?;
-        out.end_object()
+        out.put(Token::EndObject)
     }
 
     /// `{"new": columns, "old": columns}`: every column, and the old values of those that differ
@@ -102,12 +103,12 @@ impl<'a> Layout<'a> {
             (row_object self.now.columns (map (all_in new.now) self.now.columns))
             (row_object self.now.columns (map (old_in old.now new.now) self.now.columns)))) }
     {
-        out.begin_object()?;
-        out.key("new")?;
+        out.put(Token::BeginObject)?;
+        out.put(Token::Key("new"))?;
         self.put_object(out, &Form::All(new))?;
-        out.key("old")?;
+        out.put(Token::Key("old"))?;
         self.put_object(out, &Form::Old(old, new))?;
-        out.end_object()
+        out.put(Token::EndObject)
     }
 
     /// What becomes of a row, as `update` has it: every column of one that comes in or goes out
@@ -250,10 +251,10 @@ impl<'a> Layout<'a> {
         if lines.is_empty() {
             return Ok(());
         }
-        out.key(name)?;
-        out.begin_object()?;
+        out.put(Token::Key(name))?;
+        out.put(Token::BeginObject)?;
         self.put_rows(out, lines)?;
-        out.end_object()
+        out.put(Token::EndObject)
     }
 }
 
@@ -261,8 +262,8 @@ impl<'a> Layout<'a> {
 fn put_delete(out: &mut Printer) -> Result<(), AllocError>
     ensures { OnOk result (out.new ≡ out.old ++ tokens_of (one (codes "delete") null)) }
 {
-    out.begin_object()?;
-    out.key("delete")?;
-    out.null()?;
-    out.end_object()
+    out.put(Token::BeginObject)?;
+    out.put(Token::Key("delete"))?;
+    out.put(Token::Null)?;
+    out.put(Token::EndObject)
 }

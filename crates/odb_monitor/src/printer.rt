@@ -1,10 +1,11 @@
 //! Compact JSON text, printed straight into bytes.
 ghost use Rattle.std.specs.Prelude.{◌≡◌, ◌++◌, ◌∷◌, [], OnOk};
 ghost use Rattle.std.specs.Fmt.{signed_decimal};
-ghost use Rattle.json.specs.Print.{print};
+ghost use Rattle.json.specs.Print.{IsPrintable, print};
+ghost use Rattle.json.specs.Reads.{token_of};
 ghost use Rattle.json.specs.Token as token;
 
-use json::Writer;
+use json::{Token, Writer};
 use std::alloc::{AllocError, Global};
 use std::marker::Model;
 
@@ -40,46 +41,12 @@ impl Printer {
         }
     }
 
-    /// `{`.
-    pub fn begin_object(&mut self) -> Result<(), AllocError>
-        ensures { OnOk result (self.new ≡ self.old ++ token.begin_object ∷ []) }
+    /// Adds a token: whatever is printed but a number, which `integer` adds.
+    pub fn put(&mut self, token: Token<'_>) -> Result<(), AllocError>
+        requires { IsPrintable (token_of token) }
+        ensures { OnOk result (self.new ≡ self.old ++ token_of token.entry ∷ []) }
     {
-        self.writer.begin_object()
-    }
-
-    /// `}`.
-    pub fn end_object(&mut self) -> Result<(), AllocError>
-        ensures { OnOk result (self.new ≡ self.old ++ token.end_object ∷ []) }
-    {
-        self.writer.end_object()
-    }
-
-    /// `[`.
-    pub fn begin_array(&mut self) -> Result<(), AllocError>
-        ensures { OnOk result (self.new ≡ self.old ++ token.begin_array ∷ []) }
-    {
-        self.writer.begin_array()
-    }
-
-    /// `]`.
-    pub fn end_array(&mut self) -> Result<(), AllocError>
-        ensures { OnOk result (self.new ≡ self.old ++ token.end_array ∷ []) }
-    {
-        self.writer.end_array()
-    }
-
-    /// The key of a member, in quotes.
-    pub fn key(&mut self, name: &str) -> Result<(), AllocError>
-        ensures { OnOk result (self.new ≡ self.old ++ token.key name.now ∷ []) }
-    {
-        self.writer.key(name)
-    }
-
-    /// A string, in quotes.
-    pub fn string(&mut self, text: &str) -> Result<(), AllocError>
-        ensures { OnOk result (self.new ≡ self.old ++ token.string text.now ∷ []) }
-    {
-        self.writer.string(text)
+        self.writer.token(token)
     }
 
     /// An integer, in decimal.
@@ -87,20 +54,6 @@ impl Printer {
         ensures { OnOk result (self.new ≡ self.old ++ token.number (signed_decimal integer) ∷ []) }
     {
         self.writer.i64(integer)
-    }
-
-    /// `true` or `false`.
-    pub fn boolean(&mut self, boolean: bool) -> Result<(), AllocError>
-        ensures { OnOk result (self.new ≡ self.old ++ token.boolean boolean ∷ []) }
-    {
-        self.writer.boolean(boolean)
-    }
-
-    /// `null`.
-    pub fn null(&mut self) -> Result<(), AllocError>
-        ensures { OnOk result (self.new ≡ self.old ++ token.null ∷ []) }
-    {
-        self.writer.null()
     }
 
     /// The text.

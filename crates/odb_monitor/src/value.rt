@@ -9,6 +9,7 @@ ghost use Rattle.odb_schema.specs.Json.{array_of, string};
 ghost use Rattle.odb_schema.specs.Notation as notation;
 
 use crate::printer::Printer;
+use json::Token;
 use odb_atoms::{Atom, Entries, Value};
 use std::alloc::AllocError;
 use uuid::Uuid;
@@ -21,7 +22,7 @@ pub fn put_key(out: &mut Printer, uuid: Uuid) -> Result<(), AllocError>
     // By its number, since that is what contracts say of an identifier.
     let by_number = Uuid::from_u128(uuid.as_u128());
     let text = by_number.hyphenated().encode_lower(&mut buffer);
-    out.key(text)
+    out.put(Token::Key(text))
 }
 
 /// An identifier's text as a string.
@@ -31,17 +32,17 @@ fn put_text(out: &mut Printer, uuid: Uuid) -> Result<(), AllocError>
     let mut buffer = [0; 36];
     let by_number = Uuid::from_u128(uuid.as_u128());
     let text = by_number.hyphenated().encode_lower(&mut buffer);
-    out.string(text)
+    out.put(Token::String(text))
 }
 
 /// `["uuid", text]`.
 fn put_uuid(out: &mut Printer, uuid: Uuid) -> Result<(), AllocError>
     ensures { OnOk result (out.new ≡ out.old ++ tokens_of (notation.write_uuid (uuid_of uuid))) }
 {
-    out.begin_array()?;
-    out.string("uuid")?;
+    out.put(Token::BeginArray)?;
+    out.put(Token::String("uuid"))?;
     put_text(out, uuid)?;
-    out.end_array()
+    out.put(Token::EndArray)
 }
 
 /// An atom.
@@ -51,8 +52,8 @@ fn put_atom(out: &mut Printer, atom: &Atom) -> Result<(), AllocError>
 {
     match atom {
         Atom::Integer(integer) => out.integer(*integer),
-        Atom::Boolean(boolean) => out.boolean(*boolean),
-        Atom::Text(text) => out.string(text.as_str()),
+        Atom::Boolean(boolean) => out.put(Token::Bool(*boolean)),
+        Atom::Text(text) => out.put(Token::String(text.as_str())),
         Atom::Uuid(uuid) => put_uuid(out, *uuid),
     }
 }
@@ -73,17 +74,17 @@ fn begin_tagged(out: &mut Printer, tag: &str) -> Result<(), AllocError>
     ensures { OnOk result (out.new
         ≡ out.old ++ token.begin_array ∷ token.string tag.now ∷ token.begin_array ∷ []) }
 {
-    out.begin_array()?;
-    out.string(tag)?;
-    out.begin_array()
+    out.put(Token::BeginArray)?;
+    out.put(Token::String(tag))?;
+    out.put(Token::BeginArray)
 }
 
 /// `]]`.
 fn end_tagged(out: &mut Printer) -> Result<(), AllocError>
     ensures { OnOk result (out.new ≡ out.old ++ token.end_array ∷ token.end_array ∷ []) }
 {
-    out.end_array()?;
-    out.end_array()
+    out.put(Token::EndArray)?;
+    out.put(Token::EndArray)
 }
 
 /// `["set", [atom, ..]]`.
@@ -111,10 +112,10 @@ fn put_set(out: &mut Printer, atoms: &[Atom]) -> Result<(), AllocError>
 fn put_pair(out: &mut Printer, pair: &(Atom, Atom)) -> Result<(), AllocError>
     ensures { OnOk result (out.new ≡ out.old ++ tokens_of (notation.write_pair (pair_of pair.now))) }
 {
-    out.begin_array()?;
+    out.put(Token::BeginArray)?;
     put_atom(out, &pair.0)?;
     put_atom(out, &pair.1)?;
-    out.end_array()
+    out.put(Token::EndArray)
 }
 
 /// Pairs, one after the other.

@@ -12,5 +12,5 @@ returns c =
     let f = named_by c.args.form.now in
     let cs = map (monitored_as c.args.columns.now) c.args.named.now in
     let ts = flat_map (column_tokens f) cs in
-    let built : OnOk c.end_object.result (c.end_object.new.self ≡ ((old ++ begin_object ∷ []) ++ ts) ++ end_object ∷ []) = search rules in
-    on_ok_weaker c.end_object.result (λ e. e ∙ around old ts begin_object end_object ∙ ap (λ l. old ++ l) (sym (object_tokens f cs))) built
+    let built : OnOk c.put-2.result (c.put-2.new.self ≡ ((old ++ begin_object ∷ []) ++ ts) ++ end_object ∷ []) = search rules in
+    on_ok_weaker c.put-2.result (λ e. e ∙ around old ts begin_object end_object ∙ ap (λ l. old ++ l) (sym (object_tokens f cs))) built

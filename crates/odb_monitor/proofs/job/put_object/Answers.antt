@@ -9,5 +9,5 @@ pub returns-clause-tokens : goal.returns-clause-tokens
 returns-clause-tokens c =
     let old = c.args.out.now in
     let ts = flat_map (part_tokens (notation_of c.args.kind) c.args.first) c.args.parts.now in
-    let built : c.end_object.new.self ≡ ((old ++ begin_object ∷ []) ++ ts) ++ end_object ∷ [] = search rules in
+    let built : c.put-2.new.self ≡ ((old ++ begin_object ∷ []) ++ ts) ++ end_object ∷ [] = search rules in
     built ∙ around old ts begin_object end_object

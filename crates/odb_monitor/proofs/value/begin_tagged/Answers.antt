@@ -7,5 +7,5 @@ pub returns : goal.returns
 returns c =
     let old = c.args.out.now in
     let tag = string c.args.tag.now in
-    let built : OnOk c.begin_array-2.result (c.begin_array-2.new.self ≡ ((old ++ begin_array ∷ []) ++ tag ∷ []) ++ begin_array ∷ []) = search rules in
-    on_ok_weaker c.begin_array-2.result (λ e. e ∙ append_assoc (old ++ begin_array ∷ []) (tag ∷ []) (begin_array ∷ []) ∙ append_assoc old (begin_array ∷ []) (tag ∷ begin_array ∷ [])) built
+    let built : OnOk c.put-3.result (c.put-3.new.self ≡ ((old ++ begin_array ∷ []) ++ tag ∷ []) ++ begin_array ∷ []) = search rules in
+    on_ok_weaker c.put-3.result (λ e. e ∙ append_assoc (old ++ begin_array ∷ []) (tag ∷ []) (begin_array ∷ []) ∙ append_assoc old (begin_array ∷ []) (tag ∷ begin_array ∷ [])) built

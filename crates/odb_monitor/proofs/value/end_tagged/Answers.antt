@@ -6,5 +6,5 @@ use Rattle.odb_monitor.proofs.value.end_tagged.Goals as goal
 pub returns : goal.returns
 returns c =
     let old = c.args.out.now in
-    let built : OnOk c.end_array-2.result (c.end_array-2.new.self ≡ (old ++ end_array ∷ []) ++ end_array ∷ []) = search rules in
-    on_ok_weaker c.end_array-2.result (λ e. e ∙ append_assoc old (end_array ∷ []) (end_array ∷ [])) built
+    let built : OnOk c.put-2.result (c.put-2.new.self ≡ (old ++ end_array ∷ []) ++ end_array ∷ []) = search rules in
+    on_ok_weaker c.put-2.result (λ e. e ∙ append_assoc old (end_array ∷ []) (end_array ∷ [])) built

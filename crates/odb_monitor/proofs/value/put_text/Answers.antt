@@ -11,4 +11,4 @@ pub returns : goal.returns
 returns c =
     let is_number : to_be_bytes w128 c.as_u128.result ≡ to_be_bytes w128 (uuid_of c.args.uuid).number = ap (to_be_bytes w128) (number-uuid_of c.args.uuid c.as_u128.result c.as_u128.ensures c.as_u128.type_inv) in
     let is_text : c.encode_lower-text.result.now ≡ uuid_text (uuid_of c.args.uuid) = c.encode_lower-text.ensures.text ∙ ap (hyphenated_text lower) (c.hyphenated.ensures ∙ c.from_u128-by_number.ensures ∙ is_number) in
-    subst (λ s. OnOk c.string.result (c.string.new.self ≡ c.args.out.now ++ token.string s ∷ [])) is_text c.string.ensures
+    subst (λ s. OnOk c.put.result (c.put.new.self ≡ c.args.out.now ++ token.string s ∷ [])) is_text c.put.ensures

@@ -15,5 +15,5 @@ returns c =
     let lines = c.args.lines.now in
     let some : (length lines == 0) ≡ false = search rules in
     let ts = flat_map (row_tokens l) (map (line_in l.columns) lines) in
-    let built : OnOk c.end_object.result (c.end_object.new.self ≡ (((old ++ key name ∷ []) ++ begin_object ∷ []) ++ ts) ++ end_object ∷ []) = search rules in
-    on_ok_weaker c.end_object.result (λ e. e ∙ around_named old ts (key name) begin_object end_object ∙ ap (λ xs. old ++ xs) (sym (table_tokens l (line_in l.columns) name lines some))) built
+    let built : OnOk c.put-3.result (c.put-3.new.self ≡ (((old ++ key name ∷ []) ++ begin_object ∷ []) ++ ts) ++ end_object ∷ []) = search rules in
+    on_ok_weaker c.put-3.result (λ e. e ∙ around_named old ts (key name) begin_object end_object ∙ ap (λ xs. old ++ xs) (sym (table_tokens l (line_in l.columns) name lines some))) built
