@@ -18,7 +18,7 @@ use Rattle.odb_sessions.specs.Represented.Ready.{pending_of}
 use Rattle.odb_sessions.specs.Represented.Taking.{coming_sending, pending_by, text_around, text_planned}
 use Rattle.odb_sessions.specs.Sending.{Framed, Sending, due_sending, framed_due, sent_with}
 use Rattle.odb_sessions.specs.Taken.{Pending, sessions_in}
-use Rattle.odb_sessions.specs.declared.composing.Message.{Message}
+use Rattle.odb_sessions.specs.declared.composing.Envelope.{Envelope}
 use Rattle.odb_sessions.specs.declared.jobs.Planned.{Planned}
 use Rattle.odb_sessions.specs.declared.ready.Ready.{Ready}
 use Rattle.odb_sessions.specs.declared.taking.Coming.{Coming}
@@ -47,7 +47,7 @@ as_many_ready js rs ps same = sym (length_mapped pending_of rs) ∙ ap length sa
 
 -- ---- what is composed is what is due
 
-module _ (s : Schema) (revision : Revision) (js : List Job) (x : Session) (m : Message) where
+module _ (s : Schema) (revision : Revision) (js : List Job) (x : Session) (m : Envelope) where
   abbrev due_out : Option Due
   due_out = (plan (served_by s) revision.db x).out
 

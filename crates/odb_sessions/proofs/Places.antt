@@ -13,7 +13,7 @@ use Rattle.odb_sessions.specs.Represented.Composed.{IsFrame, framing, sending_un
 use Rattle.odb_sessions.specs.Represented.Taking.{coming_sending, text_around, text_planned}
 use Rattle.odb_sessions.specs.Sending.{Sending, finished, sent_with}
 use Rattle.odb_sessions.specs.Taken.{text_from, whole_text}
-use Rattle.odb_sessions.specs.declared.composing.Message.{Message}
+use Rattle.odb_sessions.specs.declared.composing.Envelope.{Envelope}
 use Rattle.odb_sessions.specs.declared.taking.Coming.{Coming}
 use Rattle.odb_sessions.specs.declared.taking.Coming.TheVariants.{Composed, Queued}
 
@@ -80,7 +80,7 @@ still_for a b job place kept was all more = was all (keeps_on a b all kept more)
 -- ---- messages
 
 -- what is sent by a message of the job that stands at its place
-pub sent_by : (all : List Job) (m : Message) (n : ℕ) (text : Data → List ℕ) (j : Job) (d : Data) → IsFrame m n text → slice_get all n ≡ Some j → updates_of j ≡ Some d
+pub sent_by : (all : List Job) (m : Envelope) (n : ℕ) (text : Data → List ℕ) (j : Job) (d : Data) → IsFrame m n text → slice_get all n ≡ Some j → updates_of j ≡ Some d
     → sending_under all m ≡ Some (sent_with (record { job = j; text = text }) d)
 sent_by all m n text j d frame at is =
     let around : (λ (u : Data). whole_text m.before.items (compact_text u) m.after.items) ≡ text = λ i u. frame.1 u i in
@@ -95,7 +95,7 @@ none_told j f None e = refl
 none_told j f (Some d) e = absurd (none-some (certainly j) e)
 
 -- the job at the place is told, with this text around what is composed of it
-pub some_told : (all : List Job) (m : Message) (n : ℕ) (text : Data → List ℕ) (j : Job) → IsFrame m n text → (o : Option Data) → updates_of j ≡ o
+pub some_told : (all : List Job) (m : Envelope) (n : ℕ) (text : Data → List ℕ) (j : Job) → IsFrame m n text → (o : Option Data) → updates_of j ≡ o
     → Some (slice_get all n) ≡ option_map certainly (option_map (λ (u : Data). j) o)
     → Some (sending_under all m) ≡ option_map certainly (option_map (sent_with (record { job = j; text = text })) o)
 some_told all m n text j frame None is e = absurd (none-some (slice_get all n) (sym e))

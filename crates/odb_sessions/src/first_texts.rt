@@ -1,5 +1,5 @@
 //! Texts of first replies: until the database changes, who asks the same is told the same, by one text. [P 9.2, 10.3]
-ghost use Rattle.std.specs.Prelude.{◌≡◌, [], ◌++◌, ◌∷◌, IfOk, IfSome, Some};
+ghost use Rattle.std.specs.Prelude.{◌≡◌, [], IfOk, IfSome, Some};
 ghost use Rattle.std.specs.Bool.{OnTrue};
 ghost use Rattle.odb_sessions.specs.Composed.{asked_of};
 ghost use Rattle.odb_sessions.specs.FirstTexts.{AreFirstTexts, AsksSo, IsFirstText};
@@ -95,15 +95,6 @@ fn ask_so(requests: &[Request], tables: &[Watching]) -> bool
         }
     }
     true
-}
-
-impl Watching {
-    /// Whether this is asked of it. `false` says nothing.
-    fn asks(&self, request: &Request) -> bool
-        ensures { OnTrue result (request.now ≡ self.now.request) }
-    {
-        request.same(&self.request)
-    }
 }
 
 /// The texts of the newest first replies, each of other requests.

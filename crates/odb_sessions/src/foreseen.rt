@@ -17,7 +17,7 @@ ghost use Rattle.odb_sessions.specs.Sending.{due_sending, update_sending};
 ghost use Rattle.odb_sessions.specs.Tied.{AreLive};
 ghost use Rattle.odb_sessions.specs.Book.{revision_at};
 
-use crate::composing::Message;
+use crate::composing::Envelope;
 use crate::first_texts::FirstTexts;
 use crate::id::Id;
 use crate::monitor::Monitor;
@@ -67,7 +67,7 @@ impl<'a> Ahead<'a> {
         wanted: &mut Wanted<'a>,
         under: Under<'a>,
         recent: &Recent,
-    ) -> Result<Option<Message>, AllocError>
+    ) -> Result<Option<Envelope>, AllocError>
         requires { AreLive wanted.old.chains (marks_in self.now.held) }
         ensures text { IfOk result (λ message. (h : Service) → Tells wanted.new.jobs message
             (update_sending h (revision_at wanted.old.chains recent.now) (refilter (filters_in under.entry) (watch_of self.now.held).requests) (seen_ahead wanted.old.chains.db self.now))) }
@@ -124,7 +124,7 @@ fn pass<'a>(
     id: &Id,
     under: Under<'a>,
     recent: &Recent,
-) -> Result<Option<Message>, AllocError>
+) -> Result<Option<Envelope>, AllocError>
     requires { AreLive wanted.old.chains (marks_ahead monitors.old.items) }
     ensures text { IfOk result (λ message. (s : Schema) → Tells wanted.new.jobs message
         (option_map (due_sending (served_by s) (revision_at wanted.old.chains recent.now)) (due (served_by s) wanted.old.chains.db (item_in id.now under.entry) (map (seen_ahead wanted.old.chains.db) monitors.old.items)))) }
@@ -147,7 +147,7 @@ fn pass<'a>(
 #[derive(Drop)]
 pub(crate) struct Rest {
     pub(crate) monitors: usize,
-    pub(crate) message: Option<Message>,
+    pub(crate) message: Option<Envelope>,
 }
 
 /// What these monitors have due. The costs are those of `Ahead::update` for each monitor up to the first that is
@@ -233,7 +233,7 @@ impl<'a> Planner<'a> {
         id: &Id,
         under: Under<'a>,
         recent: &Recent,
-    ) -> Result<Option<Message>, AllocError>
+    ) -> Result<Option<Envelope>, AllocError>
         ensures text { IfOk result (λ message. (s : Schema) → Tells self.new.jobs message
             (option_map (due_sending (served_by s) (revision_at self.old.chains recent.now)) (due (served_by s) self.old.chains.db (item_in id.now under.entry) self.old.monitors))) }
         ensures passed { OnOk result ((s : Schema) → self.new.monitors

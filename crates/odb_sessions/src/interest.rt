@@ -116,12 +116,3 @@ fn after<'a>(filters: &'a [Asked], tables: &[Watching]) -> Option<&'a [Asked]>
     }
     Some(left)
 }
-
-impl Watching {
-    /// Tells whether this is what is asked of its table.
-    fn is_asked(&self, asked: &Asked) -> bool
-        ensures { OnTrue result (asked.now ≡ filter_asked self.now) }
-    {
-        asked.is(self.request.table(), self.request.filter())
-    }
-}

@@ -13,12 +13,11 @@ ghost use Rattle.odb_sessions.specs.Tied.{AreLive};
 ghost use Rattle.odb_sessions.specs.declared.way.Way.TheVariants as way;
 ghost use Rattle.odb_tables.specs.Database as model_db;
 
-use crate::again::parts_again;
 use crate::composing::parts_of;
 use crate::first_texts::FirstText;
 use crate::monitor::{Monitor, Watching};
+use crate::owed::{parts_again, parts_since};
 use crate::planning::parts_under;
-use crate::resuming::parts_since;
 use crate::under::{Under, requests_under};
 use crate::way::Way;
 use odb_chain::Chains;

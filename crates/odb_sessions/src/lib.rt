@@ -4,11 +4,9 @@
 //! unless its own page says otherwise. A call whose result has no such error takes no memory.
 #![tactic(auto)]
 
-mod again;
 mod alike;
 mod applying;
 mod asked;
-mod carrying;
 mod changing;
 mod composing;
 mod copying;
@@ -37,7 +35,6 @@ mod queue;
 mod ready;
 mod refreshing;
 mod resting;
-mod resuming;
 mod round;
 mod session;
 mod sessions;

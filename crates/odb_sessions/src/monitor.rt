@@ -1,17 +1,26 @@
 //! Monitors: what is asked, and what the client was told. [P 9.1, 9.2]
-ghost use Rattle.std.specs.Prelude.{◌≡◌, ◌+◌, ◌^◌, ◌<◌, [], ◌∷◌, bytes_eq, length, map, IfOk, OnErr};
+ghost use Rattle.std.specs.Prelude.{IfOk, OnErr, [], bytes_eq, length, map, option_map, ◌+◌, ◌-◌, ◌<◌, ◌^◌, ◌∷◌, ◌≡◌};
 ghost use Rattle.std.specs.Arc.{arc_value};
 ghost use Rattle.std.specs.List.{list_any};
 ghost use Rattle.odb_chain.specs.Chains.{IsNow};
 ghost use Rattle.odb_sessions.specs.Composed.{AreTheirs};
-ghost use Rattle.odb_sessions.specs.Held.{marks_in, table_marks};
+ghost use Rattle.odb_sessions.specs.Held.{marks_in, monitor_of, table_marks, watch_of};
 ghost use Rattle.odb_sessions.specs.Started.{AreOfTables};
-ghost use Rattle.odb_sessions.specs.Tied.{Adds, Frees, HasAll, counted_in};
+ghost use Rattle.odb_sessions.specs.Tied.{Adds, Frees, HasAll, KeepsRoom, counted_in};
+ghost use Rattle.std.specs.Bool.{OnTrue};
+ghost use Rattle.odb_service.specs.Service.{Service};
+ghost use Rattle.odb_service.specs.Session.{brought, changed, refilter};
+ghost use Rattle.odb_sessions.specs.Moved.{Moves, all_now};
+ghost use Rattle.odb_sessions.specs.Represented.Queued.{filters_of};
+ghost use Rattle.odb_sessions.specs.Owed.{filter_asked};
 
 use crate::id::Id;
+use crate::item::Changes;
+use crate::moving::{ask_all_under, bring_all, bring_all_under};
 use crate::past::Past;
 use odb_chain::{Chains, Mark};
 use odb_cond::Filter;
+use odb_interest::Asked;
 use odb_request::{Kind, Request};
 use std::alloc::{AllocError, Global};
 use std::marker::Model;
@@ -67,6 +76,20 @@ impl Watching {
             mark,
         } = self;
         past.release(mark);
+    }
+
+    /// Whether this is asked of it. `false` says nothing.
+    pub(crate) fn asks(&self, request: &Request) -> bool
+        ensures { OnTrue result (request.now ≡ self.now.request) }
+    {
+        request.same(&self.request)
+    }
+
+    /// Tells whether this is what is asked of its table.
+    pub(crate) fn is_asked(&self, asked: &Asked) -> bool
+        ensures { OnTrue result (asked.now ≡ filter_asked self.now) }
+    {
+        asked.is(self.request.table(), self.request.filter())
     }
 }
 
@@ -125,6 +148,41 @@ impl Monitor {
             since: _,
         } = self;
         release_all(tables, past);
+    }
+
+    /// Its client has what its tables are now.
+    pub(crate) fn bring(&mut self, chains: &mut Chains)
+        requires has { HasAll chains.old (marks_in self.old) }
+        requires few { counted_in chains.old.live < 2 ^ 64 - 1 }
+        requires now { IsNow chains.old }
+        ensures monitor { (h : Service) → monitor_of self.new ≡ brought h chains.old.db (watch_of self.old).requests (monitor_of self.old) }
+        ensures marks { marks_in self.new ≡ all_now chains.old (marks_in self.old) }
+        ensures moved { Moves chains.old chains.new (marks_in self.old) }
+        ensures room { KeepsRoom chains.old chains.new }
+    {
+        bring_all(&mut self.tables, chains);
+    }
+
+    /// Its client has what its tables are now, under these filters.
+    pub(crate) fn bring_under(&mut self, changes: Changes, chains: &mut Chains)
+        requires has { HasAll chains.old (marks_in self.old) }
+        requires few { counted_in chains.old.live < 2 ^ 64 - 1 }
+        requires now { IsNow chains.old }
+        ensures monitor { (h : Service) → monitor_of self.new ≡ brought h chains.old.db (refilter (filters_of changes) (watch_of self.old).requests) (monitor_of self.old) }
+        ensures marks { marks_in self.new ≡ all_now chains.old (marks_in self.old) }
+        ensures moved { Moves chains.old chains.new (marks_in self.old) }
+        ensures room { KeepsRoom chains.old chains.new }
+    {
+        bring_all_under(&mut self.tables, changes, chains);
+    }
+
+    /// It has this id and these filters; what its client was told stays.
+    pub(crate) fn rename(&mut self, id: Arc<Id>, changes: Changes)
+        ensures monitor { (h : Service) → monitor_of self.new ≡ record (monitor_of self.old) { watch = changed h (arc_value id) (filters_of changes) (watch_of self.old) } }
+        ensures marks { marks_in self.new ≡ marks_in self.old }
+    {
+        ask_all_under(&mut self.tables, changes);
+        self.id = id;
     }
 }
 

@@ -8,7 +8,7 @@ ghost use Rattle.odb_sessions.specs.Represented.Composed.{IsFrame};
 ghost use Rattle.odb_wire.specs.Message.{has_left_out, id_of};
 ghost use Rattle.odb_wire.specs.Shown.{request_data};
 
-use crate::composing::Message;
+use crate::composing::Envelope;
 use crate::granted::Granted;
 use odb_rpc::{after_result, after_updates, before_result, before_since, reply_id};
 use odb_wire::Request;
@@ -48,12 +48,12 @@ impl Origin {
     }
 
     /// The reply, with the result that is composed of the job. O(n) for an id of n bytes.
-    pub(crate) fn reply(&self, alloc: Global, job: usize) -> Result<Message, AllocError>
+    pub(crate) fn reply(&self, alloc: Global, job: usize) -> Result<Envelope, AllocError>
         ensures { IfOk result (λ message. IsFrame message job (λ d. compact_text (reply (id_of self.now) d))) }
     {
         let before = self.before.clone()?;
         let after = Vec::from_slice(alloc, after_result())?;
-        Ok(Message { before, job, after })
+        Ok(Envelope { before, job, after })
     }
 
     /// Makes the reply to who named a commit: whether that was found, the number of the newest commit, and what is
@@ -64,12 +64,12 @@ impl Origin {
         found: bool,
         number: Uuid,
         job: usize,
-    ) -> Result<Message, AllocError>
+    ) -> Result<Envelope, AllocError>
         ensures { IfOk result (λ message. IsFrame message job (λ d. compact_text (reply (id_of self.now) (since_result found (uuid_of number) d)))) }
     {
         let before = before_since(self.before.clone()?, found, number)?;
         let after = Vec::from_slice(alloc, after_updates())?;
-        Ok(Message { before, job, after })
+        Ok(Envelope { before, job, after })
     }
 
     /// An equal one. O(bytes).

@@ -1,19 +1,24 @@
 //! Tables of monitors of which something may be owed. [P 9.2, 9.3]
-ghost use Rattle.std.specs.Prelude.{◌≡◌, IfOk, length, map, option_map, zip};
+ghost use Rattle.std.specs.Prelude.{IfOk, length, map, option_map, take, ◌≡◌};
 ghost use Rattle.std.specs.Arc.{arc_value};
 ghost use Rattle.odb_chain.specs.Chains.{IsLive};
 ghost use Rattle.odb_monitor.specs.Represented.Sides.{table_then, told_in};
 ghost use Rattle.odb_monitor.specs.View.{selected};
 ghost use Rattle.odb_request.specs.Request as model_request;
-ghost use Rattle.odb_sessions.specs.Composed.{IsKnown, all_asked_as, asked_as, part_in};
+ghost use Rattle.odb_sessions.specs.Composed.{IsKnown, all_asked_as, asked_as, asked_of, part_in, part_since};
 ghost use Rattle.odb_sessions.specs.Represented.Told.{told_under};
 ghost use Rattle.odb_tables.specs.Database as model_table;
 ghost use Rattle.odb_tables.specs.Database.{table_at};
+ghost use Rattle.std.specs.List.{All};
+ghost use Rattle.odb_sessions.specs.Foreseen.{all_parts_again, part_again};
+ghost use Rattle.odb_sessions.specs.Represented.Under.{filters_in};
 
 use crate::monitor::Watching;
+use crate::under::{Under, filter_under};
 use odb_chain::{Chains, Mark};
 use odb_cond::Filter;
 use odb_monitor::{Part, Told};
+use odb_recent::Recent;
 use odb_request::Request;
 use odb_tables::TableChange;
 use std::alloc::{AllocError, Global};
@@ -123,6 +128,40 @@ impl Watching {
             None => self.request.filter(),
         }
     }
+
+    /// The part of a job that leads the client to what the request selects, where it was told of the table as it
+    /// is now under these filters. O(1), and what a filter is looked up in.
+    fn part_again<'a>(
+        &'a self,
+        chains: &'a Chains,
+        told: Under<'a>,
+        request: &'a Request,
+    ) -> Part<'a>
+        requires { IsKnown chains.now self.now }
+        ensures { result ≡ part_again chains.now.db (filters_in told.entry) self.now request.now }
+    {
+        let filter = filter_under(told, &self.request);
+        let table = chains.table(&self.mark);
+        Part::new(request, Told::Under(filter), table, None)
+    }
+
+    /// Makes the part of a job that leads a client to what the table is now which was told of it as it was so many
+    /// commits ago. The costs are those of `odb_recent::Recent::since`.
+    fn part_since<'a>(
+        &'a self,
+        alloc: Global,
+        chains: &'a Chains,
+        recent: &Recent,
+        ago: usize,
+    ) -> Result<Part<'a>, AllocError>
+        requires { IsKnown chains.now self.now }
+        ensures { IfOk result (λ part. part ≡ part_since (take ago recent.now.undos) chains.now.db self.now.request) }
+    {
+        let table = chains.table(&self.mark);
+        let changes = recent.since(ago, self.request.table(), table)?;
+        let changes = Arc::new(alloc, changes)?;
+        Ok(Part::new(&self.request, Told::Asked, table, Some(changes)))
+    }
 }
 
 /// A filter that isn't the request's.
@@ -163,4 +202,44 @@ pub(crate) fn all_owed_as<'a>(
         owed.push_reserved(tables[place].owed_as(&requests[place]));
     }
     Ok(owed)
+}
+
+/// The parts for these tables, which lead the client to what the requests select, where it was told of them as
+/// they are now under these filters. For n tables O(n).
+pub(crate) fn parts_again<'a>(
+    alloc: Global,
+    chains: &'a Chains,
+    tables: &'a [Watching],
+    told: Under<'a>,
+    requests: &'a [Request],
+) -> Result<Vec<Part<'a>>, AllocError>
+    requires many { length requests.now ≡ length tables.now }
+    requires known { All (IsKnown chains.now) tables.now }
+    ensures { IfOk result (λ parts. parts.items ≡ all_parts_again chains.now.db (filters_in told.entry) tables.now requests.now) }
+{
+    let mut parts = Vec::with_capacity(alloc, tables.len())?;
+    for place in 0..tables.len() {
+        let part = tables[place].part_again(chains, told, &requests[place]);
+        parts.push_reserved(part);
+    }
+    Ok(parts)
+}
+
+/// Makes the parts for these tables, of a client that was told of them as they were so many commits ago. For each the
+/// costs are those of `odb_recent::Recent::since`.
+pub(crate) fn parts_since<'a>(
+    alloc: Global,
+    chains: &'a Chains,
+    tables: &'a [Watching],
+    recent: &Recent,
+    ago: usize,
+) -> Result<Vec<Part<'a>>, AllocError>
+    requires { All (IsKnown chains.now) tables.now }
+    ensures { IfOk result (λ parts. parts.items ≡ map (part_since (take ago recent.now.undos) chains.now.db) (asked_of tables.now)) }
+{
+    let mut parts = Vec::with_capacity(alloc, tables.len())?;
+    for table in tables {
+        parts.push_reserved(table.part_since(alloc, chains, recent, ago)?);
+    }
+    Ok(parts)
 }

@@ -1,5 +1,5 @@
 //! What is due to the client of a monitor, as it is planned. [P 9.5, 9.8, 10.1]
-ghost use Rattle.std.specs.Prelude.{◌≡◌, true, IfOk, List, Some, length, map, option_map, slice_get};
+ghost use Rattle.std.specs.Prelude.{IfOk, List, Some, length, map, option_map, slice_get, true, ◌++◌, ◌≡◌};
 ghost use Rattle.std.specs.List.{All};
 ghost use Rattle.odb_atoms.specs.Represented.Atom.{uuid_of};
 ghost use Rattle.odb_chain.specs.Chains as model;
@@ -7,17 +7,20 @@ ghost use Rattle.odb_monitor.specs.Job as model_job;
 ghost use Rattle.odb_monitor.specs.Job.{updates_of};
 ghost use Rattle.odb_service.specs.Service.{Service};
 ghost use Rattle.odb_service.specs.Session.{refilter};
-ghost use Rattle.odb_sessions.specs.Composed.{AreNow, IsKnown, all_asked_as, part_to};
+ghost use Rattle.odb_sessions.specs.Composed.{AreNow, IsKnown, all_asked_as, notified_text, part_to};
 ghost use Rattle.odb_sessions.specs.Foreseen.{as_told, seen_ahead};
 ghost use Rattle.odb_sessions.specs.Held.{marks_in, monitor_of, watch_of};
 ghost use Rattle.odb_sessions.specs.Jobs.{Keeps, certainly, if_sent};
-ghost use Rattle.odb_sessions.specs.Represented.Composed.{Tells, sending_under};
+ghost use Rattle.odb_sessions.specs.Represented.Composed.{IsFrame, Tells, sending_under};
 ghost use Rattle.odb_sessions.specs.Represented.Under.{filters_in};
 ghost use Rattle.odb_sessions.specs.Sending.{notifying, sent_with, update_sending};
 ghost use Rattle.odb_sessions.specs.Tied.{AreLive};
 ghost use Rattle.odb_sessions.specs.Book.{revision_at};
+ghost use Rattle.serde_json.specs.Data.{Data};
+ghost use Rattle.serde_json.specs.Written.{compact_text};
+ghost use Rattle.odb_rpc.specs.Represented.Shared.{after_updates};
 
-use crate::composing::{Message, parts_of};
+use crate::composing::{Envelope, parts_of};
 use crate::monitor::{Monitor, Watching};
 use crate::owed::{Owed, all_owed, all_owed_as};
 use crate::under::Under;
@@ -27,6 +30,7 @@ use odb_chain::Chains;
 use odb_monitor::Part;
 use odb_recent::Recent;
 use odb_request::Request;
+use odb_rpc::{after_updates, before_update3, before_updates};
 use std::alloc::{AllocError, Global};
 use uuid::Uuid;
 
@@ -47,7 +51,7 @@ impl Monitor {
         wanted: &mut Wanted<'a>,
         under: Under<'a>,
         recent: &Recent,
-    ) -> Result<Option<Message>, AllocError>
+    ) -> Result<Option<Envelope>, AllocError>
         requires { AreLive wanted.old.chains (marks_in self.now) }
         ensures text { IfOk result (λ message. (h : Service) → Tells wanted.new.jobs message
             (update_sending h (revision_at wanted.old.chains recent.now) (refilter (filters_in under.entry) (watch_of self.now).requests) (seen_ahead wanted.old.chains.db (as_told self.now)))) }
@@ -65,7 +69,7 @@ impl Monitor {
         &'a self,
         wanted: &mut Wanted<'a>,
         recent: &Recent,
-    ) -> Result<Option<Message>, AllocError>
+    ) -> Result<Option<Envelope>, AllocError>
         requires { AreLive wanted.old.chains (marks_in self.now) }
         ensures text { IfOk result (λ message. (h : Service) → Tells wanted.new.jobs message
             (update_sending h (revision_at wanted.old.chains recent.now) (watch_of self.now).requests (monitor_of self.now))) }
@@ -85,7 +89,7 @@ impl Monitor {
         wanted: &mut Wanted<'a>,
         under: Under<'a>,
         recent: &Recent,
-    ) -> Result<Option<Message>, AllocError>
+    ) -> Result<Option<Envelope>, AllocError>
         requires { AreLive wanted.old.chains (marks_in self.now) }
         ensures text { IfOk result (λ message. (h : Service) → Tells wanted.new.jobs message
             (update_sending h (revision_at wanted.old.chains recent.now) (refilter (filters_in under.entry) (watch_of self.now).requests) (monitor_of self.now))) }
@@ -104,7 +108,7 @@ impl Monitor {
         told: Under<'a>,
         under: Under<'a>,
         recent: &Recent,
-    ) -> Result<Option<Message>, AllocError>
+    ) -> Result<Option<Envelope>, AllocError>
         requires { AreLive wanted.old.chains (marks_in self.now) }
         ensures text { IfOk result (λ message. (h : Service) → Tells wanted.new.jobs message
             (update_sending h (revision_at wanted.old.chains recent.now) (refilter (filters_in under.entry) (watch_of self.now).requests) (seen_ahead wanted.old.chains.db (record { held = self.now; told = Some (filters_in told.entry) })))) }
@@ -122,7 +126,7 @@ impl Monitor {
         alloc: Global,
         number: Uuid,
         place: Option<usize>,
-    ) -> Result<Option<Message>, AllocError>
+    ) -> Result<Option<Envelope>, AllocError>
         ensures { IfOk result (λ message. (all : List model_job.Job) (job : model_job.Job)
             → option_map (slice_get all) place ≡ option_map certainly (if_sent job)
             → option_map (sending_under all) message ≡ option_map certainly (option_map (sent_with (notifying (uuid_of number) self.now job)) (updates_of job))) }
@@ -131,6 +135,40 @@ impl Monitor {
             return Ok(None);
         };
         Ok(Some(self.around_updates(alloc, number, job)?))
+    }
+
+    /// Whether its client was told of its tables as they are now, under what is asked. `false` says nothing.
+    pub(crate) fn is_told(&self, chains: &Chains) -> bool
+        requires { AreLive chains.now (marks_in self.now) }
+        ensures { result ≡ true → AreNow chains.now.db self.now.tables }
+    {
+        are_now(self.tables.as_slice(), chains)
+    }
+
+    /// Makes the notification to its client, with the table updates that are composed of the job, where this is the number of
+    /// the newest commit. O(n) for an id of n bytes.
+    pub(crate) fn around_updates(
+        &self,
+        alloc: Global,
+        number: Uuid,
+        job: usize,
+    ) -> Result<Envelope, AllocError>
+        ensures { IfOk result (λ message. IsFrame message job (notified_text (uuid_of number) self.now)) }
+    {
+        let before = self.before_updates(alloc, number)?;
+        let after = Vec::from_slice(alloc, after_updates())?;
+        Ok(Envelope { before, job, after })
+    }
+
+    /// Makes what stands before table updates in a notification to its client.
+    fn before_updates(&self, alloc: Global, number: Uuid) -> Result<Vec<u8>, AllocError>
+        ensures { IfOk result (λ text. (d : Data)
+            → text.items ++ (compact_text d ++ after_updates) ≡ notified_text (uuid_of number) self.now d) }
+    {
+        match self.since {
+            None => before_updates(alloc, self.kind, self.id.printable()),
+            Some(_) => before_update3(alloc, self.id.printable(), number),
+        }
     }
 }
 

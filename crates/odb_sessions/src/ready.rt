@@ -8,7 +8,7 @@ ghost use Rattle.odb_sessions.specs.Represented.Ready.{text_coming};
 ghost use Rattle.odb_sessions.specs.Represented.Taking.{text_around, text_planned};
 ghost use Rattle.odb_sessions.specs.Taken.{whole_text};
 
-use crate::composing::Message;
+use crate::composing::Envelope;
 use crate::out::Out;
 use crate::taking;
 use odb_locks::SessionId;
@@ -18,7 +18,7 @@ use std::sync::Arc;
 
 /// What comes of a taking.
 #[derive(Drop)]
-pub(crate) enum Coming {
+pub(crate) enum Delivery {
     /// Nothing.
     Nothing,
     /// The text of the last item that is used up.
@@ -61,24 +61,24 @@ pub(crate) struct Ready {
     pub(crate) session: SessionId,
     pub(crate) items: usize,
     pub(crate) monitors: usize,
-    pub(crate) coming: Coming,
+    pub(crate) coming: Delivery,
 }
 
-impl Message {
+impl Envelope {
     /// Returns what comes by it, with one of these bodies, that of its job: nothing, where nothing is composed of that. O(1).
-    fn with_body(self, bodies: &[Option<Arc<Vec<u8>>>]) -> Result<Coming, AllocError>
+    fn with_body(self, bodies: &[Option<Arc<Vec<u8>>>]) -> Result<Delivery, AllocError>
         ensures { IfOk result (λ coming. (js : List model_job.Job) → map bytes_in bodies.now ≡ map composition js
             → text_coming coming ≡ text_around self.before.items (composition_at js self.job) self.after.items) }
     {
-        let Message { before, job, after } = self;
+        let Envelope { before, job, after } = self;
         let found = body_at(bodies, job)?;
         match found {
-            Some(body) => Ok(Coming::Composed(Text {
+            Some(body) => Ok(Delivery::Composed(Text {
                 before,
                 body,
                 after,
             })),
-            None => Ok(Coming::Nothing),
+            None => Ok(Delivery::Nothing),
         }
     }
 }
@@ -110,13 +110,13 @@ fn shared(body: &Option<Arc<Vec<u8>>>) -> Result<Option<Arc<Vec<u8>>>, AllocErro
 pub(crate) fn with_bodies(
     coming: Option<taking::Coming>,
     bodies: &[Option<Arc<Vec<u8>>>],
-) -> Result<Coming, AllocError>
+) -> Result<Delivery, AllocError>
     ensures { IfOk result (λ ready. (js : List model_job.Job) → map bytes_in bodies.now ≡ map composition js
         → text_coming ready ≡ text_planned js coming) }
 {
     match coming {
-        None => Ok(Coming::Nothing),
-        Some(taking::Coming::Queued) => Ok(Coming::Queued),
+        None => Ok(Delivery::Nothing),
+        Some(taking::Coming::Queued) => Ok(Delivery::Queued),
         Some(taking::Coming::Composed(message)) => message.with_body(bodies),
     }
 }

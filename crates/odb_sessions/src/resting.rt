@@ -6,11 +6,9 @@ ghost use Rattle.odb_sessions.specs.Composed.{AreNow};
 ghost use Rattle.odb_sessions.specs.Held.{marks_in, marks_of, seen};
 ghost use Rattle.odb_sessions.specs.Quiet.{IsQuiet, IsQuietAt};
 ghost use Rattle.odb_sessions.specs.Tied.{AreLive};
-ghost use Rattle.odb_sessions.specs.Book.{revision_at};
 
 use crate::interest::cover;
 use crate::monitor::Monitor;
-use crate::planning::are_now;
 use crate::session::Session;
 use crate::sessions::Sessions;
 use odb_chain::Chains;
@@ -73,14 +71,4 @@ fn are_told(monitors: &[Monitor], chains: &Chains) -> bool
         }
     }
     true
-}
-
-impl Monitor {
-    /// Whether its client was told of its tables as they are now, under what is asked. `false` says nothing.
-    fn is_told(&self, chains: &Chains) -> bool
-        requires { AreLive chains.now (marks_in self.now) }
-        ensures { result ≡ true → AreNow chains.now.db self.now.tables }
-    {
-        are_now(self.tables.as_slice(), chains)
-    }
 }

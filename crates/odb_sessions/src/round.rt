@@ -26,7 +26,7 @@ use crate::foreseen::Planner;
 use crate::jobs::{Jobs, Planned, Prepared};
 use crate::numbered::Numbered;
 use crate::out::Out;
-use crate::ready::{Coming, Ready, finished};
+use crate::ready::{Delivery, Ready, finished};
 use crate::sessions::Sessions;
 use odb_locks::SessionId;
 use odb_recent::Recent;
@@ -146,9 +146,9 @@ impl Sessions {
         let queued = self.carry_out(session, items, monitors);
         self.forget_if_resting(session);
         match coming {
-            Coming::Nothing => None,
-            Coming::Queued => Some(finished(self.alloc, session, queued?)),
-            Coming::Composed(text) => Some(text.out(session)),
+            Delivery::Nothing => None,
+            Delivery::Queued => Some(finished(self.alloc, session, queued?)),
+            Delivery::Composed(text) => Some(text.out(session)),
         }
     }
 

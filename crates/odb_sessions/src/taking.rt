@@ -21,7 +21,7 @@ ghost use Rattle.odb_sessions.specs.Tied.{AreLive};
 ghost use Rattle.odb_tables.specs.Database as model_db;
 ghost use Rattle.odb_sessions.specs.Book.{revision_at};
 
-use crate::composing::Message;
+use crate::composing::Envelope;
 use crate::foreseen::Planner;
 use crate::id::Id;
 use crate::item::{Item, Start};
@@ -40,7 +40,7 @@ pub(crate) enum Coming {
     /// The text of the last item that is used up. It is moved out of the queue when the taking is carried out.
     Queued,
     /// A composition, with what stands around it.
-    Composed(Message),
+    Composed(Envelope),
 }
 
 /// A taking as it is planned: how many items of the queue it uses up, how many monitors it then brings to now, and
@@ -53,7 +53,7 @@ pub(crate) struct Taking {
 }
 
 /// A message comes, if there is one.
-fn composed(message: Option<Message>) -> Option<Coming>
+fn composed(message: Option<Envelope>) -> Option<Coming>
     ensures comes { is_some result ≡ is_some message }
     ensures text { (all : List model_job.Job) (last : Option machine.Item) → coming_sending all result last ≡ option_and_then (sending_under all) message }
 {
@@ -69,7 +69,7 @@ impl Start {
         &'a self,
         wanted: &mut Wanted<'a>,
         recent: &'a Recent,
-    ) -> Result<Message, AllocError>
+    ) -> Result<Envelope, AllocError>
         requires { AreLive wanted.old.chains (marks_in self.now.monitor) }
         ensures text { IfOk result (λ message. (h : Service) (all : List model_job.Job) → Keeps wanted.new.jobs all
             → sending_under all message ≡ Some (due_sending h (revision_at wanted.old.chains recent.now) (first_due self.now.origin (watch_of self.now.monitor)))) }
@@ -84,7 +84,7 @@ impl Start {
     }
 
     /// The first reply, where no commit was named.
-    fn whole_reply<'a>(&'a self, wanted: &mut Wanted<'a>) -> Result<Message, AllocError>
+    fn whole_reply<'a>(&'a self, wanted: &mut Wanted<'a>) -> Result<Envelope, AllocError>
         requires { AreLive wanted.old.chains (marks_in self.now.monitor) }
         ensures text { IfOk result (λ message. (all : List model_job.Job) → Keeps wanted.new.jobs all
             → sending_under all message ≡ Some (whole_sending wanted.old.chains.db self.now.origin self.now.monitor)) }
@@ -101,7 +101,7 @@ impl Start {
         wanted: &mut Wanted<'a>,
         recent: &'a Recent,
         since: Uuid,
-    ) -> Result<Message, AllocError>
+    ) -> Result<Envelope, AllocError>
         requires { AreLive wanted.old.chains (marks_in self.now.monitor) }
         ensures text { IfOk result (λ message. (all : List model_job.Job) → Keeps wanted.new.jobs all
             → sending_under all message ≡ Some (sending_since recent.now wanted.old.chains.db self.now.origin self.now.monitor (uuid_of since))) }
@@ -116,7 +116,11 @@ impl Start {
     }
 
     /// The first reply, where the commit that was named can't be found, and this is the number of the newest.
-    fn not_found<'a>(&'a self, wanted: &mut Wanted<'a>, number: Uuid) -> Result<Message, AllocError>
+    fn not_found<'a>(
+        &'a self,
+        wanted: &mut Wanted<'a>,
+        number: Uuid,
+    ) -> Result<Envelope, AllocError>
         requires { AreLive wanted.old.chains (marks_in self.now.monitor) }
         ensures text { IfOk result (λ message. (all : List model_job.Job) → Keeps wanted.new.jobs all
             → sending_under all message ≡ Some (missed_sending (uuid_of number) wanted.old.chains.db self.now.origin self.now.monitor)) }
@@ -134,7 +138,7 @@ impl Start {
         wanted: &mut Wanted<'a>,
         recent: &'a Recent,
         ago: usize,
-    ) -> Result<Message, AllocError>
+    ) -> Result<Envelope, AllocError>
         requires { AreLive wanted.old.chains (marks_in self.now.monitor) }
         ensures text { IfOk result (λ message. (all : List model_job.Job) → Keeps wanted.new.jobs all
             → sending_under all message ≡ Some (found_sending recent.now ago wanted.old.chains.db self.now.origin self.now.monitor)) }

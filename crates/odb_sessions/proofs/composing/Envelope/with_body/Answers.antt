@@ -3,7 +3,7 @@ use Rattle.odb_sessions.specs.Jobs.{composition_at}
 use Rattle.odb_sessions.specs.Represented.Composed.{bytes_in}
 use Rattle.odb_sessions.specs.Represented.Taking.{text_around}
 use Rattle.odb_sessions.proofs.Places.{body_composed}
-use Rattle.odb_sessions.proofs.composing.Message.with_body.Goals as goal
+use Rattle.odb_sessions.proofs.composing.Envelope.with_body.Goals as goal
 
 pub returns-in-Some : goal.returns-in-Some
 returns-in-Some c = λ js same.

@@ -1,7 +1,7 @@
 use Rattle.std.proofs.Common.{rules, ◌≡◌, ◌<◌, List, length, slice_index_or, subst, sym}
 use Rattle.odb_sessions.specs.Composed.{IsKnown}
 use Rattle.odb_sessions.specs.Held.{Watched}
-use Rattle.odb_sessions.proofs.again.parts_again.Goals as goal
+use Rattle.odb_sessions.proofs.owed.parts_again.Goals as goal
 
 pub part_again-part-requires : goal.part_again-part-requires
 part_again-part-requires c =

@@ -4,7 +4,7 @@ use Rattle.odb_sessions.specs.Composed.{IsKnown, part_since}
 use Rattle.odb_sessions.specs.Held.{Watched}
 use Rattle.odb_sessions.proofs.Composed.{mapped_twice}
 use Rattle.odb_sessions.proofs.Loops.{mapped_more}
-use Rattle.odb_sessions.proofs.resuming.parts_since.Goals as goal
+use Rattle.odb_sessions.proofs.owed.parts_since.Goals as goal
 
 pub part_since-requires : goal.part_since-requires
 part_since-requires c =
