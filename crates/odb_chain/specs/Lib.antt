@@ -1,4 +1,5 @@
 pub mod Chains
 pub mod Kept
+pub mod Marks
 pub mod Represented
 pub mod Segments

@@ -3,6 +3,7 @@ ghost use Rattle.std.specs.Prelude.{◌≡◌, ℕ, map, ◌+◌, ◌-◌, ◌^�
 ghost use Rattle.odb_atoms.specs.FinMap as finite;
 ghost use Rattle.odb_chain.specs.Chains as model;
 ghost use Rattle.odb_chain.specs.Chains.{IsLive, IsNow, absorbed, chains_of, count, live_at, mark_of, marked, released, version};
+ghost use Rattle.odb_chain.specs.Marks.{AreAllMarks};
 ghost use Rattle.odb_chain.specs.Represented.Chain.{IsCopyOf, IsReadyFor, IsStepped, StandsAsBefore, chain_at, change_at, is_moved, is_roomy, moved_at};
 ghost use Rattle.odb_chain.specs.Segments.{contents_held, segments_held};
 ghost use Rattle.odb_tables.specs.Change.{change};
@@ -12,7 +13,7 @@ ghost use Rattle.odb_tables.specs.Installing.{IsChangeOf};
 
 use crate::chain::Chain;
 use crate::content::Content;
-use crate::mark::Mark;
+use crate::mark::{Mark, all_again};
 use odb_schema::TableId;
 use odb_tables::{ChangeSet, Db, Table, TableChange};
 use std::alloc::{AllocError, AllocFailed, Global};
@@ -179,9 +180,20 @@ impl Chains {
         table_in(self.db.tables(), self.table_of(mark))
     }
 
-    /// Equal chains, whose rows are shared with these. Their marks are made by `Mark::again`.
-    /// O(rows) and O(old rows).
-    pub fn try_copy(&self) -> Result<Chains, AllocError>
+    /// Copies the chains and their marks. The marks given are all that are counted, each once, and their copies come in the
+    /// same order. Rows are shared with the copy. O(rows), O(old rows) and O(marks).
+    pub fn try_copy(&self, marks: &[&Mark]) -> Result<(Chains, Vec<Mark>), AllocError>
+        requires { AreAllMarks self.now (map (λ m. m.now) marks.now) }
+        ensures chains { IfOk result (λ copied. copied.0 ≡ self.now) }
+        ensures marks { IfOk result (λ copied. copied.1.items ≡ map (λ m. m.now) marks.now) }
+    {
+        let copies = all_again(self.alloc, marks)?;
+        let chains = self.copy()?;
+        Ok((chains, copies))
+    }
+
+    /// Copies the chains, which count the same marks.
+    fn copy(&self) -> Result<Chains, AllocError>
         ensures { IfOk result (λ copy. copy ≡ self.now) }
     {
         let db = self.db.try_copy(self.alloc)?;

@@ -16,8 +16,10 @@ mod Earlier
 mod Endings
 mod FirstTexts
 mod Firsts
+mod Gives
 mod Interests
 mod Leading
+mod Lent
 mod Likenesses
 mod Loops
 mod Moved

@@ -9,10 +9,12 @@ use Rattle.std.specs.FinMap.Entries.{below_all, find, is_sorted, same_entries}
 use Rattle.std.specs.List.{AllByRecursion}
 use Rattle.std.specs.List.Sorted.{IsStrictlySortedBy}
 use Rattle.std.specs.Map.{keys_of, lookup}
+use Rattle.std.specs.Option.{option_or}
 use Rattle.std.specs.Ordering.{eq_by_cmp, is_lt, nat_cmp}
 use Rattle.odb_atoms.specs.FinMap as finite
+use Rattle.odb_atoms.proofs.Rising.{find-below}
 use Rattle.odb_sessions.specs.Held.{Kept, Sessions}
-use Rattle.odb_service.proofs.SessionMaps.{get-empty, get-insert, get-remove, same_map, turned_about}
+use Rattle.odb_service.proofs.SessionMaps.{get-empty, get-insert, get-remove, same_key, same_map, turned_about}
 
 abbrev pub sessions_in : BTreeMap ℕ Kept → Sessions
 sessions_in m = finite.from_entries m.entries
@@ -43,7 +45,7 @@ find-is : (q : ℕ) (es : List (ℕ × Kept)) → find nat_cmp q es ≡ lookup (
 find-is q [] = refl
 find-is q (e ∷ es) = ap (cond (eq_by_cmp nat_cmp q e.0) (Some e.1)) (find-is q es)
 
-entries-sessions_in : (m : BTreeMap ℕ Kept) → IsOrdered nat_cmp m → (sessions_in m).entries ≡ m.entries
+pub entries-sessions_in : (m : BTreeMap ℕ Kept) → IsOrdered nat_cmp m → (sessions_in m).entries ≡ m.entries
 unfolding finite.get
 entries-sessions_in m h = same_entries nat_cmp nat_cmp_total nat_cmp-IsAntisymmetric (sessions_in m).entries m.entries (sessions_in m).sorted (sorted m.entries h) (λ q. get-from_entries m.entries q ∙ sym (find-is q m.entries))
 
@@ -69,3 +71,35 @@ removed old new key changed = same_map _ _ (λ q. after old new key None changed
 
 pub none_in : (m : BTreeMap ℕ Kept) → m.entries ≡ [] → sessions_in m ≡ finite.empty
 none_in m none = ap (finite.from_entries {R = nat_cmp}) none
+
+-- ---- one after the other
+
+-- the map with these entries put in, one after the other
+abbrev pub with_all : Sessions → List (ℕ × Kept) → Sessions
+with_all m [] = m
+with_all m (e ∷ es) = with_all (finite.insert m e.0 e.1) es
+
+apart : (a b : Bool) → T (a && b) → T a × T b
+apart true b h = (tt, h)
+apart false b h = absurd h
+
+get-with_all : (m : Sessions) (es : List (ℕ × Kept)) → T (is_sorted nat_cmp es) → (q : ℕ) → finite.get (with_all m es) q ≡ option_or (find nat_cmp q es) (finite.get m q)
+get-with_all m [] h q = refl
+get-with_all m (e ∷ es) h q =
+    let parts : T (below_all nat_cmp e.0 es) × T (is_sorted nat_cmp es) = apart (below_all nat_cmp e.0 es) (is_sorted nat_cmp es) h in
+    get-with_all (finite.insert m e.0 e.1) es parts.1 q ∙ ap (option_or (find nat_cmp q es)) (get-insert m e.0 e.1 q) ∙ by (eq_by_cmp nat_cmp q e.0) refl (find-below nat_cmp_total e.0 es parts.0)
+  where
+    by : (b : Bool) → eq_by_cmp nat_cmp q e.0 ≡ b → find nat_cmp e.0 es ≡ None → option_or (find nat_cmp q es) (cond b (Some e.1) (finite.get m q)) ≡ option_or (cond b (Some e.1) (find nat_cmp q es)) (finite.get m q)
+    by true is none = ap (λ o. option_or o (Some e.1)) (ap (λ k. find nat_cmp k es) (same_key q e.0 is) ∙ none)
+    by false is none = refl
+
+option_or-none : (o : Option Kept) → option_or o None ≡ o
+option_or-none None = refl
+option_or-none (Some x) = refl
+
+-- put into nothing, they are the map
+pub all_in : (m : BTreeMap ℕ Kept) → IsOrdered nat_cmp m → with_all finite.empty m.entries ≡ sessions_in m
+all_in m h =
+    same_map _ _
+    (λ q. get-with_all finite.empty m.entries (sorted m.entries h) q ∙ ap (option_or (find nat_cmp q m.entries)) (get-empty q) ∙ option_or-none (find nat_cmp q m.entries) ∙ find-is q m.entries
+    ∙ sym (get-from_entries m.entries q))

@@ -1,26 +1,11 @@
 -- How the marks of sessions hang together with the chains: each is live, and the chains count these marks and no others.
-use Rattle.std.specs.Prelude.{◌≡◌, ℕ, ◌+◌, ◌<◌, ◌≤◌, Bool, true, false, ◌&&◌, nat_eq, List, [], ◌∷◌, length, Some}
+use Rattle.std.specs.Prelude.{◌≡◌, ℕ, ◌+◌, ◌<◌, ◌≤◌, List, [], ◌∷◌, ◌++◌, flat_map, length, Some}
 use Rattle.odb_atoms.specs.FinMap.{entries_of, get}
-use Rattle.odb_chain.specs.Chains.{Chains, IsLive, IsNow, Live, Mark, Standing, count, standing}
+use Rattle.odb_chain.specs.Chains.{Chains, IsNow, Live, Mark, Standing, count, standing}
+pub use Rattle.odb_chain.specs.Marks.{AreLive, bit, is_at, uses}
 use Rattle.odb_sessions.specs.Held.{Kept, Sessions, marks_of}
 
-abbrev pub is_at : ℕ → ℕ → Mark → Bool
-is_at t p m = nat_eq t m.table && nat_eq p m.place
-
-abbrev pub bit : Bool → ℕ
-bit true = 1
-bit false = 0
-
--- how many of the marks stand at a place of a table
-abbrev pub uses : ℕ → ℕ → List Mark → ℕ
-uses t p [] = 0
-uses t p (m ∷ ms) = bit (is_at t p m) + uses t p ms
-
-abbrev pub AreLive : Chains → List Mark → Type 0
-AreLive k [] = Unit {0}
-AreLive k (m ∷ ms) = IsLive k m × AreLive k ms
-
--- the marks of all sessions
+-- the marks of all sessions are live
 abbrev pub AreAllLive : Chains → Sessions → Type 0
 AreAllLive k m = (s : ℕ) (x : Kept) → get m s ≡ Some x → AreLive k (marks_of x)
 
@@ -35,6 +20,19 @@ used t p m = total (λ x. uses t p (marks_of x)) (entries_of m)
 
 abbrev pub IsTied : Chains → Sessions → Type 0
 IsTied k m = IsNow k × ((t p : ℕ) → count k t p ≡ used t p m) × AreAllLive k m
+
+-- ---- marks that are copied
+
+abbrev pub entry_marks : ℕ × Kept → List Mark
+entry_marks e = marks_of e.1
+
+-- those of all sessions, by the sessions' numbers
+abbrev pub all_marks : Sessions → List Mark
+all_marks m = flat_map entry_marks (entries_of m)
+
+-- these marks come first
+abbrev pub Gives : List Mark → List Mark → Type 0
+Gives given ms = (rest : List Mark) × (given ≡ ms ++ rest)
 
 -- ---- marks that are released
 

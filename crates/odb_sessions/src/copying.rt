@@ -1,34 +1,138 @@
-//! Copies of sessions, with marks for a copy of the chains.
-ghost use Rattle.std.specs.Prelude.{◌≡◌, IfOk, option_map};
+//! Copies of sessions, with the marks of a copy of the chains: these come in the order in which those of the sessions are lent.
+ghost use Rattle.std.specs.Prelude.{IfOk, OnOk, [], flat_map, map, option_map, ◌++◌, ◌∷◌, ◌≡◌};
 ghost use Rattle.std.specs.Arc.{arc_value};
 ghost use Rattle.odb_service.specs.Session as model;
-ghost use Rattle.odb_sessions.specs.Held.{plain};
+ghost use Rattle.odb_sessions.specs.Held.{marks_due, marks_in, marks_of, plain, table_marks};
 ghost use Rattle.odb_sessions.specs.Represented.Queued.{filters_of, queued_of};
+ghost use Rattle.odb_sessions.specs.Tied.{Gives, IsTied};
 
 use crate::item::{Changes, Item, Renamed, Shift, Start, Stopped};
 use crate::monitor::{Monitor, Watching};
+use crate::numbered::Numbered;
+use crate::past::Past;
+use crate::queue::Queue;
+use crate::session::{Session, make_room};
+use odb_chain::Mark;
 use odb_cond::Filter;
-use std::alloc::AllocError;
+use std::alloc::{AllocError, Global};
+use std::marker::Model;
 use std::sync::Arc;
+use std::vec::IntoIter;
 
-impl Clone for Watching {
-    ghost use Rattle.std.specs.Prelude.{◌≡◌};
+/// Marks of a copy of the chains, which the copies of sessions take one after the other.
+#[derive(Drop)]
+pub(crate) struct Given {
+    marks: IntoIter<Mark>,
+}
 
-    ghost is_clone = { λ x y. y ≡ x };
+impl Model for Given {
+    ghost use Rattle.std.specs.Prelude.{List};
+    ghost use Rattle.std.specs.Coded.{coded_list};
+    ghost use Rattle.odb_chain.specs.Chains as model;
+    ghost use Rattle.odb_chain.specs.Represented.Codes.{mark_code};
 
-    /// An equal one, with a mark for a copy of the chains.
-    fn clone(&self) -> Result<Watching, AllocError> {
-        let told = filter_again(&self.told)?;
-        let request = self.request.try_copy()?;
-        Ok(Watching {
-            request,
-            told,
-            mark: self.mark.again(),
-        })
+    ghost Value = { List model.Mark };
+
+    ghost coded = { coded_list mark_code };
+
+    ghost view = { λ g. g.marks.rest.items };
+}
+
+impl Given {
+    /// Takes these marks, the first one first.
+    pub(crate) fn new(marks: Vec<Mark>) -> Given
+        ensures { result ≡ marks.items }
+    {
+        Given {
+            marks: marks.into_iter(),
+        }
+    }
+
+    /// Takes the next mark.
+    pub(crate) fn take(&mut self) -> Mark
+        requires { (m : _) × Gives self.old (m ∷ []) }
+        ensures { self.old ≡ result ∷ self.new }
+    {
+        let Some(mark) = self.marks.next() else {
+            unreachable!()
+        };
+        mark
     }
 }
 
-fn filter_again(filter: &Option<Arc<Filter>>) -> Result<Option<Arc<Filter>>, AllocError>
+/// Copies the database with its past, and the sessions, whose marks are all that that counts.
+pub(crate) fn copy_tied(
+    alloc: Global,
+    past: &Past,
+    sessions: &Numbered,
+) -> Result<(Past, Numbered), AllocError>
+    requires { IsTied past.now sessions.now }
+    ensures past { IfOk result (λ copied. copied.0 ≡ past.now) }
+    ensures sessions { IfOk result (λ copied. copied.1 ≡ sessions.now) }
+{
+    let marks = sessions.marks(alloc)?;
+    let (past, copies) = past.try_copy(alloc, marks.as_slice())?;
+    let sessions = sessions.try_copy(alloc, copies)?;
+    Ok((past, sessions))
+}
+
+impl Session {
+    /// Copies it, with the next marks.
+    pub(crate) fn copy(&self, alloc: Global, given: &mut Given) -> Result<Session, AllocError>
+        requires { Gives given.old (marks_of self.now) }
+        ensures copy { IfOk result (λ copy. copy ≡ self.now) }
+        ensures given { OnOk result (given.old ≡ marks_of self.now ++ given.new) }
+    {
+        let mut monitors = copy_monitors(alloc, self.monitors.as_slice(), given)?;
+        let queue = self.queue.copy(alloc, given)?;
+        make_room(&queue, &mut monitors)?;
+        Ok(Session { queue, monitors })
+    }
+
+    /// Adds its marks: those of its monitors, and those of monitors whose first reply is due.
+    pub(crate) fn lend<'a>(&'a self, marks: &mut Vec<&'a Mark>) -> Result<(), AllocError>
+        ensures { OnOk result (map (λ m. m.now) marks.new.items ≡ map (λ m. m.now) marks.old.items ++ marks_of self.now) }
+    {
+        lend_monitors(self.monitors.as_slice(), marks)?;
+        self.queue.lend(marks)
+    }
+}
+
+/// Copies these monitors, with the next marks.
+fn copy_monitors(
+    alloc: Global,
+    monitors: &[Monitor],
+    given: &mut Given,
+) -> Result<Vec<Monitor>, AllocError>
+    requires { Gives given.old (flat_map marks_in monitors.now) }
+    ensures copy { IfOk result (λ copies. copies.items ≡ monitors.now) }
+    ensures given { OnOk result (given.old ≡ flat_map marks_in monitors.now ++ given.new) }
+{
+    let mut copies = Vec::with_capacity(alloc, monitors.len())?;
+    for monitor in monitors {
+        copies.push(monitor.copy(alloc, given)?)?;
+    }
+    Ok(copies)
+}
+
+/// Copies these tables, with the next marks.
+pub(crate) fn copy_tables(
+    alloc: Global,
+    tables: &[Watching],
+    given: &mut Given,
+) -> Result<Vec<Watching>, AllocError>
+    requires { Gives given.old (table_marks tables.now) }
+    ensures copy { IfOk result (λ copies. copies.items ≡ tables.now) }
+    ensures given { OnOk result (given.old ≡ table_marks tables.now ++ given.new) }
+{
+    let mut copies = Vec::with_capacity(alloc, tables.len())?;
+    for table in tables {
+        copies.push(table.copy(given)?)?;
+    }
+    Ok(copies)
+}
+
+pub(crate) fn filter_again(filter: &Option<Arc<Filter>>) -> Result<Option<Arc<Filter>>, AllocError>
     ensures { IfOk result (λ again. option_map arc_value again ≡ option_map arc_value filter.now) }
 {
     match filter {
@@ -37,33 +141,31 @@ fn filter_again(filter: &Option<Arc<Filter>>) -> Result<Option<Arc<Filter>>, All
     }
 }
 
-impl Clone for Monitor {
-    ghost use Rattle.std.specs.Prelude.{◌≡◌};
-
-    ghost is_clone = { λ x y. y ≡ x };
-
-    /// An equal one, with marks for a copy of the chains.
-    fn clone(&self) -> Result<Monitor, AllocError> {
-        let id = self.id.clone()?;
-        let tables = self.tables.clone()?;
-        Ok(Monitor {
-            id,
-            kind: self.kind,
-            tables,
-            since: self.since,
-        })
+/// Copies an item of a queue, with the next marks.
+pub(crate) fn copy_item(alloc: Global, item: &Item, given: &mut Given) -> Result<Item, AllocError>
+    requires { Gives given.old (marks_due (queued_of item.now)) }
+    ensures copy { IfOk result (λ copy. queued_of copy ≡ queued_of item.now) }
+    ensures given { OnOk result (given.old ≡ marks_due (queued_of item.now) ++ given.new) }
+{
+    match item {
+        Item::Say(said) => Ok(Item::Say(said.clone()?)),
+        Item::Start(start) => Ok(Item::Start(start.copy(alloc, given)?)),
+        Item::Sync(id) => Ok(Item::Sync(id.clone()?)),
+        Item::Shift(shift) => shift_again(shift),
+        Item::Renamed(renamed) => renamed_again(renamed),
+        Item::Stopped(stopped) => stopped_again(stopped),
     }
 }
 
-impl Clone for Start {
-    ghost use Rattle.std.specs.Prelude.{◌≡◌};
-
-    ghost is_clone = { λ x y. (y.origin ≡ x.origin) × (y.monitor ≡ x.monitor) };
-
-    /// An equal one.
-    fn clone(&self) -> Result<Start, AllocError> {
+impl Start {
+    /// Copies it, with the next marks.
+    fn copy(&self, alloc: Global, given: &mut Given) -> Result<Start, AllocError>
+        requires { Gives given.old (marks_in self.now.monitor) }
+        ensures copy { IfOk result (λ copy. (copy.origin ≡ self.now.origin) × (copy.monitor ≡ self.now.monitor)) }
+        ensures given { OnOk result (given.old ≡ marks_in self.now.monitor ++ given.new) }
+    {
         let origin = self.origin.try_copy()?;
-        let monitor = self.monitor.clone()?;
+        let monitor = self.monitor.copy(alloc, given)?;
         Ok(Start { origin, monitor })
     }
 }
@@ -79,25 +181,6 @@ impl Clone for Changes {
         let changes = self.changes.clone()?;
         let schema = self.schema.clone()?;
         Ok(Changes { schema, changes })
-    }
-}
-
-impl Clone for Item {
-    ghost use Rattle.std.specs.Prelude.{◌≡◌};
-    ghost use Rattle.odb_sessions.specs.Represented.Queued.{queued_of};
-
-    ghost is_clone = { λ x y. queued_of y ≡ queued_of x };
-
-    /// An equal one.
-    fn clone(&self) -> Result<Item, AllocError> {
-        match self {
-            Item::Say(said) => Ok(Item::Say(said.clone()?)),
-            Item::Start(start) => Ok(Item::Start(start.clone()?)),
-            Item::Sync(id) => Ok(Item::Sync(id.clone()?)),
-            Item::Shift(shift) => shift_again(shift),
-            Item::Renamed(renamed) => renamed_again(renamed),
-            Item::Stopped(stopped) => stopped_again(stopped),
-        }
     }
 }
 
@@ -130,4 +213,53 @@ fn stopped_again(stopped: &Stopped) -> Result<Item, AllocError>
     let reply = stopped.reply.try_copy()?;
     let id = stopped.id.clone()?;
     Ok(Item::Stopped(Stopped { reply, id }))
+}
+
+/// Adds the marks of these monitors.
+fn lend_monitors<'a>(monitors: &'a [Monitor], marks: &mut Vec<&'a Mark>) -> Result<(), AllocError>
+    ensures { OnOk result (map (λ m. m.now) marks.new.items ≡ map (λ m. m.now) marks.old.items ++ flat_map marks_in monitors.now) }
+{
+    for monitor in monitors {
+        monitor.lend(marks)?;
+    }
+    Ok(())
+}
+
+/// Adds the marks of these tables.
+pub(crate) fn lend_tables<'a>(
+    tables: &'a [Watching],
+    marks: &mut Vec<&'a Mark>,
+) -> Result<(), AllocError>
+    ensures { OnOk result (map (λ m. m.now) marks.new.items ≡ map (λ m. m.now) marks.old.items ++ table_marks tables.now) }
+{
+    for table in tables {
+        marks.push(&table.mark)?;
+    }
+    Ok(())
+}
+
+impl Queue {
+    /// Adds the marks of its items.
+    fn lend<'a>(&'a self, marks: &mut Vec<&'a Mark>) -> Result<(), AllocError>
+        ensures { OnOk result (map (λ m. m.now) marks.new.items ≡ map (λ m. m.now) marks.old.items ++ flat_map marks_due self.now) }
+    {
+        for item in self.items.iter() {
+            lend_item(item, marks)?;
+        }
+        Ok(())
+    }
+}
+
+/// Adds the marks of an item.
+fn lend_item<'a>(item: &'a Item, marks: &mut Vec<&'a Mark>) -> Result<(), AllocError>
+    ensures { OnOk result (map (λ m. m.now) marks.new.items ≡ map (λ m. m.now) marks.old.items ++ marks_due (queued_of item.now)) }
+{
+    match item {
+        Item::Say(_) => Ok(()),
+        Item::Start(start) => start.monitor.lend(marks),
+        Item::Sync(_) => Ok(()),
+        Item::Shift(_) => Ok(()),
+        Item::Renamed(_) => Ok(()),
+        Item::Stopped(_) => Ok(()),
+    }
 }

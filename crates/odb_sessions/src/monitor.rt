@@ -1,12 +1,12 @@
 //! Monitors: what is asked, and what the client was told. [P 9.1, 9.2]
-ghost use Rattle.std.specs.Prelude.{IfOk, OnErr, [], bytes_eq, length, map, option_map, ◌+◌, ◌-◌, ◌<◌, ◌^◌, ◌∷◌, ◌≡◌};
+ghost use Rattle.std.specs.Prelude.{IfOk, OnErr, OnOk, [], bytes_eq, length, map, option_map, ◌++◌, ◌+◌, ◌-◌, ◌<◌, ◌^◌, ◌∷◌, ◌≡◌};
 ghost use Rattle.std.specs.Arc.{arc_value};
 ghost use Rattle.std.specs.List.{list_any};
 ghost use Rattle.odb_chain.specs.Chains.{IsNow};
 ghost use Rattle.odb_sessions.specs.Composed.{AreTheirs};
 ghost use Rattle.odb_sessions.specs.Held.{marks_in, monitor_of, table_marks, watch_of};
 ghost use Rattle.odb_sessions.specs.Started.{AreOfTables};
-ghost use Rattle.odb_sessions.specs.Tied.{Adds, Frees, HasAll, KeepsRoom, counted_in};
+ghost use Rattle.odb_sessions.specs.Tied.{Adds, Frees, Gives, HasAll, KeepsRoom, counted_in};
 ghost use Rattle.std.specs.Bool.{OnTrue};
 ghost use Rattle.odb_service.specs.Service.{Service};
 ghost use Rattle.odb_service.specs.Session.{brought, changed, refilter};
@@ -14,6 +14,7 @@ ghost use Rattle.odb_sessions.specs.Moved.{Moves, all_now};
 ghost use Rattle.odb_sessions.specs.Represented.Queued.{filters_of};
 ghost use Rattle.odb_sessions.specs.Owed.{filter_asked};
 
+use crate::copying::{Given, copy_tables, filter_again, lend_tables};
 use crate::id::Id;
 use crate::item::Changes;
 use crate::moving::{ask_all_under, bring_all, bring_all_under};
@@ -90,6 +91,21 @@ impl Watching {
         ensures { OnTrue result (asked.now ≡ filter_asked self.now) }
     {
         asked.is(self.request.table(), self.request.filter())
+    }
+
+    /// Copies it, with the next mark.
+    pub(crate) fn copy(&self, given: &mut Given) -> Result<Watching, AllocError>
+        requires { Gives given.old (self.now.mark ∷ []) }
+        ensures copy { IfOk result (λ copy. copy ≡ self.now) }
+        ensures given { OnOk result (given.old ≡ self.now.mark ∷ given.new) }
+    {
+        let told = filter_again(&self.told)?;
+        let request = self.request.try_copy()?;
+        Ok(Watching {
+            request,
+            told,
+            mark: given.take(),
+        })
     }
 }
 
@@ -183,6 +199,29 @@ impl Monitor {
     {
         ask_all_under(&mut self.tables, changes);
         self.id = id;
+    }
+
+    /// Copies it, with the next marks.
+    pub(crate) fn copy(&self, alloc: Global, given: &mut Given) -> Result<Monitor, AllocError>
+        requires { Gives given.old (marks_in self.now) }
+        ensures copy { IfOk result (λ copy. copy ≡ self.now) }
+        ensures given { OnOk result (given.old ≡ marks_in self.now ++ given.new) }
+    {
+        let id = self.id.clone()?;
+        let tables = copy_tables(alloc, self.tables.as_slice(), given)?;
+        Ok(Monitor {
+            id,
+            kind: self.kind,
+            tables,
+            since: self.since,
+        })
+    }
+
+    /// Adds its marks.
+    pub(crate) fn lend<'a>(&'a self, marks: &mut Vec<&'a Mark>) -> Result<(), AllocError>
+        ensures { OnOk result (map (λ m. m.now) marks.new.items ≡ map (λ m. m.now) marks.old.items ++ marks_in self.now) }
+    {
+        lend_tables(self.tables.as_slice(), marks)
     }
 }
 

@@ -8,10 +8,13 @@ ghost use Rattle.odb_sessions.specs.Carried.{IsCarriedOut, IsReady, last_finishe
 ghost use Rattle.odb_sessions.specs.Held.{Kept, marks_of, seen};
 ghost use Rattle.odb_sessions.specs.Posts.{all_kept_posted, at_number, kept_unposted, newest_at, with_item, with_items, without_newest};
 ghost use Rattle.odb_sessions.specs.Represented.Queued.{queued_of};
+ghost use Rattle.odb_sessions.specs.Tied.{all_marks};
 
+use crate::copying::Given;
 use crate::item::Item;
 use crate::past::Past;
 use crate::session::Session;
+use odb_chain::Mark;
 use odb_locks::SessionId;
 use odb_queue::{Finished, Post};
 use std::alloc::{AllocError, AllocFailed, Global};
@@ -214,11 +217,27 @@ impl Numbered {
         of.carry_out(items, monitors, past)
     }
 
-    /// Equal sessions.
-    pub(crate) fn try_copy(&self) -> Result<Numbered, AllocError>
+    /// Lends the marks of all sessions, by the sessions' numbers.
+    pub(crate) fn marks(&self, alloc: Global) -> Result<Vec<&Mark>, AllocError>
+        ensures { IfOk result (λ marks. map (λ m. m.now) marks.items ≡ all_marks self.now) }
+    {
+        let mut marks = Vec::new(alloc);
+        for (_, session) in self.sessions.iter() {
+            session.lend(&mut marks)?;
+        }
+        Ok(marks)
+    }
+
+    /// Copies the sessions, with these marks in place of their own.
+    pub(crate) fn try_copy(&self, alloc: Global, marks: Vec<Mark>) -> Result<Numbered, AllocError>
+        requires { marks.items ≡ all_marks self.now }
         ensures { IfOk result (λ copy. copy ≡ self.now) }
     {
-        let sessions = self.sessions.clone()?;
-        Ok(Numbered { sessions })
+        let mut given = Given::new(marks);
+        let mut copy = Numbered::new(alloc);
+        for (number, session) in self.sessions.iter() {
+            copy.insert(*number, session.copy(alloc, &mut given)?)?;
+        }
+        Ok(copy)
     }
 }

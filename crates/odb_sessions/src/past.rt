@@ -1,6 +1,7 @@
 //! The database with its past, in which there is room for each mark that is made. [P 10.3]
 ghost use Rattle.std.specs.Prelude.{◌≡◌, map, IfErr, IfOk, OnErr, OnOk};
 ghost use Rattle.odb_chain.specs.Chains.{IsLive, IsNow, absorbed, chains_of, released};
+ghost use Rattle.odb_chain.specs.Marks.{AreAllMarks};
 ghost use Rattle.odb_sessions.specs.Composed.{AreTheirs};
 ghost use Rattle.odb_sessions.specs.FirstTexts.{AreFirstTexts, IsFirstText};
 ghost use Rattle.odb_service.specs.Service.{Service};
@@ -153,15 +154,22 @@ impl Past {
         monitor.bring_under(changes, &mut self.chains);
     }
 
-    /// An equal database, with an equal past.
-    pub(crate) fn try_copy(&self, alloc: Global) -> Result<Past, AllocError>
-        ensures { IfOk result (λ copy. copy ≡ self.now) }
+    /// Copies the database and its past, and the marks: these are all that are counted.
+    pub(crate) fn try_copy(
+        &self,
+        alloc: Global,
+        marks: &[&Mark],
+    ) -> Result<(Past, Vec<Mark>), AllocError>
+        requires { AreAllMarks self.now (map (λ m. m.now) marks.now) }
+        ensures past { IfOk result (λ copied. copied.0 ≡ self.now) }
+        ensures marks { IfOk result (λ copied. copied.1.items ≡ map (λ m. m.now) marks.now) }
     {
-        let chains = self.chains.try_copy()?;
-        Ok(Past {
+        let (chains, copies) = self.chains.try_copy(marks)?;
+        let past = Past {
             chains,
             made: self.made,
             firsts: FirstTexts::new(alloc),
-        })
+        };
+        Ok((past, copies))
     }
 }

@@ -198,7 +198,7 @@ fn make_room_for(item: &Item, queue: &Queue, monitors: &mut Vec<Monitor>) -> Res
 }
 
 /// Makes room for one monitor more than begin with what is queued.
-fn make_room(queue: &Queue, monitors: &mut Vec<Monitor>) -> Result<(), AllocError>
+pub(crate) fn make_room(queue: &Queue, monitors: &mut Vec<Monitor>) -> Result<(), AllocError>
     ensures items { monitors.new.items ≡ monitors.old.items }
     ensures len { vec_len monitors.new ≡ vec_len monitors.old }
     ensures grown { vec_capacity monitors.old ≤ vec_capacity monitors.new }
@@ -217,20 +217,6 @@ fn release_all(monitors: Vec<Monitor>, past: &mut Past)
 {
     for monitor in monitors {
         monitor.release(past);
-    }
-}
-
-impl Clone for Session {
-    ghost use Rattle.std.specs.Prelude.{◌≡◌};
-
-    ghost is_clone = { λ x y. y ≡ x };
-
-    /// An equal session.
-    fn clone(&self) -> Result<Session, AllocError> {
-        let queue = self.queue.clone()?;
-        let mut monitors = self.monitors.clone()?;
-        make_room(&queue, &mut monitors)?;
-        Ok(Session { queue, monitors })
     }
 }
 

@@ -28,6 +28,7 @@ ghost use Rattle.odb_wire.specs.Shown.{request_data};
 
 use crate::asked::{ending, has};
 use crate::changing::Changing;
+use crate::copying::copy_tied;
 use crate::ending::stopping;
 use crate::id::Id;
 use crate::interest::forget_owed;
@@ -390,13 +391,13 @@ impl Sessions {
             .carry_out(session, items, monitors, &mut self.past)
     }
 
-    /// An equal book. O(rows), O(old rows), O(the rows that the last commits replaced), O(bytes queued), and what `odb_interest::Interest::try_copy` costs.
+    /// An equal book. O(rows), O(old rows), O(the rows that the last commits replaced), O(bytes queued), O(marks), O(n log n)
+    /// for n sessions, and what `odb_interest::Interest::try_copy` costs.
     pub fn try_copy(&self) -> Result<Sessions, AllocError>
         ensures { IfOk result (λ copy. copy ≡ self.now) }
     {
-        let past = self.past.try_copy(self.alloc)?;
+        let (past, sessions) = copy_tied(self.alloc, &self.past, &self.sessions)?;
         let recent = self.recent.try_copy()?;
-        let sessions = self.sessions.try_copy()?;
         let owed = self.owed.clone()?;
         let interest = self.interest.try_copy()?;
         Ok(Sessions {

@@ -2,7 +2,7 @@ use Rattle.std.proofs.Common.{rules, ◌≡◌, ℕ, List, length, subst, sym, a
 use Rattle.odb_tables.specs.Database.{Db, table_at}
 use Rattle.odb_chain.specs.Represented.Chain.{AreChainsOf, Chain, IsCopyOf, chain_at, shown}
 use Rattle.odb_chain.proofs.Absorbed.{copy_stands, ready_chains, ready_shown}
-use Rattle.odb_chain.proofs.chains.Chains.try_copy.Goals as goal
+use Rattle.odb_chain.proofs.chains.Chains.copy.Goals as goal
 
 pub invariant_of-result : goal.invariant_of-result
 invariant_of-result c =
