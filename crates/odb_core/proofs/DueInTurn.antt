@@ -15,8 +15,8 @@ use Rattle.odb_service.specs.Service.{Outcome, ended, outcome_of, waiting}
 use Rattle.odb_service.specs.Session.{Item, say, to}
 use Rattle.odb_service.specs.World.{Waiting, World, attempt, is_due, is_untried, retry_all, split_first, try_due, with_waiting}
 use Rattle.odb_wire.specs.Message.{id_of}
-use Rattle.odb_core.specs.declared.foreseen.Told.{Told}
-use Rattle.odb_core.specs.declared.foreseen.Told.TheVariants as told
+use Rattle.odb_core.specs.declared.foreseen.Forecast.{Forecast}
+use Rattle.odb_core.specs.declared.foreseen.Forecast.TheVariants as forecast
 use Rattle.odb_core.specs.declared.submitted.Submitted.{Submitted}
 use Rattle.odb_core.specs.Represented.Due.{AreDue, IsDueForeseen}
 use Rattle.odb_core.specs.Represented.Foreseen.{Notes, Tells, reply_of, standing}
@@ -91,10 +91,10 @@ module _ (s : Schema) (w : World) where
         (post_as p.session (say (to p.request) (reply (id_of p.request) (array_of (results_of results))) ∷ []) v
         ∙ ap (λ n. let u : World = record v { sessions = n } in u) (sym (posted_append m posts (reply_of p results ∷ []))))))
 
-    -- one whose deadline has come, whatever is told of it
-    pub due_noted : (left left' rest : List Waiting) (posts posts' : List (ℕ × Item)) (t : Told) → Tells s w a t → Notes t p w.commits left left' posts posts' → AreDue s w left (p ∷ rest) posts → AreDue s w left' rest posts'
-    due_noted left left' rest posts posts' told.Nothing tells notes h = absurd notes
-    due_noted left left' rest posts posts' (told.Ends results) tells notes h =
+    -- one whose deadline has come, whatever its forecast
+    pub due_noted : (left left' rest : List Waiting) (posts posts' : List (ℕ × Item)) (t : Forecast) → Tells s w a t → Notes t p w.commits left left' posts posts' → AreDue s w left (p ∷ rest) posts → AreDue s w left' rest posts'
+    due_noted left left' rest posts posts' forecast.Nothing tells notes h = absurd notes
+    due_noted left left' rest posts posts' (forecast.Ends results) tells notes h =
         subst (λ ps. AreDue s w ps rest posts') (sym notes.0) (subst (λ qs. AreDue s w left rest qs) (sym notes.1) (ends_now left rest posts results tells.1 h))
-    due_noted left left' rest posts posts' (told.Waits deadline) tells notes h =
+    due_noted left left' rest posts posts' (forecast.Waits deadline) tells notes h =
         subst (λ ps. AreDue s w ps rest posts') (sym notes.0) (subst (λ qs. AreDue s w (left ++ record p { deadline = deadline; tried = w.commits } ∷ []) rest qs) (sym notes.1) (waits_again left rest posts deadline tells h))

@@ -20,8 +20,8 @@ pub mod Crossing
 pub mod AlikeDrafts
 pub mod PutChanges
 pub mod RetriedOnce
-pub mod ToldOutcomes
+pub mod ForecastOutcomes
 pub mod WaitingCounts
 pub mod RetriedInTurn
 pub mod DueInTurn
-pub mod ToldNow
+pub mod ForecastNow

@@ -16,8 +16,8 @@ use Rattle.odb_service.specs.Service.{Outcome, ended, outcome_of, waiting}
 use Rattle.odb_service.specs.Session.{Item, say, to}
 use Rattle.odb_service.specs.World.{Waiting, World, attempt, is_untried, on_outcome, retry_all, split_first}
 use Rattle.odb_wire.specs.Message.{id_of}
-use Rattle.odb_core.specs.declared.foreseen.Told.{Told}
-use Rattle.odb_core.specs.declared.foreseen.Told.TheVariants as told
+use Rattle.odb_core.specs.declared.foreseen.Forecast.{Forecast}
+use Rattle.odb_core.specs.declared.foreseen.Forecast.TheVariants as forecast
 use Rattle.odb_core.specs.declared.submitted.Submitted.{Submitted}
 use Rattle.odb_core.specs.Represented.Foreseen.{IsForeseen, Notes, Tells, reply_of, standing}
 use Rattle.odb_sessions.specs.Book.{Sessions}
@@ -115,10 +115,10 @@ module _ (s : Schema) (w : World) where
         (post_as p.session (say (to p.request) (reply (id_of p.request) (array_of (results_of results))) ∷ []) v
         ∙ ap (λ n. let u : World = record v { sessions = n } in u) (sym (posted_append m posts (reply_of p results ∷ []))))))
 
-    -- one more, whatever is told of it
-    pub noted : (left left' rest : List Waiting) (posts posts' : List (ℕ × Item)) (t : Told) → Tells s w a t → Notes t p w.commits left left' posts posts' → IsOnTheWay s w left (p ∷ rest) posts → IsOnTheWay s w left' rest posts'
-    noted left left' rest posts posts' told.Nothing tells notes h = absurd notes
-    noted left left' rest posts posts' (told.Ends results) tells notes h =
+    -- one more, whatever its forecast
+    pub noted : (left left' rest : List Waiting) (posts posts' : List (ℕ × Item)) (t : Forecast) → Tells s w a t → Notes t p w.commits left left' posts posts' → IsOnTheWay s w left (p ∷ rest) posts → IsOnTheWay s w left' rest posts'
+    noted left left' rest posts posts' forecast.Nothing tells notes h = absurd notes
+    noted left left' rest posts posts' (forecast.Ends results) tells notes h =
         subst (λ ps. IsOnTheWay s w ps rest posts') (sym notes.0) (subst (λ qs. IsOnTheWay s w left rest qs) (sym notes.1) (ends_on left rest posts results tells.1 h))
-    noted left left' rest posts posts' (told.Waits deadline) tells notes h =
+    noted left left' rest posts posts' (forecast.Waits deadline) tells notes h =
         subst (λ ps. IsOnTheWay s w ps rest posts') (sym notes.0) (subst (λ qs. IsOnTheWay s w (left ++ record p { deadline = deadline; tried = w.commits } ∷ []) rest qs) (sym notes.1) (waits_on left rest posts deadline tells h))

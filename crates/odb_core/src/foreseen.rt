@@ -1,7 +1,7 @@
-//! What becomes of the transactions that wait where a change is made, told by reading alone before it is made
-//! (RFC 7047, section 5.2.6). [P 12.2]
+//! What becomes of the transactions that wait where a change is made, and where their deadlines come: it is foreseen by
+//! reading alone, before anything is changed (RFC 7047, section 5.2.6). [P 12.2, 12.3]
 
-ghost use Rattle.std.specs.Prelude.{◌≡◌, ◌<◌, ◌++◌, ◌∷◌, [], ℕ, false, length, map, slice_set, true, IfOk, IfSome, None, OnOk};
+ghost use Rattle.std.specs.Prelude.{◌≡◌, ◌<◌, ◌++◌, ◌∷◌, [], ℕ, List, false, length, map, slice_set, true, IfOk, IfSome, None, OnErr, OnOk};
 ghost use Rattle.serde_json.specs.View.{view};
 ghost use Rattle.odb_atoms.specs.Represented.Atom.{uuid_of};
 ghost use Rattle.odb_atoms.specs.Uuid.{zero_uuid};
@@ -10,20 +10,23 @@ ghost use Rattle.odb_integrity.specs.Settled.{IsSettled};
 ghost use Rattle.odb_queue.specs.Represented.Post.{post_of};
 ghost use Rattle.odb_rpc.specs.Message.{operations_of};
 ghost use Rattle.odb_service.specs.Service.{Service};
+ghost use Rattle.odb_service.specs.World as model;
 ghost use Rattle.odb_service.specs.World.{untried};
 ghost use Rattle.odb_tables.specs.Change.{all_changed_by, changed_by};
 ghost use Rattle.odb_tables.specs.Database.{table_at};
 ghost use Rattle.odb_tables.specs.Installing.{IsChangeOf};
 ghost use Rattle.odb_tables.specs.Typed.{IsTyped};
 ghost use Rattle.odb_wire.specs.Shown.{request_data};
-ghost use Rattle.odb_core.specs.declared.foreseen.Told.TheVariants as told;
+ghost use Rattle.odb_core.specs.declared.foreseen.Forecast.TheVariants as forecast;
 ghost use Rattle.odb_core.specs.Represented.Spared.{AreOwnSpared, AreSpared, IsOwnSpared, IsSpared};
-ghost use Rattle.odb_core.specs.Represented.Foreseen.{committed, is_reading, over, with_side, with_sides, IsForeseen, IsPrintable, Notes, Tells, TellsRead};
+ghost use Rattle.odb_core.specs.Represented.Due.{after_due, AreDue, IsDueForeseen};
+ghost use Rattle.odb_core.specs.Represented.Foreseen.{committed, is_reading, over, standing, with_side, with_sides, IsForeseen, IsPrintable, Notes, Tells, TellsRead};
 
-use crate::state::{MAX_ROWS, State};
+use crate::state::{MAX_ROWS, State, changes_rows};
 use crate::submitted::Submitted;
 use crate::waiting::Waiting;
 use crate::waiting_list::WaitingList;
+use odb_commit::Outcome;
 use odb_integrity::stays_settled;
 use odb_ops::{Context, Ran, only_reads, own_uuid, run};
 use odb_queue::{Post, replied};
@@ -33,9 +36,9 @@ use serde_json::Value;
 use std::alloc::{AllocError, Global};
 use uuid::Uuid;
 
-/// What can be told of a transaction without making a change.
+/// What can be foreseen of a transaction without making a change.
 #[derive(Drop)]
-pub(crate) enum Told {
+pub(crate) enum Forecast {
     /// Nothing: it may change the database.
     Nothing,
     /// It ends with these results, and changes nothing.
@@ -73,21 +76,21 @@ impl Foreseen {
         Ok(true)
     }
 
-    /// Notes what is told of one more; `false` where nothing is.
+    /// Notes the forecast of one more; `false` where that is nothing.
     pub(crate) fn note(
         &mut self,
         alloc: Global,
         waiting: &Waiting,
-        told: Told,
+        forecast: Forecast,
         commits: u64,
     ) -> Result<bool, AllocError>
-        requires { IsPrintable told }
-        ensures { IfOk result (λ noted. noted ≡ true → Notes told waiting.now commits self.old.left self.new.left (map post_of self.old.posts.items) (map post_of self.new.posts.items)) }
+        requires { IsPrintable forecast }
+        ensures { IfOk result (λ noted. noted ≡ true → Notes forecast waiting.now commits self.old.left self.new.left (map post_of self.old.posts.items) (map post_of self.new.posts.items)) }
     {
-        match told {
-            Told::Nothing => Ok(false),
-            Told::Ends { results } => self.end(alloc, waiting, results),
-            Told::Waits { deadline } => self.keep(waiting, deadline, commits),
+        match forecast {
+            Forecast::Nothing => Ok(false),
+            Forecast::Ends { results } => self.end(alloc, waiting, results),
+            Forecast::Waits { deadline } => self.keep(waiting, deadline, commits),
         }
     }
 
@@ -98,8 +101,8 @@ impl Foreseen {
         waiting: &Waiting,
         results: Vec<Value>,
     ) -> Result<bool, AllocError>
-        requires { IsPrintable (told.Ends results) }
-        ensures { IfOk result (λ noted. Notes (told.Ends results) waiting.now 0 self.old.left self.new.left (map post_of self.old.posts.items) (map post_of self.new.posts.items)) }
+        requires { IsPrintable (forecast.Ends results) }
+        ensures { IfOk result (λ noted. Notes (forecast.Ends results) waiting.now 0 self.old.left self.new.left (map post_of self.old.posts.items) (map post_of self.new.posts.items)) }
     {
         let asked = waiting.submitted();
         let item = replied(alloc, &asked.request, &Value::from(results))?;
@@ -115,7 +118,7 @@ impl Foreseen {
         deadline: Option<u64>,
         commits: u64,
     ) -> Result<bool, AllocError>
-        ensures { IfOk result (λ noted. Notes (told.Waits deadline) waiting.now commits self.old.left self.new.left (map post_of self.old.posts.items) (map post_of self.new.posts.items)) }
+        ensures { IfOk result (λ noted. Notes (forecast.Waits deadline) waiting.now commits self.old.left self.new.left (map post_of self.old.posts.items) (map post_of self.new.posts.items)) }
     {
         let waiting = waiting.clone()?;
         self.left.push(waiting.tried_again(deadline, commits))?;
@@ -140,53 +143,53 @@ impl State {
         let commits = self.sessions.commits().checked_add(1).ok_or(AllocError)?;
         let mut foreseen = Foreseen::new(self.alloc);
         for waiting in self.waiting.as_slice() {
-            let told = self.tell(schema, change, waiting.submitted())?;
-            if !foreseen.note(self.alloc, waiting, told, commits)? {
+            let forecast = self.forecast(schema, change, waiting.submitted())?;
+            if !foreseen.note(self.alloc, waiting, forecast, commits)? {
                 return Ok(None);
             }
         }
         Ok(Some(foreseen))
     }
 
-    /// What is told of a transaction where the change is the next commit.
-    fn tell(
+    /// The forecast of a transaction where the change is the next commit.
+    fn forecast(
         &self,
         schema: &Schema,
         change: &ChangeSet,
         asked: &Submitted,
-    ) -> Result<Told, AllocError>
+    ) -> Result<Forecast, AllocError>
         requires change { IsChangeOf self.now.db change.now }
         requires sound { IsSound schema.now (all_changed_by self.now.db change.now) }
-        ensures { IfOk result (λ told. Tells schema.now (committed change.now self.entry.now) asked.now told) }
+        ensures { IfOk result (λ forecast. Tells schema.now (committed change.now self.entry.now) asked.now forecast) }
     {
         let mut draft = Draft::new(self.alloc, self.sessions.db())?;
         put_change(self.alloc, &mut draft, change)?;
         if is_removed(&draft, Uuid::nil()) {
-            return Ok(Told::Nothing);
+            return Ok(Forecast::Nothing);
         }
         if is_one_removed(&draft, asked.fresh.as_slice()) {
-            return Ok(Told::Nothing);
+            return Ok(Forecast::Nothing);
         }
         if is_one_own_removed(&draft, asked.operations()) {
-            return Ok(Told::Nothing);
+            return Ok(Forecast::Nothing);
         }
-        self.tell_on(schema, &mut draft, asked)
+        self.forecast_on(schema, &mut draft, asked)
     }
 
-    /// What is told of a transaction on the database as a draft has it.
-    fn tell_on(
+    /// The forecast of a transaction on the database as a draft has it.
+    fn forecast_on(
         &self,
         schema: &Schema,
         draft: &mut Draft<'_>,
         asked: &Submitted,
-    ) -> Result<Told, AllocError>
+    ) -> Result<Forecast, AllocError>
         requires typed { IsTyped schema.now draft.old.now }
         requires settled { IsSettled schema.now draft.old.now }
         requires long { length draft.old.removed ≡ length draft.old.now }
         requires zero { IsSpared draft.old.removed zero_uuid }
         requires fresh { AreSpared draft.old.removed (map uuid_of asked.now.fresh.items) }
         requires own { AreOwnSpared draft.old.removed (operations_of (request_data asked.now.request)) }
-        ensures { IfOk result (λ told. (n : ℕ) → Tells schema.now (over draft.old.now n self.entry.now) asked.now told) }
+        ensures { IfOk result (λ forecast. (n : ℕ) → Tells schema.now (over draft.old.now n self.entry.now) asked.now forecast) }
     {
         let owned = self.locks.owned(self.alloc, asked.session)?;
         let context = Context {
@@ -196,29 +199,130 @@ impl State {
             owned: owned.as_slice(),
         };
         match run(self.alloc, draft, schema, asked.operations(), &context)? {
-            Ran::Finished(results) => Ok(told_read(draft, schema, asked, results)),
-            Ran::Failed(results) => Ok(Told::Ends { results }),
-            Ran::Waiting(deadline) => Ok(Told::Waits { deadline }),
+            Ran::Finished(results) => Ok(forecast_read(draft, schema, asked, results)),
+            Ran::Failed(results) => Ok(Forecast::Ends { results }),
+            Ran::Waiting(deadline) => Ok(Forecast::Waits { deadline }),
+        }
+    }
+
+    /// Tries each transaction whose deadline has come, in order of arrival, and then all that wait where one of these
+    /// changed the database. O(waiting), and what the tries cost; everything is copied where one of them may change the
+    /// database, and else nothing.
+    pub(crate) fn end_due(&mut self, schema: &Schema) -> Result<(), AllocError>
+        requires sound { IsSound schema.now self.old.db }
+        requires tried { (h : Service) → untried h self.old ≡ None }
+        ensures ok { OnOk result (after_due schema.now self.old ≡ self.new) }
+        ensures sound { IsSound schema.now self.new.db }
+        ensures tried { (h : Service) → untried h self.new ≡ None }
+        ensures err { OnErr result (self.new ≡ self.old) }
+    {
+        match self.foresee_due(schema)? {
+            Some(foreseen) => self.end_foreseen(foreseen),
+            None => self.end_on_copy(schema),
+        }
+    }
+
+    /// Lets come what was foreseen.
+    fn end_foreseen(&mut self, foreseen: Foreseen) -> Result<(), AllocError>
+        ensures ok { OnOk result (self.new ≡ standing foreseen.left (map post_of foreseen.posts.items) self.old.sessions self.old) }
+        ensures err { OnErr result (self.new ≡ self.old) }
+    {
+        let Foreseen { left, posts } = foreseen;
+        drop(self.sessions.post_all(posts)?);
+        self.waiting = left;
+        Ok(())
+    }
+
+    /// Tries them on a copy of all. O(rows + bytes queued), and what the tries cost.
+    fn end_on_copy(&mut self, schema: &Schema) -> Result<(), AllocError>
+        requires sound { IsSound schema.now self.old.db }
+        requires tried { (h : Service) → untried h self.old ≡ None }
+        ensures ok { OnOk result (after_due schema.now self.old ≡ self.new) }
+        ensures sound { IsSound schema.now self.new.db }
+        ensures tried { (h : Service) → untried h self.new ≡ None }
+        ensures err { OnErr result (self.new ≡ self.old) }
+    {
+        let mut copy = self.try_copy()?;
+        copy.try_due(schema)?;
+        copy.retry_all(schema)?;
+        *self = copy;
+        Ok(())
+    }
+
+    /// What becomes of all that wait where those are tried whose deadline has come; `None` where one of these may
+    /// change the database.
+    fn foresee_due(&self, schema: &Schema) -> Result<Option<Foreseen>, AllocError>
+        requires sound { IsSound schema.now self.now.db }
+        requires tried { (h : Service) → untried h self.now ≡ None }
+        ensures { IfOk result (λ found. IfSome found (λ f. IsDueForeseen schema.now self.entry.now f.left (map post_of f.posts.items))) }
+    {
+        let mut foreseen = Foreseen::new(self.alloc);
+        for waiting in self.waiting.as_slice() {
+            if !self.foresee_next(schema, &mut foreseen, waiting)? {
+                return Ok(None);
+            }
+        }
+        Ok(Some(foreseen))
+    }
+
+    /// Adds what becomes of one more; `false` where it may change the database.
+    fn foresee_next(
+        &self,
+        schema: &Schema,
+        foreseen: &mut Foreseen,
+        waiting: &Waiting,
+    ) -> Result<bool, AllocError>
+        requires { IsSound schema.now self.now.db }
+        ensures { IfOk result (λ noted. noted ≡ true → (rest : List model.Waiting)
+            → AreDue schema.now self.entry.now foreseen.old.left (waiting.now ∷ rest) (map post_of foreseen.old.posts.items)
+            → AreDue schema.now self.entry.now foreseen.new.left rest (map post_of foreseen.new.posts.items)) }
+    {
+        if !waiting.is_due(self.now) {
+            return foreseen.pass_over(waiting);
+        }
+        let forecast = self.forecast_now(schema, waiting.submitted())?;
+        foreseen.note(self.alloc, waiting, forecast, self.sessions.commits())
+    }
+
+    /// The forecast of a transaction as the database is.
+    fn forecast_now(&self, schema: &Schema, asked: &Submitted) -> Result<Forecast, AllocError>
+        requires { IsSound schema.now self.now.db }
+        ensures { IfOk result (λ forecast. Tells schema.now self.entry.now asked.now forecast) }
+    {
+        match self.outcome(schema, asked)? {
+            Outcome::Done { results, change } => {
+                if changes_rows(&change) {
+                    return Ok(Forecast::Nothing);
+                }
+                Ok(Forecast::Ends { results })
+            }
+            Outcome::Failed { results } => Ok(Forecast::Ends { results }),
+            Outcome::Waiting { deadline } => Ok(Forecast::Waits { deadline }),
         }
     }
 }
 
-/// What is told of a transaction whose operations went through with these results, on the database as they
+/// The forecast of a transaction whose operations went through with these results, on the database as they
 /// left it: that it ends with them, where none of them changes a row and a settlement certainly leaves the
 /// database too; else nothing. O(operations), and where these only read O(rows touched), O(tables) and
 /// O(columns of the schema).
-fn told_read(draft: &Draft<'_>, schema: &Schema, asked: &Submitted, results: Vec<Value>) -> Told
+fn forecast_read(
+    draft: &Draft<'_>,
+    schema: &Schema,
+    asked: &Submitted,
+    results: Vec<Value>,
+) -> Forecast
     requires typed { is_reading asked.now ≡ true → IsTyped schema.now draft.now.now }
     requires settled { is_reading asked.now ≡ true → IsSettled schema.now draft.now.now }
     ensures { TellsRead schema.now draft.now.now asked.now results result }
 {
     if !only_reads(asked.operations()) {
-        return Told::Nothing;
+        return Forecast::Nothing;
     }
     if !stays_settled(draft, schema, MAX_ROWS) {
-        return Told::Nothing;
+        return Forecast::Nothing;
     }
-    Told::Ends { results }
+    Forecast::Ends { results }
 }
 
 /// Whether a row of this identifier was taken out of the draft. O(tables).

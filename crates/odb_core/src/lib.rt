@@ -5,9 +5,7 @@
 #![tactic(auto)]
 
 mod counts;
-mod due;
 mod foreseen;
-mod locking;
 mod monitors;
 mod refused;
 mod requests;

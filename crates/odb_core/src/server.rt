@@ -214,7 +214,7 @@ impl Core {
         ensures once { IfOk result (λ jobs. AreEachOnce self.now.world.db jobs.jobs jobs.likenesses) }
     {
         let listed = once(self.alloc, ready)?;
-        self.state.jobs(listed.as_slice())
+        self.state.sessions.jobs(listed.as_slice())
     }
 
     /// Keeps the text of a first reply, if there is one, which [`Jobs::first_text`] found for this core as it is: until the

@@ -1,7 +1,7 @@
 //! The state of the service: what it does with requests, moments and sessions that close. [P 6.3, 12.1, 12.2, 12.3, 14]
 
 ghost use Rattle.std.specs.Prelude.{◌≡◌, ◌↔◌, IsOk, ◌+◌, ◌++◌, ◌==◌, [], ◌∷◌, false, flat_map, length, map, max, nat_lt, replicate, IfErr, IfOk, IfSome, None, Option, Some, OnErr, OnOk};
-ghost use Rattle.std.specs.List.{All, list_any};
+ghost use Rattle.std.specs.List.{list_any};
 ghost use Rattle.serde_json.specs.Written.{has_float};
 ghost use Rattle.serde_json.specs.View.{view};
 ghost use Rattle.odb_atoms.specs.FinMap as finite;
@@ -21,8 +21,7 @@ ghost use Rattle.odb_service.specs.Service.{Service};
 ghost use Rattle.odb_service.specs.Server.{printed, served_by};
 ghost use Rattle.odb_service.specs.Session.{say, to};
 ghost use Rattle.odb_sessions.specs.Asked.{ended_in};
-ghost use Rattle.odb_sessions.specs.FirstTexts.{IsFirstText, IsOfNow};
-ghost use Rattle.odb_sessions.specs.Jobs.{AreEachOnce, AreOfJobs};
+ghost use Rattle.odb_sessions.specs.FirstTexts.{IsFirstText};
 ghost use Rattle.odb_sessions.specs.Planned.{AreOnce};
 ghost use Rattle.odb_sessions.specs.Posts.{at_number};
 ghost use Rattle.odb_sessions.specs.Represented.Out.{sent_in};
@@ -41,7 +40,7 @@ use odb_ops::Context;
 use odb_queue::{Finished, Post, failed, notices, replied};
 use odb_rpc::{Failure, Printable};
 use odb_schema::Schema;
-use odb_sessions::{FirstText, Jobs, Out, Prepared, Sessions};
+use odb_sessions::{FirstText, Out, Prepared, Sessions};
 use odb_tables::{ChangeSet, Db, TableChange};
 use odb_wire::Request;
 use serde_json::Value;
@@ -491,17 +490,6 @@ impl State {
         ensures err { OnErr result (self.new ≡ self.old) }
     {
         self.sessions.round(listed)
-    }
-
-    /// A round of these sessions, as it is planned: nothing is composed, and nothing is taken.
-    pub(crate) fn jobs(&self, listed: &[SessionId]) -> Result<Jobs<'_>, AllocError>
-        ensures sessions { IfOk result (λ jobs. sessions_in jobs.takings ≡ listed.now) }
-        ensures ready { IfOk result (λ jobs. AreOf (book_in self.entry.now) jobs.takings) }
-        ensures jobs { IfOk result (λ jobs. AreOfJobs (book_in self.entry.now) jobs.jobs jobs.takings) }
-        ensures now { IfOk result (λ jobs. All (IsOfNow self.entry.now.db) jobs.jobs) }
-        ensures once { IfOk result (λ jobs. AreEachOnce self.entry.now.db jobs.jobs jobs.likenesses) }
-    {
-        self.sessions.jobs(listed)
     }
 
     /// Keeps the text of a first reply, if there is one.

@@ -22,8 +22,8 @@ use Rattle.odb_tables.specs.Change.{Changes, all_changed_by}
 use Rattle.odb_tables.specs.Database.{Db, Table}
 use Rattle.odb_wire.specs.Message.{id_of}
 use Rattle.odb_wire.specs.Shown.{request_data}
-use Rattle.odb_core.specs.declared.foreseen.Told.{Told}
-use Rattle.odb_core.specs.declared.foreseen.Told.TheVariants as told
+use Rattle.odb_core.specs.declared.foreseen.Forecast.{Forecast}
+use Rattle.odb_core.specs.declared.foreseen.Forecast.TheVariants as forecast
 use Rattle.odb_core.specs.declared.submitted.Submitted.{Submitted}
 use Rattle.odb_sessions.specs.Book.{Sessions}
 use Rattle.odb_core.specs.Represented.Waiting.{outcome_in}
@@ -46,27 +46,27 @@ committed cs w = record w { db = all_changed_by w.db cs; commits = w.commits + 1
 abbrev pub over : Db → ℕ → World → World
 over db n w = record w { db = db; commits = n }
 
--- what is told of the transaction is what it comes to in the world: these results, without a change of the database, or a wait
-abbrev pub Tells : Schema → World → Submitted → Told → Type 0
-Tells s w a told.Nothing = ⊤
-Tells s w a (told.Ends results) = (has_float (array_of (results_of results)) ≡ false) × (outcome_of w.db (outcome_in s w a) ≡ ended (array_of (results_of results)) None)
-Tells s w a (told.Waits deadline) = outcome_of w.db (outcome_in s w a) ≡ waiting deadline
+-- the forecast of the transaction is what it comes to in the world: these results, without a change of the database, or a wait
+abbrev pub Tells : Schema → World → Submitted → Forecast → Type 0
+Tells s w a forecast.Nothing = ⊤
+Tells s w a (forecast.Ends results) = (has_float (array_of (results_of results)) ≡ false) × (outcome_of w.db (outcome_in s w a) ≡ ended (array_of (results_of results)) None)
+Tells s w a (forecast.Waits deadline) = outcome_of w.db (outcome_in s w a) ≡ waiting deadline
 
 -- each of its operations only reads
 abbrev pub is_reading : Submitted → Bool
 is_reading a = list_all reads_alone (operations_of (request_data a.request))
 
--- what is told where its operations went through with these results and left this database: that it ends with them only where they all read, and a settlement leaves the database
-abbrev pub TellsRead : Schema → Db → Submitted → Vec Value Global → Told → Type 0
-TellsRead s db a results told.Nothing = ⊤
-TellsRead s db a results (told.Ends answer) = (answer ≡ results) × (is_reading a ≡ true) × (settle s max_rows db ≡ Ok db)
-TellsRead s db a results (told.Waits deadline) = ⊥
+-- the forecast where its operations went through with these results and left this database: that it ends with them only where they all read, and a settlement leaves the database
+abbrev pub TellsRead : Schema → Db → Submitted → Vec Value Global → Forecast → Type 0
+TellsRead s db a results forecast.Nothing = ⊤
+TellsRead s db a results (forecast.Ends answer) = (answer ≡ results) × (is_reading a ≡ true) × (settle s max_rows db ≡ Ok db)
+TellsRead s db a results (forecast.Waits deadline) = ⊥
 
--- the results that are told have no fractions
-abbrev pub IsPrintable : Told → Type 0
-IsPrintable told.Nothing = ⊤
-IsPrintable (told.Ends results) = has_float (array_of (results_of results)) ≡ false
-IsPrintable (told.Waits deadline) = ⊤
+-- the results of the forecast have no fractions
+abbrev pub IsPrintable : Forecast → Type 0
+IsPrintable forecast.Nothing = ⊤
+IsPrintable (forecast.Ends results) = has_float (array_of (results_of results)) ≡ false
+IsPrintable (forecast.Waits deadline) = ⊤
 
 -- the reply of a transaction with these results
 abbrev pub reply_of : Waiting → Vec Value Global → ℕ × Item
@@ -76,11 +76,11 @@ reply_of p results = (p.session, say (to p.request) (reply (id_of p.request) (ar
 abbrev pub reply_with : Submitted → Vec Value Global → Item
 reply_with a results = say (to (request_data a.request)) (reply (id_of (request_data a.request)) (array_of (results_of results)))
 
--- what is told adds the reply to what is posted, or the transaction, tried at this number of commits, to those that are left
-abbrev pub Notes : Told → Waiting → ℕ → List Waiting → List Waiting → List (ℕ × Item) → List (ℕ × Item) → Type 0
-Notes told.Nothing p n left left' posts posts' = ⊥
-Notes (told.Ends results) p n left left' posts posts' = (left' ≡ left) × (posts' ≡ posts ++ reply_of p results ∷ [])
-Notes (told.Waits deadline) p n left left' posts posts' = (left' ≡ left ++ record p { deadline = deadline; tried = n } ∷ []) × (posts' ≡ posts)
+-- the forecast adds the reply to what is posted, or the transaction, tried at this number of commits, to those that are left
+abbrev pub Notes : Forecast → Waiting → ℕ → List Waiting → List Waiting → List (ℕ × Item) → List (ℕ × Item) → Type 0
+Notes forecast.Nothing p n left left' posts posts' = ⊥
+Notes (forecast.Ends results) p n left left' posts posts' = (left' ≡ left) × (posts' ≡ posts ++ reply_of p results ∷ [])
+Notes (forecast.Waits deadline) p n left left' posts posts' = (left' ≡ left ++ record p { deadline = deadline; tried = n } ∷ []) × (posts' ≡ posts)
 
 -- the world where these wait, and to these sessions this was posted
 abbrev pub standing : List Waiting → List (ℕ × Item) → Sessions → World → World

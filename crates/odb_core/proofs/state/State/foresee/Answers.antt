@@ -33,10 +33,10 @@ loop-waiting-preserved c =
     let step : drop i w.waiting ≡ p ∷ rest = drop_more w.waiting i p below ∙ ap (λ x. x ∷ rest) (sym at) in
     let count : c.in_ok-commits.commits ≡ v.commits = search rules in
     let went : c.in_ok-note.field-0 ≡ true = search rules in
-    let tells : Tells s v a c.in_ok-told.told = c.in_ok-told.ensures in
-    let notes : Notes c.in_ok-told.told p c.in_ok-commits.commits old.left new.left (map post_of old.posts.items) (map post_of new.posts.items) = c.in_ok-note.ensures went in
-    noted s v a p c.submitted.ensures old.left new.left rest (map post_of old.posts.items) (map post_of new.posts.items) c.in_ok-told.told tells
-    (subst (λ n. Notes c.in_ok-told.told p n old.left new.left (map post_of old.posts.items) (map post_of new.posts.items)) count notes)
+    let tells : Tells s v a c.in_ok-forecast.forecast = c.in_ok-forecast.ensures in
+    let notes : Notes c.in_ok-forecast.forecast p c.in_ok-commits.commits old.left new.left (map post_of old.posts.items) (map post_of new.posts.items) = c.in_ok-note.ensures went in
+    noted s v a p c.submitted.ensures old.left new.left rest (map post_of old.posts.items) (map post_of new.posts.items) c.in_ok-forecast.forecast tells
+    (subst (λ n. Notes c.in_ok-forecast.forecast p n old.left new.left (map post_of old.posts.items) (map post_of new.posts.items)) count notes)
     (subst (λ ps. IsOnTheWay s v old.left ps (map post_of old.posts.items)) step c.loop-waiting.invariant)
 
 pub returns : goal.returns

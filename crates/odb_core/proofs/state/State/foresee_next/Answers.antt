@@ -31,12 +31,12 @@ returns c =
     let a = c.submitted.result.now in
     let old = c.args.foreseen.now in
     let new = c.note.new.self in
-    let t = c.in_ok-told.told in
+    let t = c.in_ok-forecast.forecast in
     let moment : c.self.inside.now ≡ w.now = ap (λ (u : World). u.now) c.self.view_is in
     let count : c.commits.result ≡ w.commits = c.commits.ensures ∙ ap (λ (u : World). u.commits) c.self.view_is in
     let on : c.is_due.result ≡ true = search rules in
     let due : is_due w.now p.deadline ≡ true = ap (λ (k : ℕ). is_due k p.deadline) (sym moment) ∙ sym c.is_due.ensures ∙ on in
-    let tells : Tells s w a t = c.in_ok-told.ensures in
+    let tells : Tells s w a t = c.in_ok-forecast.ensures in
     IfOk-weaker c.note.result _ _
     (λ noted notes went rest h.
     due_noted s w a p c.submitted.ensures due old.left new.left rest (map post_of old.posts.items) (map post_of new.posts.items) t tells

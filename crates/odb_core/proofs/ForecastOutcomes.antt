@@ -25,8 +25,8 @@ use Rattle.odb_tables.specs.Database.{Db}
 use Rattle.odb_tables.specs.Draft as tables
 use Rattle.odb_tables.specs.Draft.{Draft}
 use Rattle.odb_wire.specs.Shown.{request_data}
-use Rattle.odb_core.specs.declared.foreseen.Told.{Told}
-use Rattle.odb_core.specs.declared.foreseen.Told.TheVariants as told
+use Rattle.odb_core.specs.declared.foreseen.Forecast.{Forecast}
+use Rattle.odb_core.specs.declared.foreseen.Forecast.TheVariants as forecast
 use Rattle.odb_core.specs.declared.submitted.Submitted.{Submitted}
 use Rattle.odb_core.specs.Represented.Foreseen.{Tells, TellsRead, is_reading, over}
 use Rattle.odb_core.specs.Represented.Spared.{AreOwnSpared, AreSpared, IsSpared}
@@ -47,10 +47,10 @@ module _ (s : Schema) (w : World) (a : Submitted) (d : Draft) (long : length d.r
   alike : RanAlike (run s (context_in w a) (begun d) ops) there
   alike = runs_begun s (context_in w a) d.now d.removed ops long zero_spared spared own
 
-  pub tells_failed : (results : Vec Value Global) (new : Db) → Answers (ran.Failed results) new (run s (context_in w a) (begun d) ops) → (n : ℕ) → Tells s (over d.now n w) a (told.Ends results)
+  pub tells_failed : (results : Vec Value Global) (new : Db) → Answers (ran.Failed results) new (run s (context_in w a) (begun d) ops) → (n : ℕ) → Tells s (over d.now n w) a (forecast.Ends results)
   tells_failed results new answers n = by (run s (context_in w a) (begun d) ops) there refl answers alike
     where
-      by : (x y : Ran) → there ≡ y → Answers (ran.Failed results) new x → RanAlike x y → Tells s (over d.now n w) a (told.Ends results)
+      by : (x y : Ran) → there ≡ y → Answers (ran.Failed results) new x → RanAlike x y → Tells s (over d.now n w) a (forecast.Ends results)
       by (finished f rs) y e k h = absurd k
       by (waiting m) y e k h = absurd k
       by (failed rs) (finished f qs) e k h = absurd h
@@ -62,10 +62,10 @@ module _ (s : Schema) (w : World) (a : Submitted) (d : Draft) (long : length d.r
             ap (outcome_of d.now) (is ∙ ap transaction.refused same),
           )
 
-  pub tells_waiting : (deadline : Option ℕ) (new : Db) → Answers (ran.Waiting deadline) new (run s (context_in w a) (begun d) ops) → (n : ℕ) → Tells s (over d.now n w) a (told.Waits deadline)
+  pub tells_waiting : (deadline : Option ℕ) (new : Db) → Answers (ran.Waiting deadline) new (run s (context_in w a) (begun d) ops) → (n : ℕ) → Tells s (over d.now n w) a (forecast.Waits deadline)
   tells_waiting deadline new answers n = by (run s (context_in w a) (begun d) ops) there refl answers alike
     where
-      by : (x y : Ran) → there ≡ y → Answers (ran.Waiting deadline) new x → RanAlike x y → Tells s (over d.now n w) a (told.Waits deadline)
+      by : (x y : Ran) → there ≡ y → Answers (ran.Waiting deadline) new x → RanAlike x y → Tells s (over d.now n w) a (forecast.Waits deadline)
       by (finished f rs) y e k h = absurd k
       by (failed rs) y e k h = absurd k
       by (waiting m) (finished f qs) e k h = absurd h
@@ -82,10 +82,10 @@ module _ (s : Schema) (w : World) (a : Submitted) (d : Draft) (long : length d.r
       by (failed rs) k h = absurd k
       by (waiting m) k h = absurd k
 
-  pub tells_finished : (results : Vec Value Global) (new : Db) → Answers (ran.Finished results) new (run s (context_in w a) (begun d) ops) → is_reading a ≡ true → settle s max_rows d.now ≡ Ok d.now → (n : ℕ) → Tells s (over d.now n w) a (told.Ends results)
+  pub tells_finished : (results : Vec Value Global) (new : Db) → Answers (ran.Finished results) new (run s (context_in w a) (begun d) ops) → is_reading a ≡ true → settle s max_rows d.now ≡ Ok d.now → (n : ℕ) → Tells s (over d.now n w) a (forecast.Ends results)
   tells_finished results new answers reads stays n = by (run s (context_in w a) (begun d) ops) there refl answers alike
     where
-      by : (x y : Ran) → there ≡ y → Answers (ran.Finished results) new x → RanAlike x y → Tells s (over d.now n w) a (told.Ends results)
+      by : (x y : Ran) → there ≡ y → Answers (ran.Finished results) new x → RanAlike x y → Tells s (over d.now n w) a (forecast.Ends results)
       by (failed rs) y e k h = absurd k
       by (waiting m) y e k h = absurd k
       by (finished f rs) (failed qs) e k h = absurd h
@@ -97,12 +97,12 @@ module _ (s : Schema) (w : World) (a : Submitted) (d : Draft) (long : length d.r
             ap (outcome_of d.now) (is ∙ ap (λ (r : List Data). transaction.done r d.now) same) ∙ ap (λ (b : Bool). ended (array_of (results_of results)) (cond b (Some d.now) None)) (unchanged d.now),
           )
 
-  pub tells_read : (results : Vec Value Global) (new : Db) (t : Told) → Answers (ran.Finished results) new (run s (context_in w a) (begun d) ops) → TellsRead s new a results t → (n : ℕ) → Tells s (over d.now n w) a t
-  tells_read results new told.Nothing answers h n = tt
-  tells_read results new (told.Ends answer) answers h n =
+  pub tells_read : (results : Vec Value Global) (new : Db) (t : Forecast) → Answers (ran.Finished results) new (run s (context_in w a) (begun d) ops) → TellsRead s new a results t → (n : ℕ) → Tells s (over d.now n w) a t
+  tells_read results new forecast.Nothing answers h n = tt
+  tells_read results new (forecast.Ends answer) answers h n =
       let stays : settle s max_rows d.now ≡ Ok d.now = subst (λ db. settle s max_rows db ≡ Ok db) (left_by_reading results new answers h.1) h.2 in
-      subst (λ vs. Tells s (over d.now n w) a (told.Ends vs)) (sym h.0) (tells_finished results new answers h.1 stays n)
-  tells_read results new (told.Waits deadline) answers h n = absurd h
+      subst (λ vs. Tells s (over d.now n w) a (forecast.Ends vs)) (sym h.0) (tells_finished results new answers h.1 stays n)
+  tells_read results new (forecast.Waits deadline) answers h n = absurd h
 
 -- a change leaves as many tables
 pub length-changed : (db : Db) (cs : List Changes) → length cs ≡ length db → length (all_changed_by db cs) ≡ length db

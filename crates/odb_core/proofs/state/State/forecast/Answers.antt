@@ -9,13 +9,13 @@ use Rattle.odb_service.specs.World.{World}
 use Rattle.odb_tables.specs.Change.{Changes, all_changed_by}
 use Rattle.odb_tables.specs.Database.{Db}
 use Rattle.odb_tables.specs.Draft.{Draft, draft_of}
-use Rattle.odb_core.specs.declared.foreseen.Told.{Told}
-use Rattle.odb_core.specs.declared.foreseen.Told.TheVariants as told
+use Rattle.odb_core.specs.declared.foreseen.Forecast.{Forecast}
+use Rattle.odb_core.specs.declared.foreseen.Forecast.TheVariants as forecast
 use Rattle.odb_core.specs.declared.submitted.Submitted.{Submitted}
 use Rattle.odb_core.specs.Represented.Foreseen.{Tells, committed, over}
 use Rattle.odb_core.specs.Represented.Spared.{AreOwnSpared, IsSpared}
-use Rattle.odb_core.proofs.ToldOutcomes.{as_long}
-use Rattle.odb_core.proofs.state.State.tell.Goals as goal
+use Rattle.odb_core.proofs.ForecastOutcomes.{as_long}
+use Rattle.odb_core.proofs.state.State.forecast.Goals as goal
 
 pub is_removed-requires : goal.is_removed-requires
 is_removed-requires c =
@@ -38,8 +38,8 @@ is_one_own_removed-requires c =
     let made : d ≡ draft_of w.db = search rules in
     as_long w.db c.args.change.now d c.put_change.new.draft c.requires.change.0 made c.put_change.ensures.removed c.in_ok-put_change.ensures.now
 
-pub tell_on-requires-clause-settled : goal.tell_on-requires-clause-settled
-tell_on-requires-clause-settled c =
+pub forecast_on-requires-clause-settled : goal.forecast_on-requires-clause-settled
+forecast_on-requires-clause-settled c =
     let s = c.args.schema.now in
     let w : World = c.args.self.now in
     let d : Draft = c.in_ok-draft.draft in
@@ -48,27 +48,27 @@ tell_on-requires-clause-settled c =
     let changed : new ≡ all_changed_by w.db c.args.change.now = c.in_ok-put_change.ensures.now ∙ ap (λ (e : Draft). all_changed_by e.now c.args.change.now) made in
     subst (IsSettled s) (sym changed) c.requires.sound.1
 
-pub tell_on-requires-clause-long : goal.tell_on-requires-clause-long
-tell_on-requires-clause-long c =
+pub forecast_on-requires-clause-long : goal.forecast_on-requires-clause-long
+forecast_on-requires-clause-long c =
     let w : World = c.args.self.now in
     let d : Draft = c.in_ok-draft.draft in
     let made : d ≡ draft_of w.db = search rules in
     as_long w.db c.args.change.now d c.put_change.new.draft c.requires.change.0 made c.put_change.ensures.removed c.in_ok-put_change.ensures.now
 
-pub tell_on-requires-clause-zero : goal.tell_on-requires-clause-zero
-tell_on-requires-clause-zero c =
+pub forecast_on-requires-clause-zero : goal.forecast_on-requires-clause-zero
+forecast_on-requires-clause-zero c =
     let nil : uuid_of c.nil.result ≡ zero_uuid = ap uuid_of c.nil.ensures ∙ nil_uuid in
     subst (IsSpared c.put_change.new.draft.removed) nil (c.is_removed.ensures c.if-is_removed.false)
 
-pub tell_on-requires-clause-own : goal.tell_on-requires-clause-own
-tell_on-requires-clause-own c =
+pub forecast_on-requires-clause-own : goal.forecast_on-requires-clause-own
+forecast_on-requires-clause-own c =
     subst (AreOwnSpared c.put_change.new.draft.removed) c.operations.ensures (c.is_one_own_removed.ensures c.if-is_one_own_removed.false)
 
 -- a transaction sees nothing of earlier contents
-on_change : (s : Schema) (cs : List Changes) (w : World) (a : Submitted) (t : Told) → Tells s (over (all_changed_by w.db cs) (w.commits + 1) w) a t → Tells s (committed cs w) a t
-on_change s cs w a told.Nothing h = h
-on_change s cs w a (told.Ends results) h = h
-on_change s cs w a (told.Waits deadline) h = h
+on_change : (s : Schema) (cs : List Changes) (w : World) (a : Submitted) (t : Forecast) → Tells s (over (all_changed_by w.db cs) (w.commits + 1) w) a t → Tells s (committed cs w) a t
+on_change s cs w a forecast.Nothing h = h
+on_change s cs w a (forecast.Ends results) h = h
+on_change s cs w a (forecast.Waits deadline) h = h
 
 pub returns : goal.returns
 returns c =
@@ -80,6 +80,6 @@ returns c =
     let made : d ≡ draft_of w.db = search rules in
     let new : Db = c.put_change.new.draft.now in
     let changed : new ≡ all_changed_by w.db cs = c.in_ok-put_change.ensures.now ∙ ap (λ (e : Draft). all_changed_by e.now cs) made in
-    IfOk-weaker c.tell_on.result _ _
+    IfOk-weaker c.forecast_on.result _ _
     (λ t tells. on_change s cs w a t (subst (λ (db : Db). Tells s (over db (w.commits + 1) w) a t) changed (tells (w.commits + 1))))
-    c.tell_on.ensures
+    c.forecast_on.ensures

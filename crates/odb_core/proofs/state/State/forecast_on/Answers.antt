@@ -10,11 +10,11 @@ use Rattle.odb_tables.specs.Draft.{Draft}
 use Rattle.odb_tables.specs.Typed.{IsTyped}
 use Rattle.odb_wire.specs.Shown.{request_data}
 use Rattle.odb_core.specs.Represented.Waiting.{context_in}
-use Rattle.odb_core.proofs.ToldOutcomes.{left_by_reading, tells_failed, tells_read, tells_waiting}
-use Rattle.odb_core.proofs.state.State.tell_on.Goals as goal
+use Rattle.odb_core.proofs.ForecastOutcomes.{left_by_reading, tells_failed, tells_read, tells_waiting}
+use Rattle.odb_core.proofs.state.State.forecast_on.Goals as goal
 
-pub told_read-requires-clause-typed : goal.told_read-requires-clause-typed
-told_read-requires-clause-typed c = λ reads.
+pub forecast_read-requires-clause-typed : goal.forecast_read-requires-clause-typed
+forecast_read-requires-clause-typed c = λ reads.
     let s = c.args.schema.now in
     let w : World = c.args.self.now in
     let a = c.args.asked.now in
@@ -22,8 +22,8 @@ told_read-requires-clause-typed c = λ reads.
     let answers : Answers (ran.Finished c.in-Finished.results) c.run.new.draft.now (run s (context_in w a) (begun d) (operations_of (request_data a.request))) = search rules in
     subst (IsTyped s) (sym (left_by_reading s w a d c.requires.long c.requires.zero c.requires.fresh c.requires.own c.in-Finished.results c.run.new.draft.now answers reads)) c.requires.typed
 
-pub told_read-requires-clause-settled : goal.told_read-requires-clause-settled
-told_read-requires-clause-settled c = λ reads.
+pub forecast_read-requires-clause-settled : goal.forecast_read-requires-clause-settled
+forecast_read-requires-clause-settled c = λ reads.
     let s = c.args.schema.now in
     let w : World = c.args.self.now in
     let a = c.args.asked.now in
@@ -38,7 +38,7 @@ returns-in-Finished c = λ n.
     let a = c.args.asked.now in
     let d : Draft = c.args.draft.now in
     let answers : Answers (ran.Finished c.in-Finished.results) c.run.new.draft.now (run s (context_in w a) (begun d) (operations_of (request_data a.request))) = search rules in
-    tells_read s w a d c.requires.long c.requires.zero c.requires.fresh c.requires.own c.in-Finished.results c.run.new.draft.now c.told_read.result answers c.told_read.ensures n
+    tells_read s w a d c.requires.long c.requires.zero c.requires.fresh c.requires.own c.in-Finished.results c.run.new.draft.now c.forecast_read.result answers c.forecast_read.ensures n
 
 pub returns-in-Failed : goal.returns-in-Failed
 returns-in-Failed c = λ n.

@@ -5,8 +5,8 @@ use Rattle.odb_commit.specs.Represented.Outcome.{Answers}
 use Rattle.odb_commit.specs.declared.transaction.Outcome.TheVariants as outcome
 use Rattle.odb_service.specs.World.{World}
 use Rattle.odb_core.specs.Represented.Waiting.{outcome_in}
-use Rattle.odb_core.proofs.ToldNow.{tells_refused, tells_to_wait, tells_unchanged}
-use Rattle.odb_core.proofs.state.State.tell_now.Goals as goal
+use Rattle.odb_core.proofs.ForecastNow.{tells_refused, tells_to_wait, tells_unchanged}
+use Rattle.odb_core.proofs.state.State.forecast_now.Goals as goal
 
 pub returns-else-changes_rows : goal.returns-else-changes_rows
 returns-else-changes_rows c =

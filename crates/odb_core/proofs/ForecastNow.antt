@@ -1,4 +1,4 @@
--- What is told of a transaction as the database is.
+-- The forecast of a transaction as the database is.
 use Rattle.std.proofs.Common.{◌≡◌, ℕ, Bool, false, cond, nat_lt, List, Option, Some, None, sym, ap, ◌∙◌}
 use Rattle.std.specs.Prelude.{Vec}
 use Rattle.std.specs.List.{list_any}
@@ -14,7 +14,7 @@ use Rattle.odb_schema.specs.Schema.{Schema}
 use Rattle.odb_service.specs.Service.{Outcome, ended, outcome_of, waiting}
 use Rattle.odb_service.specs.World.{World}
 use Rattle.odb_tables.specs.Change.{Changes, change_between}
-use Rattle.odb_core.specs.declared.foreseen.Told.TheVariants as told
+use Rattle.odb_core.specs.declared.foreseen.Forecast.TheVariants as forecast
 use Rattle.odb_core.specs.declared.submitted.Submitted.{Submitted}
 use Rattle.odb_core.specs.Represented.Foreseen.{Tells}
 use Rattle.odb_core.specs.Represented.Waiting.{outcome_in}
@@ -25,7 +25,7 @@ module _ (s : Schema) (w : World) (a : Submitted) where
   has_rows cs = list_any (λ c. nat_lt 0 (len c)) cs
 
   -- one that goes through and changes nothing
-  pub tells_unchanged : (results : Vec Value Global) (change : List Changes) → has_rows change ≡ false → Answers s w.db (outcome.Done results change) (outcome_in s w a) → Tells s w a (told.Ends results)
+  pub tells_unchanged : (results : Vec Value Global) (change : List Changes) → has_rows change ≡ false → Answers s w.db (outcome.Done results change) (outcome_in s w a) → Tells s w a (forecast.Ends results)
   tells_unchanged results change none k = (done_whole_results s w a results change k, by (outcome_in s w a) k)
     where
       by : (m : transaction.Outcome) → Answers s w.db (outcome.Done results change) m → outcome_of w.db m ≡ ended (array_of (results_of results)) None
@@ -37,7 +37,7 @@ module _ (s : Schema) (w : World) (a : Submitted) where
       by (transaction.waiting t) k = absurd k
 
   -- one that fails
-  pub tells_refused : (results : Vec Value Global) → Answers s w.db (outcome.Failed results) (outcome_in s w a) → Tells s w a (told.Ends results)
+  pub tells_refused : (results : Vec Value Global) → Answers s w.db (outcome.Failed results) (outcome_in s w a) → Tells s w a (forecast.Ends results)
   tells_refused results k = (refused_whole_results s w a results k, by (outcome_in s w a) k)
     where
       by : (m : transaction.Outcome) → Answers s w.db (outcome.Failed results) m → outcome_of w.db m ≡ ended (array_of (results_of results)) None
@@ -46,7 +46,7 @@ module _ (s : Schema) (w : World) (a : Submitted) where
       by (transaction.waiting t) k = absurd k
 
   -- one that waits
-  pub tells_to_wait : (deadline : Option ℕ) → Answers s w.db (outcome.Waiting deadline) (outcome_in s w a) → Tells s w a (told.Waits deadline)
+  pub tells_to_wait : (deadline : Option ℕ) → Answers s w.db (outcome.Waiting deadline) (outcome_in s w a) → Tells s w a (forecast.Waits deadline)
   tells_to_wait deadline k = by (outcome_in s w a) k
     where
       by : (m : transaction.Outcome) → Answers s w.db (outcome.Waiting deadline) m → outcome_of w.db m ≡ waiting deadline

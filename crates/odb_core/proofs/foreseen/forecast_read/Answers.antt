@@ -2,7 +2,7 @@ use Rattle.std.proofs.Common.{◌≡◌, true, refl, sym, ap, ◌∙◌}
 use Rattle.std.specs.List.{list_all}
 use Rattle.odb_ops.specs.OnlyReads.{reads_alone}
 use Rattle.odb_core.specs.Represented.Foreseen.{is_reading}
-use Rattle.odb_core.proofs.foreseen.told_read.Goals as goal
+use Rattle.odb_core.proofs.foreseen.forecast_read.Goals as goal
 
 pub stays_settled-requires-clause-typed : goal.stays_settled-requires-clause-typed
 stays_settled-requires-clause-typed c =
