@@ -56,6 +56,7 @@ impl Model for Core {
 
 impl Core {
     ghost use Rattle.odb_service.specs.Server.{serve};
+    ghost use Rattle.odb_service.specs.World.{revision_of};
     ghost use Rattle.odb_core.specs.Represented.Core.{IsQuietBut, new_server};
     ghost use Rattle.odb_core.specs.Represented.Rounds.{AreRound, AreRoundOf, book_in};
     ghost use Rattle.odb_sessions.specs.FirstTexts.{IsFirstText, IsOfNow};
@@ -203,15 +204,15 @@ impl Core {
     }
 
     /// What `round` gives these sessions, as it is planned: the jobs that are to be composed for it, of which no two
-    /// are alike, but of replies to who resumes. A text that is composed is of the job of what is due to its session,
-    /// which says what the client was told and what is asked, and what stands around the composition is what the
-    /// protocol has around any table updates there. Nothing is composed, and nothing is taken. O(k log k + k log n)
+    /// are alike, those of replies to who resumes among them. A text that is composed is of the job of what is due to
+    /// its session, which says what the client was told and what is asked, and what stands around the composition is what
+    /// the protocol has around any table updates there. Nothing is composed, and nothing is taken. O(k log k + k log n)
     /// for a list of k sessions, and what deciding whether something is sent costs.
     pub fn jobs(&self, ready: &[SessionId]) -> Result<Jobs<'_>, AllocError>
         ensures round { IfOk result (λ jobs. AreRoundOf ready.now self.now jobs.takings) }
         ensures jobs { IfOk result (λ jobs. AreOfJobs (book_in self.now.world) jobs.jobs jobs.takings) }
         ensures now { IfOk result (λ jobs. All (IsOfNow self.now.world.db) jobs.jobs) }
-        ensures once { IfOk result (λ jobs. AreEachOnce self.now.world.db jobs.jobs jobs.likenesses) }
+        ensures once { IfOk result (λ jobs. AreEachOnce (revision_of self.now.world) jobs.jobs jobs.likenesses) }
     {
         let listed = once(self.alloc, ready)?;
         self.state.sessions.jobs(listed.as_slice())

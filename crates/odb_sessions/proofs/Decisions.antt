@@ -8,6 +8,7 @@ use Rattle.std.proofs.lemmas.Option.{none-some, same_Some}
 use mathlib.Core.Logic.{inl, inr}
 use Rattle.odb_chain.specs.Chains.{Chains}
 use Rattle.odb_monitor.specs.Job.{Job, updates_of}
+use Rattle.odb_recent.specs.Undo.{Undo}
 use Rattle.odb_sessions.specs.Alike.{AreUnlike, IsLike, Likeness, job_like}
 use Rattle.odb_sessions.specs.FirstTexts.{AreFirstTexts, FirstText, IsOfNow}
 use Rattle.odb_sessions.specs.Jobs.{Decision, IsFor, Keeps, if_sent}
@@ -49,15 +50,15 @@ zipped_more R (a ∷ xs) (b ∷ ys) x y h r = (h.0, zipped_more R xs ys x y h.1 
 
 -- ---- what was decided
 
-still : (k : Chains) (a b : List Job) (ds : List Decision) → Keeps a b → All (IsDecided k a) ds → All (IsDecided k b) ds
-still k a b ds kept was i d low = still_for a b (if_sent (job_like (contents k) k.db (slice_index_or ds i d).likeness)) (slice_index_or ds i d).place kept (was i d low)
+still : (k : Chains) (us : List Undo) (a b : List Job) (ds : List Decision) → Keeps a b → All (IsDecided k us a) ds → All (IsDecided k us b) ds
+still k us a b ds kept was i d low = still_for a b (if_sent (job_like (contents k) us k.db (slice_index_or ds i d).likeness)) (slice_index_or ds i d).place kept (was i d low)
 
 -- one decision more
-put_in : (k : Chains) (js : List Job) (old new : Decided) (d : Decision) → Puts old new d → AreDecided k js old → IsDecided k js d → AreDecided k js new
-put_in k js old new d puts was own n = subst (All (IsDecided k js)) (sym (puts n)) (by (n == digest d.likeness))
+put_in : (k : Chains) (us : List Undo) (js : List Job) (old new : Decided) (d : Decision) → Puts old new d → AreDecided k us js old → IsDecided k us js d → AreDecided k us js new
+put_in k us js old new d puts was own n = subst (All (IsDecided k us js)) (sym (puts n)) (by (n == digest d.likeness))
   where
-    by : (b : Bool) → All (IsDecided k js) (if b then bucket_at old n ++ d ∷ [] else bucket_at old n)
-    by true = All-push (IsDecided k js) (bucket_at old n) d (was n) own
+    by : (b : Bool) → All (IsDecided k us js) (if b then bucket_at old n ++ d ∷ [] else bucket_at old n)
+    by true = All-push (IsDecided k us js) (bucket_at old n) d (was n) own
     by false = was n
 
 -- what differs from all differs from those that were there
@@ -68,7 +69,7 @@ differed old new d l n puts h = by (n == digest d.likeness) (subst (All (Differs
     by true h = all_but_last (Differs l) (bucket_at old n) d h
     by false h = h
 
-still_noted : (ls : List (Option Likeness)) (old new : Decided) (d : Decision) → Puts old new d → AreNoted ls old → AreNoted ls new
+still_noted : (ls : List Likeness) (old new : Decided) (d : Decision) → Puts old new d → AreNoted ls old → AreNoted ls new
 still_noted ls old new d puts noted n l at h = noted n l at (differed old new d l (digest l) puts h)
 
 same_number : (n : ℕ) → (n == n) ≡ true
@@ -82,27 +83,27 @@ noted_now old new d puts h =
     the_last (Differs d.likeness) (bucket_at old n) d (subst (All (Differs d.likeness)) is h) refl
 
 -- what was decided serves what is alike
-pub found : (k : Chains) (js : List Job) (d : Decided) (n : ℕ) (x : Decision) → AreDecided k js d → IsAmong (bucket_at d n) x → IsFor js (if_sent (job_like (contents k) k.db x.likeness)) x.place
-found k js d n x decided (i, low, at) = subst (IsDecided k js) (sym at) (decided n i x low)
+pub found : (k : Chains) (us : List Undo) (js : List Job) (d : Decided) (n : ℕ) (x : Decision) → AreDecided k us js d → IsAmong (bucket_at d n) x → IsFor js (if_sent (job_like (contents k) us k.db x.likeness)) x.place
+found k us js d n x decided (i, low, at) = subst (IsDecided k us js) (sym at) (decided n i x low)
 
 -- ---- rounds
 
 -- nothing is wanted yet
-pub none_planned : (k : Chains) (fs : List FirstText) (d : Decided) → AreFirstTexts k.db fs → ((n : ℕ) → bucket_at d n ≡ []) → IsPlanned k fs [] [] d
-none_planned k fs d firsts none = (
-  λ n. subst (All (IsDecided k [])) (sym (none n)) (All-from_recursion (IsDecided k []) [] tt),
+pub none_planned : (k : Chains) (us : List Undo) (fs : List FirstText) (d : Decided) → AreFirstTexts k.db fs → ((n : ℕ) → bucket_at d n ≡ []) → IsPlanned k us fs [] [] d
+none_planned k us fs d firsts none = (
+  λ n. subst (All (IsDecided k us [])) (sym (none n)) (All-from_recursion (IsDecided k us []) [] tt),
   firsts,
   All-from_recursion (IsOfNow k.db) [] tt,
-  λ n l at. absurd (none-some (Some l) at),
-  λ m n l at. absurd (none-some (Some l) at),
+  λ n l at. absurd (none-some l at),
+  λ m n l at. absurd (none-some l at),
   tt,
 )
 
 -- nothing changed
-pub same_planned : (k : Chains) (fs : List FirstText) (a b : List Job) (ls ms : List (Option Likeness)) (d e : Decided) → b ≡ a → ms ≡ ls → IsSame d e → IsPlanned k fs a ls d → IsPlanned k fs b ms e
-same_planned k fs a b ls ms d e jobs likes same p =
-    subst (λ (js : List Job). IsPlanned k fs js ms e) (sym jobs) (subst (λ (ls : List (Option Likeness)). IsPlanned k fs a ls e) (sym likes) (
-      λ n. subst (All (IsDecided k a)) (sym (same n)) (p.0 n),
+pub same_planned : (k : Chains) (us : List Undo) (fs : List FirstText) (a b : List Job) (ls ms : List Likeness) (d e : Decided) → b ≡ a → ms ≡ ls → IsSame d e → IsPlanned k us fs a ls d → IsPlanned k us fs b ms e
+same_planned k us fs a b ls ms d e jobs likes same p =
+    subst (λ (js : List Job). IsPlanned k us fs js ms e) (sym jobs) (subst (λ (ls : List Likeness). IsPlanned k us fs a ls e) (sym likes) (
+      λ n. subst (All (IsDecided k us a)) (sym (same n)) (p.0 n),
       p.1,
       p.2,
       λ n l at h. p.3 n l at (subst (All (Differs l)) (same (digest l)) h),
@@ -111,10 +112,10 @@ same_planned k fs a b ls ms d e jobs likes same p =
     ))
 
 -- nothing is sent of this
-pub silent_planned : (k : Chains) (fs : List FirstText) (js : List Job) (ls : List (Option Likeness)) (d e : Decided) (l : Likeness) → is_some (updates_of (job_like (contents k) k.db l)) ≡ false
-    → Puts d e (record { likeness = l; place = None }) → IsPlanned k fs js ls d → IsPlanned k fs js ls e
-silent_planned k fs js ls d e l none puts p = (
-  put_in k js d e (record { likeness = l; place = None }) puts p.0 (none_for js (job_like (contents k) k.db l) none),
+pub silent_planned : (k : Chains) (us : List Undo) (fs : List FirstText) (js : List Job) (ls : List Likeness) (d e : Decided) (l : Likeness) → is_some (updates_of (job_like (contents k) us k.db l)) ≡ false
+    → Puts d e (record { likeness = l; place = None }) → IsPlanned k us fs js ls d → IsPlanned k us fs js ls e
+silent_planned k us fs js ls d e l none puts p = (
+  put_in k us js d e (record { likeness = l; place = None }) puts p.0 (none_for js (job_like (contents k) us k.db l) none),
   p.1,
   p.2,
   still_noted ls d e (record { likeness = l; place = None }) puts p.3,
@@ -122,55 +123,40 @@ silent_planned k fs js ls d e l none puts p = (
   p.5,
 )
 
--- a job that isn't looked up
-pub alone_planned : (k : Chains) (fs : List FirstText) (js : List Job) (ls : List (Option Likeness)) (d : Decided) (j : Job) → IsOfNow k.db j → (j.first ≡ false) × (j.reply ≡ true)
-    → IsPlanned k fs js ls d → IsPlanned k fs (js ++ j ∷ []) (ls ++ None ∷ []) d
-alone_planned k fs js ls d j now resumed p = (
-  λ n. still k js (js ++ j ∷ []) (bucket_at d n) (keeps_added js (js ++ j ∷ []) j refl) (p.0 n),
-  p.1,
-  All-push (IsOfNow k.db) js j p.2 now,
-  λ n l at. p.3 n l (was n l at),
-  λ m n l one other. p.4 m n l (was m l one) (was n l other),
-  zipped_more (IsLike (contents k) k.db) js ls j None p.5 resumed,
-)
-  where
-    was : (n : ℕ) (l : Likeness) → slice_get (ls ++ None ∷ []) n ≡ Some (Some l) → slice_get ls n ≡ Some (Some l)
-    was n l at = elim (old_or_last ls None n (Some l) at) [ inl old ↦ old | inr last ↦ absurd (none-some l last.1) ]
-
 -- what stood there is unlike what is found nowhere
-apart : (ls : List (Option Likeness)) (d : Decided) (l : Likeness) → AreNoted ls d → All (Differs l) (bucket_at d (digest l)) → (n : ℕ) (m : Likeness) → slice_get ls n ≡ Some (Some m) → l ≡ m → ⊥
+apart : (ls : List Likeness) (d : Decided) (l : Likeness) → AreNoted ls d → All (Differs l) (bucket_at d (digest l)) → (n : ℕ) (m : Likeness) → slice_get ls n ≡ Some m → l ≡ m → ⊥
 apart ls d l noted fresh n m at same = noted n m at (subst (λ (m : Likeness). All (Differs m) (bucket_at d (digest m))) same fresh)
 
-more_noted : (ls : List (Option Likeness)) (d e : Decided) (l : Likeness) (place : Option ℕ) → Puts d e (record { likeness = l; place = place }) → AreNoted ls d → AreNoted (ls ++ Some l ∷ []) e
-more_noted ls d e l place puts noted n m at h = elim (old_or_last ls (Some l) n (Some m) at) [
+more_noted : (ls : List Likeness) (d e : Decided) (l : Likeness) (place : Option ℕ) → Puts d e (record { likeness = l; place = place }) → AreNoted ls d → AreNoted (ls ++ l ∷ []) e
+more_noted ls d e l place puts noted n m at h = elim (old_or_last ls l n m at) [
   | inl old ↦ noted n m old (differed d e (record { likeness = l; place = place }) m (digest m) puts h)
-  | inr last ↦ noted_now d e (record { likeness = l; place = place }) puts (subst (λ (m : Likeness). All (Differs m) (bucket_at e (digest m))) (sym (same_Some l m last.1)) h)
+  | inr last ↦ noted_now d e (record { likeness = l; place = place }) puts (subst (λ (m : Likeness). All (Differs m) (bucket_at e (digest m))) (sym last.1) h)
 ]
 
-more_unlike : (ls : List (Option Likeness)) (d : Decided) (l : Likeness) → AreNoted ls d → All (Differs l) (bucket_at d (digest l)) → AreUnlike ls → AreUnlike (ls ++ Some l ∷ [])
-more_unlike ls d l noted fresh unlike a b m one other = elim (old_or_last ls (Some l) a (Some m) one) [
-  | inl old ↦ elim (old_or_last ls (Some l) b (Some m) other) [
+more_unlike : (ls : List Likeness) (d : Decided) (l : Likeness) → AreNoted ls d → All (Differs l) (bucket_at d (digest l)) → AreUnlike ls → AreUnlike (ls ++ l ∷ [])
+more_unlike ls d l noted fresh unlike a b m one other = elim (old_or_last ls l a m one) [
+  | inl old ↦ elim (old_or_last ls l b m other) [
     | inl too ↦ unlike a b m old too
-    | inr last ↦ absurd (apart ls d l noted fresh a m old (same_Some l m last.1))
+    | inr last ↦ absurd (apart ls d l noted fresh a m old last.1)
   ]
-  | inr last ↦ elim (old_or_last ls (Some l) b (Some m) other) [
-    | inl too ↦ absurd (apart ls d l noted fresh b m too (same_Some l m last.1))
+  | inr last ↦ elim (old_or_last ls l b m other) [
+    | inl too ↦ absurd (apart ls d l noted fresh b m too last.1)
     | inr end ↦ last.0 ∙ sym end.0
   ]
 ]
 
 -- a job that nobody was like
-pub more_planned : (k : Chains) (fs : List FirstText) (js : List Job) (ls : List (Option Likeness)) (d e : Decided) (l : Likeness) (j : Job)
-    → IsLike (contents k) k.db j (Some l) → IsOfNow k.db j → is_some (updates_of j) ≡ true → All (Differs l) (bucket_at d (digest l)) → Puts d e (record { likeness = l; place = Some (length js) })
-    → IsPlanned k fs js ls d → IsPlanned k fs (js ++ j ∷ []) (ls ++ Some l ∷ []) e
-more_planned k fs js ls d e l j is now sent fresh puts p =
+pub more_planned : (k : Chains) (us : List Undo) (fs : List FirstText) (js : List Job) (ls : List Likeness) (d e : Decided) (l : Likeness) (j : Job)
+    → IsLike (contents k) us k.db j l → IsOfNow k.db j → is_some (updates_of j) ≡ true → All (Differs l) (bucket_at d (digest l)) → Puts d e (record { likeness = l; place = Some (length js) })
+    → IsPlanned k us fs js ls d → IsPlanned k us fs (js ++ j ∷ []) (ls ++ l ∷ []) e
+more_planned k us fs js ls d e l j is now sent fresh puts p =
     let x : Decision = record { likeness = l; place = Some (length js) } in
     let all : List Job = js ++ j ∷ [] in
-    let own : IsDecided k all x = subst (λ (i : Job). IsFor all (if_sent i) (Some (length js))) is.0 (some_for all j (length js) (added_at js all j (length js) refl refl) sent) in (
-      put_in k all d e x puts (λ n. still k js all (bucket_at d n) (keeps_added js all j refl) (p.0 n)) own,
+    let own : IsDecided k us all x = subst (λ (i : Job). IsFor all (if_sent i) (Some (length js))) is.0 (some_for all j (length js) (added_at js all j (length js) refl refl) sent) in (
+      put_in k us all d e x puts (λ n. still k us js all (bucket_at d n) (keeps_added js all j refl) (p.0 n)) own,
       p.1,
       All-push (IsOfNow k.db) js j p.2 now,
       more_noted ls d e l (Some (length js)) puts p.3,
       more_unlike ls d l p.3 fresh p.4,
-      zipped_more (IsLike (contents k) k.db) js ls j (Some l) p.5 is,
+      zipped_more (IsLike (contents k) us k.db) js ls j l p.5 is,
     )

@@ -32,11 +32,11 @@ owed_to h db x = update_of h db (watch_of x.held).requests (seen_ahead db x)
 abbrev pub sending_to : Service → Revision → Ahead → Option Sending
 sending_to h revision x = update_sending h revision (watch_of x.held).requests (seen_ahead revision.db x)
 
--- the same, at the same chains, as it is found out under no other filters
-pub sending_at : (h : Service) (r : Recent) (k n : Chains) (x : Ahead) → k ≡ n → update_sending h (revision_at k r) (refilter [] (watch_of x.held).requests) (seen_ahead k.db x) ≡ sending_to h (revision_at n r) x
-sending_at h r k n x same =
-    ap (λ (m : Chains). update_sending h (revision_at m r) (refilter [] (watch_of x.held).requests) (seen_ahead m.db x)) same
-    ∙ ap (λ (qs : List Request). update_sending h (revision_at n r) qs (seen_ahead n.db x)) (refilter_none (watch_of x.held).requests)
+-- the same, at the same chains and commits, as it is found out under no other filters
+pub sending_at : (h : Service) (r s : Recent) (k n : Chains) (x : Ahead) → r ≡ s → k ≡ n → update_sending h (revision_at k r) (refilter [] (watch_of x.held).requests) (seen_ahead k.db x) ≡ sending_to h (revision_at n s) x
+sending_at h r s k n x commits same =
+    (λ i. let m : Chains = same i in update_sending h (revision_at m (commits i)) (refilter [] (watch_of x.held).requests) (seen_ahead m.db x))
+    ∙ ap (λ (qs : List Request). update_sending h (revision_at n s) qs (seen_ahead n.db x)) (refilter_none (watch_of x.held).requests)
 
 pub is_mapped : {A B : Type 0} (f : A → B) (o : Option A) → is_some (option_map f o) ≡ is_some o
 is_mapped f None = refl

@@ -5,6 +5,7 @@ use Rattle.odb_chain.specs.Chains.{Chains, Mark}
 use Rattle.odb_cond.specs.Filter.{Filter}
 use Rattle.odb_monitor.specs.Job.{Job, Part}
 use Rattle.odb_monitor.specs.View.{View, query, selected}
+use Rattle.odb_recent.specs.Recent.{Recent}
 use Rattle.odb_request.specs.Request.{Request}
 use Rattle.odb_rpc.specs.Message.{reply}
 use Rattle.odb_service.specs.Service.{Service}
@@ -18,9 +19,10 @@ use Rattle.odb_wire.specs.Message.{id_of}
 abbrev pub Filters : Type 0
 Filters = List (List ℕ × Filter)
 
--- the database with its past, the jobs so far, and a session's monitors once so much of its queue was taken
+-- the database with its past, its last commits, the jobs so far, and a session's monitors once so much of its queue was taken
 pub record Foreseen : Type 0 where
   pub chains : Chains
+  pub recent : Recent
   pub jobs : List Job
   pub monitors : List Monitor
 

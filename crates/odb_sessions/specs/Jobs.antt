@@ -1,10 +1,13 @@
 -- The compositions that a round needs, each once, as a list of jobs. A message names by a place in the list what it tells. [P 9.2, 10.3]
-use Rattle.std.specs.Prelude.{◌≡◌, ℕ, List, [], ◌∷◌, Option, Some, option_and_then, option_map, slice_get}
+use Rattle.std.specs.Prelude.{◌≡◌, ℕ, List, [], ◌∷◌, drop, Option, Some, option_and_then, option_map, slice_get}
 use Rattle.std.specs.List.{AllZip}
 use Rattle.serde_json.specs.Written.{compact_text}
 use Rattle.odb_atoms.specs.FinMap.{get}
 use Rattle.odb_chain.specs.Chains.{Chains}
 use Rattle.odb_monitor.specs.Job.{Job, updates_of}
+use Rattle.odb_recent.specs.Kept.{kept_of}
+use Rattle.odb_recent.specs.Recent.{Recent}
+use Rattle.odb_recent.specs.Undo.{Undo}
 use Rattle.odb_schema.specs.Schema.{Schema}
 use Rattle.odb_service.specs.Server.{served_by}
 use Rattle.odb_service.specs.Session.{Revision, Session}
@@ -13,7 +16,6 @@ use Rattle.odb_sessions.specs.Book.{Book, revision_in}
 use Rattle.odb_sessions.specs.Planned.{plan}
 use Rattle.odb_sessions.specs.Sending.{Framed, framed_due}
 use Rattle.odb_sessions.specs.Taken.{Pending, Text, composed_text, last_text, no_text, whole_text}
-use Rattle.odb_tables.specs.Database.{Db}
 
 -- what is composed of a job: a text, where something is sent
 abbrev pub composition : Job → Option (List ℕ)
@@ -38,9 +40,10 @@ certainly x = Some x
 abbrev pub IsFor : List Job → Option Job → Option ℕ → Type 0
 IsFor js job place = (all : List Job) → Keeps js all → option_map (slice_get all) place ≡ option_map certainly job
 
--- the database with its past, and the jobs so far
+-- the database with its past, its last commits, and the jobs so far
 pub record Wanted : Type 0 where
   pub chains : Chains
+  pub recent : Recent
   pub jobs : List Job
 
 -- a likeness, and the place of its job, if something is sent
@@ -51,7 +54,7 @@ pub record Decision : Type 0 where
 -- a round as it is planned: the jobs, what each is alike by, and each taking with the text that comes of it once these are composed
 pub record Round : Type 0 where
   pub jobs : List Job
-  pub likenesses : List (Option Likeness)
+  pub likenesses : List Likeness
   pub takings : List Pending
 
 -- the message that is due to the session, if it is one that is composed
@@ -74,6 +77,8 @@ AreMadeOf s b js (p ∷ ps) = IsOfJob s (revision_in b) js (get b.sessions p.0) 
 abbrev pub AreOfJobs : Book → List Job → List Pending → Type 0
 AreOfJobs b js ps = (s : Schema) → AreMadeOf s b js ps
 
--- each job is that of its likeness, whatever the tables were before, and no two have one
-abbrev pub AreEachOnce : Db → List Job → List (Option Likeness) → Type 0
-AreEachOnce db js ls = AreUnlike ls × ((past : Contents) × AllZip (IsLike past db) js ls)
+-- each job is that of its likeness, whatever the tables were before, where the last commits replaced what leads back to the contents that can be found; and no two have one
+abbrev pub AreEachOnce : Revision → List Job → List Likeness → Type 0
+AreEachOnce revision js ls =
+    AreUnlike ls
+    × ((past : Contents) × (us : List Undo) × (revision.earlier.contents ≡ drop 1 (kept_of revision.db us)) × AllZip (IsLike past us revision.db) js ls)

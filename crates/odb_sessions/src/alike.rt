@@ -2,7 +2,7 @@
 ghost use Rattle.std.specs.Prelude.{◌≡◌, map, option_map};
 ghost use Rattle.std.specs.Arc.{arc_value};
 ghost use Rattle.std.specs.Bool.{Decides};
-ghost use Rattle.odb_sessions.specs.Represented.Alike.{filter_in, is_first, likeness_in, place_in, stand_in, told_in};
+ghost use Rattle.odb_sessions.specs.Represented.Alike.{ago_in, filter_in, is_first, is_reply, likeness_in, place_in, stand_in, told_in};
 
 use crate::monitor::{Monitor, Watching};
 use crate::shapes::asks_like;
@@ -24,6 +24,32 @@ impl<'a> Way<'a> {
             Way::Changed(_) => false,
             Way::Again(_, _) => false,
             Way::Since(_, _) => false,
+        }
+    }
+
+    /// Whether it is a reply, of which something is always sent.
+    pub(crate) fn is_reply(self) -> bool
+        ensures { result ≡ is_reply self.entry }
+    {
+        match self {
+            Way::First => true,
+            Way::Asked => false,
+            Way::Changed(_) => false,
+            Way::Again(_, _) => false,
+            Way::Since(_, _) => true,
+        }
+    }
+
+    /// How many commits ago the client had what it asks, if that is found.
+    pub(crate) fn ago(self) -> Option<usize>
+        ensures { result ≡ ago_in self.entry }
+    {
+        match self {
+            Way::First => None,
+            Way::Asked => None,
+            Way::Changed(_) => None,
+            Way::Again(_, _) => None,
+            Way::Since(_, ago) => Some(ago),
         }
     }
 
@@ -70,6 +96,17 @@ fn same_place(place: Option<(TableId, u64)>, other: Option<(TableId, u64)>) -> b
 {
     match (place, other) {
         (Some(place), Some(other)) => place.1 == other.1 && place.0 == other.0,
+        (None, None) => true,
+        _ => false,
+    }
+}
+
+/// Whether both are as many commits ago, or none.
+fn same_ago(ago: Option<usize>, other: Option<usize>) -> bool
+    ensures { Decides result (ago ≡ other) }
+{
+    match (ago, other) {
+        (Some(ago), Some(other)) => ago == other,
         (None, None) => true,
         _ => false,
     }
@@ -152,10 +189,13 @@ impl Monitor {
             )
     }
 
-    /// Whether both clients are told in one notation, and both for the first time or both later.
+    /// Whether both clients are told in one notation, both for the first time or both later, and both as of one commit or
+    /// neither of one.
     fn is_told_like(&self, way: Way<'_>, other: &Monitor, other_way: Way<'_>) -> bool
-        ensures { Decides result ((self.now.notation ≡ other.now.notation) × (is_first way.entry ≡ is_first other_way.entry)) }
+        ensures { Decides result ((self.now.notation ≡ other.now.notation) × (is_first way.entry ≡ is_first other_way.entry) × (ago_in way.entry ≡ ago_in other_way.entry)) }
     {
-        self.kind == other.kind && way.is_first() == other_way.is_first()
+        self.kind == other.kind
+            && way.is_first() == other_way.is_first()
+            && same_ago(way.ago(), other_way.ago())
     }
 }

@@ -22,7 +22,18 @@ pub(crate) fn digest_of<'a>(monitor: &'a Monitor, way: Way<'a>) -> u64
 {
     let mut state = DefaultHasher::new();
     feed_tables(&mut state, monitor.tables.as_slice(), way);
+    feed_ago(&mut state, way.ago());
     state.finish()
+}
+
+/// Feeds how many commits ago the client had what it asks, if that is found.
+fn feed_ago(state: &mut DefaultHasher, ago: Option<usize>)
+    ensures { state.new ≡ spec.after_ago state.old ago }
+{
+    match ago {
+        Some(ago) => ago.hash(state),
+        None => {}
+    }
 }
 
 /// Feeds how the client stands to each of these tables.

@@ -66,18 +66,18 @@ impl<'a> Ahead<'a> {
         &self,
         wanted: &mut Wanted<'a>,
         under: Under<'a>,
-        recent: &Recent,
     ) -> Result<Option<Envelope>, AllocError>
         requires { AreLive wanted.old.chains (marks_in self.now.held) }
         ensures text { IfOk result (λ message. (h : Service) → Tells wanted.new.jobs message
-            (update_sending h (revision_at wanted.old.chains recent.now) (refilter (filters_in under.entry) (watch_of self.now.held).requests) (seen_ahead wanted.old.chains.db self.now))) }
+            (update_sending h (revision_at wanted.old.chains wanted.old.recent) (refilter (filters_in under.entry) (watch_of self.now.held).requests) (seen_ahead wanted.old.chains.db self.now))) }
         ensures jobs { Keeps wanted.old.jobs wanted.new.jobs }
         ensures chains { wanted.new.chains ≡ wanted.old.chains }
+        ensures recent { wanted.new.recent ≡ wanted.old.recent }
     {
         let monitor = self.monitor;
         match self.told {
-            None => monitor.update(wanted, under, recent),
-            Some(told) => monitor.update_again(wanted, told, under, recent),
+            None => monitor.update(wanted, under),
+            Some(told) => monitor.update_again(wanted, told, under),
         }
     }
 
@@ -123,21 +123,21 @@ fn pass<'a>(
     monitors: &mut Vec<Ahead<'a>>,
     id: &Id,
     under: Under<'a>,
-    recent: &Recent,
 ) -> Result<Option<Envelope>, AllocError>
     requires { AreLive wanted.old.chains (marks_ahead monitors.old.items) }
     ensures text { IfOk result (λ message. (s : Schema) → Tells wanted.new.jobs message
-        (option_map (due_sending (served_by s) (revision_at wanted.old.chains recent.now)) (due (served_by s) wanted.old.chains.db (item_in id.now under.entry) (map (seen_ahead wanted.old.chains.db) monitors.old.items)))) }
+        (option_map (due_sending (served_by s) (revision_at wanted.old.chains wanted.old.recent)) (due (served_by s) wanted.old.chains.db (item_in id.now under.entry) (map (seen_ahead wanted.old.chains.db) monitors.old.items)))) }
     ensures passed { OnOk result ((s : Schema) → map (seen_ahead wanted.old.chains.db) monitors.new.items
         ≡ leaves (served_by s) wanted.old.chains.db (item_in id.now under.entry) (map (seen_ahead wanted.old.chains.db) monitors.old.items)) }
     ensures jobs { Keeps wanted.old.jobs wanted.new.jobs }
     ensures chains { wanted.new.chains ≡ wanted.old.chains }
+    ensures recent { wanted.new.recent ≡ wanted.old.recent }
     ensures live { AreLive wanted.old.chains (marks_ahead monitors.new.items) }
 {
     let Some(place) = place_of(monitors.as_slice(), id) else {
         return Ok(None);
     };
-    let message = monitors[place].update(wanted, under, recent)?;
+    let message = monitors[place].update(wanted, under)?;
     monitors[place] = monitors[place].brought(under);
     Ok(message)
 }
@@ -152,21 +152,18 @@ pub(crate) struct Rest {
 
 /// What these monitors have due. The costs are those of `Ahead::update` for each monitor up to the first that is
 /// owed something.
-fn rest_due<'a>(
-    wanted: &mut Wanted<'a>,
-    monitors: &[Ahead<'a>],
-    recent: &Recent,
-) -> Result<Rest, AllocError>
+fn rest_due<'a>(wanted: &mut Wanted<'a>, monitors: &[Ahead<'a>]) -> Result<Rest, AllocError>
     requires { AreLive wanted.old.chains (marks_ahead monitors.now) }
     ensures monitors { IfOk result (λ rest. (h : Service)
         → rest.monitors ≡ (plan_rest h wanted.old.chains.db (map (seen_ahead wanted.old.chains.db) monitors.now)).monitors) }
     ensures text { IfOk result (λ rest. (h : Service) → Tells wanted.new.jobs rest.message
-        (option_map (due_sending h (revision_at wanted.old.chains recent.now)) (plan_rest h wanted.old.chains.db (map (seen_ahead wanted.old.chains.db) monitors.now)).out)) }
+        (option_map (due_sending h (revision_at wanted.old.chains wanted.old.recent)) (plan_rest h wanted.old.chains.db (map (seen_ahead wanted.old.chains.db) monitors.now)).out)) }
     ensures jobs { Keeps wanted.old.jobs wanted.new.jobs }
     ensures chains { wanted.new.chains ≡ wanted.old.chains }
+    ensures recent { wanted.new.recent ≡ wanted.old.recent }
 {
     for place in 0..monitors.len() {
-        let message = monitors[place].update(wanted, Under::Asked, recent)?;
+        let message = monitors[place].update(wanted, Under::Asked)?;
         if message.is_some() {
             return Ok(Rest {
                 monitors: place + 1,
@@ -180,7 +177,7 @@ fn rest_due<'a>(
     })
 }
 
-/// The database with its past, the jobs so far, and what a plan foresees of a session's monitors.
+/// The database with its past and its last commits, the jobs so far, and what a plan foresees of a session's monitors.
 pub(crate) struct Planner<'a> {
     pub(crate) wanted: Wanted<'a>,
     monitors: Vec<Ahead<'a>>,
@@ -197,19 +194,24 @@ impl<'a> Model for Planner<'a> {
 
     ghost coded = { foreseen_code };
 
-    ghost view = { λ p. record { chains = p.wanted.chains; jobs = p.wanted.jobs; monitors = map (seen_ahead p.wanted.chains.db) p.monitors.items } };
+    ghost view = { λ p. record { chains = p.wanted.chains; recent = p.wanted.recent; jobs = p.wanted.jobs; monitors = map (seen_ahead p.wanted.chains.db) p.monitors.items } };
 
     ghost invariant = { λ p. AreLive p.wanted.chains (marks_ahead p.monitors.items) };
 }
 
 impl<'a> Planner<'a> {
     /// No jobs, and no monitors. O(1).
-    pub(crate) fn new(alloc: Global, chains: &'a Chains, firsts: &'a FirstTexts) -> Planner<'a>
+    pub(crate) fn new(
+        alloc: Global,
+        chains: &'a Chains,
+        recent: &'a Recent,
+        firsts: &'a FirstTexts,
+    ) -> Planner<'a>
         requires { AreFirstTexts chains.now.db firsts.now }
-        ensures { result ≡ record { chains = chains.now; jobs = []; monitors = [] } }
+        ensures { result ≡ record { chains = chains.now; recent = recent.now; jobs = []; monitors = [] } }
     {
         Planner {
-            wanted: Wanted::new(alloc, chains, firsts),
+            wanted: Wanted::new(alloc, chains, recent, firsts),
             monitors: Vec::new(alloc),
         }
     }
@@ -220,6 +222,7 @@ impl<'a> Planner<'a> {
         ensures monitors { OnOk result (self.new.monitors ≡ map monitor_of monitors.now) }
         ensures jobs { self.new.jobs ≡ self.old.jobs }
         ensures chains { self.new.chains ≡ self.old.chains }
+        ensures recent { self.new.recent ≡ self.old.recent }
     {
         let ahead = all_ahead(self.wanted.alloc(), monitors)?;
         self.monitors = ahead;
@@ -228,40 +231,37 @@ impl<'a> Planner<'a> {
 
     /// What the client of the monitor with this id is sent to be brought to now under these filters; `None` where
     /// that is nothing. From then on it is foreseen so. The costs are those of `Monitor::update`.
-    pub(crate) fn pass(
-        &mut self,
-        id: &Id,
-        under: Under<'a>,
-        recent: &Recent,
-    ) -> Result<Option<Envelope>, AllocError>
+    pub(crate) fn pass(&mut self, id: &Id, under: Under<'a>) -> Result<Option<Envelope>, AllocError>
         ensures text { IfOk result (λ message. (s : Schema) → Tells self.new.jobs message
-            (option_map (due_sending (served_by s) (revision_at self.old.chains recent.now)) (due (served_by s) self.old.chains.db (item_in id.now under.entry) self.old.monitors))) }
+            (option_map (due_sending (served_by s) (revision_at self.old.chains self.old.recent)) (due (served_by s) self.old.chains.db (item_in id.now under.entry) self.old.monitors))) }
         ensures passed { OnOk result ((s : Schema) → self.new.monitors
             ≡ leaves (served_by s) self.old.chains.db (item_in id.now under.entry) self.old.monitors) }
         ensures jobs { Keeps self.old.jobs self.new.jobs }
         ensures chains { self.new.chains ≡ self.old.chains }
+        ensures recent { self.new.recent ≡ self.old.recent }
     {
-        pass(&mut self.wanted, &mut self.monitors, id, under, recent)
+        pass(&mut self.wanted, &mut self.monitors, id, under)
     }
 
     /// What its monitors have due once the queue is empty. The costs are those of `Monitor::update` for each
     /// monitor up to the first that is owed something.
-    pub(crate) fn rest(&mut self, recent: &Recent) -> Result<Rest, AllocError>
+    pub(crate) fn rest(&mut self) -> Result<Rest, AllocError>
         ensures monitors { IfOk result (λ rest. (h : Service)
             → rest.monitors ≡ (plan_rest h self.old.chains.db self.old.monitors).monitors) }
         ensures text { IfOk result (λ rest. (h : Service) → Tells self.new.jobs rest.message
-            (option_map (due_sending h (revision_at self.old.chains recent.now)) (plan_rest h self.old.chains.db self.old.monitors).out)) }
+            (option_map (due_sending h (revision_at self.old.chains self.old.recent)) (plan_rest h self.old.chains.db self.old.monitors).out)) }
         ensures jobs { Keeps self.old.jobs self.new.jobs }
         ensures chains { self.new.chains ≡ self.old.chains }
+        ensures recent { self.new.recent ≡ self.old.recent }
     {
-        rest_due(&mut self.wanted, self.monitors.as_slice(), recent)
+        rest_due(&mut self.wanted, self.monitors.as_slice())
     }
 
     /// The jobs, and what each is composed for.
     pub(crate) fn into_jobs(self) -> Listed<'a>
         ensures jobs { result.jobs.items ≡ self.entry.jobs }
         ensures now { All (IsOfNow self.entry.chains.db) result.jobs.items }
-        ensures once { AreEachOnce self.entry.chains.db result.jobs.items result.askings.items }
+        ensures once { AreEachOnce (revision_at self.entry.chains self.entry.recent) result.jobs.items result.askings.items }
     {
         let Planner {
             wanted,

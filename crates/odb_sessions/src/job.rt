@@ -106,12 +106,12 @@ impl<'a> Job<'a> {
         }
     }
 
-    /// Whether something is sent: a first reply always is. The costs are those of `odb_monitor::Job::has_updates` and,
+    /// Whether something is sent: a reply always is. The costs are those of `odb_monitor::Job::has_updates` and,
     /// for each table, of `odb_chain::Chains::since`.
     pub fn has_updates(&self, alloc: Global) -> Result<bool, AllocError>
         ensures { IfOk result (λ has. has ≡ is_some (updates_of self.now)) }
     {
-        if self.way.is_first() {
+        if self.way.is_reply() {
             return Ok(true);
         }
         let job = self.differences(alloc)?;

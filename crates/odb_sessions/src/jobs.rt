@@ -86,7 +86,7 @@ fn all_ready(
 pub struct Jobs<'a> {
     alloc: Global,
     jobs: Vec<Job<'a>>,
-    askings: Vec<Option<Asking<'a>>>,
+    askings: Vec<Asking<'a>>,
     takings: Vec<Planned>,
 }
 

@@ -28,7 +28,6 @@ use crate::wanted::Wanted;
 use crate::way::Way;
 use odb_chain::Chains;
 use odb_monitor::Part;
-use odb_recent::Recent;
 use odb_request::Request;
 use odb_rpc::{after_updates, before_update3, before_updates};
 use std::alloc::{AllocError, Global};
@@ -50,37 +49,35 @@ impl Monitor {
         &'a self,
         wanted: &mut Wanted<'a>,
         under: Under<'a>,
-        recent: &Recent,
     ) -> Result<Option<Envelope>, AllocError>
         requires { AreLive wanted.old.chains (marks_in self.now) }
         ensures text { IfOk result (λ message. (h : Service) → Tells wanted.new.jobs message
-            (update_sending h (revision_at wanted.old.chains recent.now) (refilter (filters_in under.entry) (watch_of self.now).requests) (seen_ahead wanted.old.chains.db (as_told self.now)))) }
+            (update_sending h (revision_at wanted.old.chains wanted.old.recent) (refilter (filters_in under.entry) (watch_of self.now).requests) (seen_ahead wanted.old.chains.db (as_told self.now)))) }
         ensures jobs { Keeps wanted.old.jobs wanted.new.jobs }
         ensures chains { wanted.new.chains ≡ wanted.old.chains }
+        ensures recent { wanted.new.recent ≡ wanted.old.recent }
     {
         match under {
-            Under::Asked => self.update_asked(wanted, recent),
-            Under::Changed(_) => self.update_under(wanted, under, recent),
+            Under::Asked => self.update_asked(wanted),
+            Under::Changed(_) => self.update_under(wanted, under),
         }
     }
 
     /// The update that its client is owed.
-    fn update_asked<'a>(
-        &'a self,
-        wanted: &mut Wanted<'a>,
-        recent: &Recent,
-    ) -> Result<Option<Envelope>, AllocError>
+    fn update_asked<'a>(&'a self, wanted: &mut Wanted<'a>) -> Result<Option<Envelope>, AllocError>
         requires { AreLive wanted.old.chains (marks_in self.now) }
         ensures text { IfOk result (λ message. (h : Service) → Tells wanted.new.jobs message
-            (update_sending h (revision_at wanted.old.chains recent.now) (watch_of self.now).requests (monitor_of self.now))) }
+            (update_sending h (revision_at wanted.old.chains wanted.old.recent) (watch_of self.now).requests (monitor_of self.now))) }
         ensures jobs { Keeps wanted.old.jobs wanted.new.jobs }
         ensures chains { wanted.new.chains ≡ wanted.old.chains }
+        ensures recent { wanted.new.recent ≡ wanted.old.recent }
     {
         if are_now(self.tables.as_slice(), wanted.chains()) {
             return Ok(None);
         }
+        let number = wanted.number();
         let place = wanted.updates(self)?;
-        self.notification(wanted.alloc(), recent.number(), place)
+        self.notification(wanted.alloc(), number, place)
     }
 
     /// The update that its client is owed under these filters.
@@ -88,16 +85,17 @@ impl Monitor {
         &'a self,
         wanted: &mut Wanted<'a>,
         under: Under<'a>,
-        recent: &Recent,
     ) -> Result<Option<Envelope>, AllocError>
         requires { AreLive wanted.old.chains (marks_in self.now) }
         ensures text { IfOk result (λ message. (h : Service) → Tells wanted.new.jobs message
-            (update_sending h (revision_at wanted.old.chains recent.now) (refilter (filters_in under.entry) (watch_of self.now).requests) (monitor_of self.now))) }
+            (update_sending h (revision_at wanted.old.chains wanted.old.recent) (refilter (filters_in under.entry) (watch_of self.now).requests) (monitor_of self.now))) }
         ensures jobs { Keeps wanted.old.jobs wanted.new.jobs }
         ensures chains { wanted.new.chains ≡ wanted.old.chains }
+        ensures recent { wanted.new.recent ≡ wanted.old.recent }
     {
+        let number = wanted.number();
         let place = wanted.want(self, Way::Changed(under))?;
-        self.notification(wanted.alloc(), recent.number(), place)
+        self.notification(wanted.alloc(), number, place)
     }
 
     /// The update that its client is owed under these filters, where it was told of its tables as they are now
@@ -107,16 +105,17 @@ impl Monitor {
         wanted: &mut Wanted<'a>,
         told: Under<'a>,
         under: Under<'a>,
-        recent: &Recent,
     ) -> Result<Option<Envelope>, AllocError>
         requires { AreLive wanted.old.chains (marks_in self.now) }
         ensures text { IfOk result (λ message. (h : Service) → Tells wanted.new.jobs message
-            (update_sending h (revision_at wanted.old.chains recent.now) (refilter (filters_in under.entry) (watch_of self.now).requests) (seen_ahead wanted.old.chains.db (record { held = self.now; told = Some (filters_in told.entry) })))) }
+            (update_sending h (revision_at wanted.old.chains wanted.old.recent) (refilter (filters_in under.entry) (watch_of self.now).requests) (seen_ahead wanted.old.chains.db (record { held = self.now; told = Some (filters_in told.entry) })))) }
         ensures jobs { Keeps wanted.old.jobs wanted.new.jobs }
         ensures chains { wanted.new.chains ≡ wanted.old.chains }
+        ensures recent { wanted.new.recent ≡ wanted.old.recent }
     {
+        let number = wanted.number();
         let place = wanted.want(self, Way::Again(told, under))?;
-        self.notification(wanted.alloc(), recent.number(), place)
+        self.notification(wanted.alloc(), number, place)
     }
 
     /// The notification to its client with what is composed of the job at this place, where this is the number of the

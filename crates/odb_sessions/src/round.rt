@@ -29,7 +29,6 @@ use crate::out::Out;
 use crate::ready::{Delivery, Ready, finished};
 use crate::sessions::Sessions;
 use odb_locks::SessionId;
-use odb_recent::Recent;
 use std::alloc::{AllocError, Global};
 
 /// A round that is composed, and the text of a first reply of it that is to be kept.
@@ -45,21 +44,21 @@ fn taking_at<'a>(
     sessions: &'a Numbered,
     session: SessionId,
     planner: &mut Planner<'a>,
-    recent: &'a Recent,
 ) -> Result<Planned, AllocError>
     requires { AreAllLive planner.old.chains sessions.now }
     ensures session { IfOk result (λ planned. planned.session ≡ session) }
     ensures ready { IfOk result (λ planned. (s : Schema) (all : List model_job.Job) → Keeps planner.new.jobs all
-        → IsReadyFor s (revision_at planner.old.chains recent.now) (option_map seen (finite.get sessions.now session)) (ready_by all planned.taking)) }
+        → IsReadyFor s (revision_at planner.old.chains planner.old.recent) (option_map seen (finite.get sessions.now session)) (ready_by all planned.taking)) }
     ensures made { IfOk result (λ planned. (s : Schema) (all : List model_job.Job) → Keeps planner.new.jobs all
-        → IsOfJob s (revision_at planner.old.chains recent.now) all (option_map seen (finite.get sessions.now session)) (text_planned all planned.taking.coming)) }
+        → IsOfJob s (revision_at planner.old.chains planner.old.recent) all (option_map seen (finite.get sessions.now session)) (text_planned all planned.taking.coming)) }
     ensures jobs { Keeps planner.old.jobs planner.new.jobs }
     ensures chains { planner.new.chains ≡ planner.old.chains }
+    ensures recent { planner.new.recent ≡ planner.old.recent }
 {
     let Some(of) = sessions.get(session) else {
         return Ok(Planned::none(session));
     };
-    let taking = of.taking(planner, recent)?;
+    let taking = of.taking(planner)?;
     Ok(Planned { session, taking })
 }
 
@@ -69,41 +68,40 @@ fn takings_at<'a>(
     sessions: &'a Numbered,
     listed: &[SessionId],
     planner: &mut Planner<'a>,
-    recent: &'a Recent,
 ) -> Result<Vec<Planned>, AllocError>
     requires { AreAllLive planner.old.chains sessions.now }
     ensures sessions { IfOk result (λ planned. map (λ p. p.session) planned.items ≡ listed.now) }
     ensures ready { IfOk result (λ planned. (s : Schema) (all : List model_job.Job) → Keeps planner.new.jobs all
-        → AreReady s (book_with planner.old.chains.db recent.now (all_seen sessions.now)) (map (pending_by all) planned.items)) }
+        → AreReady s (book_with planner.old.chains.db planner.old.recent (all_seen sessions.now)) (map (pending_by all) planned.items)) }
     ensures made { IfOk result (λ planned. (s : Schema) (all : List model_job.Job) → Keeps planner.new.jobs all
-        → AreMadeOf s (book_with planner.old.chains.db recent.now (all_seen sessions.now)) all (map (pending_by all) planned.items)) }
+        → AreMadeOf s (book_with planner.old.chains.db planner.old.recent (all_seen sessions.now)) all (map (pending_by all) planned.items)) }
     ensures chains { OnOk result (planner.new.chains ≡ planner.old.chains) }
+    ensures recent { OnOk result (planner.new.recent ≡ planner.old.recent) }
 {
     let mut takings = Vec::with_capacity(alloc, listed.len())?;
     for session in listed {
-        takings.push_reserved(taking_at(sessions, *session, planner, recent)?);
+        takings.push_reserved(taking_at(sessions, *session, planner)?);
     }
     Ok(takings)
 }
 
 impl Sessions {
-    /// A round of these sessions, as it is planned: nothing is composed, and nothing is taken. No two jobs are alike, but
-    /// of replies to who resumes: what clients of several are owed alike is one.
+    /// A round of these sessions, as it is planned: nothing is composed, and nothing is taken. No two jobs are alike, those
+    /// of replies to who resumes among them: what clients of several are owed alike is one.
     pub fn jobs(&self, listed: &[SessionId]) -> Result<Jobs<'_>, AllocError>
         ensures sessions { IfOk result (λ jobs. sessions_in jobs.takings ≡ listed.now) }
         ensures ready { IfOk result (λ jobs. AreOf self.now jobs.takings) }
         ensures jobs { IfOk result (λ jobs. AreOfJobs self.now jobs.jobs jobs.takings) }
         ensures now { IfOk result (λ jobs. All (IsOfNow self.now.db) jobs.jobs) }
-        ensures once { IfOk result (λ jobs. AreEachOnce self.now.db jobs.jobs jobs.likenesses) }
+        ensures once { IfOk result (λ jobs. AreEachOnce (revision_in self.now) jobs.jobs jobs.likenesses) }
     {
-        let mut planner = Planner::new(self.alloc, self.past.chains(), self.past.firsts());
-        let takings = takings_at(
+        let mut planner = Planner::new(
             self.alloc,
-            &self.sessions,
-            listed,
-            &mut planner,
+            self.past.chains(),
             &self.recent,
-        )?;
+            self.past.firsts(),
+        );
+        let takings = takings_at(self.alloc, &self.sessions, listed, &mut planner)?;
         Ok(Jobs::new(self.alloc, planner.into_jobs(), takings))
     }
 

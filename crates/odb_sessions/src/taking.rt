@@ -29,7 +29,6 @@ use crate::queue::Queue;
 use crate::session::Session;
 use crate::under::Under;
 use crate::wanted::Wanted;
-use odb_recent::Recent;
 use std::alloc::AllocError;
 use std::collections::VecDeque;
 use uuid::Uuid;
@@ -65,21 +64,18 @@ fn composed(message: Option<Envelope>) -> Option<Coming>
 
 impl Start {
     /// The first reply. The costs are those of `Wanted::first_reply` or `Wanted::resume` and, for an id of n bytes, O(n).
-    fn first_reply<'a>(
-        &'a self,
-        wanted: &mut Wanted<'a>,
-        recent: &'a Recent,
-    ) -> Result<Envelope, AllocError>
+    fn first_reply<'a>(&'a self, wanted: &mut Wanted<'a>) -> Result<Envelope, AllocError>
         requires { AreLive wanted.old.chains (marks_in self.now.monitor) }
         ensures text { IfOk result (λ message. (h : Service) (all : List model_job.Job) → Keeps wanted.new.jobs all
-            → sending_under all message ≡ Some (due_sending h (revision_at wanted.old.chains recent.now) (first_due self.now.origin (watch_of self.now.monitor)))) }
+            → sending_under all message ≡ Some (due_sending h (revision_at wanted.old.chains wanted.old.recent) (first_due self.now.origin (watch_of self.now.monitor)))) }
         ensures jobs { Keeps wanted.old.jobs wanted.new.jobs }
         ensures chains { wanted.new.chains ≡ wanted.old.chains }
+        ensures recent { wanted.new.recent ≡ wanted.old.recent }
     {
         let _now = wanted.chains().db();
         match self.monitor.since {
             None => self.whole_reply(wanted),
-            Some(since) => self.reply_since(wanted, recent, since),
+            Some(since) => self.reply_since(wanted, since),
         }
     }
 
@@ -90,6 +86,7 @@ impl Start {
             → sending_under all message ≡ Some (whole_sending wanted.old.chains.db self.now.origin self.now.monitor)) }
         ensures jobs { Keeps wanted.old.jobs wanted.new.jobs }
         ensures chains { wanted.new.chains ≡ wanted.old.chains }
+        ensures recent { wanted.new.recent ≡ wanted.old.recent }
     {
         let job = wanted.first_reply(&self.monitor)?;
         self.origin.reply(wanted.alloc(), job)
@@ -99,19 +96,20 @@ impl Start {
     fn reply_since<'a>(
         &'a self,
         wanted: &mut Wanted<'a>,
-        recent: &'a Recent,
         since: Uuid,
     ) -> Result<Envelope, AllocError>
         requires { AreLive wanted.old.chains (marks_in self.now.monitor) }
         ensures text { IfOk result (λ message. (all : List model_job.Job) → Keeps wanted.new.jobs all
-            → sending_under all message ≡ Some (sending_since recent.now wanted.old.chains.db self.now.origin self.now.monitor (uuid_of since))) }
-        ensures kept { IfSome (commits_ago recent.now.most recent.now.run recent.now.commits (uuid_of since)) (λ ago. ago ≤ length recent.now.undos) }
+            → sending_under all message ≡ Some (sending_since wanted.old.recent wanted.old.chains.db self.now.origin self.now.monitor (uuid_of since))) }
+        ensures kept { IfSome (commits_ago wanted.old.recent.most wanted.old.recent.run wanted.old.recent.commits (uuid_of since)) (λ ago. ago ≤ length wanted.old.recent.undos) }
         ensures jobs { Keeps wanted.old.jobs wanted.new.jobs }
         ensures chains { wanted.new.chains ≡ wanted.old.chains }
+        ensures recent { wanted.new.recent ≡ wanted.old.recent }
     {
-        match recent.find(since) {
-            None => self.not_found(wanted, recent.number()),
-            Some(ago) => self.found(wanted, recent, ago),
+        let number = wanted.number();
+        match wanted.ago(since) {
+            None => self.not_found(wanted, number),
+            Some(ago) => self.found(wanted, ago),
         }
     }
 
@@ -126,6 +124,7 @@ impl Start {
             → sending_under all message ≡ Some (missed_sending (uuid_of number) wanted.old.chains.db self.now.origin self.now.monitor)) }
         ensures jobs { Keeps wanted.old.jobs wanted.new.jobs }
         ensures chains { wanted.new.chains ≡ wanted.old.chains }
+        ensures recent { wanted.new.recent ≡ wanted.old.recent }
     {
         let job = wanted.first_reply(&self.monitor)?;
         self.origin
@@ -133,21 +132,19 @@ impl Start {
     }
 
     /// The first reply, where the commit that was named is found so many commits ago.
-    fn found<'a>(
-        &'a self,
-        wanted: &mut Wanted<'a>,
-        recent: &'a Recent,
-        ago: usize,
-    ) -> Result<Envelope, AllocError>
-        requires { AreLive wanted.old.chains (marks_in self.now.monitor) }
+    fn found<'a>(&'a self, wanted: &mut Wanted<'a>, ago: usize) -> Result<Envelope, AllocError>
+        requires live { AreLive wanted.old.chains (marks_in self.now.monitor) }
+        requires kept { ago ≤ length wanted.old.recent.undos }
         ensures text { IfOk result (λ message. (all : List model_job.Job) → Keeps wanted.new.jobs all
-            → sending_under all message ≡ Some (found_sending recent.now ago wanted.old.chains.db self.now.origin self.now.monitor)) }
+            → sending_under all message ≡ Some (found_sending wanted.old.recent ago wanted.old.chains.db self.now.origin self.now.monitor)) }
         ensures jobs { Keeps wanted.old.jobs wanted.new.jobs }
         ensures chains { wanted.new.chains ≡ wanted.old.chains }
+        ensures recent { wanted.new.recent ≡ wanted.old.recent }
     {
-        let job = wanted.resume(&self.monitor, recent, ago)?;
+        let number = wanted.number();
+        let job = wanted.resume(&self.monitor, ago)?;
         self.origin
-            .numbered_reply(wanted.alloc(), true, recent.number(), job)
+            .numbered_reply(wanted.alloc(), true, number, job)
     }
 }
 
@@ -169,56 +166,54 @@ impl Item {
 
 impl<'a> Planner<'a> {
     /// The first reply, which comes.
-    fn begin(&mut self, start: &'a Start, recent: &'a Recent) -> Result<Option<Coming>, AllocError>
+    fn begin(&mut self, start: &'a Start) -> Result<Option<Coming>, AllocError>
         requires { AreLive self.old.chains (marks_in start.now.monitor) }
         ensures comes { IfOk result (λ coming. is_some coming ≡ true) }
         ensures text { IfOk result (λ coming. (h : Service) (last : Option machine.Item) → Comes self.new.jobs coming last
-            (Some (due_sending h (revision_at self.old.chains recent.now) (first_due start.now.origin (watch_of start.now.monitor))))) }
+            (Some (due_sending h (revision_at self.old.chains self.old.recent) (first_due start.now.origin (watch_of start.now.monitor))))) }
         ensures jobs { Keeps self.old.jobs self.new.jobs }
         ensures chains { self.new.chains ≡ self.old.chains }
+        ensures recent { self.new.recent ≡ self.old.recent }
     {
-        let message = start.first_reply(&mut self.wanted, recent)?;
+        let message = start.first_reply(&mut self.wanted)?;
         Ok(composed(Some(message)))
     }
 
     /// What the client of the monitor with this id lacks under these filters comes, if it lacks something.
-    fn bring(
-        &mut self,
-        id: &Id,
-        under: Under<'a>,
-        recent: &Recent,
-    ) -> Result<Option<Coming>, AllocError>
+    fn bring(&mut self, id: &Id, under: Under<'a>) -> Result<Option<Coming>, AllocError>
         ensures comes { IfOk result (λ coming. (s : Schema) → is_some coming
             ≡ is_some (due (served_by s) self.old.chains.db (item_in id.now under.entry) self.old.monitors)) }
         ensures text { IfOk result (λ coming. (s : Schema) (last : Option machine.Item) → Comes self.new.jobs coming last
-            (option_map (due_sending (served_by s) (revision_at self.old.chains recent.now)) (due (served_by s) self.old.chains.db (item_in id.now under.entry) self.old.monitors))) }
+            (option_map (due_sending (served_by s) (revision_at self.old.chains self.old.recent)) (due (served_by s) self.old.chains.db (item_in id.now under.entry) self.old.monitors))) }
         ensures passed { OnOk result ((s : Schema)
             → self.new.monitors ≡ leaves (served_by s) self.old.chains.db (item_in id.now under.entry) self.old.monitors) }
         ensures jobs { Keeps self.old.jobs self.new.jobs }
         ensures chains { self.new.chains ≡ self.old.chains }
+        ensures recent { self.new.recent ≡ self.old.recent }
     {
-        let message = self.pass(id, under, recent)?;
+        let message = self.pass(id, under)?;
         Ok(composed(message))
     }
 
     /// What the item gives the client. Where that is nothing the monitors are foreseen as they are after it. The
     /// costs are those of `Planner::pass` and of `Start::first_reply`.
-    fn give(&mut self, item: &'a Item, recent: &'a Recent) -> Result<Option<Coming>, AllocError>
+    fn give(&mut self, item: &'a Item) -> Result<Option<Coming>, AllocError>
         requires { AreLive self.old.chains (marks_due (queued_of item.now)) }
         ensures comes { IfOk result (λ coming. (s : Schema) → is_some coming
             ≡ is_some (due (served_by s) self.old.chains.db (item_seen (queued_of item.now)) self.old.monitors)) }
         ensures text { IfOk result (λ coming. (s : Schema) → Comes self.new.jobs coming (Some (item_seen (queued_of item.now)))
-            (option_map (due_sending (served_by s) (revision_at self.old.chains recent.now)) (due (served_by s) self.old.chains.db (item_seen (queued_of item.now)) self.old.monitors))) }
+            (option_map (due_sending (served_by s) (revision_at self.old.chains self.old.recent)) (due (served_by s) self.old.chains.db (item_seen (queued_of item.now)) self.old.monitors))) }
         ensures passed { IfOk result (λ coming. is_some coming ≡ false → (s : Schema)
             → self.new.monitors ≡ leaves (served_by s) self.old.chains.db (item_seen (queued_of item.now)) self.old.monitors) }
         ensures jobs { Keeps self.old.jobs self.new.jobs }
         ensures chains { self.new.chains ≡ self.old.chains }
+        ensures recent { self.new.recent ≡ self.old.recent }
     {
         match item {
             Item::Say(_) => Ok(Some(Coming::Queued)),
-            Item::Start(start) => self.begin(start, recent),
-            Item::Sync(id) => self.bring(id, Under::Asked, recent),
-            Item::Shift(shift) => self.bring(&shift.id, Under::Changed(&shift.changes), recent),
+            Item::Start(start) => self.begin(start),
+            Item::Sync(id) => self.bring(id, Under::Asked),
+            Item::Shift(shift) => self.bring(&shift.id, Under::Changed(&shift.changes)),
             Item::Renamed(_) => Ok(Some(Coming::Queued)),
             Item::Stopped(_) => Ok(Some(Coming::Queued)),
         }
@@ -248,24 +243,21 @@ fn at_once(items: &VecDeque<Item>) -> Option<Taking>
 
 /// What a taking of these items uses up, and what comes. The costs are those of `Planner::give` for each item up to
 /// the first that gives something and, where none does, of `Planner::rest`.
-fn taking_of<'a>(
-    items: &'a VecDeque<Item>,
-    planner: &mut Planner<'a>,
-    recent: &'a Recent,
-) -> Result<Taking, AllocError>
+fn taking_of<'a>(items: &'a VecDeque<Item>, planner: &mut Planner<'a>) -> Result<Taking, AllocError>
     requires { AreLive planner.old.chains (flat_map marks_due (map queued_of items.now.items)) }
     ensures items { IfOk result (λ taking. (s : Schema) → taking.items
         ≡ (plan_from (served_by s) planner.old.chains.db (map item_seen (map queued_of items.now.items)) planner.old.monitors).items) }
     ensures monitors { IfOk result (λ taking. (s : Schema) → taking.monitors
         ≡ (plan_from (served_by s) planner.old.chains.db (map item_seen (map queued_of items.now.items)) planner.old.monitors).monitors) }
     ensures text { IfOk result (λ taking. (s : Schema) → Gives planner.new.jobs taking (map item_seen (map queued_of items.now.items))
-        (option_map (due_sending (served_by s) (revision_at planner.old.chains recent.now))
+        (option_map (due_sending (served_by s) (revision_at planner.old.chains planner.old.recent))
         (plan_from (served_by s) planner.old.chains.db (map item_seen (map queued_of items.now.items)) planner.old.monitors).out)) }
     ensures jobs { Keeps planner.old.jobs planner.new.jobs }
     ensures chains { planner.new.chains ≡ planner.old.chains }
+    ensures recent { planner.new.recent ≡ planner.old.recent }
 {
     for place in 0..items.len() {
-        let coming = planner.give(&items[place], recent)?;
+        let coming = planner.give(&items[place])?;
         if coming.is_some() {
             return Ok(Taking {
                 items: place + 1,
@@ -274,7 +266,7 @@ fn taking_of<'a>(
             });
         }
     }
-    let rest = planner.rest(recent)?;
+    let rest = planner.rest()?;
     Ok(Taking {
         items: items.len(),
         monitors: rest.monitors,
@@ -285,26 +277,23 @@ fn taking_of<'a>(
 impl Session {
     /// What a taking of the session uses up, and what comes. The costs are those of `Planner::turn_to` and
     /// `taking_of`.
-    pub(crate) fn taking<'a>(
-        &'a self,
-        planner: &mut Planner<'a>,
-        recent: &'a Recent,
-    ) -> Result<Taking, AllocError>
+    pub(crate) fn taking<'a>(&'a self, planner: &mut Planner<'a>) -> Result<Taking, AllocError>
         requires { AreLive planner.old.chains (marks_of self.now) }
         ensures items { IfOk result (λ taking. (s : Schema)
             → taking.items ≡ (plan (served_by s) planner.old.chains.db (seen self.now)).items) }
         ensures monitors { IfOk result (λ taking. (s : Schema)
             → taking.monitors ≡ (plan (served_by s) planner.old.chains.db (seen self.now)).monitors) }
         ensures text { IfOk result (λ taking. (s : Schema) → Gives planner.new.jobs taking (seen self.now).queue
-            (option_map (due_sending (served_by s) (revision_at planner.old.chains recent.now)) (plan (served_by s) planner.old.chains.db (seen self.now)).out)) }
+            (option_map (due_sending (served_by s) (revision_at planner.old.chains planner.old.recent)) (plan (served_by s) planner.old.chains.db (seen self.now)).out)) }
         ensures jobs { Keeps planner.old.jobs planner.new.jobs }
         ensures chains { planner.new.chains ≡ planner.old.chains }
+        ensures recent { planner.new.recent ≡ planner.old.recent }
     {
         if let Some(taking) = self.queue.at_once() {
             return Ok(taking);
         }
         planner.turn_to(self.monitors.as_slice())?;
-        self.queue.taking(planner, recent)
+        self.queue.taking(planner)
     }
 }
 
@@ -324,22 +313,19 @@ impl Queue {
     }
 
     /// What a taking of a session with this queue uses up, and what comes. The costs are those of `taking_of`.
-    fn taking<'a>(
-        &'a self,
-        planner: &mut Planner<'a>,
-        recent: &'a Recent,
-    ) -> Result<Taking, AllocError>
+    fn taking<'a>(&'a self, planner: &mut Planner<'a>) -> Result<Taking, AllocError>
         requires { AreLive planner.old.chains (flat_map marks_due self.now) }
         ensures items { IfOk result (λ taking. (s : Schema)
             → taking.items ≡ (plan_from (served_by s) planner.old.chains.db (map item_seen self.now) planner.old.monitors).items) }
         ensures monitors { IfOk result (λ taking. (s : Schema)
             → taking.monitors ≡ (plan_from (served_by s) planner.old.chains.db (map item_seen self.now) planner.old.monitors).monitors) }
         ensures text { IfOk result (λ taking. (s : Schema) → Gives planner.new.jobs taking (map item_seen self.now)
-            (option_map (due_sending (served_by s) (revision_at planner.old.chains recent.now))
+            (option_map (due_sending (served_by s) (revision_at planner.old.chains planner.old.recent))
             (plan_from (served_by s) planner.old.chains.db (map item_seen self.now) planner.old.monitors).out)) }
         ensures jobs { Keeps planner.old.jobs planner.new.jobs }
         ensures chains { planner.new.chains ≡ planner.old.chains }
+        ensures recent { planner.new.recent ≡ planner.old.recent }
     {
-        taking_of(&self.items, planner, recent)
+        taking_of(&self.items, planner)
     }
 }

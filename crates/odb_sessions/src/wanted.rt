@@ -1,12 +1,15 @@
 //! The compositions that a round needs: clients that are owed the same are told it by one of them. [P 10.1, 10.3]
-ghost use Rattle.std.specs.Prelude.{◌≡◌, ◌++◌, ◌∷◌, [], false, IfOk, List, None, OnErr, OnOk, Some, length, slice_get, take};
+ghost use Rattle.std.specs.Prelude.{◌≡◌, ◌≤◌, ◌++◌, ◌∷◌, [], IfOk, IfSome, List, OnErr, OnOk, Some, length, slice_get, take};
 ghost use Rattle.std.specs.List.{All};
+ghost use Rattle.odb_atoms.specs.Represented.Atom.{uuid_of};
 ghost use Rattle.odb_monitor.specs.Job as model_job;
+ghost use Rattle.odb_recent.specs.Recent.{commits_ago, number_of};
+ghost use Rattle.odb_sessions.specs.Book.{revision_at};
 ghost use Rattle.odb_sessions.specs.Composed.{asked_of, owed_job, resumed_job};
 ghost use Rattle.odb_sessions.specs.FirstTexts.{AreFirstTexts, IsOfNow};
 ghost use Rattle.odb_sessions.specs.Held.{marks_in};
 ghost use Rattle.odb_sessions.specs.Jobs.{AreEachOnce, IsFor, Keeps, if_sent};
-ghost use Rattle.odb_sessions.specs.Represented.Alike.{is_resumed, likeness_in};
+ghost use Rattle.odb_sessions.specs.Represented.Alike.{IsFoundIn, likeness_in};
 ghost use Rattle.odb_sessions.specs.Represented.Decided.{IsSame, Puts};
 ghost use Rattle.odb_sessions.specs.Represented.Job.{job_in};
 ghost use Rattle.odb_sessions.specs.Tied.{AreLive};
@@ -21,6 +24,7 @@ use odb_chain::Chains;
 use odb_recent::Recent;
 use std::alloc::{AllocError, Global};
 use std::marker::Model;
+use uuid::Uuid;
 
 /// What a job is composed for: the client of a monitor, and in which way.
 #[derive(Drop)]
@@ -41,11 +45,11 @@ impl<'a> Model for Asking<'a> {
     ghost view = { λ a. likeness_in a.monitor.now a.way };
 }
 
-/// Jobs, and what each is composed for; `None` where others may be composed for the same.
+/// Jobs, and what each is composed for.
 #[derive(Drop)]
 pub(crate) struct Listed<'a> {
     pub(crate) jobs: Vec<Job<'a>>,
-    pub(crate) askings: Vec<Option<Asking<'a>>>,
+    pub(crate) askings: Vec<Asking<'a>>,
 }
 
 impl<'a> Listed<'a> {
@@ -70,7 +74,7 @@ impl<'a> Listed<'a> {
     ) -> Result<usize, AllocError>
         ensures place { IfOk result (λ place. place ≡ length self.old.jobs.items) }
         ensures jobs { OnOk result (self.new.jobs.items ≡ self.old.jobs.items ++ job.entry ∷ []) }
-        ensures askings { OnOk result (self.new.askings.items ≡ self.old.askings.items ++ Some (likeness_in monitor.now way.entry) ∷ []) }
+        ensures askings { OnOk result (self.new.askings.items ≡ self.old.askings.items ++ likeness_in monitor.now way.entry ∷ []) }
         ensures decided { OnOk result (Puts decided.old decided.new (record { likeness = likeness_in monitor.now way.entry; place = Some (length self.old.jobs.items) })) }
         ensures kept { OnErr result (self.new.jobs.items ≡ self.old.jobs.items) }
         ensures known { OnErr result (self.new.askings.items ≡ self.old.askings.items) }
@@ -81,32 +85,17 @@ impl<'a> Listed<'a> {
         self.askings.reserve(1)?;
         decided.put(Decision::new(monitor, way, Some(place)))?;
         self.jobs.push_reserved(job);
-        self.askings.push_reserved(Some(Asking { monitor, way }));
-        Ok(place)
-    }
-
-    /// The place of one job more, which isn't looked up.
-    fn add_alone(&mut self, job: Job<'a>) -> Result<usize, AllocError>
-        ensures place { IfOk result (λ place. place ≡ length self.old.jobs.items) }
-        ensures jobs { OnOk result (self.new.jobs.items ≡ self.old.jobs.items ++ job.entry ∷ []) }
-        ensures askings { OnOk result (self.new.askings.items ≡ self.old.askings.items ++ None ∷ []) }
-        ensures kept { OnErr result (self.new.jobs.items ≡ self.old.jobs.items) }
-        ensures known { OnErr result (self.new.askings.items ≡ self.old.askings.items) }
-    {
-        let place = self.jobs.len();
-        self.jobs.reserve(1)?;
-        self.askings.reserve(1)?;
-        self.jobs.push_reserved(job);
-        self.askings.push_reserved(None);
+        self.askings.push_reserved(Asking { monitor, way });
         Ok(place)
     }
 }
 
-/// The jobs that a round needs, in the database with its past, with the texts of first replies that are kept, and what
-/// was decided.
+/// The jobs that a round needs, in the database with its past and its last commits, with the texts of first replies that
+/// are kept, and what was decided.
 pub(crate) struct Wanted<'a> {
     alloc: Global,
     chains: &'a Chains,
+    recent: &'a Recent,
     firsts: &'a FirstTexts,
     listed: Listed<'a>,
     decided: Decided<'a>,
@@ -121,20 +110,26 @@ impl<'a> Model for Wanted<'a> {
 
     ghost coded = { wanted_code };
 
-    ghost view = { λ w. record { chains = w.chains.now; jobs = w.listed.jobs.items } };
+    ghost view = { λ w. record { chains = w.chains.now; recent = w.recent.now; jobs = w.listed.jobs.items } };
 
-    ghost invariant = { λ w. IsPlanned w.chains.now w.firsts.now w.listed.jobs.items w.listed.askings.items w.decided };
+    ghost invariant = { λ w. IsPlanned w.chains.now w.recent.now.undos w.firsts.now w.listed.jobs.items w.listed.askings.items w.decided };
 }
 
 impl<'a> Wanted<'a> {
     /// No job is needed yet. O(1).
-    pub(crate) fn new(alloc: Global, chains: &'a Chains, firsts: &'a FirstTexts) -> Wanted<'a>
+    pub(crate) fn new(
+        alloc: Global,
+        chains: &'a Chains,
+        recent: &'a Recent,
+        firsts: &'a FirstTexts,
+    ) -> Wanted<'a>
         requires { AreFirstTexts chains.now.db firsts.now }
-        ensures { result ≡ record { chains = chains.now; jobs = [] } }
+        ensures { result ≡ record { chains = chains.now; recent = recent.now; jobs = [] } }
     {
         Wanted {
             alloc,
             chains,
+            recent,
             firsts,
             listed: Listed::new(alloc),
             decided: Decided::new(alloc),
@@ -152,15 +147,38 @@ impl<'a> Wanted<'a> {
         self.chains
     }
 
+    /// The last commits.
+    fn recent(&self) -> &'a Recent
+        ensures { result.now ≡ self.now.recent }
+    {
+        self.recent
+    }
+
+    /// The number of the newest commit. O(1).
+    pub(crate) fn number(&self) -> Uuid
+        ensures { uuid_of result ≡ number_of self.now.recent.run self.now.recent.commits }
+    {
+        self.recent().number()
+    }
+
+    /// How many commits ago the one of this number was, if it is found. O(1).
+    pub(crate) fn ago(&self, since: Uuid) -> Option<usize>
+        ensures found { result ≡ commits_ago self.now.recent.most self.now.recent.run self.now.recent.commits (uuid_of since) }
+        ensures kept { IfSome result (λ ago. ago ≤ length self.now.recent.undos) }
+    {
+        self.recent().find(since)
+    }
+
     /// The jobs, and what each is composed for.
     pub(crate) fn into_jobs(self) -> Listed<'a>
         ensures jobs { result.jobs.items ≡ self.entry.jobs }
         ensures now { All (IsOfNow self.entry.chains.db) result.jobs.items }
-        ensures once { AreEachOnce self.entry.chains.db result.jobs.items result.askings.items }
+        ensures once { AreEachOnce (revision_at self.entry.chains self.entry.recent) result.jobs.items result.askings.items }
     {
         let Wanted {
             alloc: _,
             chains: _,
+            recent: _,
             firsts: _,
             listed,
             decided: _,
@@ -175,6 +193,7 @@ impl<'a> Wanted<'a> {
         ensures place { IfOk result (λ place. IsFor self.new.jobs (if_sent (owed_job self.old.chains.db monitor.now)) place) }
         ensures jobs { Keeps self.old.jobs self.new.jobs }
         ensures chains { self.new.chains ≡ self.old.chains }
+        ensures recent { self.new.recent ≡ self.old.recent }
     {
         self.want(monitor, Way::Asked)
     }
@@ -187,10 +206,11 @@ impl<'a> Wanted<'a> {
         way: Way<'a>,
     ) -> Result<Option<usize>, AllocError>
         requires live { AreLive self.old.chains (marks_in monitor.now) }
-        requires shared { is_resumed way ≡ false }
+        requires found { IsFoundIn self.old.recent way }
         ensures place { IfOk result (λ place. IsFor self.new.jobs (if_sent (job_in self.old.chains.db monitor.now way.entry)) place) }
         ensures jobs { Keeps self.old.jobs self.new.jobs }
         ensures chains { self.new.chains ≡ self.old.chains }
+        ensures recent { self.new.recent ≡ self.old.recent }
     {
         if let Some(place) = self.decided.find(monitor, way) {
             return Ok(place);
@@ -232,6 +252,7 @@ impl<'a> Wanted<'a> {
             → slice_get all place ≡ Some (job_in self.old.chains.db monitor.now way.First)) }
         ensures jobs { Keeps self.old.jobs self.new.jobs }
         ensures chains { self.new.chains ≡ self.old.chains }
+        ensures recent { self.new.recent ≡ self.old.recent }
     {
         let place = self.want(monitor, Way::First)?;
         let Some(place) = place else {
@@ -240,22 +261,22 @@ impl<'a> Wanted<'a> {
         Ok(place)
     }
 
-    /// The place of a new job for the client of a monitor: the reply to it, if it has what the monitor selected so many
-    /// commits ago. O(1).
-    pub(crate) fn resume(
-        &mut self,
-        monitor: &'a Monitor,
-        recent: &'a Recent,
-        ago: usize,
-    ) -> Result<usize, AllocError>
-        requires { AreLive self.old.chains (marks_in monitor.now) }
+    /// The place of the job for the client of a monitor: the reply to it, if it has what the monitor selected so many
+    /// commits ago. The costs are those of `want`.
+    pub(crate) fn resume(&mut self, monitor: &'a Monitor, ago: usize) -> Result<usize, AllocError>
+        requires live { AreLive self.old.chains (marks_in monitor.now) }
+        requires kept { ago ≤ length self.old.recent.undos }
         ensures place { IfOk result (λ place. (all : List model_job.Job) → Keeps self.new.jobs all
-            → slice_get all place ≡ Some (resumed_job (take ago recent.now.undos) self.old.chains.db monitor.now.notation (asked_of monitor.now.tables))) }
+            → slice_get all place ≡ Some (resumed_job (take ago self.old.recent.undos) self.old.chains.db monitor.now.notation (asked_of monitor.now.tables))) }
         ensures jobs { Keeps self.old.jobs self.new.jobs }
         ensures chains { self.new.chains ≡ self.old.chains }
+        ensures recent { self.new.recent ≡ self.old.recent }
     {
-        let job = Job::new(self.alloc, self.chains, monitor, Way::Since(recent, ago))?;
-        let place = self.listed.add_alone(job)?;
+        let recent = self.recent();
+        let place = self.want(monitor, Way::Since(recent, ago))?;
+        let Some(place) = place else {
+            unreachable!();
+        };
         Ok(place)
     }
 }
@@ -266,6 +287,7 @@ impl Drop for Wanted<'_> {
         let Wanted {
             alloc: _,
             chains: _,
+            recent: _,
             firsts: _,
             listed: _,
             decided: _,

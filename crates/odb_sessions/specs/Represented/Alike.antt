@@ -1,8 +1,9 @@
 -- The likeness of a job: of a monitor, in each of the ways.
-use Rattle.std.specs.Prelude.{ℕ, Bool, true, false, [], map as map_list, Option, Some, None, option_map, unwrap_or}
+use Rattle.std.specs.Prelude.{◌≡◌, ◌≤◌, ℕ, Bool, true, false, [], length, map as map_list, Option, Some, None, option_map, unwrap_or}
 use Rattle.odb_atoms.specs.FinMap as map
 use Rattle.odb_chain.specs.Chains.{Chains, Mark, standing}
 use Rattle.odb_cond.specs.Filter.{Filter}
+use Rattle.odb_recent.specs.Recent.{Recent}
 use Rattle.odb_request.specs.Request.{Request}
 use Rattle.odb_service.specs.Session.{filter_of}
 use Rattle.odb_sessions.specs.Alike.{Contents, Likeness, Stand}
@@ -23,12 +24,29 @@ is_first (way.Changed u) = false
 is_first (way.Again told u) = false
 is_first (way.Since r n) = false
 
-abbrev pub is_resumed : Way → Bool
-is_resumed way.First = false
-is_resumed way.Asked = false
-is_resumed (way.Changed u) = false
-is_resumed (way.Again told u) = false
-is_resumed (way.Since r n) = true
+-- it is a reply, whatever is sent
+abbrev pub is_reply : Way → Bool
+is_reply way.First = true
+is_reply way.Asked = false
+is_reply (way.Changed u) = false
+is_reply (way.Again told u) = false
+is_reply (way.Since r n) = true
+
+-- how many commits ago the client had what it asks, if that is found
+abbrev pub ago_in : Way → Option ℕ
+ago_in way.First = None
+ago_in way.Asked = None
+ago_in (way.Changed u) = None
+ago_in (way.Again told u) = None
+ago_in (way.Since r n) = Some n
+
+-- a commit that is found is one of these
+abbrev pub IsFoundIn : Recent → Way → Type 0
+IsFoundIn r way.First = Unit {0}
+IsFoundIn r way.Asked = Unit {0}
+IsFoundIn r (way.Changed u) = Unit {0}
+IsFoundIn r (way.Again told u) = Unit {0}
+IsFoundIn r (way.Since s n) = (s.now ≡ r) × (n ≤ length r.undos)
 
 -- the filter that is asked
 abbrev pub filter_in : Way → Request → Filter
@@ -52,4 +70,4 @@ abbrev pub stand_in : Way → Watched → Stand
 stand_in v w = record { request = record (w.request) { filter = filter_in v w.request }; told = told_in v w; place = place_in v w.mark }
 
 abbrev pub likeness_in : Held → Way → Likeness
-likeness_in x w = record { notation = x.notation; first = is_first w; stands = map_list (stand_in w) x.tables }
+likeness_in x w = record { notation = x.notation; first = is_first w; ago = ago_in w; stands = map_list (stand_in w) x.tables }

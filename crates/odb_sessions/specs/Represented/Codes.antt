@@ -10,6 +10,8 @@ use Rattle.odb_chain.specs.Represented.Codes.{chains_code, mark_code}
 use Rattle.odb_cond.specs.Filter.{Filter}
 use Rattle.odb_monitor.specs.Job.{Job}
 use Rattle.odb_monitor.specs.Represented.Part.{job_code}
+use Rattle.odb_recent.specs.Recent.{Recent}
+use Rattle.odb_recent.specs.Represented.Codes.{recent_code}
 use Rattle.odb_request.specs.Request.{Notation, Request, Shape}
 use Rattle.odb_request.specs.Represented.Codes.{filter_code, notation_code, request_code, shape_code}
 use Rattle.odb_schema.specs.Json.{Data}
@@ -71,8 +73,8 @@ named_code = code_by (Data × (Notation × List Shape)) (coded× data_code (code
 
 abbrev pub foreseen_code : Coded Foreseen
 foreseen_code =
-    code_by (Chains × (List Job × List Monitor)) (coded× chains_code (coded× (coded_list job_code) (coded_list monitor_code)))
-    (λ f. (f.chains, (f.jobs, f.monitors))) (λ p. record { chains = p.0; jobs = p.1.0; monitors = p.1.1 }) (λ f. refl)
+    code_by (Chains × (Recent × (List Job × List Monitor))) (coded× chains_code (coded× recent_code (coded× (coded_list job_code) (coded_list monitor_code))))
+    (λ f. (f.chains, (f.recent, (f.jobs, f.monitors)))) (λ p. record { chains = p.0; recent = p.1.0; jobs = p.1.1.0; monitors = p.1.1.1 }) (λ f. refl)
 
 abbrev pub filters_code : Coded Filters
 filters_code = coded_list (coded× (coded_list coded_ℕ) filter_code)
@@ -87,8 +89,8 @@ stand_code =
 
 abbrev pub likeness_code : Coded Likeness
 likeness_code =
-    code_by (Notation × (Bool × List Stand)) (coded× notation_code (coded× coded_bool (coded_list stand_code)))
-    (λ l. (l.notation, (l.first, l.stands))) (λ p. record { notation = p.0; first = p.1.0; stands = p.1.1 }) (λ l. refl)
+    code_by (Notation × (Bool × (Option ℕ × List Stand))) (coded× notation_code (coded× coded_bool (coded× (coded_option coded_ℕ) (coded_list stand_code))))
+    (λ l. (l.notation, (l.first, (l.ago, l.stands)))) (λ p. record { notation = p.0; first = p.1.0; ago = p.1.1.0; stands = p.1.1.1 }) (λ l. refl)
 
 abbrev pub decision_code : Coded Decision
 decision_code = code_by (Likeness × Option ℕ) (coded× likeness_code (coded_option coded_ℕ)) (λ d. (d.likeness, d.place)) (λ p. record { likeness = p.0; place = p.1 }) (λ d. refl)
@@ -103,7 +105,9 @@ abbrev pub first_texts_code : Coded (List FirstText)
 first_texts_code = coded_list first_text_code
 
 abbrev pub wanted_code : Coded Wanted
-wanted_code = code_by (Chains × List Job) (coded× chains_code (coded_list job_code)) (λ w. (w.chains, w.jobs)) (λ p. record { chains = p.0; jobs = p.1 }) (λ w. refl)
+wanted_code =
+    code_by (Chains × (Recent × List Job)) (coded× chains_code (coded× recent_code (coded_list job_code)))
+    (λ w. (w.chains, (w.recent, w.jobs))) (λ p. record { chains = p.0; recent = p.1.0; jobs = p.1.1 }) (λ w. refl)
 
 -- ---- takings
 
@@ -138,5 +142,5 @@ pendings_code = coded_list (coded× coded_ℕ ready_code)
 
 abbrev pub round_code : Coded Round
 round_code =
-    code_by (List Job × (List (Option Likeness) × List Pending)) (coded× (coded_list job_code) (coded× (coded_list (coded_option likeness_code)) pendings_code))
+    code_by (List Job × (List Likeness × List Pending)) (coded× (coded_list job_code) (coded× (coded_list likeness_code) pendings_code))
     (λ r. (r.jobs, (r.likenesses, r.takings))) (λ p. record { jobs = p.0; likenesses = p.1.0; takings = p.1.1 }) (λ r. refl)

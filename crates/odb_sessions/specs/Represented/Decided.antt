@@ -1,10 +1,11 @@
 -- What was decided in a round, by digests, and what a call changes of that.
-use Rattle.std.specs.Prelude.{◌≡◌, ◌≢◌, ◌<◌, ℕ, ◌==◌, if◌then◌else◌, List, [], ◌∷◌, ◌++◌, length, slice_get, slice_index_or, Option, Some, unwrap_or}
+use Rattle.std.specs.Prelude.{◌≡◌, ◌≢◌, ◌<◌, ℕ, ◌==◌, if◌then◌else◌, List, [], ◌∷◌, ◌++◌, length, slice_get, slice_index_or, Some, unwrap_or}
 use Rattle.std.specs.BTreeMap as tree
 use Rattle.std.specs.List.{All, AllZip}
 use Rattle.std.specs.Ordering.{nat_cmp}
 use Rattle.odb_chain.specs.Chains.{Chains}
 use Rattle.odb_monitor.specs.Job.{Job}
+use Rattle.odb_recent.specs.Undo.{Undo}
 use Rattle.odb_sessions.specs.Alike.{AreUnlike, IsLike, Likeness, job_like}
 use Rattle.odb_sessions.specs.FirstTexts.{AreFirstTexts, FirstText, IsOfNow}
 use Rattle.odb_sessions.specs.Jobs.{Decision, IsFor, if_sent}
@@ -29,20 +30,20 @@ Puts old new d = (n : ℕ) → bucket_at new n ≡ (if n == digest d.likeness th
 abbrev pub IsSame : Decided → Decided → Type 0
 IsSame old new = (n : ℕ) → bucket_at new n ≡ bucket_at old n
 
--- ---- in a round
+-- ---- in a round, of the database with its past, where the last commits replaced these
 
 -- the place is that of the job of the likeness
-abbrev pub IsDecided : Chains → List Job → Decision → Type 0
-IsDecided k js d = IsFor js (if_sent (job_like (contents k) k.db d.likeness)) d.place
+abbrev pub IsDecided : Chains → List Undo → List Job → Decision → Type 0
+IsDecided k us js d = IsFor js (if_sent (job_like (contents k) us k.db d.likeness)) d.place
 
-abbrev pub AreDecided : Chains → List Job → Decided → Type 0
-AreDecided k js d = (n : ℕ) → All (IsDecided k js) (bucket_at d n)
+abbrev pub AreDecided : Chains → List Undo → List Job → Decided → Type 0
+AreDecided k us js d = (n : ℕ) → All (IsDecided k us js) (bucket_at d n)
 
 -- each likeness of a job is found
-abbrev pub AreNoted : List (Option Likeness) → Decided → Type 0
-AreNoted ls d = (n : ℕ) (l : Likeness) → slice_get ls n ≡ Some (Some l) → All (Differs l) (bucket_at d (digest l)) → ⊥
+abbrev pub AreNoted : List Likeness → Decided → Type 0
+AreNoted ls d = (n : ℕ) (l : Likeness) → slice_get ls n ≡ Some l → All (Differs l) (bucket_at d (digest l)) → ⊥
 
 -- all that is so of the jobs of a round
-abbrev pub IsPlanned : Chains → List FirstText → List Job → List (Option Likeness) → Decided → Type 0
-IsPlanned k fs js ls d =
-    AreDecided k js d × AreFirstTexts k.db fs × All (IsOfNow k.db) js × AreNoted ls d × AreUnlike ls × AllZip (IsLike (contents k) k.db) js ls
+abbrev pub IsPlanned : Chains → List Undo → List FirstText → List Job → List Likeness → Decided → Type 0
+IsPlanned k us fs js ls d =
+    AreDecided k us js d × AreFirstTexts k.db fs × All (IsOfNow k.db) js × AreNoted ls d × AreUnlike ls × AllZip (IsLike (contents k) us k.db) js ls

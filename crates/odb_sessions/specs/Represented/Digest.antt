@@ -27,5 +27,9 @@ abbrev pub after_stands : DefaultHasher → List Stand → DefaultHasher
 after_stands h [] = h
 after_stands h (s ∷ ss) = after_stands (after_stand h s) ss
 
+abbrev pub after_ago : DefaultHasher → Option ℕ → DefaultHasher
+after_ago h None = h
+after_ago h (Some n) = fold sip.write h (usize n)
+
 unfoldable pub digest : Likeness → ℕ
-digest l = sip.finish (after_stands sip.initial l.stands)
+digest l = sip.finish (after_ago (after_stands sip.initial l.stands) l.ago)

@@ -14,7 +14,7 @@ use Rattle.odb_sessions.specs.Book.{revision_at}
 pub returns-in_default-clause-text : goal.returns-in_default-clause-text
 returns-in_default-clause-text c = λ s all kept.
     let none : position (λ (a : Ahead). is_same c.args.id.now a.held.id) c.args.monitors.now.items ≡ None = search rules in
-    ap (option_map certainly) (sym (ap (option_map (due_sending (served_by s) (revision_at c.args.wanted.now.chains c.args.recent.now))) (due_nowhere s c.args.wanted.now.chains.db c.args.id.now c.args.under c.args.monitors.now.items none)))
+    ap (option_map certainly) (sym (ap (option_map (due_sending (served_by s) (revision_at c.args.wanted.now.chains c.args.wanted.now.recent))) (due_nowhere s c.args.wanted.now.chains.db c.args.id.now c.args.under c.args.monitors.now.items none)))
 
 pub returns-in_default-clause-passed : goal.returns-in_default-clause-passed
 returns-in_default-clause-passed c = λ s.
@@ -33,7 +33,7 @@ update-requires c =
 pub returns-clause-text : goal.returns-clause-text
 returns-clause-text c = λ s all kept.
     let db = c.args.wanted.now.chains.db in
-    let revision = revision_at c.args.wanted.now.chains c.args.recent.now in
+    let revision = revision_at c.args.wanted.now.chains c.args.wanted.now.recent in
     let xs : List Ahead = c.args.monitors.now.items in
     let k = c.in-Some.place in
     let x : Ahead = c.index.result.now in

@@ -19,6 +19,7 @@ use Rattle.odb_sessions.specs.Book.{revision_at}
 pub loop-place-init : goal.loop-place-init
 loop-place-init c = record {
   chains = refl;
+  recent = refl;
   jobs = keeps_itself c.args.wanted.now.jobs;
   within = omega arith;
   rest = λ h. none_yet (rest_of h c.args.wanted.now.chains.db c.args.monitors.now);
@@ -37,7 +38,7 @@ update-requires c =
 
 pub loop-place-preserved : goal.loop-place-preserved
 loop-place-preserved c =
-    let revision = revision_at c.args.wanted.now.chains c.args.recent.now in
+    let revision = revision_at c.args.wanted.now.chains c.args.wanted.now.recent in
     let xs : List Ahead = c.args.monitors.now in
     let i = c.loop-place.place in
     let x : Ahead = c.index-monitors-place.result in
@@ -49,16 +50,17 @@ loop-place-preserved c =
     let none : is_some c.in_ok-message.message ≡ false = search rules in
     record {
       chains = c.update.ensures.chains ∙ c.loop-place.invariant.chains;
+      recent = c.update.ensures.recent ∙ c.loop-place.invariant.recent;
       jobs = keeps_on c.args.wanted.now.jobs c.loop-place.wanted.jobs js c.loop-place.invariant.jobs c.update.ensures.jobs;
       within = omega (arith, low);
       rest = λ h. c.loop-place.invariant.rest h
-          ∙ rest_none h revision xs i x step sent (told_sending (sending_under js) c.in_ok-message.message _ (c.in_ok-message.ensures.text h js (keeps_itself js)) ∙ sending_at h c.args.recent.now c.loop-place.wanted.chains c.args.wanted.now.chains x c.loop-place.invariant.chains)
+          ∙ rest_none h revision xs i x step sent (told_sending (sending_under js) c.in_ok-message.message _ (c.in_ok-message.ensures.text h js (keeps_itself js)) ∙ sending_at h c.loop-place.wanted.recent c.args.wanted.now.recent c.loop-place.wanted.chains c.args.wanted.now.chains x c.loop-place.invariant.recent c.loop-place.invariant.chains)
           (is_told (sending_under js) c.in_ok-message.message _ (c.in_ok-message.ensures.text h js (keeps_itself js)) ∙ none);
     }
 
 pub returns-then-is_some-clause-monitors : goal.returns-then-is_some-clause-monitors
 returns-then-is_some-clause-monitors c = λ h.
-    let revision = revision_at c.args.wanted.now.chains c.args.recent.now in
+    let revision = revision_at c.args.wanted.now.chains c.args.wanted.now.recent in
     let xs : List Ahead = c.args.monitors.now in
     let i = c.loop-place.place in
     let x : Ahead = c.index-monitors-place.result in
@@ -70,12 +72,12 @@ returns-then-is_some-clause-monitors c = λ h.
     let sent = option_and_then (sending_under js) c.in_ok-message.message in
     let some : is_some c.in_ok-message.message ≡ true = search rules in
     sym (ap (λ (p : Plan). p.monitors) (c.loop-place.invariant.rest h)
-    ∙ found_monitors h revision xs i x step sent (told_sending (sending_under js) c.in_ok-message.message _ told ∙ sending_at h c.args.recent.now c.loop-place.wanted.chains c.args.wanted.now.chains x c.loop-place.invariant.chains)
+    ∙ found_monitors h revision xs i x step sent (told_sending (sending_under js) c.in_ok-message.message _ told ∙ sending_at h c.loop-place.wanted.recent c.args.wanted.now.recent c.loop-place.wanted.chains c.args.wanted.now.chains x c.loop-place.invariant.recent c.loop-place.invariant.chains)
     (is_told (sending_under js) c.in_ok-message.message _ told ∙ some))
 
 pub returns-then-is_some-clause-text : goal.returns-then-is_some-clause-text
 returns-then-is_some-clause-text c = λ h all kept.
-    let revision = revision_at c.args.wanted.now.chains c.args.recent.now in
+    let revision = revision_at c.args.wanted.now.chains c.args.wanted.now.recent in
     let xs : List Ahead = c.args.monitors.now in
     let i = c.loop-place.place in
     let x : Ahead = c.index-monitors-place.result in
@@ -87,7 +89,7 @@ returns-then-is_some-clause-text c = λ h all kept.
     let some : is_some c.in_ok-message.message ≡ true = search rules in
     still_told (sending_under all) c.in_ok-message.message _ _ told
     (sym (ap (λ (p : Plan). option_map (due_sending h revision) p.out) (c.loop-place.invariant.rest h)
-    ∙ found_out h revision xs i x step sent (told_sending (sending_under all) c.in_ok-message.message _ told ∙ sending_at h c.args.recent.now c.loop-place.wanted.chains c.args.wanted.now.chains x c.loop-place.invariant.chains)
+    ∙ found_out h revision xs i x step sent (told_sending (sending_under all) c.in_ok-message.message _ told ∙ sending_at h c.loop-place.wanted.recent c.args.wanted.now.recent c.loop-place.wanted.chains c.args.wanted.now.chains x c.loop-place.invariant.recent c.loop-place.invariant.chains)
     (is_told (sending_under all) c.in_ok-message.message _ told ∙ some)))
 
 pub returns-then-is_some-clause-jobs : goal.returns-then-is_some-clause-jobs
@@ -95,6 +97,9 @@ returns-then-is_some-clause-jobs c = keeps_on c.args.wanted.now.jobs c.loop-plac
 
 pub returns-then-is_some-clause-chains : goal.returns-then-is_some-clause-chains
 returns-then-is_some-clause-chains c = c.update.ensures.chains ∙ c.loop-place.invariant.chains
+
+pub returns-then-is_some-clause-recent : goal.returns-then-is_some-clause-recent
+returns-then-is_some-clause-recent c = c.update.ensures.recent ∙ c.loop-place.invariant.recent
 
 pub returns-in_err-message-clause-jobs : goal.returns-in_err-message-clause-jobs
 returns-in_err-message-clause-jobs c = keeps_on c.args.wanted.now.jobs c.loop-place.wanted.jobs c.update.new.wanted.jobs c.loop-place.invariant.jobs c.update.ensures.jobs
@@ -110,10 +115,13 @@ returns-clause-text c = λ h all kept.
     let xs : List Ahead = c.args.monitors.now in
     let past : length xs ≤ c.loop-place.place = search rules in
     let within : c.loop-place.place ≤ length xs = c.loop-place.invariant.within in
-    ap (option_map certainly) (sym (ap (λ (p : Plan). option_map (due_sending h (revision_at c.args.wanted.now.chains c.args.recent.now)) p.out) (c.loop-place.invariant.rest h ∙ rest_done h c.args.wanted.now.chains.db xs c.loop-place.place c.loop-place.place past within (omega (arith, past, within)))))
+    ap (option_map certainly) (sym (ap (λ (p : Plan). option_map (due_sending h (revision_at c.args.wanted.now.chains c.args.wanted.now.recent)) p.out) (c.loop-place.invariant.rest h ∙ rest_done h c.args.wanted.now.chains.db xs c.loop-place.place c.loop-place.place past within (omega (arith, past, within)))))
 
 pub returns-clause-jobs : goal.returns-clause-jobs
 returns-clause-jobs c = c.loop-place.invariant.jobs
 
 pub returns-clause-chains : goal.returns-clause-chains
 returns-clause-chains c = c.loop-place.invariant.chains
+
+pub returns-clause-recent : goal.returns-clause-recent
+returns-clause-recent c = c.loop-place.invariant.recent

@@ -7,6 +7,7 @@ use Rattle.odb_sessions.proofs.foreseen.rest_due.Given as goal
 abbrev pub invariant-loop-place : goal.invariant-loop-place
 invariant-loop-place l = record {
   chains : l.wanted.chains ≡ l.initial.wanted.chains;
+  recent : l.wanted.recent ≡ l.initial.wanted.recent;
   jobs : Keeps l.initial.wanted.jobs l.wanted.jobs;
   within : l.place ≤ length l.monitors;
   rest : (h : Service) → rest_of h l.initial.wanted.chains.db l.monitors ≡ after_none l.place (rest_of h l.initial.wanted.chains.db (drop l.place l.monitors));

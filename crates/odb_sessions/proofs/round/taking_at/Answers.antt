@@ -17,7 +17,7 @@ use Rattle.odb_sessions.specs.Book.{revision_at}
 pub returns-in_default-clause-ready : goal.returns-in_default-clause-ready
 returns-in_default-clause-ready c = λ s all kept.
     let none : finite.get c.args.sessions.now c.args.session ≡ None = search rules in
-    subst (λ (o : Option Kept). IsReadyFor s (revision_at c.args.planner.now.chains c.args.recent.now) (option_map seen o) (ready_by all c.none.result.taking)) (sym none) (c.none.ensures.coming all)
+    subst (λ (o : Option Kept). IsReadyFor s (revision_at c.args.planner.now.chains c.args.planner.now.recent) (option_map seen o) (ready_by all c.none.result.taking)) (sym none) (c.none.ensures.coming all)
 
 pub returns-in_default-clause-jobs : goal.returns-in_default-clause-jobs
 returns-in_default-clause-jobs c = keeps_itself c.args.planner.now.jobs
@@ -29,7 +29,7 @@ taking-requires c =
 
 pub returns-clause-ready : goal.returns-clause-ready
 returns-clause-ready c = λ s all kept.
-    let revision = revision_at c.args.planner.now.chains c.args.recent.now in
+    let revision = revision_at c.args.planner.now.chains c.args.planner.now.recent in
     let x : Kept = c.in-Some.of.now in
     let there : finite.get c.args.sessions.now c.args.session ≡ Some x = search rules in
     let t = c.in_ok-taking.taking in
@@ -44,11 +44,11 @@ returns-clause-ready c = λ s all kept.
 pub returns-in_default-clause-made : goal.returns-in_default-clause-made
 returns-in_default-clause-made c = λ s all kept.
     let o = option_map seen (finite.get c.args.sessions.now c.args.session) in
-    subst (λ (t : Text). IsOfJob s (revision_at c.args.planner.now.chains c.args.recent.now) all o t) (sym (c.none.ensures.coming all)) tt
+    subst (λ (t : Text). IsOfJob s (revision_at c.args.planner.now.chains c.args.planner.now.recent) all o t) (sym (c.none.ensures.coming all)) tt
 
 pub returns-clause-made : goal.returns-clause-made
 returns-clause-made c = λ s all kept.
-    let revision = revision_at c.args.planner.now.chains c.args.recent.now in
+    let revision = revision_at c.args.planner.now.chains c.args.planner.now.recent in
     let x : Kept = c.in-Some.of.now in
     let there : finite.get c.args.sessions.now c.args.session ≡ Some x = search rules in
     let t = c.in_ok-taking.taking in

@@ -6,7 +6,7 @@ use Rattle.odb_chain.specs.Chains.{Chains}
 use Rattle.odb_monitor.specs.Job.{Job}
 use Rattle.odb_recent.specs.Recent.{Recent}
 use Rattle.odb_schema.specs.Schema.{Schema}
-use Rattle.odb_service.specs.Session.{Session}
+use Rattle.odb_service.specs.Session.{Revision, Session}
 use Rattle.odb_sessions.specs.Book.{Book, book_with, revision_at}
 use Rattle.odb_sessions.specs.Held.{Sessions, all_seen, seen}
 use Rattle.odb_sessions.specs.Jobs.{AreMadeOf, IsOfJob, Keeps}
@@ -28,11 +28,12 @@ loop-session-init c =
     let none : c.in_ok-takings.takings.items ≡ [] = search rules in
     let fits : length c.args.listed.now ≤ vec_capacity c.in_ok-takings.takings = search rules in (
       ap (map (λ (p : Planned). p.session)) none,
-      λ s all kept. subst (λ (ps : List Planned). AreReady s (book c.args.planner.now.chains c.args.recent.now c.args.sessions.now) (map (pending_by all) ps)) (sym none) tt,
+      λ s all kept. subst (λ (ps : List Planned). AreReady s (book c.args.planner.now.chains c.args.planner.now.recent c.args.sessions.now) (map (pending_by all) ps)) (sym none) tt,
       search rules,
       fits,
       refl,
-      λ s all kept. subst (λ (ps : List Planned). AreMadeOf s (book c.args.planner.now.chains c.args.recent.now c.args.sessions.now) all (map (pending_by all) ps)) (sym none) tt,
+      λ s all kept. subst (λ (ps : List Planned). AreMadeOf s (book c.args.planner.now.chains c.args.planner.now.recent c.args.sessions.now) all (map (pending_by all) ps)) (sym none) tt,
+      refl,
     )
 
 pub push_reserved-requires : goal.push_reserved-requires
@@ -49,19 +50,21 @@ loop-session-preserved c =
     let p : Planned = c.in_ok-taking_at.field-0 in
     let ps : List Planned = c.loop-session.takings.items in
     let k : Chains = c.args.planner.now.chains in
-    let r : Recent = c.args.recent.now in
+    let r : Recent = c.args.planner.now.recent in
     let m : Sessions = c.args.sessions.now in
     let now : List Job = c.taking_at.new.planner.jobs in
     let same : c.loop-session.planner.chains ≡ k = c.loop-session.invariant.4 in
+    let commits : c.loop-session.planner.recent ≡ r = c.loop-session.invariant.6 in
+    let revision : revision_at c.loop-session.planner.chains c.loop-session.planner.recent ≡ revision_at k r = (λ j. revision_at (same j) (commits j)) in
     let grown : c.push_reserved.new.self.items ≡ ps ++ p ∷ [] = search rules in
     let inside : i < length ns = search rules in
     let n : ℕ = get_or ns i 0 in
     let named : p.session ≡ n = search rules in
     let ready : (s : Schema) (all : List Job) → Keeps now all → IsReadyFor s (revision_at k r) (get (all_seen m) n) (ready_by all p.taking) =
-    λ s all kept. subst (λ (o : Option Session). IsReadyFor s (revision_at k r) o (ready_by all p.taking)) (sym (get-seen m n)) (subst (λ (q : Chains). IsReadyFor s (revision_at q r) (option_map seen (get m n)) (ready_by all p.taking)) same (c.in_ok-taking_at.ensures.ready s all kept))
+    λ s all kept. subst (λ (o : Option Session). IsReadyFor s (revision_at k r) o (ready_by all p.taking)) (sym (get-seen m n)) (subst (λ (v : Revision). IsReadyFor s v (option_map seen (get m n)) (ready_by all p.taking)) revision (c.in_ok-taking_at.ensures.ready s all kept))
     in
     let made : (s : Schema) (all : List Job) → Keeps now all → IsOfJob s (revision_at k r) all (get (all_seen m) n) (text_planned all p.taking.coming) =
-    λ s all kept. subst (λ (o : Option Session). IsOfJob s (revision_at k r) all o (text_planned all p.taking.coming)) (sym (get-seen m n)) (subst (λ (q : Chains). IsOfJob s (revision_at q r) all (option_map seen (get m n)) (text_planned all p.taking.coming)) same (c.in_ok-taking_at.ensures.made s all kept))
+    λ s all kept. subst (λ (o : Option Session). IsOfJob s (revision_at k r) all o (text_planned all p.taking.coming)) (sym (get-seen m n)) (subst (λ (v : Revision). IsOfJob s v all (option_map seen (get m n)) (text_planned all p.taking.coming)) revision (c.in_ok-taking_at.ensures.made s all kept))
     in
     let len : vec_len c.push_reserved.new.self ≡ vec_len c.loop-session.takings + 1 = search rules in
     let before : vec_len c.loop-session.takings ≡ i = c.loop-session.invariant.2 in
@@ -80,6 +83,7 @@ loop-session-preserved c =
           (made-append s (book k r m) all (map (pending_by all) ps) (pending_by all p)
           (c.loop-session.invariant.5 s all (keeps_on c.loop-session.planner.jobs now all c.taking_at.ensures.jobs kept))
           (subst (λ (n : ℕ). IsOfJob s (revision_at k r) all (get (all_seen m) n) (text_planned all p.taking.coming)) (sym named) (made s all kept))),
+      c.taking_at.ensures.recent ∙ commits,
     )
 
 pub returns-clause-sessions : goal.returns-clause-sessions
@@ -98,3 +102,6 @@ returns-clause-made c = c.loop-session.invariant.5
 
 pub returns-clause-chains : goal.returns-clause-chains
 returns-clause-chains c = c.loop-session.invariant.4
+
+pub returns-clause-recent : goal.returns-clause-recent
+returns-clause-recent c = c.loop-session.invariant.6

@@ -13,7 +13,8 @@ use Rattle.odb_sessions.proofs.round.takings_at.Given as goal
 abbrev pub invariant-loop-session : goal.invariant-loop-session
 invariant-loop-session l =
     (map (λ (p : Planned). p.session) l.takings.items ≡ take l.session-index l.listed)
-    × ((s : Schema) (all : List Job) → Keeps l.planner.jobs all → AreReady s (book_with l.initial.planner.chains.db l.recent (all_seen l.sessions)) (map (pending_by all) l.takings.items))
+    × ((s : Schema) (all : List Job) → Keeps l.planner.jobs all → AreReady s (book_with l.initial.planner.chains.db l.initial.planner.recent (all_seen l.sessions)) (map (pending_by all) l.takings.items))
     × (vec_len l.takings ≡ l.session-index) × (length l.listed ≤ vec_capacity l.takings)
     × (l.planner.chains ≡ l.initial.planner.chains)
-    × ((s : Schema) (all : List Job) → Keeps l.planner.jobs all → AreMadeOf s (book_with l.initial.planner.chains.db l.recent (all_seen l.sessions)) all (map (pending_by all) l.takings.items))
+    × ((s : Schema) (all : List Job) → Keeps l.planner.jobs all → AreMadeOf s (book_with l.initial.planner.chains.db l.initial.planner.recent (all_seen l.sessions)) all (map (pending_by all) l.takings.items))
+    × (l.planner.recent ≡ l.initial.planner.recent)

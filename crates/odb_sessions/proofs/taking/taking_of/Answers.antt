@@ -21,6 +21,7 @@ pub loop-place-init : goal.loop-place-init
 loop-place-init c = record {
   within = omega arith;
   chains = refl;
+  recent = refl;
   jobs = keeps_itself c.args.planner.now.jobs;
   rest = λ s. none_used (plan_at s c.args.planner.now.chains.db c.args.items.now.items c.args.planner.now.monitors);
 }
@@ -51,6 +52,7 @@ loop-place-preserved c =
     record {
       within = omega (arith, low);
       chains = c.give.ensures.chains ∙ c.loop-place.invariant.chains;
+      recent = c.give.ensures.recent ∙ c.loop-place.invariant.recent;
       jobs = keeps_on c.args.planner.now.jobs c.loop-place.planner.jobs c.give.new.self.jobs c.loop-place.invariant.jobs c.give.ensures.jobs;
       rest = λ s. c.loop-place.invariant.rest s
           ∙ goes_on s db xs i x step ms c.give.new.self.monitors
@@ -90,7 +92,7 @@ returns-then-is_some-clause-monitors c = λ s.
 
 pub returns-then-is_some-clause-text : goal.returns-then-is_some-clause-text
 returns-then-is_some-clause-text c = λ s all kept.
-    let revision : Revision = revision_at c.args.planner.now.chains c.args.recent.now in
+    let revision : Revision = revision_at c.args.planner.now.chains c.args.planner.now.recent in
     let ms : List Monitor = c.loop-place.planner.monitors in
     let xs : List Item = c.args.items.now.items in
     let i = c.loop-place.place in
@@ -102,7 +104,7 @@ returns-then-is_some-clause-text c = λ s all kept.
     let some : is_some c.in_ok-coming.coming ≡ true = search rules in
     ap (coming_sending all c.in_ok-coming.coming) (last_at xs i x low at)
     ∙ c.in_ok-coming.ensures.text s all kept
-    ∙ ap (λ (k : Chains). option_map (due_sending (served_by s) (revision_at k c.args.recent.now)) (due (served_by s) k.db (seen_item x) ms)) c.loop-place.invariant.chains
+    ∙ (λ j. let k : Chains = c.loop-place.invariant.chains j in option_map (due_sending (served_by s) (revision_at k (c.loop-place.invariant.recent j))) (due (served_by s) k.db (seen_item x) ms))
     ∙ sym (ap (λ (p : Plan). option_map (due_sending (served_by s) revision) p.out) (c.loop-place.invariant.rest s
     ∙ ended s revision.db xs i x step ms (ap (λ (d : Db). is_some (due (served_by s) d (seen_item x) ms)) (sym same) ∙ sym (c.in_ok-coming.ensures.comes s) ∙ some)))
 
@@ -128,7 +130,7 @@ returns-clause-monitors c = λ s.
 
 pub returns-clause-text : goal.returns-clause-text
 returns-clause-text c = λ s all kept.
-    let revision : Revision = revision_at c.args.planner.now.chains c.args.recent.now in
+    let revision : Revision = revision_at c.args.planner.now.chains c.args.planner.now.recent in
     let ms : List Monitor = c.loop-place.planner.monitors in
     let xs : List Item = c.args.items.now.items in
     let i = c.loop-place.place in
@@ -136,7 +138,7 @@ returns-clause-text c = λ s all kept.
     let within : i ≤ length xs = c.loop-place.invariant.within in
     c.composed.ensures.text all _
     ∙ told_sending (sending_under all) c.in_ok-rest.rest.message _ (c.in_ok-rest.ensures.text (served_by s) all kept)
-    ∙ ap (λ (k : Chains). option_map (due_sending (served_by s) (revision_at k c.args.recent.now)) (plan_rest (served_by s) k.db ms).out) c.loop-place.invariant.chains
+    ∙ (λ j. let k : Chains = c.loop-place.invariant.chains j in option_map (due_sending (served_by s) (revision_at k (c.loop-place.invariant.recent j))) (plan_rest (served_by s) k.db ms).out)
     ∙ sym (ap (λ (p : Plan). option_map (due_sending (served_by s) revision) p.out) (c.loop-place.invariant.rest s ∙ at_end s revision.db xs i i ms past within (omega (arith, past, within))))
 
 pub returns-then-is_some-clause-jobs : goal.returns-then-is_some-clause-jobs

@@ -8,6 +8,7 @@ abbrev pub invariant-loop-place : goal.invariant-loop-place
 invariant-loop-place l = record {
   within : l.place ≤ length l.items.items;
   chains : l.planner.chains ≡ l.initial.planner.chains;
+  recent : l.planner.recent ≡ l.initial.planner.recent;
   jobs : Keeps l.initial.planner.jobs l.planner.jobs;
   rest : (s : Schema) → plan_at s l.initial.planner.chains.db l.items.items l.initial.planner.monitors
       ≡ after_items l.place (plan_at s l.initial.planner.chains.db (drop l.place l.items.items) l.planner.monitors);

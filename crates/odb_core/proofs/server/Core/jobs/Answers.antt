@@ -2,7 +2,7 @@ use Rattle.std.proofs.Common.{rules, ◌≡◌, List, ℕ, ap, subst, ◌∙◌}
 use Rattle.std.proofs.lemmas.Result.{IfOk-weaker}
 use Rattle.odb_service.specs.Server.{Server}
 use Rattle.odb_service.specs.World.{World}
-use Rattle.odb_sessions.specs.Book.{Book}
+use Rattle.odb_sessions.specs.Book.{Book, revision_in}
 use Rattle.odb_sessions.specs.Jobs.{AreEachOnce, AreMadeOf}
 use Rattle.odb_sessions.specs.Taken.{AreReady}
 use Rattle.odb_core.specs.Represented.Rounds.{book_in}
@@ -40,4 +40,4 @@ returns-clause-once c =
     let w : World = record { db = r.sessions.db; commits = r.sessions.commits; earlier = r.sessions.earlier; now = r.now; waiting = r.waiting; locks = r.locks; sessions = r.sessions.sessions } in
     let is : at s w n ≡ c.args.self.now = ap (λ i. at i.served i.state i.opened) c.self-inside.view_is ∙ c.self.view_is in
     let book : r.sessions ≡ book_in c.args.self.now.world = ap (λ (v : Server). book_in v.world) is in
-    IfOk-weaker c.jobs.result _ _ (λ jobs once. subst (λ (b : Book). AreEachOnce b.db jobs.jobs jobs.likenesses) book once) c.jobs.ensures.once
+    IfOk-weaker c.jobs.result _ _ (λ jobs once. subst (λ (b : Book). AreEachOnce (revision_in b) jobs.jobs jobs.likenesses) book once) c.jobs.ensures.once

@@ -12,7 +12,7 @@ use Rattle.odb_sessions.specs.Book.{revision_at}
 pub returns-in-None-clause-text : goal.returns-in-None-clause-text
 returns-in-None-clause-text c =
     let db = c.args.wanted.now.chains.db in
-    let revision = revision_at c.args.wanted.now.chains c.args.recent.now in
+    let revision = revision_at c.args.wanted.now.chains c.args.wanted.now.recent in
     let fs = filters_in c.args.under in
     let x : Held = c.self.inside.monitor.now in
     let none : c.self.inside.told ≡ None = search rules in
@@ -24,7 +24,7 @@ returns-in-None-clause-text c =
 pub returns-in-Some-clause-text : goal.returns-in-Some-clause-text
 returns-in-Some-clause-text c =
     let db = c.args.wanted.now.chains.db in
-    let revision = revision_at c.args.wanted.now.chains c.args.recent.now in
+    let revision = revision_at c.args.wanted.now.chains c.args.wanted.now.recent in
     let fs = filters_in c.args.under in
     let x : Held = c.self.inside.monitor.now in
     let told = c.in-Some.told in

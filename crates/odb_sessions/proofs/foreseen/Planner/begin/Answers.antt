@@ -22,7 +22,7 @@ invariant_of-self-2 c = subst (λ (k : Chains). AreLive k (marks_ahead c.self.in
 pub returns-clause-text : goal.returns-clause-text
 returns-clause-text c = λ h last all kept.
     c.composed.ensures.text all last ∙ c.in_ok-message.ensures.text h all kept
-    ∙ ap (λ (f : Foreseen). Some (due_sending h (revision_at f.chains c.args.recent.now) (first_due c.args.start.now.origin (watch_of c.args.start.now.monitor)))) c.self.view_is
+    ∙ ap (λ (f : Foreseen). Some (due_sending h (revision_at f.chains f.recent) (first_due c.args.start.now.origin (watch_of c.args.start.now.monitor)))) c.self.view_is
 
 pub returns-clause-jobs : goal.returns-clause-jobs
 returns-clause-jobs c = subst (λ (js : List Job). Keeps js c.first_reply.new.wanted.jobs) (ap (λ (f : Foreseen). f.jobs) c.self.view_is) c.first_reply.ensures.jobs

@@ -14,7 +14,7 @@ use Rattle.odb_sessions.specs.Book.{revision_at}
 pub returns-clause-comes : goal.returns-clause-comes
 returns-clause-comes c = λ s.
     let db = c.args.self.now.chains.db in
-    let revision = revision_at c.args.self.now.chains c.args.recent.now in
+    let revision = revision_at c.args.self.now.chains c.args.self.now.recent in
     let js : List Job = c.pass.new.self.jobs in
     c.composed.ensures.comes ∙ sym (is_mapped (sending_under js) c.in_ok-message.message)
     ∙ ap is_some (c.in_ok-message.ensures.text s js (keeps_itself js))

@@ -17,7 +17,7 @@ use Rattle.odb_sessions.specs.Book.{revision_at}
 pub returns-in-Start-clause-text : goal.returns-in-Start-clause-text
 returns-in-Start-clause-text c =
     let db = c.args.self.now.chains.db in
-    let revision = revision_at c.args.self.now.chains c.args.recent.now in
+    let revision = revision_at c.args.self.now.chains c.args.self.now.recent in
     let ms = c.args.self.now.monitors in
     let is : c.args.item.now ≡ item.Start c.in-Start.start = search rules in
     IfOk-weaker c.begin.result _ _
@@ -36,7 +36,7 @@ returns-in-Shift-clause-comes c =
 pub returns-in-Shift-clause-text : goal.returns-in-Shift-clause-text
 returns-in-Shift-clause-text c =
     let db = c.args.self.now.chains.db in
-    let revision = revision_at c.args.self.now.chains c.args.recent.now in
+    let revision = revision_at c.args.self.now.chains c.args.self.now.recent in
     let ms = c.args.self.now.monitors in
     let is : c.args.item.now ≡ item.Shift c.in-Shift.shift = search rules in
     let id : c.deref-in-Shift.result.now ≡ arc_value c.in-Shift.shift.id = search rules in

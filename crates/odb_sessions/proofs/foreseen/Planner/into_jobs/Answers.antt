@@ -1,5 +1,6 @@
 use Rattle.std.proofs.Common.{ap, subst, ◌∙◌}
 use Rattle.std.specs.List.{All}
+use Rattle.odb_sessions.specs.Book.{revision_at}
 use Rattle.odb_sessions.specs.FirstTexts.{IsOfNow}
 use Rattle.odb_sessions.specs.Foreseen.{Foreseen}
 use Rattle.odb_sessions.specs.Jobs.{AreEachOnce}
@@ -12,4 +13,4 @@ pub returns-clause-now : goal.returns-clause-now
 returns-clause-now c = subst (λ (f : Foreseen). All (IsOfNow f.chains.db) c.into_jobs.result.jobs.items) c.self.view_is c.into_jobs.ensures.now
 
 pub returns-clause-once : goal.returns-clause-once
-returns-clause-once c = subst (λ (f : Foreseen). AreEachOnce f.chains.db c.into_jobs.result.jobs.items c.into_jobs.result.askings.items) c.self.view_is c.into_jobs.ensures.once
+returns-clause-once c = subst (λ (f : Foreseen). AreEachOnce (revision_at f.chains f.recent) c.into_jobs.result.jobs.items c.into_jobs.result.askings.items) c.self.view_is c.into_jobs.ensures.once

@@ -20,7 +20,7 @@ invariant_of-self c = subst (λ (k : Chains). AreLive k (marks_ahead c.pass.new.
 pub returns-clause-text : goal.returns-clause-text
 returns-clause-text c =
     subst (λ (f : Foreseen). IfOk c.pass.result (λ message. (s : Schema) → Tells c.pass.new.wanted.jobs message
-    (option_map (due_sending (served_by s) (revision_at f.chains c.args.recent.now)) (due (served_by s) f.chains.db (item_in c.args.id.now c.args.under) f.monitors))))
+    (option_map (due_sending (served_by s) (revision_at f.chains f.recent)) (due (served_by s) f.chains.db (item_in c.args.id.now c.args.under) f.monitors))))
     c.self.view_is c.pass.ensures.text
 
 pub returns-clause-passed : goal.returns-clause-passed

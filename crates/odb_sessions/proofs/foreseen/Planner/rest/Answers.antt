@@ -25,12 +25,12 @@ returns-clause-monitors c =
 pub returns-clause-text : goal.returns-clause-text
 returns-clause-text c =
     let db = c.self.inside.wanted.chains.db in
-    let revision = revision_at c.self.inside.wanted.chains c.args.recent.now in
+    let revision = revision_at c.self.inside.wanted.chains c.self.inside.wanted.recent in
     let slice : c.as_slice.result.now ≡ c.self.inside.monitors.items = search rules in
     IfOk-weaker c.rest_due.result _ _
     (λ rest e. λ h all kept. e h all kept
     ∙ ap (option_map certainly) (ap (λ (xs : List Ahead). option_map (due_sending h revision) (plan_rest h db (map (seen_ahead db) xs)).out) slice
-    ∙ ap (λ (f : Foreseen). option_map (due_sending h (revision_at f.chains c.args.recent.now)) (plan_rest h f.chains.db f.monitors).out) c.self.view_is))
+    ∙ ap (λ (f : Foreseen). option_map (due_sending h (revision_at f.chains f.recent)) (plan_rest h f.chains.db f.monitors).out) c.self.view_is))
     c.rest_due.ensures.text
 
 pub returns-clause-jobs : goal.returns-clause-jobs

@@ -16,7 +16,7 @@ returns-in-None-clause-text c =
     let none : m.since ≡ None = search rules in
     let since : x.since ≡ None = sym (ap (λ (s : Start). s.monitor.since) c.self.view_is) ∙ ap (option_map uuid_of) none in
     IfOk-weaker c.whole_reply.result _ _
-    (λ message e. λ h all kept. e all kept ∙ ap Some (whole_is h c.args.recent.now c.args.wanted.now.chains c.args.self.now.origin x since))
+    (λ message e. λ h all kept. e all kept ∙ ap Some (whole_is h c.args.wanted.now.recent c.args.wanted.now.chains c.args.self.now.origin x since))
     c.whole_reply.ensures.text
 
 pub returns-in-Some-clause-text : goal.returns-in-Some-clause-text
@@ -31,5 +31,5 @@ returns-in-Some-clause-text c =
     let lists : HasLists k = subst HasLists c.chains.ensures c.db-now.ensures.lists in
     let there : AreThere k.db x.tables = are_there k x.tables lists c.requires theirs in
     IfOk-weaker c.reply_since.result _ _
-    (λ message e. λ h all kept. e all kept ∙ ap Some (since_is h c.args.recent.now k c.args.self.now.origin x (uuid_of v) since c.reply_since.ensures.kept there))
+    (λ message e. λ h all kept. e all kept ∙ ap Some (since_is h c.args.wanted.now.recent k c.args.self.now.origin x (uuid_of v) since c.reply_since.ensures.kept there))
     c.reply_since.ensures.text

@@ -15,15 +15,15 @@ pub returns-clause-text : goal.returns-clause-text
 returns-clause-text c =
     let db = c.args.wanted.now.chains.db in
     let x : Held = c.args.self.now.monitor in
-    let undos = take c.args.ago c.args.recent.now.undos in
+    let undos = take c.args.ago c.args.wanted.now.recent.undos in
     let job = resumed_job undos db x.notation (asked_of x.tables) in
     let updates : Data = resumed_updates undos db x.notation (asked_of x.tables) in
-    let number : Uuid = uuid_of c.number.result in
+    let number : Uuid = uuid_of c.number-number.result in
     let text = (replying c.args.self.now.origin (since_result true number) job).text in
     IfOk-weaker c.numbered_reply.result _ _
     (λ message e. λ all kept.
     sent_by all message c.in_ok-job.job text job updates e (c.in_ok-job.ensures.place all kept) (resumed_composed undos db x.notation (asked_of x.tables))
-    ∙ ap (λ n. Some (sent_with (replying c.args.self.now.origin (since_result true n) job) updates)) c.number.ensures)
+    ∙ ap (λ n. Some (sent_with (replying c.args.self.now.origin (since_result true n) job) updates)) c.number-number.ensures)
     c.numbered_reply.ensures
 
 pub returns-clause-jobs : goal.returns-clause-jobs

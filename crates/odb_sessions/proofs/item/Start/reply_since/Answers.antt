@@ -10,11 +10,11 @@ pub returns-in-None-clause-text : goal.returns-in-None-clause-text
 returns-in-None-clause-text c =
     let db = c.args.wanted.now.chains.db in
     let x : Held = c.args.self.now.monitor in
-    let r : Recent = c.args.recent.now in
+    let r : Recent = c.args.wanted.now.recent in
     let found : None ≡ commits_ago r.most r.run r.commits (uuid_of c.args.since) = search rules in
     IfOk-weaker c.not_found.result _ _
     (λ message e. λ all kept. e all kept
-    ∙ ap (λ n. Some (missed_sending n db c.args.self.now.origin x)) c.number.ensures
+    ∙ ap (λ n. Some (missed_sending n db c.args.self.now.origin x)) c.number-number.ensures
     ∙ ap (λ o. Some (sending_ago r db c.args.self.now.origin x o)) found)
     c.not_found.ensures.text
 
@@ -22,7 +22,7 @@ pub returns-in-Some-clause-text : goal.returns-in-Some-clause-text
 returns-in-Some-clause-text c =
     let db = c.args.wanted.now.chains.db in
     let x : Held = c.args.self.now.monitor in
-    let r : Recent = c.args.recent.now in
+    let r : Recent = c.args.wanted.now.recent in
     let found : Some c.in-Some.ago ≡ commits_ago r.most r.run r.commits (uuid_of c.args.since) = search rules in
     IfOk-weaker c.found.result _ _
     (λ message e. λ all kept. e all kept ∙ ap (λ o. Some (sending_ago r db c.args.self.now.origin x o)) found)

@@ -18,5 +18,5 @@ returns-in-Asked-clause-text c =
     let qs : List Request = (watch_of x).requests in
     let is : c.args.under ≡ under.Asked = search rules in
     IfOk-weaker c.update_asked.result _ _
-    (λ message e. λ h all kept. e h all kept ∙ ap (λ (rs : List Request). option_map certainly (update_sending h (revision_at c.args.wanted.now.chains c.args.recent.now) rs (monitor_of x))) (sym (refilter_none qs) ∙ ap (λ (u : Under). refilter (filters_in u) qs) (sym is)))
+    (λ message e. λ h all kept. e h all kept ∙ ap (λ (rs : List Request). option_map certainly (update_sending h (revision_at c.args.wanted.now.chains c.args.wanted.now.recent) rs (monitor_of x))) (sym (refilter_none qs) ∙ ap (λ (u : Under). refilter (filters_in u) qs) (sym is)))
     c.update_asked.ensures.text

@@ -29,7 +29,7 @@ returns-then-are_now-clause-text c = λ h all kept.
     let slice : c.as_slice.result.now ≡ c.self.inside.tables.items = search rules in
     let tables : c.as_slice.result.now ≡ x.tables = slice ∙ ap (λ (y : Held). y.tables) c.self.view_is in
     let now : c.are_now.result ≡ true = search rules in
-    ap (option_map certainly) (quiet h (revision_at c.args.wanted.now.chains c.args.recent.now) x (subst (λ (k : Chains). AreNow k.db x.tables) c.chains.ensures (subst (AreNow c.chains.result.now.db) tables (c.are_now.ensures now))))
+    ap (option_map certainly) (quiet h (revision_at c.args.wanted.now.chains c.args.wanted.now.recent) x (subst (λ (k : Chains). AreNow k.db x.tables) c.chains.ensures (subst (AreNow c.chains.result.now.db) tables (c.are_now.ensures now))))
 
 pub returns-then-are_now-clause-jobs : goal.returns-then-are_now-clause-jobs
 returns-then-are_now-clause-jobs c = keeps_itself c.args.wanted.now.jobs
@@ -37,12 +37,12 @@ returns-then-are_now-clause-jobs c = keeps_itself c.args.wanted.now.jobs
 pub returns-clause-text : goal.returns-clause-text
 returns-clause-text c =
     let db = c.args.wanted.now.chains.db in
-    let revision = revision_at c.args.wanted.now.chains c.args.recent.now in
+    let revision = revision_at c.args.wanted.now.chains c.args.wanted.now.recent in
     let x : Held = c.args.self.now in
     let job : Job = owed_job db x in
     IfOk-weaker c.notification.result _ _
     (λ message told. λ h all kept. told all job (c.in_ok-place.ensures.place all kept)
-    ∙ ap (option_map certainly) (ap (λ v. option_map (sent_with (notifying v x job)) (updates_of job)) c.number.ensures ∙ sent_asked h revision x))
+    ∙ ap (option_map certainly) (ap (λ v. option_map (sent_with (notifying v x job)) (updates_of job)) c.number-number.ensures ∙ sent_asked h revision x))
     c.notification.ensures
 
 pub returns-clause-jobs : goal.returns-clause-jobs

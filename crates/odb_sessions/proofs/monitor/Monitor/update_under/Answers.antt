@@ -14,13 +14,13 @@ use Rattle.odb_sessions.specs.Book.{revision_at}
 pub returns-clause-text : goal.returns-clause-text
 returns-clause-text c =
     let db = c.args.wanted.now.chains.db in
-    let revision = revision_at c.args.wanted.now.chains c.args.recent.now in
+    let revision = revision_at c.args.wanted.now.chains c.args.wanted.now.recent in
     let x : Held = c.args.self.now in
     let fs = filters_in c.args.under in
     let job : Job = later_job x.notation (map (part_to db) (all_asked_as x.tables (refilter fs (asked_of x.tables)))) in
     IfOk-weaker c.notification.result _ _
     (λ message told. λ h all kept. told all job (c.in_ok-place.ensures.place all kept)
-    ∙ ap (option_map certainly) (ap (λ v. option_map (sent_with (notifying v x job)) (updates_of job)) c.number.ensures ∙ sent_under h revision fs x))
+    ∙ ap (option_map certainly) (ap (λ v. option_map (sent_with (notifying v x job)) (updates_of job)) c.number-number.ensures ∙ sent_under h revision fs x))
     c.notification.ensures
 
 pub returns-clause-jobs : goal.returns-clause-jobs

@@ -11,7 +11,7 @@ use Rattle.odb_sessions.specs.Book.{revision_at}
 pub returns-clause-text : goal.returns-clause-text
 returns-clause-text c =
     let db = c.args.planner.now.chains.db in
-    let revision = revision_at c.args.planner.now.chains c.args.recent.now in
+    let revision = revision_at c.args.planner.now.chains c.args.planner.now.recent in
     let ms = c.args.planner.now.monitors in
     IfOk-weaker c.taking_of.result _ _
     (λ taking e. λ s all kept.

@@ -16,7 +16,7 @@ use Rattle.odb_sessions.specs.Book.{revision_at}
 pub returns-in-Some-clause-text : goal.returns-in-Some-clause-text
 returns-in-Some-clause-text c = λ s all kept.
     let x : Kept = record { queue = c.self.inside.queue; monitors = c.self.inside.monitors.items } in
-    let revision = revision_at c.args.planner.now.chains c.args.recent.now in
+    let revision = revision_at c.args.planner.now.chains c.args.planner.now.recent in
     subst (λ (y : Kept). taking_sending all c.in-Some.taking (seen y).queue ≡ option_map (due_sending (served_by s) revision) (plan (served_by s) revision.db (seen y)).out) c.self.view_is
     (c.in-Some.ensures.text s revision (seen x).monitors all)
 
@@ -65,17 +65,21 @@ returns-clause-text c =
     let slice : c.as_slice.result.now ≡ c.self.inside.monitors.items = search rules in
     let monitors : c.turn_to.new.self.monitors ≡ map monitor_of x.monitors = c.in_ok-turn_to.ensures.monitors ∙ ap (map monitor_of) slice in
     let chains : c.turn_to.new.self.chains ≡ c.args.planner.now.chains = c.turn_to.ensures.chains in
+    let recent : c.turn_to.new.self.recent ≡ c.args.planner.now.recent = c.turn_to.ensures.recent in
     let db = c.args.planner.now.chains.db in
-    let revision = revision_at c.args.planner.now.chains c.args.recent.now in
+    let revision = revision_at c.args.planner.now.chains c.args.planner.now.recent in
     let queue = ap (λ (y : Kept). (seen y).queue) c.self.view_is in
     IfOk-weaker c.taking.result _ _
     (λ taking e. λ s all kept. sym (ap (taking_sending all taking) queue) ∙ e s all kept
-    ∙ (λ i. let k : Chains = chains i in let ms : List Monitor = monitors i in option_map (due_sending (served_by s) (revision_at k c.args.recent.now)) (plan_from (served_by s) k.db (map item_seen x.queue) ms).out)
+    ∙ (λ i. let k : Chains = chains i in let ms : List Monitor = monitors i in option_map (due_sending (served_by s) (revision_at k (recent i))) (plan_from (served_by s) k.db (map item_seen x.queue) ms).out)
     ∙ ap (λ (y : Kept). option_map (due_sending (served_by s) revision) (plan (served_by s) db (seen y)).out) c.self.view_is)
     c.taking.ensures.text
 
 pub returns-clause-chains : goal.returns-clause-chains
 returns-clause-chains c = c.taking.ensures.chains ∙ c.turn_to.ensures.chains
+
+pub returns-clause-recent : goal.returns-clause-recent
+returns-clause-recent c = c.taking.ensures.recent ∙ c.turn_to.ensures.recent
 
 pub returns-in-Some-clause-jobs : goal.returns-in-Some-clause-jobs
 returns-in-Some-clause-jobs c = keeps_itself c.args.planner.now.jobs

@@ -2,7 +2,8 @@ use Rattle.std.proofs.Common.{◌≡◌, List, map, ap, subst, sym, ◌∙◌}
 use Rattle.odb_chain.specs.Chains.{Chains}
 use Rattle.odb_monitor.specs.Job.{Job}
 use Rattle.std.specs.List.{All}
-use Rattle.odb_sessions.specs.Book.{Book, book_with}
+use Rattle.odb_service.specs.Session.{Revision}
+use Rattle.odb_sessions.specs.Book.{Book, book_with, revision_at, revision_in}
 use Rattle.odb_sessions.specs.FirstTexts.{IsOfNow}
 use Rattle.odb_tables.specs.Database.{Db}
 use Rattle.odb_sessions.specs.Foreseen.{Foreseen}
@@ -27,7 +28,8 @@ pub returns-clause-ready : goal.returns-clause-ready
 returns-clause-ready c = λ s.
     let js : List Job = c.into_jobs.result.jobs.items in
     let planner : c.new-planner.result.chains ≡ c.self.inside.past = ap (λ (f : Foreseen). f.chains) c.new-planner.ensures ∙ c.chains.ensures in
-    let same = (λ i. let k : Chains = planner i in book_with k.db c.self.inside.recent (all_seen c.self.inside.sessions)) ∙ c.self.view_is in
+    let recent : c.new-planner.result.recent ≡ c.self.inside.recent = ap (λ (f : Foreseen). f.recent) c.new-planner.ensures in
+    let same = (λ i. let k : Chains = planner i in book_with k.db (recent i) (all_seen c.self.inside.sessions)) ∙ c.self.view_is in
     let ready = c.in_ok-takings.ensures.ready s js (keeps_same c.takings_at.new.planner.jobs js c.into_jobs.ensures.jobs) in
     subst (λ (r : Round). AreReady s c.args.self.now r.takings) (sym c.new.ensures) (subst (λ (b : Book). AreReady s b (map (pending_by js) c.in_ok-takings.takings.items)) same ready)
 
@@ -35,7 +37,8 @@ pub returns-clause-jobs : goal.returns-clause-jobs
 returns-clause-jobs c = λ s.
     let js : List Job = c.into_jobs.result.jobs.items in
     let planner : c.new-planner.result.chains ≡ c.self.inside.past = ap (λ (f : Foreseen). f.chains) c.new-planner.ensures ∙ c.chains.ensures in
-    let same = (λ i. let k : Chains = planner i in book_with k.db c.self.inside.recent (all_seen c.self.inside.sessions)) ∙ c.self.view_is in
+    let recent : c.new-planner.result.recent ≡ c.self.inside.recent = ap (λ (f : Foreseen). f.recent) c.new-planner.ensures in
+    let same = (λ i. let k : Chains = planner i in book_with k.db (recent i) (all_seen c.self.inside.sessions)) ∙ c.self.view_is in
     let made = c.in_ok-takings.ensures.made s js (keeps_same c.takings_at.new.planner.jobs js c.into_jobs.ensures.jobs) in
     subst (λ (r : Round). AreMadeOf s c.args.self.now r.jobs r.takings) (sym c.new.ensures) (subst (λ (b : Book). AreMadeOf s b js (map (pending_by js) c.in_ok-takings.takings.items)) same made)
 
@@ -48,5 +51,9 @@ returns-clause-now c =
 pub returns-clause-once : goal.returns-clause-once
 returns-clause-once c =
     let planner : c.new-planner.result.chains ≡ c.self.inside.past = ap (λ (f : Foreseen). f.chains) c.new-planner.ensures ∙ c.chains.ensures in
-    let db : c.takings_at.new.planner.chains.db ≡ c.args.self.now.db = ap (λ (k : Chains). k.db) (c.in_ok-takings.ensures.chains ∙ planner) ∙ ap (λ (b : Book). b.db) c.self.view_is in
-    subst (λ (r : Round). AreEachOnce c.args.self.now.db r.jobs r.likenesses) (sym c.new.ensures) (subst (λ (d : Db). AreEachOnce d c.into_jobs.result.jobs.items c.into_jobs.result.askings.items) db c.into_jobs.ensures.once)
+    let recent : c.new-planner.result.recent ≡ c.self.inside.recent = ap (λ (f : Foreseen). f.recent) c.new-planner.ensures in
+    let chains : c.takings_at.new.planner.chains ≡ c.self.inside.past = c.in_ok-takings.ensures.chains ∙ planner in
+    let commits : c.takings_at.new.planner.recent ≡ c.self.inside.recent = c.in_ok-takings.ensures.recent ∙ recent in
+    let revision : revision_at c.takings_at.new.planner.chains c.takings_at.new.planner.recent ≡ revision_in c.args.self.now = (λ i. revision_at (chains i) (commits i)) ∙ ap revision_in c.self.view_is in
+    subst (λ (r : Round). AreEachOnce (revision_in c.args.self.now) r.jobs r.likenesses) (sym c.new.ensures)
+    (subst (λ (v : Revision). AreEachOnce v c.into_jobs.result.jobs.items c.into_jobs.result.askings.items) revision c.into_jobs.ensures.once)

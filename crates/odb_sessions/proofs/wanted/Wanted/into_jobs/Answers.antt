@@ -1,5 +1,6 @@
-use Rattle.std.proofs.Common.{ap, subst}
+use Rattle.std.proofs.Common.{refl, ap, subst}
 use Rattle.std.specs.List.{All}
+use Rattle.odb_sessions.specs.Book.{revision_at}
 use Rattle.odb_sessions.specs.FirstTexts.{IsOfNow}
 use Rattle.odb_sessions.specs.Jobs.{AreEachOnce, Wanted}
 use Rattle.odb_sessions.specs.Represented.Alike.{contents}
@@ -13,5 +14,5 @@ returns-clause-now c = subst (λ (w : Wanted). All (IsOfNow w.chains.db) c.self.
 
 pub returns-clause-once : goal.returns-clause-once
 returns-clause-once c =
-    subst (λ (w : Wanted). AreEachOnce w.chains.db c.self.inside.listed.jobs.items c.self.inside.listed.askings.items) c.self.view_is
-    (c.self.invariant.4, (contents c.self.inside.chains.now, c.self.invariant.5))
+    subst (λ (w : Wanted). AreEachOnce (revision_at w.chains w.recent) c.self.inside.listed.jobs.items c.self.inside.listed.askings.items) c.self.view_is
+    (c.self.invariant.4, (contents c.self.inside.chains.now, c.self.inside.recent.now.undos, refl, c.self.invariant.5))

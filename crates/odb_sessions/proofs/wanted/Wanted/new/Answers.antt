@@ -1,4 +1,4 @@
-use Rattle.std.proofs.Common.{List, [], Option, subst, sym}
+use Rattle.std.proofs.Common.{List, [], subst, sym}
 use Rattle.odb_monitor.specs.Job.{Job}
 use Rattle.odb_sessions.specs.Alike.{Likeness}
 use Rattle.odb_sessions.specs.Represented.Decided.{IsPlanned}
@@ -8,6 +8,7 @@ use Rattle.odb_sessions.proofs.wanted.Wanted.new.Goals as goal
 pub invariant_of-result : goal.invariant_of-result
 invariant_of-result c =
     let k = c.args.chains.now in
+    let us = c.args.recent.now.undos in
     let fs = c.args.firsts.now in
-    subst (λ (js : List Job). IsPlanned k fs js c.new.result.askings.items c.new-2.result) (sym c.new.ensures.jobs)
-    (subst (λ (ls : List (Option Likeness)). IsPlanned k fs [] ls c.new-2.result) (sym c.new.ensures.askings) (none_planned k fs c.new-2.result c.requires c.new-2.ensures))
+    subst (λ (js : List Job). IsPlanned k us fs js c.new.result.askings.items c.new-2.result) (sym c.new.ensures.jobs)
+    (subst (λ (ls : List Likeness). IsPlanned k us fs [] ls c.new-2.result) (sym c.new.ensures.askings) (none_planned k us fs c.new-2.result c.requires c.new-2.ensures))

@@ -1,12 +1,14 @@
-use Rattle.std.proofs.Common.{rules, ◌≡◌, ◌++◌, ◌∷◌, [], true, false, List, is_some, Option, Some, None, refl, subst, sym, ap, ◌∙◌}
+use Rattle.std.proofs.Common.{rules, ◌≡◌, ◌++◌, ◌∷◌, [], true, false, List, is_some, Some, None, refl, subst, sym, ap, ◌∙◌}
 use Rattle.std.specs.List.{All}
 use Rattle.odb_chain.specs.Chains.{Chains}
 use Rattle.odb_monitor.specs.Job.{Job, updates_of}
+use Rattle.odb_recent.specs.Recent.{Recent}
+use Rattle.odb_recent.specs.Undo.{Undo}
 use Rattle.odb_sessions.specs.Alike.{Likeness, job_like}
 use Rattle.odb_sessions.specs.FirstTexts.{FirstText, IsOfNow}
 use Rattle.odb_sessions.specs.Held.{Held, marks_in}
 use Rattle.odb_sessions.specs.Jobs.{Decision, IsFor, Keeps, Wanted, if_sent}
-use Rattle.odb_sessions.specs.Represented.Alike.{contents, likeness_in}
+use Rattle.odb_sessions.specs.Represented.Alike.{IsFoundIn, contents, likeness_in}
 use Rattle.odb_sessions.specs.Represented.Decided.{Differs, IsPlanned, Puts, bucket_at}
 use Rattle.odb_sessions.specs.Represented.Digest.{digest}
 use Rattle.odb_sessions.specs.Represented.Job.{job_in}
@@ -14,21 +16,24 @@ use Rattle.odb_sessions.specs.Tied.{AreLive}
 use Rattle.odb_sessions.specs.declared.decided.Decided.{Decided}
 use Rattle.odb_sessions.proofs.Decisions.{found, more_planned, same_planned, silent_planned}
 use Rattle.odb_sessions.proofs.FirstTexts.{of_now}
-use Rattle.odb_sessions.proofs.Likenesses.{like_job, of_requests}
+use Rattle.odb_sessions.proofs.Likenesses.{like_job, of_commits, of_requests}
 use Rattle.odb_sessions.proofs.Places.{added_at, keeps_added, keeps_itself, keeps_same, none_for, some_for}
 use Rattle.odb_sessions.proofs.wanted.Wanted.want.Goals as goal
 
 pub returns-in-Some-clause-place : goal.returns-in-Some-clause-place
 returns-in-Some-clause-place c =
     let k : Chains = c.self.inside.chains.now in
+    let r : Recent = c.self.inside.recent.now in
+    let us : List Undo = r.undos in
     let js : List Job = c.self.inside.listed.jobs.items in
     let x : Held = c.args.monitor.now in
     let l : Likeness = likeness_in x c.args.way in
     let live : AreLive k (marks_in x) = subst (λ (w : Wanted). AreLive w.chains (marks_in x)) (sym c.self.view_is) c.requires.live in
+    let own : IsFoundIn r c.args.way = subst (λ (w : Wanted). IsFoundIn w.recent c.args.way) (sym c.self.view_is) c.requires.found in
     let place = c.in-Some.place in
-    let here : IsFor js (if_sent (job_like (contents k) k.db l)) place = found k js c.self.inside.decided (digest l) (record { likeness = l; place = place }) c.self.invariant.0 c.in-Some.ensures.some in
+    let here : IsFor js (if_sent (job_like (contents k) us k.db l)) place = found k us js c.self.inside.decided (digest l) (record { likeness = l; place = place }) c.self.invariant.0 c.in-Some.ensures.some in
     subst (λ (w : Wanted). IsFor w.jobs (if_sent (job_in w.chains.db x c.args.way)) place) c.self.view_is
-    (subst (λ (j : Job). IsFor js (if_sent j) place) (sym (like_job k x c.args.way c.requires.shared live)) here)
+    (subst (λ (j : Job). IsFor js (if_sent j) place) (sym (like_job k r x c.args.way own live)) here)
 
 pub returns-in-Some-clause-jobs : goal.returns-in-Some-clause-jobs
 returns-in-Some-clause-jobs c = keeps_itself c.args.self.now.jobs
@@ -36,50 +41,56 @@ returns-in-Some-clause-jobs c = keeps_itself c.args.self.now.jobs
 pub invariant_of-self : goal.invariant_of-self
 invariant_of-self c =
     let js : List Job = c.self.inside.listed.jobs.items in
-    let ls : List (Option Likeness) = c.self.inside.listed.askings.items in
-    same_planned c.self.inside.chains.now c.self.inside.firsts.now js js ls ls c.self.inside.decided c.put.new.self refl refl c.in_err-put.ensures.err c.self.invariant
+    let ls : List Likeness = c.self.inside.listed.askings.items in
+    same_planned c.self.inside.chains.now c.self.inside.recent.now.undos c.self.inside.firsts.now js js ls ls c.self.inside.decided c.put.new.self refl refl c.in_err-put.ensures.err c.self.invariant
 
 pub invariant_of-self-then-not-is_sent : goal.invariant_of-self-then-not-is_sent
 invariant_of-self-then-not-is_sent c =
     let k : Chains = c.self.inside.chains.now in
+    let r : Recent = c.self.inside.recent.now in
+    let us : List Undo = r.undos in
     let fs : List FirstText = c.self.inside.firsts.now in
     let js : List Job = c.self.inside.listed.jobs.items in
-    let ls : List (Option Likeness) = c.self.inside.listed.askings.items in
+    let ls : List Likeness = c.self.inside.listed.askings.items in
     let d : Decided = c.self.inside.decided in
     let x : Held = c.args.monitor.now in
     let l : Likeness = likeness_in x c.args.way in
     let live : AreLive k (marks_in x) = subst (λ (w : Wanted). AreLive w.chains (marks_in x)) (sym c.self.view_is) c.requires.live in
+    let own : IsFoundIn r c.args.way = subst (λ (w : Wanted). IsFoundIn w.recent c.args.way) (sym c.self.view_is) c.requires.found in
     let job : Job = c.in_ok-job.job in
-    let is : job ≡ job_like (contents k) k.db l = c.in_ok-job.ensures ∙ sym (ap (λ (w : Wanted). job_in w.chains.db x c.args.way) c.self.view_is) ∙ like_job k x c.args.way c.requires.shared live in
+    let is : job ≡ job_like (contents k) us k.db l = c.in_ok-job.ensures ∙ sym (ap (λ (w : Wanted). job_in w.chains.db x c.args.way) c.self.view_is) ∙ like_job k r x c.args.way own live in
     let silent : is_some (updates_of job) ≡ false = search rules in
-    let none : is_some (updates_of (job_like (contents k) k.db l)) ≡ false = ap (λ (j : Job). is_some (updates_of j)) (sym is) ∙ silent in
+    let none : is_some (updates_of (job_like (contents k) us k.db l)) ≡ false = ap (λ (j : Job). is_some (updates_of j)) (sym is) ∙ silent in
     let puts : Puts d c.put.new.self (record { likeness = l; place = None }) = subst (λ (e : Decision). Puts d c.put.new.self e) c.new.ensures c.in_ok-put.ensures.ok in
-    silent_planned k fs js ls d c.put.new.self l none puts c.self.invariant
+    silent_planned k us fs js ls d c.put.new.self l none puts c.self.invariant
 
 pub invariant_of-self-in_err-place : goal.invariant_of-self-in_err-place
 invariant_of-self-in_err-place c =
-    same_planned c.self.inside.chains.now c.self.inside.firsts.now c.self.inside.listed.jobs.items c.add.new.self.jobs.items c.self.inside.listed.askings.items c.add.new.self.askings.items c.self.inside.decided c.add.new.decided
+    same_planned c.self.inside.chains.now c.self.inside.recent.now.undos c.self.inside.firsts.now c.self.inside.listed.jobs.items c.add.new.self.jobs.items c.self.inside.listed.askings.items c.add.new.self.askings.items c.self.inside.decided c.add.new.decided
     c.in_err-place.ensures.kept c.in_err-place.ensures.known c.in_err-place.ensures.undecided c.self.invariant
 
 pub invariant_of-self-2 : goal.invariant_of-self-2
 invariant_of-self-2 c =
     let k : Chains = c.self.inside.chains.now in
+    let r : Recent = c.self.inside.recent.now in
+    let us : List Undo = r.undos in
     let fs : List FirstText = c.self.inside.firsts.now in
     let js : List Job = c.self.inside.listed.jobs.items in
-    let ls : List (Option Likeness) = c.self.inside.listed.askings.items in
+    let ls : List Likeness = c.self.inside.listed.askings.items in
     let d : Decided = c.self.inside.decided in
     let x : Held = c.args.monitor.now in
     let l : Likeness = likeness_in x c.args.way in
     let live : AreLive k (marks_in x) = subst (λ (w : Wanted). AreLive w.chains (marks_in x)) (sym c.self.view_is) c.requires.live in
+    let own : IsFoundIn r c.args.way = subst (λ (w : Wanted). IsFoundIn w.recent c.args.way) (sym c.self.view_is) c.requires.found in
     let job : Job = c.in_ok-job.job in
-    let is : job ≡ job_like (contents k) k.db l = c.in_ok-job.ensures ∙ sym (ap (λ (w : Wanted). job_in w.chains.db x c.args.way) c.self.view_is) ∙ like_job k x c.args.way c.requires.shared live in
-    let own : job ≡ job_in k.db x c.args.way = c.in_ok-job.ensures ∙ sym (ap (λ (w : Wanted). job_in w.chains.db x c.args.way) c.self.view_is) in
-    let now : IsOfNow k.db job = subst (IsOfNow k.db) (sym own) (of_now k.db x c.args.way) in
+    let is : job ≡ job_like (contents k) us k.db l = c.in_ok-job.ensures ∙ sym (ap (λ (w : Wanted). job_in w.chains.db x c.args.way) c.self.view_is) ∙ like_job k r x c.args.way own live in
+    let whole : job ≡ job_in k.db x c.args.way = c.in_ok-job.ensures ∙ sym (ap (λ (w : Wanted). job_in w.chains.db x c.args.way) c.self.view_is) in
+    let now : IsOfNow k.db job = subst (IsOfNow k.db) (sym whole) (of_now k.db x c.args.way) in
     let sent : is_some (updates_of job) ≡ true = search rules in
     let fresh : All (Differs l) (bucket_at d (digest l)) = c.in_default.ensures.none refl in
-    let more : IsPlanned k fs (js ++ job ∷ []) (ls ++ Some l ∷ []) c.add.new.decided = more_planned k fs js ls d c.add.new.decided l job (is, of_requests x c.args.way) now sent fresh c.in_ok-place.ensures.decided c.self.invariant in
-    subst (λ (bs : List Job). IsPlanned k fs bs c.add.new.self.askings.items c.add.new.decided) (sym c.in_ok-place.ensures.jobs)
-    (subst (λ (ms : List (Option Likeness)). IsPlanned k fs (js ++ job ∷ []) ms c.add.new.decided) (sym c.in_ok-place.ensures.askings) more)
+    let more : IsPlanned k us fs (js ++ job ∷ []) (ls ++ l ∷ []) c.add.new.decided = more_planned k us fs js ls d c.add.new.decided l job (is, of_requests x c.args.way, of_commits r x c.args.way own) now sent fresh c.in_ok-place.ensures.decided c.self.invariant in
+    subst (λ (bs : List Job). IsPlanned k us fs bs c.add.new.self.askings.items c.add.new.decided) (sym c.in_ok-place.ensures.jobs)
+    (subst (λ (ms : List Likeness). IsPlanned k us fs (js ++ job ∷ []) ms c.add.new.decided) (sym c.in_ok-place.ensures.askings) more)
 
 pub returns-then-not-is_sent-clause-place : goal.returns-then-not-is_sent-clause-place
 returns-then-not-is_sent-clause-place c =
