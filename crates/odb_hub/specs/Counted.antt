@@ -46,7 +46,3 @@ SameCount old new = (new.answered ≡ old.answered) × (new.settled ≡ old.sett
 -- the session is closed; or nothing changes, since none of that number is open
 abbrev pub Closes : ℕ → Kept → Kept → Type 0
 Closes s old new = (Takes (closed s) old new [] × (new.rings ≡ remove old.rings s)) ⊎ ((new ≡ old) × (serve (closed s) old.server ≡ Err gone))
-
--- what the lock guarded, and what it guards now, of which nothing else is known, are so
-abbrev pub UnderLock : (Counted → Counted → Type 0) → Type 0
-UnderLock did = (old : Counted) × (new : Counted) × did old new

@@ -56,16 +56,6 @@ impl Buffer {
         self.bytes.len() >= PIECE
     }
 
-    /// Forgets the bytes that were written, where these are all.
-    pub(crate) fn forget_written(&mut self)
-        ensures { self.new ≡ self.old }
-    {
-        if self.written == self.bytes.len() {
-            self.bytes.clear();
-            self.written = 0;
-        }
-    }
-
     /// Gives the room back that isn't needed.
     pub(crate) fn give_back(&mut self)
         ensures { self.new ≡ self.old }
@@ -99,14 +89,24 @@ impl Buffer {
         Ok(now)
     }
 
-    /// Writes a beginning of them.
+    /// Writes a beginning of them, and forgets those that were written, where these are all.
     pub(crate) fn write_some<W: Write>(&mut self, writer: &mut W) -> io::Result<()>
         ensures ok { OnOk result (Sends self.old self.new (W.contents writer.old) (W.contents writer.new)) }
         ensures err { OnErr result ((self.new ≡ self.old) × Keeps (W.contents writer.old) (W.contents writer.new)) }
     {
         let count = write_once(&self.bytes[self.written..], writer)?;
         self.written += count;
+        self.forget_written();
         Ok(())
+    }
+
+    fn forget_written(&mut self)
+        ensures { self.new ≡ self.old }
+    {
+        if self.written == self.bytes.len() {
+            self.bytes.clear();
+            self.written = 0;
+        }
     }
 }
 

@@ -16,7 +16,7 @@ use std::thread::Threads;
 
 /// A round that is composed, and the text of a first reply of it that is to be kept.
 #[derive(Drop)]
-struct Composed {
+struct ComposedRound {
     prepared: Prepared,
     first: Option<FirstText>,
 }
@@ -35,7 +35,7 @@ pub(crate) fn round_by<R: Threads + Sync, G: Gate + Sync>(
         ≡ Ok (core.new, map sent_in outs.items)) }
     ensures err { OnErr result (core.new ≡ core.old) }
 {
-    let Composed { prepared, first } = prepare(rt, core, ready, workers, gate)?;
+    let ComposedRound { prepared, first } = prepare(rt, core, ready, workers, gate)?;
     core.keep(first);
     Ok(core.accept(prepared))
 }
@@ -47,7 +47,7 @@ fn prepare<R: Threads + Sync, G: Gate + Sync>(
     ready: &[SessionId],
     workers: Workers,
     gate: &G,
-) -> Result<Composed, AllocError>
+) -> Result<ComposedRound, AllocError>
     ensures round { IfOk result (λ composed. AreRoundOf ready.now core.now composed.prepared) }
     ensures first { IfOk result (λ composed. IfSome composed.first (IsFirstText core.now.world.db)) }
 {
@@ -55,7 +55,7 @@ fn prepare<R: Threads + Sync, G: Gate + Sync>(
     let bodies = bodies_of(rt, &jobs, workers, gate)?;
     let first = jobs.first_text(bodies.as_slice())?;
     let prepared = jobs.finish(bodies.as_slice())?;
-    Ok(Composed { prepared, first })
+    Ok(ComposedRound { prepared, first })
 }
 
 /// Composes each of the jobs, by as many workers as there are for what they weigh.

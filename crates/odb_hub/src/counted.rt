@@ -9,6 +9,7 @@ use crate::mailbox::Mailbox;
 use crate::seat::Seat;
 use crate::state::HubState;
 use crate::submission::Submission;
+use crate::turn::Turn;
 use odb_core::{Core, Refused, SessionId};
 use odb_par::{Gate, Workers};
 use std::alloc::{AllocError, Global};
@@ -16,7 +17,7 @@ use std::marker::Model;
 use std::snapshot::Snapshot;
 use std::sync::ledger::{Blank, Book, Ledger, Share};
 use std::thread::Threads;
-use std::time::Clock;
+use std::time::{Clock, Duration};
 
 /// What came of a turn of a batch.
 #[derive(Drop)]
@@ -29,6 +30,21 @@ pub struct BatchOutcome {
     pub few: bool,
     /// Whether a transaction waits that is due sooner than any was before.
     pub due_sooner: bool,
+}
+
+/// What a round did.
+#[derive(Clone, Copy)]
+pub struct Round {
+    /// How many messages were given.
+    pub given: usize,
+    /// Whether another one, at once, is likely to give something.
+    pub more: bool,
+    /// Whether a session may be owed something.
+    pub owes: bool,
+    /// How long it took from when it had the lock, zero where the clock can't be read.
+    pub took: Duration,
+    /// The earliest moment, in milliseconds, at which a transaction that waits is due.
+    pub deadline: Option<u64>,
 }
 
 /// A hub's state, and the ledger of its seats. What is always so (`IsCounted`): the submits in the journal, with those
@@ -63,11 +79,11 @@ impl<L: Ledger> Counted<L> {
     ghost use Rattle.odb_core.specs.Represented.Reason.{IsReason};
     ghost use Rattle.odb_hub.specs.Batch.{IsSome, IsTurn, Submits, is_sooner};
     ghost use Rattle.odb_hub.specs.Counted.{Closes, IsCounted, SameCount, submits};
-    ghost use Rattle.odb_hub.specs.Kept.{IsKept, IsQuiet, Takes, TakesRound, counted};
+    ghost use Rattle.odb_hub.specs.Kept.{IsQuiet, Takes, TakesRound, counted};
     ghost use Rattle.odb_hub.specs.Own.{GivesOwn, IsGiven};
     ghost use Rattle.odb_hub.specs.Represented.Mailbox.{name_of, taken};
     ghost use Rattle.odb_hub.specs.Represented.Submission.{events_of};
-    ghost use Rattle.odb_hub.specs.Rings.{AreShort, fresh_ring, IsFlushedAt};
+    ghost use Rattle.odb_hub.specs.Rings.{fresh_ring, IsFlushedAt};
 
     /// A hub's state over a core without sessions, of which so many seats may be given at once.
     pub fn new(alloc: Global, core: Core, blank: Blank, seats: u64) -> Counted<L>
@@ -86,14 +102,12 @@ impl<L: Ledger> Counted<L> {
         }
     }
 
-    /// How many events there were since the base, and what is so whenever the lock is free.
-    pub fn since_base(&self) -> u64
-        ensures count { result ≡ counted self.now.kept.events }
-        ensures kept { IsKept self.now.kept }
-        ensures short { AreShort self.now.kept.rings }
+    /// The hub's state, and what is so of the ledger whenever the lock is free. O(1).
+    pub fn state(&self) -> &HubState
+        ensures kept { result.now ≡ self.now.kept }
         ensures counted { IsCounted self.now }
     {
-        self.state.since_base()
+        &self.state
     }
 
     /// Opens a session, with a seat that was answered nothing. It is refused as [`HubState::open`] is, and with `Memory`
@@ -136,9 +150,8 @@ impl<L: Ledger> Counted<L> {
         ensures answered { self.new.answered ≡ self.old.answered + (length batch.old.items - length batch.new.items) }
         ensures settled { self.new.settled ≡ self.old.settled }
     {
-        let due = self.state.next_deadline();
+        let due = self.state.core().next_deadline();
         let before = batch.len();
-        self.state.set_moment(now);
         let submitted = self.state.submit_turn(rt, seat.session, batch, now);
         let answered = before.saturating_sub(batch.len());
         self.book.add(&mut seat.share, answered as u64);
@@ -150,7 +163,7 @@ impl<L: Ledger> Counted<L> {
                 Err(why) => Err(why),
             },
             few: self.state.owes_few(),
-            due_sooner: is_sooner(self.state.next_deadline(), due),
+            due_sooner: is_sooner(self.state.core().next_deadline(), due),
         }
     }
 
@@ -173,39 +186,31 @@ impl<L: Ledger> Counted<L> {
         self.state.tick(now)
     }
 
-    /// As [`HubState::round`].
-    pub fn round<R: Threads + Sync, G: Gate + Sync>(
+    /// Gives each session its next message, as [`HubState::round`] does. It returns how many there were, and what is owed
+    /// and due then.
+    pub fn round<R: Threads + Clock + Sync, G: Gate + Sync>(
         &mut self,
         rt: &R,
         workers: Workers,
         gate: &G,
-    ) -> Result<usize, AllocError>
-        ensures ok { IfOk result (λ count. TakesRound count self.old.kept self.new.kept) }
+    ) -> Result<Round, AllocError>
+        ensures ok { IfOk result (λ round. TakesRound round.given self.old.kept self.new.kept) }
+        ensures quiet { IfOk result (λ round. round.owes ≡ false → IsQuiet self.new.kept.server) }
+        ensures deadline { IfOk result (λ round. round.deadline ≡ earliest self.new.kept.server.world.waiting) }
         ensures count { SameCount self.old self.new }
         ensures err { OnErr result (self.new.kept.server ≡ self.old.kept.server) }
         ensures journal { OnErr result ((self.new.kept.base ≡ self.old.kept.base) × (self.new.kept.events ≡ self.old.kept.events)) }
         ensures flushed { OnErr result ((s : ℕ) → IsFlushedAt (get self.old.kept.rings s) (get self.new.kept.rings s)) }
     {
-        self.state.round(rt, workers, gate)
-    }
-
-    /// As [`HubState::next_deadline`].
-    pub fn next_deadline(&self) -> Option<u64>
-        ensures { result ≡ earliest self.now.kept.server.world.waiting }
-    {
-        self.state.next_deadline()
-    }
-
-    /// As [`HubState::owes`].
-    pub(crate) fn owes(&self) -> bool
-        ensures { result ≡ false → IsQuiet self.now.kept.server }
-    {
-        self.state.owes()
-    }
-
-    /// As `HubState::has_more`.
-    pub(crate) fn has_more(&self) -> bool {
-        self.state.has_more()
+        let turn = Turn::begin(rt);
+        let given = self.state.round(rt, workers, gate)?;
+        Ok(Round {
+            given,
+            more: self.state.has_more(),
+            owes: self.state.owes(),
+            took: turn.took(rt),
+            deadline: self.state.core().next_deadline(),
+        })
     }
 
     /// As [`HubState::settle`]. The submits in the journal count as settled.
@@ -219,8 +224,9 @@ impl<L: Ledger> Counted<L> {
         self.state.settle()
     }
 
-    /// Ends a session, and takes its seat back; what that was answered stays counted. Where memory is refused nothing
-    /// changes and the seat comes back.
+    /// Ends a session, and takes its seat back; what that was answered stays counted. What its ring was sent by then can
+    /// still be taken out of the mailbox; what is held back for it is gone. Where memory is refused nothing changes and the
+    /// seat comes back.
     pub fn part(&mut self, seat: Seat<L>) -> Result<(), Seat<L>>
         ensures ok { OnOk result (Closes seat.session self.old.kept self.new.kept) }
         ensures count { OnOk result (SameCount self.old self.new) }

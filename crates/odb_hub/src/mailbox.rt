@@ -23,11 +23,6 @@ impl Mailbox {
     {
         self.consumer.pop().ok()
     }
-
-    /// By what the thread that takes messages out is called.
-    pub fn bell(&self) -> &Bell {
-        &*self.bell
-    }
 }
 
 // Written, and not derived, so that each end of a scope is one call to prove.

@@ -8,7 +8,7 @@ ghost use Rattle.odb_hub.specs.Represented.Mailbox.{name_of, taken};
 use crate::bell::Bell;
 use crate::buffer::{Buffer, PIECE};
 use crate::mailbox::Mailbox;
-use crate::rest::Rest;
+use crate::rest::MessageRest;
 use std::alloc::{AllocError, Global};
 use std::io::{self, Write};
 use std::marker::Model;
@@ -16,7 +16,7 @@ use std::marker::Model;
 /// A mailbox, and what was taken out of it and isn't written yet: the bytes of a buffer, and then the rest of a message.
 pub struct Outbox {
     mailbox: Mailbox,
-    rest: Option<Rest>,
+    rest: Option<MessageRest>,
     buffer: Buffer,
 }
 
@@ -55,7 +55,7 @@ impl Outbox {
 
     /// What wakes the thread that takes messages out.
     pub fn bell(&self) -> &Bell {
-        self.mailbox.bell()
+        &*self.mailbox.bell
     }
 
     /// Says whether something was taken out that isn't written yet.
@@ -123,7 +123,6 @@ impl Outbox {
         ensures ok { IfOk result (λ some. some ≡ not (length self.new.left == 0)) }
         ensures err { OnErr result (self.new.left ≢ []) }
     {
-        self.forget_written();
         for _ in 0..PIECE {
             if !self.has_next() {
                 return Ok(self.settle());
@@ -146,7 +145,7 @@ impl Outbox {
         let Some(out) = self.mailbox.next() else {
             return false;
         };
-        self.rest = Some(Rest::new(out));
+        self.rest = Some(MessageRest::new(out));
         true
     }
 
@@ -174,17 +173,10 @@ impl Outbox {
         self.buffer.give_back();
         false
     }
-
-    /// Forgets the bytes of the buffer that were written, where these are all.
-    fn forget_written(&mut self)
-        ensures { self.new ≡ self.old }
-    {
-        self.buffer.forget_written();
-    }
 }
 
 /// Says whether no message is in the midst.
-fn is_moved(rest: &Option<Rest>) -> bool
+fn is_moved(rest: &Option<MessageRest>) -> bool
     ensures { result ≡ (length (bytes_of rest.now) == 0) }
 {
     match rest {

@@ -11,14 +11,14 @@ use std::marker::Model;
 
 /// The rest of a message, of which so many bytes of each part were moved. A body may be many sessions', so it is moved in
 /// pieces, and never copied whole.
-pub(crate) struct Rest {
+pub(crate) struct MessageRest {
     out: Out,
     before: usize,
     body: usize,
     after: usize,
 }
 
-impl Model for Rest {
+impl Model for MessageRest {
     ghost use Rattle.std.specs.Prelude.{ℕ, List, ◌≤◌, ◌++◌, drop, length};
     ghost use Rattle.std.specs.Coded.{coded_list, coded_ℕ};
     ghost use Rattle.odb_hub.specs.Represented.Mailbox.{body_of};
@@ -32,12 +32,12 @@ impl Model for Rest {
     ghost invariant = { λ r. (r.before ≤ length r.out.before.items) × (r.body ≤ length (body_of r.out)) × (r.after ≤ length r.out.after.items) };
 }
 
-impl Rest {
+impl MessageRest {
     /// Makes the rest of a message of which nothing was moved.
-    pub(crate) fn new(out: Out) -> Rest
+    pub(crate) fn new(out: Out) -> MessageRest
         ensures { result ≡ text_of_out out }
     {
-        Rest {
+        MessageRest {
             out,
             before: 0,
             body: 0,
@@ -72,7 +72,7 @@ impl Rest {
     }
 
     /// The rest, unless all is moved.
-    pub(crate) fn unless_empty(self) -> Option<Rest>
+    pub(crate) fn unless_empty(self) -> Option<MessageRest>
         ensures { bytes_of result ≡ self }
     {
         if self.is_empty() {
@@ -92,9 +92,9 @@ fn body_of(out: &Out) -> &[u8]
 }
 
 // Written, and not derived, so that each end of a scope is one call to prove.
-impl Drop for Rest {
+impl Drop for MessageRest {
     fn drop(self) {
-        let Rest {
+        let MessageRest {
             out: _,
             before: _,
             body: _,

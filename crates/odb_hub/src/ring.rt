@@ -5,8 +5,8 @@ ghost use Rattle.odb_sessions.specs.Represented.Out.{text_of_out};
 ghost use Rattle.odb_hub.specs.Room as room;
 
 use crate::bell::Bell;
+use crate::load::{ROOM, RingLoad};
 use crate::mailbox::Mailbox;
-use crate::waiting::{ROOM, Waiting};
 use odb_core::Out;
 use rtrb::{Producer, RingBuffer};
 use std::alloc::{AllocError, Global};
@@ -16,7 +16,7 @@ use std::sync::Arc;
 /// The messages of a session that were sent into its ring, and the one that is held back where the ring had no room.
 pub(crate) struct Ring {
     producer: Producer<Out>,
-    waiting: Waiting,
+    waiting: RingLoad,
     held: Option<Out>,
     bell: Arc<Bell>,
 }
@@ -52,7 +52,7 @@ impl Ring {
         let also = Arc::try_clone(&bell)?;
         let ring = Ring {
             producer,
-            waiting: Waiting::new(alloc)?,
+            waiting: RingLoad::new(alloc)?,
             held: None,
             bell,
         };
@@ -70,14 +70,9 @@ impl Ring {
         self.held.is_some()
     }
 
-    /// Remembers the moment, in milliseconds, at which the session is given something.
-    pub(crate) fn note(&self, moment: u64) {
-        self.bell.note(moment);
-    }
-
-    /// Says whether the session was given nothing in the last milliseconds before this moment. O(1).
-    pub(crate) fn has_rested(&self, moment: u64) -> bool {
-        self.bell.has_rested(moment)
+    /// By what the thread that serves the session is called, and is known when the session was given something. O(1).
+    pub(crate) fn bell(&self) -> &Bell {
+        &*self.bell
     }
 
     /// Sends the message that is held back, if the ring has room for it now.

@@ -73,7 +73,7 @@ impl Rings {
     /// Says whether the session was given nothing in the last milliseconds.
     fn has_rested(&self, session: SessionId) -> bool {
         match self.rings.get(&session) {
-            Some(ring) => ring.has_rested(self.moment),
+            Some(ring) => ring.bell().has_rested(self.moment),
             None => false,
         }
     }
@@ -221,7 +221,7 @@ impl Rings {
         let Some(ring) = self.rings.get_mut(&out.session) else {
             return;
         };
-        ring.note(self.moment);
+        ring.bell().note(self.moment);
         ring.put(out);
     }
 }

@@ -58,7 +58,6 @@ impl Model for HubState {
 impl HubState {
     ghost use Rattle.odb_atoms.specs.FinMap.{empty, get, insert, len, remove};
     ghost use Rattle.odb_service.specs.Server.{serve};
-    ghost use Rattle.odb_core.specs.Deadlines.{earliest};
     ghost use Rattle.odb_core.specs.Represented.Reason.{IsReason};
     ghost use Rattle.odb_hub.specs.Batch.{IsSome, IsTurn, RefusesFirst, TakesUpTo};
     ghost use Rattle.odb_hub.specs.Kept.{IsKept, IsQuiet, Takes, TakesRound, counted};
@@ -163,7 +162,7 @@ impl HubState {
         ensures some { OnOk result (IsSome (length batch.old.items) (length batch.new.items)) }
         ensures why { IfErr result (λ why. RefusesFirst why (events_of session now batch.new.items) self.new.server) }
     {
-        let turn = Turn::begin(rt);
+        let turn = self.begin_turn(rt, now);
         for taken in 0..MOST {
             let Some(submission) = batch.pop() else {
                 return Ok(());
@@ -177,6 +176,14 @@ impl HubState {
             }
         }
         Ok(())
+    }
+
+    /// Begins a turn at a moment in milliseconds, by which it is told how long ago sessions were given something.
+    fn begin_turn<R: Clock>(&mut self, rt: &R, now: u64) -> Turn
+        ensures { self.new ≡ self.old }
+    {
+        self.rings.set_moment(now);
+        Turn::begin(rt)
     }
 
     /// The moment is `now` in milliseconds, and what waits till then is tried.
@@ -284,11 +291,11 @@ impl HubState {
         self.core.owed().contains(&session)
     }
 
-    /// As [`Core::next_deadline`].
-    pub fn next_deadline(&self) -> Option<u64>
-        ensures { result ≡ earliest self.now.server.world.waiting }
+    /// The server, which knows when a transaction that waits is due ([`Core::next_deadline`]). O(1).
+    pub fn core(&self) -> &Core
+        ensures { result.now ≡ self.now.server }
     {
-        self.core.next_deadline()
+        &self.core
     }
 
     /// Whether a session may be owed something. O(1).
@@ -296,13 +303,6 @@ impl HubState {
         ensures { result ≡ false → IsQuiet self.now.server }
     {
         !self.core.owed().is_empty()
-    }
-
-    /// Remembers the moment, in milliseconds, by which it is told how long ago sessions were given something.
-    pub(crate) fn set_moment(&mut self, now: u64)
-        ensures { self.new ≡ self.old }
-    {
-        self.rings.set_moment(now);
     }
 
     /// Says whether at most 32 sessions may be owed something, half of which or more were given nothing in the last

@@ -8,10 +8,10 @@ mod draining;
 mod engine;
 mod fault;
 mod fresh;
+mod latch;
 mod script;
 mod session;
-mod watched;
 
 pub use fault::RunFault;
+pub use latch::FailureLatch;
 pub use script::run_script;
-pub use watched::Watched;

@@ -6,13 +6,13 @@ ghost use Rattle.std.specs.Io.KnownBytes.{Appends};
 ghost use Rattle.odb_service.specs.Server.{served_by};
 ghost use Rattle.odb_script.specs.Script.{command_of, lines_of, perform_lines, served_script};
 ghost use Rattle.odb_script.specs.Represented.Run.{line_step, AppendsFront, IsOfWriting, CarriesOut, Ends, IsOfReading};
-ghost use Rattle.odb_script.specs.Represented.Watched.{has_failed, watched};
+ghost use Rattle.odb_script.specs.Represented.Latch.{has_failed, inner_of};
 ghost use Rattle.odb_script.specs.declared.fault.RunFault.TheVariants as fault;
 
 use crate::command::Command;
 use crate::engine::Engine;
 use crate::fault::RunFault;
-use crate::watched::Watched;
+use crate::latch::FailureLatch;
 use odb_schema::Schema;
 use std::alloc::Global;
 use std::hash::RandomState;
@@ -28,11 +28,11 @@ pub fn run_script<R: Read, W: Write>(
     alloc: Global,
     schema: Schema,
     hashing: RandomState,
-    reader: &mut BufReader<Watched<R>>,
-    writer: &mut Watched<W>,
+    reader: &mut BufReader<FailureLatch<R>>,
+    writer: &mut FailureLatch<W>,
 ) -> Result<(), RunFault>
-    ensures ends { IfSome (reader_remaining (λ w. R.remaining (watched w)) reader.old)
-        (λ text. Ends (served_script schema text) result (W.contents (watched writer.old)) (W.contents (watched writer.new))) }
+    ensures ends { IfSome (reader_remaining (λ w. R.remaining (inner_of w)) reader.old)
+        (λ text. Ends (served_script schema text) result (W.contents (inner_of writer.old)) (W.contents (inner_of writer.new))) }
     ensures read { IsErrOf result fault.Read → has_failed (reader_inner reader.new) ≡ true }
     ensures write { IsErrOf result fault.Write → has_failed writer.new ≡ true }
 {
@@ -46,12 +46,12 @@ pub fn run_script<R: Read, W: Write>(
 fn run_lines<R: Read, W: Write>(
     alloc: Global,
     engine: &mut Engine,
-    reader: &mut BufReader<Watched<R>>,
-    writer: &mut Watched<W>,
+    reader: &mut BufReader<FailureLatch<R>>,
+    writer: &mut FailureLatch<W>,
 ) -> Result<(), RunFault>
-    ensures ends { IfSome (reader_remaining (λ w. R.remaining (watched w)) reader.old)
+    ensures ends { IfSome (reader_remaining (λ w. R.remaining (inner_of w)) reader.old)
         (λ text. Ends (perform_lines (served_by engine.old.schema) command_of 1 (lines_of text) engine.old.script) result
-        (W.contents (watched writer.old)) (W.contents (watched writer.new))) }
+        (W.contents (inner_of writer.old)) (W.contents (inner_of writer.new))) }
     ensures read { IsErrOf result fault.Read → has_failed (reader_inner reader.new) ≡ true }
     ensures write { IsErrOf result fault.Write → has_failed writer.new ≡ true }
 {
@@ -69,11 +69,11 @@ fn run_lines<R: Read, W: Write>(
 /// The next line, with its line feed where it has one; `None` at the end of the input.
 fn next_line<R: Read>(
     alloc: Global,
-    reader: &mut BufReader<Watched<R>>,
+    reader: &mut BufReader<FailureLatch<R>>,
 ) -> Result<Option<Vec<u8>>, RunFault>
-    ensures line { IfSome (reader_remaining (λ w. R.remaining (watched w)) reader.old) (λ text. IfOk result (λ taken. MatchOption taken
+    ensures line { IfSome (reader_remaining (λ w. R.remaining (inner_of w)) reader.old) (λ text. IfOk result (λ taken. MatchOption taken
         (lines_of text ≡ [])
-        (λ line. (rest : List ℕ) × (reader_remaining (λ w. R.remaining (watched w)) reader.new ≡ Some rest)
+        (λ line. (rest : List ℕ) × (reader_remaining (λ w. R.remaining (inner_of w)) reader.new ≡ Some rest)
         × (lines_of text ≡ strip_last 10 line.items ∷ lines_of rest)))) }
     ensures err { IfErr result IsOfReading }
     ensures read { IsErrOf result fault.Read → has_failed (reader_inner reader.new) ≡ true }
@@ -101,10 +101,10 @@ fn carry_out<W: Write>(
     engine: &mut Engine,
     number: u64,
     line: &[u8],
-    writer: &mut Watched<W>,
+    writer: &mut FailureLatch<W>,
 ) -> Result<(), RunFault>
     ensures done { CarriesOut number (line_step (served_by engine.old.schema) line.now engine.old.script) engine.new.script result
-        (W.contents (watched writer.old)) (W.contents (watched writer.new)) }
+        (W.contents (inner_of writer.old)) (W.contents (inner_of writer.new)) }
     ensures schema { OnOk result (engine.new.schema ≡ engine.old.schema) }
     ensures write { IsErrOf result fault.Write → has_failed writer.new ≡ true }
 {
@@ -121,9 +121,9 @@ fn carry_out<W: Write>(
 }
 
 /// Writes what a line prints, for whoever reads the output to see at once.
-fn print<W: Write>(text: &[u8], writer: &mut Watched<W>) -> Result<(), RunFault>
-    ensures ok { OnOk result (Appends (W.contents (watched writer.old)) (W.contents (watched writer.new)) text.now) }
-    ensures front { AppendsFront (W.contents (watched writer.old)) (W.contents (watched writer.new)) text.now }
+fn print<W: Write>(text: &[u8], writer: &mut FailureLatch<W>) -> Result<(), RunFault>
+    ensures ok { OnOk result (Appends (W.contents (inner_of writer.old)) (W.contents (inner_of writer.new)) text.now) }
+    ensures front { AppendsFront (W.contents (inner_of writer.old)) (W.contents (inner_of writer.new)) text.now }
     ensures err { IfErr result IsOfWriting }
     ensures write { IsErrOf result fault.Write → has_failed writer.new ≡ true }
 {

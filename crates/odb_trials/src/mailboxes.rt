@@ -27,9 +27,9 @@ const OTHER: [&str; 4] = [
     r#"{"method":"echo","params":["}"],"id":4}"#,
 ];
 
-/// What was counted.
+/// What was counted of a session that takes nothing.
 #[derive(Clone, Copy, Debug, PartialEq, Eq)]
-struct Counts {
+struct EchoCounts {
     /// The echoes that were taken before one met Busy.
     taken: usize,
     /// How many of the replies to these the ring gave then, in order from the first.
@@ -40,14 +40,28 @@ struct Counts {
 
 /// What was counted of a session, and what another was sent.
 #[derive(Drop)]
-struct Found {
-    counts: Counts,
+struct SessionsFound {
+    counts: EchoCounts,
     other: Vec<u8>,
 }
 
 /// A bell that calls nobody who hears.
 pub(crate) fn bell(alloc: Global) -> Result<Bell, AllocError> {
     Ok(Bell::new(Arc::new(alloc, Calls::new(alloc)?)?, 0))
+}
+
+/// Opens a session; an error says that none can be opened.
+pub(crate) fn open<L: Ledger, R: Wait>(
+    rt: &R,
+    alloc: Global,
+    hub: &Hub<L>,
+) -> Result<(Seat<L>, Mailbox), AllocError> {
+    let bell = bell(alloc)?;
+    let opened = hub.enter(rt).open(bell);
+    match opened {
+        Ok(ends) => Ok(ends),
+        Err(_) => Err(AllocError),
+    }
 }
 
 /// Submits a request of this text. It returns whether it was taken, or met Busy.
@@ -60,7 +74,8 @@ pub(crate) fn submit<L: Ledger, R: Wait + Clock>(
 ) -> Result<bool, AllocError> {
     let mut batch = Vec::new(alloc);
     batch.push(request(alloc, text)?)?;
-    match hub.submit_turn(rt, seat, &mut batch, 0).owes {
+    let outcome = hub.enter(rt).submit_turn(rt, seat, &mut batch, 0);
+    match outcome.owes {
         Ok(_) => Ok(true),
         Err(Refused::Busy) => Ok(false),
         Err(_) => Err(AllocError),
@@ -118,7 +133,8 @@ fn run_rounds<L: Ledger, R: Threads + Wait + Clock + Sync>(
     hub: &Hub<L>,
 ) -> Result<(), AllocError> {
     for _ in 0..MOST {
-        if hub.round(rt, Workers::new(1, 0), &Open)?.given == 0 {
+        let round = hub.enter(rt).round(rt, Workers::new(1, 0), &Open)?;
+        if round.given == 0 {
             break;
         }
     }
@@ -129,7 +145,8 @@ fn run_rounds<L: Ledger, R: Threads + Wait + Clock + Sync>(
 pub(crate) fn part<L: Ledger, R: Wait>(rt: &R, hub: &Hub<L>, seat: Seat<L>) {
     let mut seat = seat;
     for _ in rt.forever() {
-        match hub.part(rt, seat) {
+        let parted = hub.enter(rt).part(seat);
+        match parted {
             Ok(()) => return,
             Err(back) => seat = back,
         }
@@ -143,9 +160,7 @@ fn other<L: Ledger, R: Threads + Wait + Clock + Sync>(
     alloc: Global,
     hub: &Hub<L>,
 ) -> Result<Vec<u8>, AllocError> {
-    let Ok((mut seat, mut mailbox)) = hub.open(rt, bell(alloc)?) else {
-        return Err(AllocError);
-    };
+    let (mut seat, mut mailbox) = open(rt, alloc, hub)?;
     let sent = ask_all(rt, alloc, hub, &mut seat);
     part(rt, hub, seat);
     sent?;
@@ -175,10 +190,8 @@ fn find<L: Ledger, R: Threads + Wait + Clock + Sync>(
     alloc: Global,
     hub: &Hub<L>,
     is_asked: bool,
-) -> Result<Found, AllocError> {
-    let Ok((mut seat, mut mailbox)) = hub.open(rt, bell(alloc)?) else {
-        return Err(AllocError);
-    };
+) -> Result<SessionsFound, AllocError> {
+    let (mut seat, mut mailbox) = open(rt, alloc, hub)?;
     let taken = taken(rt, alloc, hub, &mut seat);
     let other = other(rt, alloc, hub);
     let given = if is_asked {
@@ -191,8 +204,8 @@ fn find<L: Ledger, R: Threads + Wait + Clock + Sync>(
     rounds?;
     let given = given?;
     let left = replies(alloc, &mut mailbox, given.saturating_add(1))?;
-    Ok(Found {
-        counts: Counts {
+    Ok(SessionsFound {
+        counts: EchoCounts {
             taken: taken?,
             given,
             left,
@@ -209,17 +222,18 @@ fn trial<L: Ledger, R: Threads + Wait + Clock + Sync>(
     core: Core,
     blank: Blank,
     is_asked: bool,
-) -> Result<(Found, [u64; 3]), AllocError>
+) -> Result<(SessionsFound, [u64; 3]), AllocError>
     requires core { (core.world.sessions ≡ empty) × (core.opened ≡ 0) }
     requires ledger { (blank.name ≡ L.name) × (blank.parts ≡ L.parts) }
     requires parts { blank.parts ≡ 3 }
 {
     let hub: Hub<L> = Hub::new(alloc, core, blank, 2);
     let found = find(rt, alloc, &hub, is_asked)?;
-    let first = hub.settle(rt);
-    let second = hub.settle(rt);
+    let first = hub.enter(rt).settle();
+    let second = hub.enter(rt).settle();
     come_and_go(rt, alloc, &hub)?;
-    Ok((found, [first, second, hub.settle(rt)]))
+    let third = hub.enter(rt).settle();
+    Ok((found, [first, second, third]))
 }
 
 /// A session opens, asks for an echo, and ends.
@@ -228,9 +242,7 @@ fn come_and_go<L: Ledger, R: Wait + Clock>(
     alloc: Global,
     hub: &Hub<L>,
 ) -> Result<(), AllocError> {
-    let Ok((mut seat, mailbox)) = hub.open(rt, bell(alloc)?) else {
-        return Err(AllocError);
-    };
+    let (mut seat, mailbox) = open(rt, alloc, hub)?;
     let taken = submit(rt, alloc, hub, &mut seat, OTHER[3].as_bytes());
     part(rt, hub, seat);
     drop(mailbox);
@@ -266,7 +278,7 @@ fn a_mailbox_that_nobody_empties(rt: HostRuntime) -> Result<(), Fail> {
     for is_asked in [false, true] {
         let core = core(rt.alloc(), hashing, NET)?;
         let (found, events) = trial::<Brand, _>(&rt, rt.alloc(), core, Blank::new(3), is_asked)?;
-        let wanted = Counts {
+        let wanted = EchoCounts {
             taken: 321,
             given: if is_asked { 64 } else { 0 },
             left: 64,

@@ -33,7 +33,7 @@ const MOST: usize = 1_000_000;
 
 /// To what a script is played.
 #[derive(Clone, Copy, PartialEq, Eq)]
-enum Way {
+enum PlayTarget {
     /// To a core, by `round`.
     Core,
     /// To a core, by `jobs`, `compose`, `finish` and `accept`.
@@ -48,12 +48,12 @@ fn play<R: Threads + Wait + Clock + Sync>(
     rt: &R,
     alloc: Global,
     hashing: RandomState,
-    way: Way,
+    way: PlayTarget,
     script: &[&str],
 ) -> Result<Sent, AllocError> {
     let core = core(alloc, hashing)?;
     match way {
-        Way::Hub => play_to_hub::<Brand, R>(rt, alloc, core, Blank::new(3), script),
+        PlayTarget::Hub => play_to_hub::<Brand, R>(rt, alloc, core, Blank::new(3), script),
         _ => play_to_core(alloc, core, script, way),
     }
 }
@@ -64,7 +64,7 @@ fn first_wrong<R: Threads + Wait + Clock + Sync>(
     rt: &R,
     alloc: Global,
     hashing: RandomState,
-    way: Way,
+    way: PlayTarget,
     script: &[&str],
 ) -> Result<Option<usize>, AllocError> {
     let Ok(wanted) = play(rt, alloc, hashing, way, script) else {
@@ -122,7 +122,7 @@ fn first_wrong_run(
 
 /// Whether a core sends just what the script prints.
 fn are_sent(alloc: Global, hashing: RandomState, script: &[&str]) -> Result<bool, AllocError> {
-    let sent = play_to_core(alloc, core(alloc, hashing)?, script, Way::Core)?;
+    let sent = play_to_core(alloc, core(alloc, hashing)?, script, PlayTarget::Core)?;
     let input = input(alloc, script)?;
     let (printed, _) = play_to_script(alloc, hashing, input.as_slice())?;
     Ok(
@@ -150,9 +150,14 @@ fn each_request_for_memory_is_refused(rt: HostRuntime) -> Result<(), Fail> {
             matches!(are_sent(alloc, hashing, script), Ok(true)),
             "script {place}"
         );
-        for (number, way) in [Way::Core, Way::Jobs, Way::Copies, Way::Hub]
-            .iter()
-            .enumerate()
+        for (number, way) in [
+            PlayTarget::Core,
+            PlayTarget::Jobs,
+            PlayTarget::Copies,
+            PlayTarget::Hub,
+        ]
+        .iter()
+        .enumerate()
         {
             let wrong = first_wrong(&rt, alloc, hashing, *way, script)?;
             assert_eq!(rt; wrong, None, "script {place}, way {number}");

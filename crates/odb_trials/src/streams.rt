@@ -3,7 +3,7 @@
 
 use crate::requests::NET;
 use odb_schema::Schema;
-use odb_script::{RunFault, Watched, run_script};
+use odb_script::{FailureLatch, RunFault, run_script};
 use std::alloc::{AllocError, Global};
 use std::hash::RandomState;
 use std::io::{BufReader, Error, ErrorKind, Read, Write};
@@ -20,13 +20,13 @@ A {"method":"echo","params":["}"],"id":3}{"method":"lock","params":["L"],"id":4}
 
 /// Gives a byte a call, and fails at a call.
 #[derive(Drop)]
-struct Reader<'a> {
+struct FailingReader<'a> {
     text: &'a [u8],
     calls: usize,
     failing: usize,
 }
 
-impl<'a> Read for Reader<'a> {
+impl<'a> Read for FailingReader<'a> {
     fn read(&mut self, buf: &mut [u8]) -> Result<usize, Error> {
         self.calls = self.calls.saturating_add(1);
         if self.calls == self.failing {
@@ -62,14 +62,14 @@ impl Taken {
 
 /// Takes a byte a call. It fails, or takes none, once it has so many, and it fails at a flush.
 #[derive(Drop)]
-pub(crate) struct Writer<'a> {
+pub(crate) struct FailingWriter<'a> {
     pub(crate) taken: &'a mut Taken,
     pub(crate) most: usize,
     pub(crate) fails: bool,
     pub(crate) failing: usize,
 }
 
-impl<'a> Write for Writer<'a> {
+impl<'a> Write for FailingWriter<'a> {
     fn write(&mut self, buf: &[u8]) -> Result<usize, Error> {
         match buf {
             [byte, ..] if self.taken.text.len() < self.most => {
@@ -131,7 +131,7 @@ fn run(
     limits: Limits,
 ) -> Result<(Result<(), RunFault>, Taken), AllocError> {
     let mut taken = Taken::new(alloc);
-    let reader = Watched::new(Reader {
+    let reader = FailureLatch::new(FailingReader {
         text: input,
         calls: 0,
         failing: limits.read,
@@ -139,7 +139,7 @@ fn run(
     let Ok(mut reader) = BufReader::new(alloc, reader) else {
         return Err(AllocError);
     };
-    let mut writer = Watched::new(Writer {
+    let mut writer = FailureLatch::new(FailingWriter {
         taken: &mut taken,
         most: limits.most,
         fails: limits.fails,

@@ -3,9 +3,9 @@
 ghost use Rattle.std.specs.Prelude.{◌≡◌};
 ghost use Rattle.odb_atoms.specs.FinMap.{empty};
 
-use crate::mailboxes::{bell, part, submit};
+use crate::mailboxes::{open, part, submit};
 use crate::requests::{core, note};
-use crate::streams::{Taken, Writer};
+use crate::streams::{FailingWriter, Taken};
 use odb_core::Core;
 use odb_hub::{Hub, Mailbox, Outbox, Seat};
 use std::alloc::{AllocError, Global};
@@ -49,7 +49,7 @@ struct Sizes {
 
 /// A session of a hub, whose messages are written.
 #[derive(Drop)]
-struct Session<'a, L: Ledger, R> {
+struct WrittenSession<'a, L: Ledger, R> {
     rt: &'a R,
     alloc: Global,
     hub: &'a Hub<L>,
@@ -58,12 +58,12 @@ struct Session<'a, L: Ledger, R> {
 
 /// Where a writer stops, and whether it fails there, or takes none.
 #[derive(Clone, Copy)]
-struct Stop {
+struct WriterStop {
     most: usize,
     fails: bool,
 }
 
-impl Stop {
+impl WriterStop {
     /// What a writer that stops so says of a text, if it isn't written whole.
     fn fault_in(self, whole: &[u8]) -> Option<ErrorKind> {
         if self.most >= whole.len() {
@@ -81,10 +81,15 @@ impl Stop {
     }
 }
 
-impl<'a, L: Ledger, R: Wait + Clock> Session<'a, L, R> {
+impl<'a, L: Ledger, R: Wait + Clock> WrittenSession<'a, L, R> {
     /// Whether a writer that stops so was written just what comes before, whether the peer may be asked then, and whether a
     /// good writer is written the rest, each byte once.
-    fn writes(&mut self, seat: &mut Seat<L>, whole: &[u8], stop: Stop) -> Result<bool, AllocError> {
+    fn writes(
+        &mut self,
+        seat: &mut Seat<L>,
+        whole: &[u8],
+        stop: WriterStop,
+    ) -> Result<bool, AllocError> {
         ask(self.rt, self.alloc, self.hub, seat)?;
         let mut taken = Taken::new(self.alloc);
         let fault = write_on(self.outbox, &mut taken, stop);
@@ -95,7 +100,7 @@ impl<'a, L: Ledger, R: Wait + Clock> Session<'a, L, R> {
             return Ok(false);
         }
         let asks = self.outbox.ask()?;
-        let good = Stop {
+        let good = WriterStop {
             most: usize::MAX,
             fails: true,
         };
@@ -106,8 +111,8 @@ impl<'a, L: Ledger, R: Wait + Clock> Session<'a, L, R> {
 }
 
 /// Writes until all is written, or the writer stops. It returns what it said then.
-fn write_on(outbox: &mut Outbox, taken: &mut Taken, stop: Stop) -> Option<ErrorKind> {
-    let mut writer = Writer {
+fn write_on(outbox: &mut Outbox, taken: &mut Taken, stop: WriterStop) -> Option<ErrorKind> {
+    let mut writer = FailingWriter {
         taken,
         most: stop.most,
         fails: stop.fails,
@@ -178,9 +183,7 @@ fn whole<L: Ledger, R: Wait + Clock>(
     hub: &Hub<L>,
     length: usize,
 ) -> Result<Vec<u8>, AllocError> {
-    let Ok((mut seat, mut mailbox)) = hub.open(rt, bell(alloc)?) else {
-        return Err(AllocError);
-    };
+    let (mut seat, mut mailbox) = open(rt, alloc, hub)?;
     let inserted = insert(rt, alloc, hub, &mut seat, length);
     drop(mailbox.next());
     let asked = ask(rt, alloc, hub, &mut seat);
@@ -192,7 +195,7 @@ fn whole<L: Ledger, R: Wait + Clock>(
 
 /// The number of bytes at which a writer that stops isn't written just these, and then the rest, if there is one.
 fn first_wrong<L: Ledger, R: Wait + Clock>(
-    session: &mut Session<'_, L, R>,
+    session: &mut WrittenSession<'_, L, R>,
     seat: &mut Seat<L>,
     whole: &[u8],
     step: usize,
@@ -202,7 +205,7 @@ fn first_wrong<L: Ledger, R: Wait + Clock>(
             continue;
         }
         for fails in [true, false] {
-            if !session.writes(seat, whole, Stop { most, fails })? {
+            if !session.writes(seat, whole, WriterStop { most, fails })? {
                 return Ok(Some(most));
             }
         }
@@ -223,11 +226,9 @@ fn trial<L: Ledger, R: Wait + Clock>(
 {
     let hub: Hub<L> = Hub::new(alloc, core, blank, 2);
     let whole = whole(rt, alloc, &hub, sizes.text)?;
-    let Ok((mut seat, mailbox)) = hub.open(rt, bell(alloc)?) else {
-        return Err(AllocError);
-    };
+    let (mut seat, mailbox) = open(rt, alloc, &hub)?;
     let mut outbox = Outbox::new(alloc, mailbox);
-    let mut session = Session {
+    let mut session = WrittenSession {
         rt,
         alloc,
         hub: &hub,

@@ -144,7 +144,8 @@ impl<'a, L: Ledger, R: Wait + Clock> Clerk<'a, L, R> {
         )?;
         let daemon = self.tools.daemon;
         let bell = Bell::new(Arc::try_clone(&self.desk.calls)?, place);
-        let Ok((seat, mailbox)) = daemon.hub.open(self.tools.rt, bell) else {
+        let opened = daemon.hub.enter(self.tools.rt).open(bell);
+        let Ok((seat, mailbox)) = opened else {
             return Err(Error::from(ErrorKind::OutOfMemory));
         };
         let connection = Connection::new(daemon.alloc, stream, seat, mailbox, self.tools.moment);

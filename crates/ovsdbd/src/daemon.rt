@@ -120,7 +120,8 @@ impl<L: Ledger> Daemon<L> {
         submissions: &mut Vec<Submission>,
     ) -> Result<(), Refused> {
         let before = submissions.len();
-        let submitted = self.hub.submit_turn(rt, seat, submissions, self.now(rt));
+        let now = self.now(rt);
+        let submitted = self.hub.enter(rt).submit_turn(rt, seat, submissions, now);
         let taken = before.saturating_sub(submissions.len());
         if submitted.due_sooner {
             self.pace.wake();
@@ -134,7 +135,8 @@ impl<L: Ledger> Daemon<L> {
 
     /// Ends a session, and has those told who own its locks then. Where memory is refused the seat comes back.
     pub(crate) fn part<R: Wait>(&self, rt: &R, seat: Seat<L>) -> Result<(), Seat<L>> {
-        match self.hub.part(rt, seat) {
+        let parted = self.hub.enter(rt).part(seat);
+        match parted {
             Ok(()) => {
                 self.pace.tell(1);
                 Ok(())
@@ -146,7 +148,7 @@ impl<L: Ledger> Daemon<L> {
     /// Gives a session what it is owed, as its ring has room again. False says that memory was refused, and that the pump
     /// does it.
     pub(crate) fn refill<R: Wait>(&self, rt: &R, session: SessionId) -> bool {
-        let given = self.hub.rounds_for(rt, session).is_ok();
+        let given = self.hub.enter(rt).rounds_for(session).is_ok();
         if !given {
             self.pace.tell(1);
         }
@@ -158,7 +160,8 @@ impl<L: Ledger> Daemon<L> {
     /// `keeps_silent`, where few are owed something and the round leaves nothing owed; else it tells the pump.
     fn tell_all<R: Threads + Wait + Clock + Sync>(&self, rt: &R, few: bool, requests: u64) {
         if few || self.pace.lets_others() {
-            if let Ok(round) = self.hub.round(rt, self.workers, &Open) {
+            let round = self.hub.enter(rt).round(rt, self.workers, &Open);
+            if let Ok(round) = round {
                 self.wake_called();
                 self.pace.note(round);
                 if few && !round.owes {
@@ -178,7 +181,7 @@ impl<L: Ledger> Daemon<L> {
             }
             turns = turns.saturating_add(1);
             if turns >= SETTLES {
-                self.hub.settle(rt);
+                self.hub.enter(rt).settle();
                 turns = 0;
             }
             self.turn(rt);
@@ -189,8 +192,9 @@ impl<L: Ledger> Daemon<L> {
     /// and sleeps where nothing is owed until something may be, or a transaction may be due.
     fn turn<R: Threads + Wait + Clock + Sync>(&self, rt: &R) {
         self.pace.begin();
-        drop(self.hub.tick(rt, self.now(rt)));
-        let round = self.hub.round(rt, self.workers, &Open);
+        let now = self.now(rt);
+        drop(self.hub.enter(rt).tick(now));
+        let round = self.hub.enter(rt).round(rt, self.workers, &Open);
         self.wake_called();
         match round {
             Ok(round) => self.pace.pause(rt, round, self.left(rt, round.deadline)),

@@ -20,7 +20,7 @@ use clap::builder::ValueParser;
 use clap::{Arg, ArgAction, ArgMatches, Command, Error};
 use odb_par::Workers;
 use odb_schema::{Schema, SchemaFault};
-use odb_script::{RunFault, Watched, run_script};
+use odb_script::{FailureLatch, RunFault, run_script};
 use rand::make_rng;
 use rand::rngs::StdRng;
 use rand_core::Rng;
@@ -39,7 +39,7 @@ use thiserror::Error as ErrorText;
 
 /// Why the program ends with status 1.
 #[derive(Debug, ErrorText)]
-enum Failure {
+enum ProgramFault {
     /// The file of the schema can't be read.
     #[error("schema: cannot read")]
     SchemaUnread,
@@ -277,14 +277,14 @@ fn refuse(rt: &HostRuntime, error: Error) -> io::Result<ExitCode> {
 }
 
 /// Runs the script on standard input.
-fn script(rt: &HostRuntime, file: &str) -> Result<(), Failure> {
+fn script(rt: &HostRuntime, file: &str) -> Result<(), ProgramFault> {
     let schema = read_schema(rt, file)?;
-    let memory = |_| Failure::Run(RunFault::Memory);
+    let memory = |_| ProgramFault::Run(RunFault::Memory);
     let hashing = RandomState::new(rt).map_err(memory)?;
-    let reader = Watched::new(rt.reader());
+    let reader = FailureLatch::new(rt.reader());
     let mut reader = BufReader::new(rt.alloc(), reader).map_err(memory)?;
-    let mut writer = Watched::new(io::writer(rt));
-    run_script(rt.alloc(), schema, hashing, &mut reader, &mut writer).map_err(Failure::Run)
+    let mut writer = FailureLatch::new(io::writer(rt));
+    run_script(rt.alloc(), schema, hashing, &mut reader, &mut writer).map_err(ProgramFault::Run)
 }
 
 /// Listens, prints the address, and serves.
@@ -296,26 +296,28 @@ fn listen<
         + RandomSource
         + Print
         + Sync,
->(rt: &R, alloc: Global, schema: Schema, words: &ArgMatches<'_>) -> Result<(), Failure> {
+>(rt: &R, alloc: Global, schema: Schema, words: &ArgMatches<'_>) -> Result<(), ProgramFault> {
     let address = word(words, "listen", ADDRESS);
-    let listener = TcpListener::bind(rt, address).map_err(|_| Failure::NotListening)?;
-    let local = listener.local_addr().map_err(|_| Failure::NotListening)?;
-    println!(rt; "listening {local}").map_err(|_| Failure::Run(RunFault::Write))?;
-    let hashing = RandomState::new(rt).map_err(|_| Failure::Run(RunFault::Memory))?;
+    let listener = TcpListener::bind(rt, address).map_err(|_| ProgramFault::NotListening)?;
+    let local = listener
+        .local_addr()
+        .map_err(|_| ProgramFault::NotListening)?;
+    println!(rt; "listening {local}").map_err(|_| ProgramFault::Run(RunFault::Write))?;
+    let hashing = RandomState::new(rt).map_err(|_| ProgramFault::Run(RunFault::Memory))?;
     let memory = Memory {
         run: run_word(rt)?,
         kept: words.get_one("kept").unwrap_or(KEPT) as usize,
     };
     match begin(rt, alloc, schema, hashing, memory) {
-        Ok(begun) => serve_all(rt, begun, &listener, terms(rt, words)).map_err(Failure::Run),
-        Err(fault) => Err(Failure::Run(fault)),
+        Ok(begun) => serve_all(rt, begun, &listener, terms(rt, words)).map_err(ProgramFault::Run),
+        Err(fault) => Err(ProgramFault::Run(fault)),
     }
 }
 
 /// Draws the word by which identifiers of commits are told apart from those of other runs.
-fn run_word<R: RandomSource>(rt: &R) -> Result<u64, Failure> {
+fn run_word<R: RandomSource>(rt: &R) -> Result<u64, ProgramFault> {
     let rng: Result<StdRng, io::Error> = make_rng(rt);
-    let mut rng = rng.map_err(|_| Failure::Run(RunFault::Memory))?;
+    let mut rng = rng.map_err(|_| ProgramFault::Run(RunFault::Memory))?;
     Ok(rng.next_u64())
 }
 
@@ -360,19 +362,19 @@ fn milliseconds(words: &ArgMatches<'_>, name: &str) -> Option<u64> {
 }
 
 /// The schema in a file.
-fn read_schema(rt: &HostRuntime, file: &str) -> Result<Schema, Failure> {
-    let text = fs::read(rt, file).map_err(|_| Failure::SchemaUnread)?;
-    Schema::read(rt.alloc(), text.as_slice()).map_err(|fault| Failure::Schema(fault.number()))
+fn read_schema(rt: &HostRuntime, file: &str) -> Result<Schema, ProgramFault> {
+    let text = fs::read(rt, file).map_err(|_| ProgramFault::SchemaUnread)?;
+    Schema::read(rt.alloc(), text.as_slice()).map_err(|fault| ProgramFault::Schema(fault.number()))
 }
 
 // Written, and not derived, so that each end of a scope is one call to prove.
-impl Drop for Failure {
+impl Drop for ProgramFault {
     fn drop(self) {
         match self {
-            Failure::SchemaUnread => {}
-            Failure::Schema(_) => {}
-            Failure::NotListening => {}
-            Failure::Run(_) => {}
+            ProgramFault::SchemaUnread => {}
+            ProgramFault::Schema(_) => {}
+            ProgramFault::NotListening => {}
+            ProgramFault::Run(_) => {}
         }
     }
 }

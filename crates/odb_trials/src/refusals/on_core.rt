@@ -1,6 +1,6 @@
 //! Scripts that are played to a core.
 
-use crate::refusals::Way;
+use crate::refusals::PlayTarget;
 use crate::refusals::made::submission;
 use crate::refusals::scripts::MOMENT;
 use crate::refusals::sent::Sent;
@@ -19,12 +19,12 @@ struct Play {
     inserts: usize,
     /// Whether the first session is held.
     is_held: bool,
-    way: Way,
+    way: PlayTarget,
     sent: Sent,
 }
 
 impl Play {
-    fn new(alloc: Global, core: Core, way: Way) -> Result<Play, AllocError> {
+    fn new(alloc: Global, core: Core, way: PlayTarget) -> Result<Play, AllocError> {
         let mut core = core;
         let first = open(&mut core)?;
         let second = open(&mut core)?;
@@ -49,7 +49,7 @@ impl Play {
             [b'B', b' ', text @ ..] => self.submit(self.second, text)?,
             _ => return Err(AllocError),
         }
-        if self.way == Way::Copies {
+        if self.way == PlayTarget::Copies {
             self.core = copy(&self.core)?;
         }
         self.give()
@@ -91,7 +91,7 @@ impl Play {
     fn round(&mut self) -> Result<Vec<Out>, AllocError> {
         let both = [self.second, self.first];
         let count = if self.is_held { 1 } else { 2 };
-        if self.way == Way::Jobs {
+        if self.way == PlayTarget::Jobs {
             round_by_jobs(&mut self.core, &both[..count])
         } else {
             self.core.round(&both[..count])
@@ -162,7 +162,7 @@ pub(crate) fn play_to_core(
     alloc: Global,
     core: Core,
     script: &[&str],
-    way: Way,
+    way: PlayTarget,
 ) -> Result<Sent, AllocError> {
     let mut play = Play::new(alloc, core, way)?;
     for line in script {

@@ -2,7 +2,7 @@
 ghost use Rattle.std.specs.Prelude.{◌≡◌};
 ghost use Rattle.odb_atoms.specs.FinMap.{empty};
 
-use crate::mailboxes::bell;
+use crate::mailboxes::open;
 use crate::refusals::made::submission;
 use crate::refusals::scripts::MOMENT;
 use crate::refusals::sent::Sent;
@@ -89,10 +89,8 @@ impl<'a, L: Ledger, R: Threads + Wait + Clock + Sync> Stage<'a, L, R> {
     }
 
     fn open_once(&self) -> Result<Ends<L>, AllocError> {
-        match self.hub.open(self.rt, bell(self.alloc)?) {
-            Ok((seat, mailbox)) => Ok(Ends { seat, mailbox }),
-            Err(_) => Err(AllocError),
-        }
+        let (seat, mailbox) = open(self.rt, self.alloc, self.hub)?;
+        Ok(Ends { seat, mailbox })
     }
 
     fn lines(&self, players: &mut Players<L>, script: &[&str]) -> Result<(), AllocError> {
@@ -128,7 +126,11 @@ impl<'a, L: Ledger, R: Threads + Wait + Clock + Sync> Stage<'a, L, R> {
         let made = submission.fresh.len();
         batch.push(submission)?;
         for _ in 0..2 {
-            match self.hub.submit_turn(self.rt, seat, &mut batch, 0).owes {
+            let outcome = self
+                .hub
+                .enter(self.rt)
+                .submit_turn(self.rt, seat, &mut batch, 0);
+            match outcome.owes {
                 Ok(_) => return Ok(made),
                 Err(Refused::Memory) => {}
                 Err(_) => return Err(AllocError),
@@ -138,8 +140,9 @@ impl<'a, L: Ledger, R: Threads + Wait + Clock + Sync> Stage<'a, L, R> {
     }
 
     fn tick(&self) -> Result<usize, AllocError> {
-        if self.hub.tick(self.rt, MOMENT).is_err() {
-            self.hub.tick(self.rt, MOMENT)?;
+        let ticked = self.hub.enter(self.rt).tick(MOMENT);
+        if ticked.is_err() {
+            self.hub.enter(self.rt).tick(MOMENT)?;
         }
         Ok(0)
     }
@@ -159,9 +162,10 @@ impl<'a, L: Ledger, R: Threads + Wait + Clock + Sync> Stage<'a, L, R> {
     /// Gives each session its next message. One worker composes them, so that memory is asked for in the same order each time.
     fn round(&self) -> Result<Round, AllocError> {
         let one = Workers::new(1, 0);
-        match self.hub.round(self.rt, one, &Open) {
+        let round = self.hub.enter(self.rt).round(self.rt, one, &Open);
+        match round {
             Ok(round) => Ok(round),
-            Err(_) => self.hub.round(self.rt, one, &Open),
+            Err(_) => self.hub.enter(self.rt).round(self.rt, one, &Open),
         }
     }
 
@@ -190,7 +194,8 @@ impl<'a, L: Ledger, R: Threads + Wait + Clock + Sync> Stage<'a, L, R> {
     fn part(&self, seat: Seat<L>) {
         let mut seat = seat;
         for _ in self.rt.forever() {
-            match self.hub.part(self.rt, seat) {
+            let parted = self.hub.enter(self.rt).part(seat);
+            match parted {
                 Ok(()) => return,
                 Err(back) => seat = back,
             }

@@ -2,7 +2,7 @@
 
 use crate::refusals::made::schema;
 use crate::refusals::sent::text;
-use odb_script::{RunFault, Watched, run_script};
+use odb_script::{FailureLatch, RunFault, run_script};
 use std::alloc::{AllocError, Global};
 use std::hash::RandomState;
 use std::io::BufReader;
@@ -15,14 +15,14 @@ pub(crate) fn play_to_script(
 ) -> Result<(Vec<u8>, Result<(), RunFault>), AllocError> {
     let mut printed = text(alloc)?;
     let schema = schema(alloc)?;
-    let mut reader = match BufReader::new(alloc, Watched::new(input)) {
+    let mut reader = match BufReader::new(alloc, FailureLatch::new(input)) {
         Ok(reader) => reader,
-        Err(_) => match BufReader::new(alloc, Watched::new(input)) {
+        Err(_) => match BufReader::new(alloc, FailureLatch::new(input)) {
             Ok(reader) => reader,
             Err(_) => return Err(AllocError),
         },
     };
-    let mut writer = Watched::new(&mut printed);
+    let mut writer = FailureLatch::new(&mut printed);
     let ended = run_script(alloc, schema, hashing, &mut reader, &mut writer);
     drop(writer);
     Ok((printed, ended))

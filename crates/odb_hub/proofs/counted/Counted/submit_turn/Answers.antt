@@ -22,7 +22,7 @@ invariant_of-self g c =
     let mid = c.submit_turn-submitted.new.self in
     let total = c.add.new.self.total in
     let s : ℕ = c.seat.inside.session in
-    let taken : TakesUpTo (events_of s c.args.now xs) (events_of s c.args.now ys) i.state mid = subst (λ (k : Kept). TakesUpTo (events_of s c.args.now xs) (events_of s c.args.now ys) k mid) c.set_moment.ensures c.submit_turn-submitted.ensures.taken in
+    let taken : TakesUpTo (events_of s c.args.now xs) (events_of s c.args.now ys) i.state mid = c.submit_turn-submitted.ensures.taken in
     let grown : submits mid.events ≡ submits i.state.events + (length xs - length ys) = batch_counted s c.args.now xs ys i.state mid taken in
     let answered : total ≡ i.book.total + (length xs - length ys) = search rules in
     let before = c.self.invariant.0 in
@@ -36,7 +36,7 @@ returns-clause-submits g c =
     let ys = c.submit_turn-submitted.new.batch.items in
     let mid : Kept = c.submit_turn-submitted.new.self in
     let new : Kept = c.rounds_for-given.new.self in
-    let taken : TakesUpTo (events_of s c.args.now xs) (events_of s c.args.now ys) c.self.inside.state mid = subst (λ (k : Kept). TakesUpTo (events_of s c.args.now xs) (events_of s c.args.now ys) k mid) c.set_moment.ensures c.submit_turn-submitted.ensures.taken in
+    let taken : TakesUpTo (events_of s c.args.now xs) (events_of s c.args.now ys) c.self.inside.state mid = c.submit_turn-submitted.ensures.taken in
     let same_seat : s ≡ c.args.seat.now.session = ap (λ (x : Seat). x.session) c.seat.view_is in
     let same_kept : c.self.inside.state ≡ c.args.self.now.kept = ap (λ (x : Counted). x.kept) c.self.view_is in
     elim c.match-submitted.branch [

@@ -2,7 +2,7 @@
 ghost use Rattle.std.specs.Prelude.{◌≡◌, Bool, true, false, ◌||◌, List, length, IfSome, IfOk, ◌==◌, ◌&&◌, not, is_err, OnErr, OnOk};
 ghost use Rattle.std.specs.Io.{ReadsAtMost, WritesAtMost, StartsWith};
 ghost use Rattle.std.specs.Io.KnownBytes.{Appends, Keeps, ReadConsumes, WriteAppends};
-ghost use Rattle.odb_script.specs.Represented.Watched.{has_failed, took_none, watched};
+ghost use Rattle.odb_script.specs.Represented.Latch.{has_failed, inner_of, took_none};
 ghost use Rattle.odb_script.specs.Represented.Run.{AppendsFront};
 
 use std::io::{Error, ErrorKind, Read, Result, Write};
@@ -11,18 +11,18 @@ use std::io::{Error, ErrorKind, Read, Result, Write};
 /// write from refused memory, which the calls of std that read and write whole lines return as an
 /// error of the same kind.
 #[derive(Drop)]
-pub struct Watched<T> {
+pub struct FailureLatch<T> {
     inner: T,
     has_failed: bool,
 }
 
-impl<T> Watched<T> {
-    /// Watches a reader or a writer from here on.
-    pub fn new(inner: T) -> Watched<T>
-        ensures inner { watched result ≡ inner }
+impl<T> FailureLatch<T> {
+    /// Keeps whether a call of a reader or a writer fails from here on.
+    pub fn new(inner: T) -> FailureLatch<T>
+        ensures inner { inner_of result ≡ inner }
         ensures failed { has_failed result ≡ false }
     {
-        Watched {
+        FailureLatch {
             inner,
             has_failed: false,
         }
@@ -37,12 +37,12 @@ impl<T> Watched<T> {
     }
 }
 
-impl<R: Read> Read for Watched<R> {
-    ghost remaining = { λ w. R.remaining (watched w) };
+impl<R: Read> Read for FailureLatch<R> {
+    ghost remaining = { λ w. R.remaining (inner_of w) };
 
     fn read(&mut self, buf: &mut [u8]) -> Result<usize>
         ensures bound { ReadsAtMost result buf.new }
-        ensures bytes { ReadConsumes (R.remaining (watched self.old)) (R.remaining (watched self.new)) result buf.new }
+        ensures bytes { ReadConsumes (R.remaining (inner_of self.old)) (R.remaining (inner_of self.new)) result buf.new }
         ensures failed { has_failed self.new ≡ (has_failed self.old || is_err result) }
     {
         let result = self.inner.read(buf);
@@ -51,12 +51,12 @@ impl<R: Read> Read for Watched<R> {
     }
 }
 
-impl<W: Write> Write for Watched<W> {
-    ghost contents = { λ w. W.contents (watched w) };
+impl<W: Write> Write for FailureLatch<W> {
+    ghost contents = { λ w. W.contents (inner_of w) };
 
     fn write(&mut self, buf: &[u8]) -> Result<usize>
         ensures bound { WritesAtMost result buf.now }
-        ensures bytes { WriteAppends (W.contents (watched self.old)) (W.contents (watched self.new)) result buf.now }
+        ensures bytes { WriteAppends (W.contents (inner_of self.old)) (W.contents (inner_of self.new)) result buf.now }
         ensures failed { has_failed self.new ≡ (has_failed self.old || took_none result buf.now) }
     {
         let result = self.inner.write(buf);
@@ -70,8 +70,8 @@ impl<W: Write> Write for Watched<W> {
 
     /// Writes all of it, in as many calls as it takes. After an error a beginning of it is written.
     fn write_all(&mut self, buf: &[u8]) -> Result<()>
-        ensures bytes { OnOk result (Appends (W.contents (watched self.old)) (W.contents (watched self.new)) buf.now) }
-        ensures front { AppendsFront (W.contents (watched self.old)) (W.contents (watched self.new)) buf.now }
+        ensures bytes { OnOk result (Appends (W.contents (inner_of self.old)) (W.contents (inner_of self.new)) buf.now) }
+        ensures front { AppendsFront (W.contents (inner_of self.old)) (W.contents (inner_of self.new)) buf.now }
         ensures failed { OnErr result (has_failed self.new ≡ true) }
     {
         let mut rest = buf;
@@ -92,7 +92,7 @@ impl<W: Write> Write for Watched<W> {
     }
 
     fn flush(&mut self) -> Result<()>
-        ensures bytes { Keeps (W.contents (watched self.old)) (W.contents (watched self.new)) }
+        ensures bytes { Keeps (W.contents (inner_of self.old)) (W.contents (inner_of self.new)) }
         ensures failed { has_failed self.new ≡ (has_failed self.old || is_err result) }
     {
         let result = self.inner.flush();

@@ -1,7 +1,7 @@
 use Rattle.std.proofs.Common.{rules}
 use Rattle.odb_script.proofs.AppendedParts.{wrote_more, appends_kept}
-use Rattle.odb_script.proofs.watched.WatchedWrite.write_all.Goals.{in-Ok, in-Err+else-ne}
-use Rattle.odb_script.proofs.watched.WatchedWrite.write_all.Goals as goal
+use Rattle.odb_script.proofs.latch.FailureLatchWrite.write_all.Goals.{in-Ok, in-Err+else-ne}
+use Rattle.odb_script.proofs.latch.FailureLatchWrite.write_all.Goals as goal
 
 pub loop-preserved : goal.loop-preserved
 loop-preserved g c =

@@ -1,6 +1,6 @@
 use Rattle.std.proofs.Common.{◌≡◌, List, ℕ, ◌++◌}
 use Rattle.std.specs.Io.KnownBytes.{Appends}
-use Rattle.odb_script.proofs.watched.WatchedWrite.write_all.Given as goal
+use Rattle.odb_script.proofs.latch.FailureLatchWrite.write_all.Given as goal
 
 -- what was written so far, and what is left
 abbrev pub invariant-loop : goal.invariant-loop

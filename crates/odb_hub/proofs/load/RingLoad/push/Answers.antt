@@ -3,7 +3,7 @@ use Rattle.std.specs.Prelude.{◌-◌, ◌^◌}
 use Rattle.std.proofs.lemmas.Bool.Decides.{nat_tests}
 use Rattle.odb_hub.specs.Room.{has_room, total}
 use Rattle.odb_hub.proofs.Rooms.{room_most, total_push}
-use Rattle.odb_hub.proofs.waiting.Waiting.push.Goals as goal
+use Rattle.odb_hub.proofs.load.RingLoad.push.Goals as goal
 
 pub invariant_of-self : goal.invariant_of-self
 invariant_of-self c =

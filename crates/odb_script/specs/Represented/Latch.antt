@@ -1,13 +1,13 @@
--- A reader or a writer that is watched.
+-- A reader or a writer, and whether a call of it failed.
 use Rattle.std.specs.Prelude.{ℕ, List, [], ◌∷◌, ◌==◌, Bool, true, false, Result, Ok, Err}
-use Rattle.odb_script.specs.declared.watched.Watched.{Watched}
+use Rattle.odb_script.specs.declared.latch.FailureLatch.{FailureLatch}
 
--- what is watched
-abbrev pub watched : {T : Type 0} → Watched T → T
-watched w = w.inner
+-- the reader or the writer
+abbrev pub inner_of : {T : Type 0} → FailureLatch T → T
+inner_of w = w.inner
 
 -- a call of it failed
-abbrev pub has_failed : {T : Type 0} → Watched T → Bool
+abbrev pub has_failed : {T : Type 0} → FailureLatch T → Bool
 has_failed w = w.has_failed
 
 -- a write of some bytes that took none of them, or failed

@@ -11,14 +11,14 @@ pub(crate) const ROOM: usize = 64;
 /// For how many bytes of text a ring has room, besides a message that finds it empty.
 const TEXT: usize = 262_144;
 
-/// How many bytes the messages have that may be in a ring still, the oldest first.
+/// The load of a ring: how many bytes the messages have that may be in it still, the oldest first.
 #[derive(Drop)]
-pub(crate) struct Waiting {
+pub(crate) struct RingLoad {
     sizes: VecDeque<usize>,
     bytes: usize,
 }
 
-impl Model for Waiting {
+impl Model for RingLoad {
     ghost use Rattle.std.specs.Prelude.{ℕ, List, ◌≡◌, ◌≤◌};
     ghost use Rattle.std.specs.Coded.{coded_list, coded_ℕ};
     ghost use Rattle.std.specs.VecDeque.{deque_capacity};
@@ -33,14 +33,14 @@ impl Model for Waiting {
     ghost invariant = { λ w. (w.bytes ≡ total w.sizes.items) × (64 ≤ deque_capacity w.sizes) };
 }
 
-impl Waiting {
+impl RingLoad {
     ghost use Rattle.odb_hub.specs.Room.{IsLooked, has_room};
 
     /// Nothing is in the ring.
-    pub(crate) fn new(alloc: Global) -> Result<Waiting, AllocError>
+    pub(crate) fn new(alloc: Global) -> Result<RingLoad, AllocError>
         ensures { IfOk result (λ waiting. waiting ≡ []) }
     {
-        Ok(Waiting {
+        Ok(RingLoad {
             sizes: VecDeque::with_capacity(alloc, ROOM)?,
             bytes: 0,
         })

@@ -2,7 +2,7 @@ use Rattle.std.proofs.Common.{◌≡◌, ◌≤◌, length}
 use Rattle.std.specs.Prelude.{min}
 use Rattle.std.specs.VecDeque.{deque_capacity}
 use Rattle.odb_hub.specs.Room.{IsLooked, total}
-use Rattle.odb_hub.proofs.waiting.Waiting.cut.Given as goal
+use Rattle.odb_hub.proofs.load.RingLoad.cut.Given as goal
 
 abbrev pub invariant-loop-self : goal.invariant-loop-self
 invariant-loop-self l =

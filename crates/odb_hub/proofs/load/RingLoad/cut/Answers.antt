@@ -2,7 +2,7 @@ use Rattle.std.proofs.Common.{rules, ◌≡◌, ◌≤◌, ℕ, ◌+◌, List, �
 use Rattle.std.proofs.lemmas.Bool.Decides.{nat_tests}
 use Rattle.odb_hub.specs.Room.{total}
 use Rattle.odb_hub.proofs.Rooms.{IsCutTo, cut_more}
-use Rattle.odb_hub.proofs.waiting.Waiting.cut.Goals as goal
+use Rattle.odb_hub.proofs.load.RingLoad.cut.Goals as goal
 
 pub loop-self-preserved : goal.loop-self-preserved
 loop-self-preserved c =

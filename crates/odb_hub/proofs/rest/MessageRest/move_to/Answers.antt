@@ -2,7 +2,7 @@ use Rattle.std.proofs.Common.{rules, ◌<◌, ◌++◌, [], drop, length, subst,
 use Rattle.std.specs.Prelude.{◌≢◌}
 use Rattle.odb_hub.specs.Represented.Mailbox.{body_of}
 use Rattle.odb_hub.proofs.Writing.{longer, longer_behind, on_err, some_left}
-use Rattle.odb_hub.proofs.rest.Rest.move_to.Goals as goal
+use Rattle.odb_hub.proofs.rest.MessageRest.move_to.Goals as goal
 
 pub returns-in_err-self-inside-clause-err : goal.returns-in_err-self-inside-clause-err
 returns-in_err-self-inside-clause-err c =
