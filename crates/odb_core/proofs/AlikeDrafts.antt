@@ -11,10 +11,10 @@ use Rattle.odb_atoms.specs.First.{demand, ◌>>=◌, ◌>>◌}
 use Rattle.odb_atoms.specs.Uuid.{Uuid, uuid_cmp, zero_uuid}
 use Rattle.odb_atoms.specs.Value.{Value}
 use Rattle.odb_atoms.proofs.FinSets.{contains-insert}
-use Rattle.odb_json.specs.Operation.{Op, read_op}
+use Rattle.odb_json.specs.Operation.{Op, is_insert, read_op}
 use Rattle.odb_ops.proofs.OwnIdentifiers.{HasOwn, own_is}
 use Rattle.odb_ops.specs.Execution as operations
-use Rattle.odb_ops.specs.Execution.{Context, Draft, Ran, Stop, all_admit, draft_of, failed, faults, finished, first_fault, first_fresh, found, fresh_after, go_on, has_used, is_insert, name_list, new_row, or_fault, or_stop, own_uuid, perform, read_and_perform, run, run_from, stopped, takes_name, waiting, with_result}
+use Rattle.odb_ops.specs.Execution.{Context, Draft, Ran, Stop, all_admit, draft_of, failed, faults, finished, first_fault, first_fresh, found, fresh_after, go_on, has_used, name_list, new_row, or_fault, or_stop, own_uuid, perform, read_and_perform, run, run_from, stopped, takes_name, waiting, with_result}
 use Rattle.odb_schema.proofs.Holds.{Holds, in_read}
 use Rattle.odb_schema.specs.Json.{Data, object_of}
 use Rattle.odb_schema.specs.Notation.{Names, write_uuid}

@@ -4,7 +4,7 @@ ghost use Rattle.std.specs.Prelude.{◌≡◌, ◌≤◌, ◌↔◌, ℕ, List, 
 ghost use Rattle.std.specs.List.{All};
 ghost use Rattle.odb_atoms.specs.FinMap.{len};
 ghost use Rattle.odb_atoms.specs.Represented.Atom.{uuid_of};
-ghost use Rattle.odb_wire.specs.Message.{inserts_of};
+ghost use Rattle.odb_rpc.specs.Message.{inserts_of};
 ghost use Rattle.odb_wire.specs.Shown.{request_data};
 ghost use Rattle.odb_service.specs.Run.{closed, max_sessions, once, opened, round, submitted, ticked};
 ghost use Rattle.odb_core.specs.Deadlines.{earliest};
@@ -145,7 +145,7 @@ impl Core {
     }
 
     /// Takes a request or a notification of a session in. `fresh` are identifiers that are used
-    /// nowhere yet, at least as many as `request.inserts()`; `now` is the time in milliseconds, and
+    /// nowhere yet, at least as many as `odb_rpc::inserts` says; `now` is the time in milliseconds, and
     /// an earlier one than the clock's counts as the clock's. It is refused with `Gone` where no
     /// such session is open, with `Busy` where the request needs a reply and the session is owed
     /// 256, and with `Memory`; the request is handed back then. A `transact` costs what its

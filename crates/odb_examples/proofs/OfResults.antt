@@ -9,7 +9,8 @@ use Rattle.odb_commit.specs.Transaction.{Outcome, done, waiting, refused, transa
 use Rattle.odb_examples.proofs.Examples.{computes, parsed}
 use Rattle.odb_examples.proofs.OfSchemas.{cnt}
 use Rattle.odb_atoms.specs.Uuid.{Uuid, uuid_from}
-use Rattle.odb_ops.specs.Execution.{Context, is_insert}
+use Rattle.odb_json.specs.Operation.{is_insert}
+use Rattle.odb_ops.specs.Execution.{Context}
 use Rattle.odb_schema.specs.Json.{Data, array, array_of, items_list}
 use Rattle.odb_schema.specs.Schema.{Schema}
 use Rattle.odb_schema.specs.SchemaText.{SchemaFault, read_schema}

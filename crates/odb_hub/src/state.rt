@@ -1,7 +1,7 @@
 //! What the lock guards.
 ghost use Rattle.std.specs.Prelude.{◌≡◌, ◌≤◌, ◌⊎◌, ℕ, true, false, [], map, length, IfErr, IfOk, Ok, OnErr, OnOk};
 ghost use Rattle.odb_atoms.specs.Represented.Atom.{uuid_of};
-ghost use Rattle.odb_wire.specs.Message.{inserts_of};
+ghost use Rattle.odb_rpc.specs.Message.{inserts_of};
 ghost use Rattle.odb_wire.specs.Shown.{request_data};
 ghost use Rattle.odb_core.specs.declared.refused.Refused.TheVariants as refused;
 ghost use Rattle.odb_service.specs.Run.{closed, opened, round, submitted, ticked};

@@ -1,6 +1,6 @@
 //! What is submitted.
 ghost use Rattle.std.specs.Prelude.{◌≡◌, ◌≤◌, length, vec_len};
-ghost use Rattle.odb_wire.specs.Message.{inserts_of};
+ghost use Rattle.odb_rpc.specs.Message.{inserts_of};
 ghost use Rattle.odb_wire.specs.Shown.{request_data};
 
 use odb_wire::Request;

@@ -1,5 +1,5 @@
--- Operations (RFC 7047, <operation>) and their reading. [P 4.1, 16]
-use Rattle.std.specs.Prelude.{ℕ, ℤ, pos, negsuc, Bool, cond, not, List, [], ◌∷◌, map as map_list, length, ⊤, codes, Option, Some, None}
+-- Operations (RFC 7047, <operation>) and their reading. [P 4.1, 6.2, 16]
+use Rattle.std.specs.Prelude.{ℕ, ℤ, pos, negsuc, Bool, false, cond, not, List, [], ◌∷◌, map as map_list, length, ⊤, codes, Option, Some, None, option_map, unwrap_or}
 use Rattle.std.specs.List.{list_any, list_all, range_with_len}
 use Rattle.odb_schema.specs.Json as json
 use Rattle.odb_atoms.specs.Error.{Error, constraint_violation, syntax_error, unknown_column, unknown_operation, unknown_table}
@@ -13,7 +13,7 @@ use Rattle.odb_json.specs.ColumnValue.{read_by_kind, read_value}
 use Rattle.odb_json.specs.ConditionNotation.{read_clause, read_selector, read_text}
 use Rattle.odb_json.specs.MutationNotation.{changeable, read_mutation}
 use Rattle.odb_mutate.specs.Mutation.{Mutation}
-use Rattle.odb_schema.specs.Json.{Data, Members, get_member, if_given, items_list, members_list, needed, string}
+use Rattle.odb_schema.specs.Json.{Data, Members, get_member, if_given, items_list, members_list, needed, string, string_member}
 use Rattle.odb_schema.specs.Notation.{Names, read_uuid}
 use Rattle.odb_schema.specs.Schema.{Column, Schema, column_type, columns_at, selector, selector_type, table_place}
 
@@ -279,3 +279,7 @@ read_op s names d = do
   name ← read_needed (codes "op") read_text ms
   verb ← ok_or (verb_named name) unknown_operation
   read_members s names ms verb
+
+-- an insert, whatever else it is
+abbrev pub is_insert : Data → Bool
+is_insert d = unwrap_or (option_map (same_text (codes "insert")) (string_member (codes "op") d)) false

@@ -28,6 +28,6 @@ pub use leaf::{no_other, read_array, read_object};
 pub use mutation::read_mutation;
 pub use names::Names;
 pub use op::{Delete, Insert, Mutate, Op, Select, Until, Update, Wait};
-pub use operation::read_op;
+pub use operation::{is_insert, read_op};
 pub use row::{WrittenBy, read_row};
 pub use value::{read_by_kind, read_value, write_value};

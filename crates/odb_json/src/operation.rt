@@ -1,4 +1,4 @@
-//! Operations (RFC 7047, section 5.2) and their reading. [P 4.1, 16]
+//! Operations (RFC 7047, section 5.2) and their reading. [P 4.1, 6.2, 16]
 
 ghost use Rattle.std.specs.Prelude.{◌≡◌, ◌<◌, IfOk, codes, length, option_map, string_bytes};
 ghost use Rattle.serde_json.specs.View.{members_view, view};
@@ -372,4 +372,15 @@ fn read_whole(alloc: Global, value: &Value, schema: &Schema, names: &Names) -> R
     let name = read_text(needed("op", members)?)?;
     let verb = verb_named(name).ok_or(OpFault::Failed(Error::UnknownOperation))?;
     read_members(alloc, verb, schema, names, members)
+}
+
+/// Returns whether the operation is an insert: an object in which `op` is `insert`, whatever else it has. O(log n)
+/// comparisons of names for n members.
+pub fn is_insert(operation: &Value) -> bool
+    ensures { result ≡ model.is_insert (view operation.now) }
+{
+    match operation.get("op").and_then(Value::as_str) {
+        Some(op) => op == "insert",
+        None => false,
+    }
 }

@@ -21,8 +21,8 @@ use Rattle.odb_monitor.specs.Fold.{is_null}
 use Rattle.odb_monitor.specs.View.{View}
 use Rattle.odb_request.specs.Request.{update, update2}
 use Rattle.odb_rpc.specs.Message.{Call, call_of, commit_of, failure, fault, has_reply, is_object, of_change, of_db, of_lock, of_monitor, of_monitor_since, of_none, of_notification, of_one, of_request, of_transact, reply}
-use Rattle.odb_schema.specs.Json.{as_array, as_str}
-use Rattle.odb_wire.specs.Message.{at_key, has_left_out, items_list, members_left_out}
+use Rattle.odb_schema.specs.Json.{as_array, as_str, items_list}
+use Rattle.odb_wire.specs.Message.{at_key, has_left_out, members_left_out}
 use Rattle.odb_atoms.specs.Error.{syntax_error}
 use Rattle.odb_rpc.specs.Message.{Failure, failed, unknown_monitor, canceled, failure_data, unknown_method, unknown_database}
 use Rattle.odb_schema.specs.Json.{items_of}

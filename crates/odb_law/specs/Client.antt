@@ -9,8 +9,8 @@ use Rattle.odb_service.specs.Session.{Answers, Out, no_request, to}
 use Rattle.odb_monitor.specs.Fold.{as_object, fold, is_null, pairs}
 use Rattle.odb_monitor.specs.View.{View, nothing}
 use Rattle.odb_request.specs.Request.{Notation, Request, update, update2}
-use Rattle.odb_schema.specs.Json.{as_array, as_bool, as_str}
-use Rattle.odb_wire.specs.Message.{at_key, has_left_out, items_list}
+use Rattle.odb_schema.specs.Json.{as_array, as_bool, as_str, items_list}
+use Rattle.odb_wire.specs.Message.{at_key, has_left_out}
 use Rattle.odb_atoms.specs.Error.{Error}
 use Rattle.odb_atoms.specs.Uuid.{Uuid, uuid_of_text}
 

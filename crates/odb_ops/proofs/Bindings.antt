@@ -9,7 +9,8 @@ use Rattle.odb_atoms.specs.Text.{text_cmp}
 use Rattle.odb_atoms.specs.Uuid.{Uuid}
 use Rattle.odb_atoms.proofs.FinMaps.{get-empty, get-insert, same_key, same_map}
 use Rattle.odb_atoms.proofs.TextMaps.{text_cmp-IsAntisymmetric}
-use Rattle.odb_ops.specs.Execution.{bind_name, fresh_after, identifier_of, is_insert, names_of}
+use Rattle.odb_json.specs.Operation.{is_insert}
+use Rattle.odb_ops.specs.Execution.{bind_name, fresh_after, identifier_of, names_of}
 use Rattle.odb_ops.specs.Represented.Parts.{AreTaken, bound}
 use Rattle.odb_schema.specs.Json.{Data, string_member}
 use Rattle.odb_schema.specs.Notation.{Names}

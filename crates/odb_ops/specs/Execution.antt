@@ -13,7 +13,7 @@ use Rattle.odb_atoms.specs.Text.{same_text}
 use Rattle.odb_atoms.specs.Uuid.{Uuid, uuid_cmp, zero_uuid}
 use Rattle.odb_atoms.specs.Value.{Value, same_values}
 use Rattle.odb_cond.specs.Condition.{Clause, holds_all}
-use Rattle.odb_json.specs.Operation.{Op, Until, read_op, read_own_uuid, until_equal, until_not_equal}
+use Rattle.odb_json.specs.Operation.{Op, Until, is_insert, read_op, read_own_uuid, until_equal, until_not_equal}
 use Rattle.odb_mutate.specs.Mutation.{Mutation, mutate}
 use Rattle.odb_schema.specs.Json.{Data, array_of, get_member, null, object_of, string, string_member}
 use Rattle.odb_schema.specs.Notation.{Names, write_uuid, write_value}
@@ -206,10 +206,6 @@ perform s c u d (Op.assert lock) = go_on (c.owns lock) d (fails not_owner)
 
 -- ---- lists of operations
 
--- an insert, whatever else it is, takes an identifier
-abbrev pub is_insert : Data → Bool
-is_insert d = unwrap_or (option_map (same_text (codes "insert")) (string_member (codes "op") d)) false
-
 abbrev pub bind_name : Option (List ℕ) → Uuid → Names → Names
 bind_name None u names = names
 bind_name (Some name) u names = map.insert names name u
@@ -226,6 +222,7 @@ own_uuid d = option_and_then (λ v. result_ok (read_own_uuid v)) (option_and_the
 abbrev pub identifier_of : Data → List Uuid → Uuid
 identifier_of d fresh = unwrap_or (own_uuid d) (first_fresh fresh)
 
+-- an insert takes an identifier
 abbrev pub fresh_after : Data → List Uuid → List Uuid
 fresh_after d fresh = cond (is_insert d) (drop 1 fresh) fresh
 

@@ -5,7 +5,7 @@ ghost use Rattle.odb_atoms.specs.Represented.Atom.{uuid_of};
 ghost use Rattle.odb_ops.specs.Execution as model;
 ghost use Rattle.odb_schema.specs.Json as json;
 
-use odb_json::read_own_uuid;
+use odb_json::{is_insert, read_own_uuid};
 use odb_schema::member;
 use serde_json::Value;
 use uuid::Uuid;
@@ -15,16 +15,6 @@ pub fn string_member<'a>(key: &str, value: &'a Value) -> Option<&'a str>
     ensures { option_map (λ text. text.now) result ≡ json.string_member key.now (view value.now) }
 {
     member(key, value.as_object()?)?.as_str()
-}
-
-/// Whether the operation is an insert, which takes an identifier.
-pub fn is_insert(operation: &Value) -> bool
-    ensures { result ≡ model.is_insert (view operation.now) }
-{
-    match string_member("op", operation) {
-        Some(op) => op == "insert",
-        None => false,
-    }
 }
 
 /// The first of the identifiers that are left, and zero where there is none.

@@ -3,14 +3,15 @@
 ghost use Rattle.std.specs.Prelude.{◌≡◌, cond, codes, IfOk, OnOk, map, option_map, string_bytes};
 ghost use Rattle.serde_json.specs.View.{view};
 ghost use Rattle.odb_atoms.specs.Represented.Atom.{uuid_of};
+ghost use Rattle.odb_json.specs.Operation.{is_insert};
 ghost use Rattle.odb_json.specs.Represented.Fault.{Reads};
 ghost use Rattle.odb_ops.specs.Execution as model;
 ghost use Rattle.odb_ops.specs.Represented.Parts.{bound, claimed};
 ghost use Rattle.odb_schema.specs.Json.{string_member};
 
-use crate::fresh::{identifier_of, is_insert, remaining_uuids, string_member};
+use crate::fresh::{identifier_of, remaining_uuids, string_member};
 use odb_atoms::Error;
-use odb_json::{Names, OpFault};
+use odb_json::{Names, OpFault, is_insert};
 use serde_json::Value;
 use std::alloc::{AllocError, Global};
 use uuid::Uuid;
@@ -39,7 +40,7 @@ fn bind_insert(
     uuid: Uuid,
 ) -> Result<(), AllocError>
     ensures { OnOk result (names.new
-        ≡ cond (model.is_insert (view operation.now))
+        ≡ cond (is_insert (view operation.now))
         (bound (string_member (codes "uuid-name") (view operation.now)) (uuid_of uuid) names.old)
         names.old) }
 {

@@ -1,11 +1,12 @@
--- Replies, notifications and calls of JSON-RPC 1.0 (RFC 7047, section 4). [P 7.3, 8.1, 8.2, 8.3]
-use Rattle.std.specs.Prelude.{ℕ, Bool, true, false, if◌then◌else◌, List, [], ◌∷◌, Option, Some, None, option_and_then, codes, bytes_eq, drop}
+-- Replies, notifications and calls of JSON-RPC 1.0 (RFC 7047, section 4). [P 6.2, 7.3, 8.1, 8.2, 8.3]
+use Rattle.std.specs.Prelude.{ℕ, Bool, true, false, ◌&&◌, if◌then◌else◌, List, [], ◌∷◌, Option, Some, None, option_and_then, unwrap_or, codes, bytes_eq, count_by, drop}
 use Rattle.odb_atoms.specs.Error.{Error, error_name, syntax_error}
 use Rattle.odb_atoms.specs.Text.{is_id}
 use Rattle.odb_atoms.specs.Uuid.{Uuid, uuid_of_text}
+use Rattle.odb_json.specs.Operation.{is_insert}
 use Rattle.odb_schema.specs.Json.{Data, null, boolean, number, string, array, object, no_members, member, array_of, items_list, as_str, as_array}
 use Rattle.odb_request.specs.Request.{Notation, update, update2}
-use Rattle.odb_wire.specs.Message.{is_null, method_of, params_of, id_of, has_left_out}
+use Rattle.odb_wire.specs.Message.{is_null, is_request, method_of, params_of, id_of, has_left_out}
 
 -- an object of one member
 abbrev pub one : List ℕ → Data → Data
@@ -167,6 +168,13 @@ module _ (db : List ℕ) (schema : Data) (serves : List ℕ → Bool) where
 -- the operations of a `transact`: what is after the first of its `params`
 abbrev pub operations_of : Data → List Data
 operations_of d = elim (as_array (params_of d)) [ None ↦ [] | Some ds ↦ drop 1 (items_list ds) ]
+
+-- how many identifiers a message needs: one for each insert of a `transact` that is a request
+abbrev pub inserts_of : Data → ℕ
+inserts_of d =
+    if is_request d && bytes_eq (unwrap_or (method_of d) (codes "")) (codes "transact")
+    then count_by is_insert (operations_of d)
+    else 0
 
 -- whether a call has a reply
 abbrev pub has_reply : Call → Bool

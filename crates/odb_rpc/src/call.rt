@@ -1,11 +1,11 @@
-//! Calls: what a request or a notification asks (RFC 7047, section 4.1). [P 8.1, 8.2, 16]
+//! Calls: what a request or a notification asks (RFC 7047, section 4.1). [P 6.2, 8.1, 8.2, 16]
 ghost use Rattle.std.specs.Prelude.{◌≡◌, ℕ, List, Bool, Some, None, false, drop, map, option_map, if◌then◌else◌};
 ghost use Rattle.serde_json.specs.Data.{Data};
 ghost use Rattle.serde_json.specs.View.{view};
 ghost use Rattle.odb_wire.specs.Message.{has_left_out, id_of, method_of, params_of};
 ghost use Rattle.odb_wire.specs.Shown.{request_data};
 ghost use Rattle.odb_rpc.specs.Message as message;
-ghost use Rattle.odb_rpc.specs.Message.{call_of, has_reply, of_cancel, of_db, of_lock, of_none};
+ghost use Rattle.odb_rpc.specs.Message.{call_of, has_reply, inserts_of, of_cancel, of_db, of_lock, of_none};
 ghost use Rattle.odb_rpc.specs.Message.{of_notification, of_one, of_request, of_transact, operations_of};
 ghost use Rattle.odb_rpc.specs.Message.{reply_id};
 ghost use Rattle.odb_rpc.specs.Served.{served};
@@ -19,6 +19,7 @@ use crate::monitor::{
 };
 use crate::printable::Printable;
 use odb_atoms::Error;
+use odb_json::is_insert;
 use odb_request::Kind;
 use odb_schema::{Schema, is_id};
 use odb_wire::Request;
@@ -347,6 +348,21 @@ fn behind_first(params: &[Value]) -> &[Value]
         [_, rest @ ..] => rest,
         [] => &[],
     }
+}
+
+/// Returns how many identifiers the request needs: one for each insert among its operations, where it is a `transact` and
+/// no notification. O(n) for n operations.
+#[tactic(auto, using(crate::proofs::InsertCounts::inserts_found))]
+pub fn inserts(request: &Request) -> usize
+    ensures { result ≡ inserts_of (request_data request.now) }
+{
+    if request.is_notification() || request.method() != "transact" {
+        return 0;
+    }
+    operations(request)
+        .iter()
+        .filter(|operation| is_insert(*operation))
+        .count()
 }
 
 /// Whether the message gets a reply: notifications don't. O(1).

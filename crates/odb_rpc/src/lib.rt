@@ -12,7 +12,7 @@ mod shared;
 mod since;
 mod text;
 
-pub use call::{Call, CallFault, has_reply, operations, reply_id};
+pub use call::{Call, CallFault, has_reply, inserts, operations, reply_id};
 pub use error::Failure;
 pub use monitor::{MonitorCall, MonitorChange, MonitorStart};
 pub use odb_atoms::Error;

@@ -12,7 +12,8 @@ use Rattle.odb_service.specs.World.{World, revision_of}
 use Rattle.odb_wire.specs.Stream.{Ending, fault_bad, fault_too_long, goes_on, messages}
 use Rattle.odb_atoms.specs.Text.{is_digit}
 use Rattle.odb_atoms.specs.Uuid.{Uuid, uuid_from}
-use Rattle.odb_wire.specs.Message.{inserts_of, method_of}
+use Rattle.odb_rpc.specs.Message.{inserts_of}
+use Rattle.odb_wire.specs.Message.{method_of}
 
 -- a session of the script: its name, its identifier, the bytes that came, how many of its messages were delivered on, and whether it is held
 pub record ScriptSession : Type 0 where

@@ -13,6 +13,7 @@ use crate::draining::{drain, drain_all, print_line};
 use crate::fresh::fresh_uuids;
 use crate::session::ScriptSession;
 use odb_core::{Core, Refused, SessionId};
+use odb_rpc::inserts;
 use odb_schema::Schema;
 use odb_wire::{Framer, Message, Request, WireFault};
 use std::alloc::{AllocError, Global};
@@ -335,8 +336,8 @@ impl Engine {
             self.old text.old.items self.new text.new.items) }
         ensures schema { OnOk result (self.new.schema ≡ self.old.schema) }
     {
-        let fresh = fresh_uuids(self.alloc, self.inserts, request.inserts())?;
-        let counted = self.inserts.checked_add(request.inserts() as u64);
+        let fresh = fresh_uuids(self.alloc, self.inserts, inserts(&request))?;
+        let counted = self.inserts.checked_add(inserts(&request) as u64);
         self.inserts = counted.ok_or(AllocError)?;
         match self
             .core

@@ -4,6 +4,7 @@ ghost use Rattle.odb_atoms.specs.FinMap.{empty};
 
 use odb_core::{Core, Out};
 use odb_hub::Submission;
+use odb_rpc::inserts;
 use odb_schema::Schema;
 use odb_wire::{Framer, Message, Request};
 use std::alloc::{AllocError, Global};
@@ -40,9 +41,9 @@ pub(crate) fn request(alloc: Global, text: &[u8]) -> Result<Submission, AllocErr
 }
 
 fn submission(alloc: Global, request: Request) -> Result<Submission, AllocError> {
-    let inserts = request.inserts();
-    let mut fresh = Vec::with_capacity(alloc, inserts)?;
-    for made in 0..inserts {
+    let count = inserts(&request);
+    let mut fresh = Vec::with_capacity(alloc, count)?;
+    for made in 0..count {
         fresh.push(Uuid::nil())?;
     }
     Ok(Submission::new(request, fresh))

@@ -1,5 +1,4 @@
 pub mod Scans
-pub mod Inserts
 pub mod Reading
 pub mod Streams
 pub mod Fronts

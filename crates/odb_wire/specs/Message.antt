@@ -1,7 +1,7 @@
--- Messages of JSON-RPC 1.0 (RFC 7047, section 4): a request has a text `method` and an `id` that isn't null, a notification a `method` and no such `id`, a response no `method`. [P 0.1, 6.2, 7.2]
-use Rattle.std.specs.Prelude.{ℕ, ◌^◌, Bool, true, false, not, ◌&&◌, ◌||◌, nat_lt, count_by, drop, if◌then◌else◌, List, [], ◌∷◌, Option, Some, None, is_some, codes, bytes_eq, unwrap_or, option_map, option_and_then}
+-- Messages of JSON-RPC 1.0 (RFC 7047, section 4): a request has a text `method` and an `id` that isn't null, a notification a `method` and no such `id`, a response no `method`. [P 0.1, 7.2]
+use Rattle.std.specs.Prelude.{ℕ, ◌^◌, Bool, true, false, not, ◌&&◌, ◌||◌, nat_lt, List, Option, Some, None, is_some, codes, unwrap_or}
 use Rattle.serde_json.specs.Data.{Data, null, boolean, number, string, array, object, Num, unsigned, negative, float, Items, no_items, item, Members, no_members, member}
-use Rattle.serde_json.specs.Find.{get, as_str, as_array}
+use Rattle.serde_json.specs.Find.{get, as_str}
 
 -- a member of a message, null where it is absent
 abbrev pub at_key : List ℕ → Data → Data
@@ -58,19 +58,3 @@ abbrev mutual
   pub members_left_out : Members → Bool
   members_left_out no_members = false
   members_left_out (member k d ms) = has_left_out d || members_left_out ms
-
--- ---- the identifiers that a request needs
-
-abbrev pub items_list : Items → List Data
-items_list no_items = []
-items_list (item d ds) = d ∷ items_list ds
-
-abbrev pub is_insert : Data → Bool
-is_insert d = elim (option_and_then as_str (get (codes "op") d)) [ None ↦ false | Some s ↦ bytes_eq s (codes "insert") ]
-
--- the objects with `op` "insert" after the first member of the params of a `transact` that is a request
-abbrev pub inserts_of : Data → ℕ
-inserts_of d =
-    if is_request d && bytes_eq (unwrap_or (method_of d) (codes "")) (codes "transact")
-    then count_by is_insert (drop 1 (unwrap_or (option_map items_list (as_array (params_of d))) []))
-    else 0

@@ -1,8 +1,8 @@
-//! Messages of JSON-RPC 1.0: requests, notifications and responses. [P 0.1, 6.2, 7.2]
-ghost use Rattle.std.specs.Prelude.{◌≡◌, Some, None, IsTrue, IfSome, IfOk, option_map, is_some, codes, count_by, drop, map, if◌then◌else◌};
-ghost use Rattle.serde_json.specs.View.{view, items_view};
-ghost use Rattle.serde_json.specs.Find.{get, as_array};
-ghost use Rattle.odb_wire.specs.Message.{id_of, method_of, params_of, is_notification, is_message, has_left_out, is_insert, inserts_of};
+//! Messages of JSON-RPC 1.0: requests, notifications and responses. [P 0.1, 7.2]
+ghost use Rattle.std.specs.Prelude.{◌≡◌, Some, None, IsTrue, IfSome, IfOk, option_map, is_some, codes, if◌then◌else◌};
+ghost use Rattle.serde_json.specs.View.{view};
+ghost use Rattle.serde_json.specs.Find.{get};
+ghost use Rattle.odb_wire.specs.Message.{id_of, method_of, is_notification, is_message, has_left_out};
 ghost use Rattle.odb_wire.specs.Kind.{is_response};
 ghost use Rattle.odb_wire.specs.Stream.{message_of};
 
@@ -74,28 +74,6 @@ impl Request {
         }
     }
 
-    /// How many identifiers the request needs: one for each object with `op` "insert" after the
-    /// first member of `params`, where it is a `transact` and no notification.
-    #[tactic(auto, using(crate::proofs::Inserts::inserts_found))]
-    pub fn inserts(&self) -> usize
-        ensures { result ≡ inserts_of (request_data self.now) }
-    {
-        if self.is_notification() || self.method() != "transact" {
-            return 0;
-        }
-        match self.params_list() {
-            Some(params) => inserts_behind_the_first(params.as_slice()),
-            None => 0,
-        }
-    }
-
-    fn params_list(&self) -> Option<&Vec<Value>>
-        ensures { option_map (λ v. items_view v.now.items) result
-            ≡ as_array (params_of (request_data self.now)) }
-    {
-        self.params().and_then(Value::as_array)
-    }
-
     /// Whether a number that is no integer from -(2^63) to 2^63-1 stands anywhere in the message.
     /// Each call goes through the whole message,.
     pub fn has_left_out_number(&self) -> bool
@@ -123,27 +101,6 @@ impl Response {
         ensures { view result.now ≡ response_data self.now }
     {
         &self.value
-    }
-}
-
-fn inserts_behind_the_first(params: &[Value]) -> usize
-    ensures { result ≡ count_by is_insert (drop 1 (map view params.now)) }
-{
-    match params.split_first() {
-        Some((_, operations)) => operations
-            .iter()
-            .filter(|operation| is_insert(*operation))
-            .count(),
-        None => 0,
-    }
-}
-
-fn is_insert(operation: &Value) -> bool
-    ensures { result ≡ is_insert (view operation.now) }
-{
-    match operation.get("op").and_then(Value::as_str) {
-        Some(op) => op == "insert",
-        None => false,
     }
 }
 

@@ -5,6 +5,7 @@ use mio::event::Event;
 use mio::net::TcpStream;
 use odb_core::Refused;
 use odb_hub::{Mailbox, Outbox, Seat, Submission};
+use odb_rpc::inserts;
 use odb_wire::{Framer, Message, Request};
 use rand::rngs::StdRng;
 use std::alloc::{AllocError, Global};
@@ -426,9 +427,9 @@ fn submission_of(
     request: Request,
     rng: &mut StdRng,
 ) -> Result<Submission, AllocError> {
-    let inserts = request.inserts();
-    let mut fresh = Vec::with_capacity(alloc, inserts)?;
-    for made in 0..inserts {
+    let count = inserts(&request);
+    let mut fresh = Vec::with_capacity(alloc, count)?;
+    for made in 0..count {
         fresh.push(Uuid::new_v4(rng))?;
     }
     Ok(Submission::new(request, fresh))

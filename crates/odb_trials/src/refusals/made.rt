@@ -5,6 +5,7 @@ ghost use Rattle.odb_atoms.specs.FinMap.{empty};
 use crate::refusals::scripts::NET;
 use odb_core::Core;
 use odb_hub::Submission;
+use odb_rpc::inserts;
 use odb_schema::Schema;
 use odb_wire::{Framer, Message, Request};
 use std::alloc::{AllocError, Global};
@@ -66,12 +67,12 @@ fn read_submission(alloc: Global, text: &[u8], inserts: usize) -> Result<Submiss
 fn with_identifiers(
     alloc: Global,
     request: Request,
-    inserts: usize,
+    before: usize,
 ) -> Result<Submission, AllocError> {
-    let count = request.inserts();
+    let count = inserts(&request);
     let mut fresh = Vec::with_capacity(alloc, count)?;
     for made in 0..count {
-        fresh.push(identifier(inserts.saturating_add(made)))?;
+        fresh.push(identifier(before.saturating_add(made)))?;
     }
     Ok(Submission::new(request, fresh))
 }

@@ -4,6 +4,7 @@ use Rattle.serde_json.specs.View.{view}
 use Rattle.serde_json.specs.declared.value.Value.{Value}
 use Rattle.odb_atoms.specs.Represented.Atom.{uuid_of}
 use Rattle.odb_atoms.specs.Uuid.{Uuid}
+use Rattle.odb_json.specs.Operation.{is_insert}
 use Rattle.odb_ops.specs.Execution as model
 use Rattle.odb_ops.specs.Represented.Parts.{bound}
 use Rattle.odb_ops.proofs.Bindings.{all_bound, none_bound, one_more, stands}
@@ -28,8 +29,8 @@ loop-operation-preserved c =
     let split : map view (drop i ops) ≡ view op ∷ rest = ap (map view) (drop_more ops i op inside ∙ ap (λ x. x ∷ drop (i + 1) ops) (sym here)) in
     let own : uuid_of c.identifier_of.result ≡ model.identifier_of (view op) left = search rules in
     let after : map uuid_of c.remaining_uuids-left.result.now ≡ model.fresh_after (view op) left = search rules in
-    let made : new ≡ cond (model.is_insert (view op)) (bound (string_member (codes "uuid-name") (view op)) (uuid_of c.identifier_of.result) names) names = search rules in
-    let bound_own : new ≡ cond (model.is_insert (view op)) (bound (string_member (codes "uuid-name") (view op)) (model.identifier_of (view op) left) names) names = made ∙ ap (λ u. cond (model.is_insert (view op)) (bound (string_member (codes "uuid-name") (view op)) u names) names) own in
+    let made : new ≡ cond (is_insert (view op)) (bound (string_member (codes "uuid-name") (view op)) (uuid_of c.identifier_of.result) names) names = search rules in
+    let bound_own : new ≡ cond (is_insert (view op)) (bound (string_member (codes "uuid-name") (view op)) (model.identifier_of (view op) left) names) names = made ∙ ap (λ u. cond (is_insert (view op)) (bound (string_member (codes "uuid-name") (view op)) u names) names) own in
     λ q. ap (λ us. stands new rest us q) after ∙ one_more names new (view op) rest left bound_own q ∙ ap (λ ds. stands names ds left q) (sym split) ∙ c.loop-operation.invariant q
 
 pub returns : goal.returns

@@ -1,7 +1,7 @@
 use Rattle.std.proofs.Common.{rules, ◌≡◌, length, map, ap, sym, ◌∙◌, arith}
 use Rattle.std.proofs.lemmas.List.{length-map}
 use Rattle.odb_atoms.specs.Represented.Atom.{uuid_of}
-use Rattle.odb_wire.specs.Message.{inserts_of}
+use Rattle.odb_rpc.specs.Message.{inserts_of}
 use Rattle.odb_wire.specs.Shown.{request_data}
 use Rattle.odb_script.specs.Script.{fresh_from}
 use Rattle.odb_script.proofs.Identifiers.{fresh_length}
