@@ -29,7 +29,7 @@ use crate::waiting_list::WaitingList;
 use odb_commit::Outcome;
 use odb_integrity::stays_settled;
 use odb_ops::{Context, Ran, only_reads, own_uuid, run};
-use odb_queue::{Post, replied};
+use odb_queue::{Post, replied_as};
 use odb_schema::{Schema, TableId};
 use odb_tables::{ChangeSet, Draft, RowChange, TableChange};
 use serde_json::Value;
@@ -105,7 +105,12 @@ impl Foreseen {
         ensures { IfOk result (λ noted. Notes (forecast.Ends results) waiting.now 0 self.old.left self.new.left (map post_of self.old.posts.items) (map post_of self.new.posts.items)) }
     {
         let asked = waiting.submitted();
-        let item = replied(alloc, &asked.request, &Value::from(results))?;
+        let item = replied_as(
+            alloc,
+            &asked.request,
+            asked.id.as_slice(),
+            &Value::from(results),
+        )?;
         let session = asked.session;
         self.posts.push(Post { session, item })?;
         Ok(true)

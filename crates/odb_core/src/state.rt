@@ -37,7 +37,7 @@ use crate::waiting_list::WaitingList;
 use odb_commit::{Outcome, transact};
 use odb_locks::{Locks, SessionId};
 use odb_ops::Context;
-use odb_queue::{Finished, Post, failed, notices, replied};
+use odb_queue::{Finished, Post, failed, notices, replied_as};
 use odb_rpc::{Failure, Printable};
 use odb_schema::Schema;
 use odb_sessions::{FirstText, Out, Prepared, Sessions};
@@ -135,7 +135,12 @@ impl State {
         ensures rest { self.new ≡ record (self.old) { sessions = self.new.sessions } }
         ensures err { OnErr result (self.new ≡ self.old) }
     {
-        let reply = replied(self.alloc, &asked.request, &Value::from(results))?;
+        let reply = replied_as(
+            self.alloc,
+            &asked.request,
+            asked.id.as_slice(),
+            &Value::from(results),
+        )?;
         self.post(asked.session, reply)
     }
 
@@ -166,7 +171,12 @@ impl State {
         ensures waiting { self.new.waiting ≡ self.old.waiting }
         ensures err { OnErr result (self.new ≡ self.old) }
     {
-        let reply = replied(self.alloc, &asked.request, &Value::from(results))?;
+        let reply = replied_as(
+            self.alloc,
+            &asked.request,
+            asked.id.as_slice(),
+            &Value::from(results),
+        )?;
         let posts = Vec::new(self.alloc);
         self.sessions.commit(asked.session, reply, posts, change)?;
         Ok(())
@@ -460,7 +470,12 @@ impl State {
         ensures ok { OnOk result ((s : Schema) → self.new ≡ standing foreseen.left (map post_of foreseen.posts.items) (at_number (ended_in s (reply_with asked.now results)) self.old.sessions asked.now.session) (committed change self.old)) }
         ensures err { OnErr result (self.new ≡ self.old) }
     {
-        let reply = replied(self.alloc, &asked.request, &Value::from(results))?;
+        let reply = replied_as(
+            self.alloc,
+            &asked.request,
+            asked.id.as_slice(),
+            &Value::from(results),
+        )?;
         let Foreseen { left, posts } = foreseen;
         self.sessions.commit(asked.session, reply, posts, change)?;
         self.waiting = left;

@@ -81,9 +81,9 @@ fn called_text(
     match call {
         Call::ListDatabases => {
             let names = array_of_one(alloc, served.schema().name())?;
-            Ok(Some(reply_printed(alloc, id, names.as_slice())?))
+            Ok(Some(success(alloc, id, names.as_slice())?))
         }
-        Call::GetSchema => Ok(Some(reply_printed(alloc, id, served.text())?)),
+        Call::GetSchema => Ok(Some(success(alloc, id, served.text())?)),
         Call::Echo(params) => Ok(Some(reply(alloc, id, params)?)),
         Call::Transact(_) => Ok(None),
         Call::Monitor(_) => Ok(None),
@@ -95,15 +95,40 @@ fn called_text(
     }
 }
 
-/// The reply of a success, with this result (RFC 7047, section 4). O(n) for a text of n bytes.
+/// Returns the reply of a success, for a result that is printed already, as compact text. O(n) for a text of n bytes.
+fn success(alloc: Global, id: Printable<'_>, printed: &[u8]) -> Result<Vec<u8>, AllocError>
+    ensures { IfOk result (λ text. (d : Data) → printed.now ≡ compact_text d
+        → text.items ≡ compact_text (message.reply (printable_data id.entry) d)) }
+{
+    let id_text = id.to_vec(alloc)?;
+    reply_printed(alloc, id_text.as_slice(), printed)
+}
+
+/// Returns the reply of a success, with this result (RFC 7047, section 4). O(n) for a text of n bytes.
 pub fn replied(alloc: Global, request: &Request, value: &Value) -> Result<Finished, AllocError>
     requires id { has_left_out (id_of (request_data request.now)) ≡ false }
     requires value { has_float (view value.now) ≡ false }
     ensures { IfOk result (λ item. item_of item
         ≡ say (to (request_data request.now)) (message.reply (id_of (request_data request.now)) (view value.now))) }
 {
+    let id = reply_id(request).to_vec(alloc)?;
+    replied_as(alloc, request, id.as_slice(), value)
+}
+
+/// Returns the same, where the request's id is printed already, as compact text. O(n) for a text of n bytes.
+pub fn replied_as(
+    alloc: Global,
+    request: &Request,
+    id: &[u8],
+    value: &Value,
+) -> Result<Finished, AllocError>
+    requires printed { id.now ≡ compact_text (id_of (request_data request.now)) }
+    requires value { has_float (view value.now) ≡ false }
+    ensures { IfOk result (λ item. item_of item
+        ≡ say (to (request_data request.now)) (message.reply (id_of (request_data request.now)) (view value.now))) }
+{
     let printed = value.to_vec(alloc)?;
-    let text = reply_printed(alloc, reply_id(request), printed.as_slice())?;
+    let text = reply_printed(alloc, id, printed.as_slice())?;
     Ok(Finished {
         text,
         is_reply: true,

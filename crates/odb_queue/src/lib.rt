@@ -11,7 +11,7 @@ mod meaning;
 mod post;
 mod served_schema;
 
-pub use answer::{answer_at_once, failed, notices, replied};
+pub use answer::{answer_at_once, failed, notices, replied, replied_as};
 pub use finished::Finished;
 pub use meaning::Meaning;
 pub use post::Post;

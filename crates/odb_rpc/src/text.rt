@@ -22,18 +22,15 @@ pub fn reply(alloc: Global, id: Printable<'_>, value: Printable<'_>) -> Result<V
     ensures { IfOk result (λ text. text.items
         ≡ compact_text (reply (printable_data id.entry) (printable_data value.entry))) }
 {
+    let id_text = id.to_vec(alloc)?;
     let printed = value.to_vec(alloc)?;
-    reply_printed(alloc, id, printed.as_slice())
+    reply_printed(alloc, id_text.as_slice(), printed.as_slice())
 }
 
-/// The same, for a result that is printed already: as compact text. O(n) for a text of n bytes.
-pub fn reply_printed(
-    alloc: Global,
-    id: Printable<'_>,
-    printed: &[u8],
-) -> Result<Vec<u8>, AllocError>
-    ensures { IfOk result (λ text. (d : Data) → printed.now ≡ compact_text d
-        → text.items ≡ compact_text (reply (printable_data id.entry) d)) }
+/// The same, for an id and a result that are printed already: as compact text. O(n) for a text of n bytes.
+pub fn reply_printed(alloc: Global, id: &[u8], printed: &[u8]) -> Result<Vec<u8>, AllocError>
+    ensures { IfOk result (λ text. (i d : Data) → id.now ≡ compact_text i → printed.now ≡ compact_text d
+        → text.items ≡ compact_text (reply i d)) }
 {
     response(alloc, b"null", id, printed)
 }
@@ -45,8 +42,9 @@ pub fn failure(alloc: Global, id: Printable<'_>, why: Failure) -> Result<Vec<u8>
     ensures { IfOk result (λ text. text.items
         ≡ compact_text (failure (printable_data id.entry) (failure_of why))) }
 {
+    let id_text = id.to_vec(alloc)?;
     let error = error_text(alloc, why)?;
-    response(alloc, error.as_slice(), id, b"null")
+    response(alloc, error.as_slice(), id_text.as_slice(), b"null")
 }
 
 /// A notification (RFC 7047, section 4): `{"id":null,"method":METHOD,"params":PARAMS}`, for
@@ -74,26 +72,19 @@ pub fn array_of_one(alloc: Global, name: &str) -> Result<Vec<u8>, AllocError>
     Ok(text)
 }
 
-fn response(
-    alloc: Global,
-    error: &[u8],
-    id: Printable<'_>,
-    printed: &[u8],
-) -> Result<Vec<u8>, AllocError>
-    ensures { IfOk result (λ text. text.items
-        ≡ response_text error.now (compact_text (printable_data id.entry)) printed.now) }
+fn response(alloc: Global, error: &[u8], id: &[u8], printed: &[u8]) -> Result<Vec<u8>, AllocError>
+    ensures { IfOk result (λ text. text.items ≡ response_text error.now id.now printed.now) }
 {
-    let id_text = id.to_vec(alloc)?;
     let size = error
         .len()
-        .saturating_add(id_text.len())
+        .saturating_add(id.len())
         .saturating_add(printed.len())
         .saturating_add(26);
     let mut text = Vec::with_capacity(alloc, size)?;
     text.extend_from_slice(b"{\"error\":")?;
     text.extend_from_slice(error)?;
     text.extend_from_slice(b",\"id\":")?;
-    text.extend_from_slice(id_text.as_slice())?;
+    text.extend_from_slice(id)?;
     text.extend_from_slice(b",\"result\":")?;
     text.extend_from_slice(printed)?;
     text.push(b'}')?;

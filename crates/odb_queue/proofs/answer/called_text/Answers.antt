@@ -9,13 +9,13 @@ use Rattle.odb_queue.specs.Represented.Answer.{at_once}
 use Rattle.odb_queue.proofs.MonitorCalls.{not_at_once}
 use Rattle.odb_queue.proofs.answer.called_text.Goals as goal
 
-pub returns-in_ok-reply_printed-in-ListDatabases : goal.returns-in_ok-reply_printed-in-ListDatabases
-returns-in_ok-reply_printed-in-ListDatabases c =
+pub returns-in_ok-success-in-ListDatabases : goal.returns-in_ok-success-in-ListDatabases
+returns-in_ok-success-in-ListDatabases c =
     let names = array_of (string c.args.served.now.name ∷ []) in
     let listed : c.in_ok-names-in-ListDatabases.names.items ≡ compact_text (array_of (string c.name.result.now ∷ [])) = search rules in
     let named : c.name.result.now ≡ c.args.served.now.name = search rules in
     let printed : c.as_slice.result.now ≡ compact_text names = c.as_slice.ensures.value ∙ listed ∙ ap (λ n. compact_text (array_of (string n ∷ []))) named in
-    let text : (d : Data) → c.as_slice.result.now ≡ compact_text d → c.in_ok-reply_printed-in-ListDatabases.field-0.items ≡ compact_text (reply (printable_data c.args.id) d) = search rules in
+    let text : (d : Data) → c.as_slice.result.now ≡ compact_text d → c.in_ok-success-in-ListDatabases.field-0.items ≡ compact_text (reply (printable_data c.args.id) d) = search rules in
     rw c.in-ListDatabases.is (ap Some (text names printed))
 
 pub returns-in-Monitor : goal.returns-in-Monitor

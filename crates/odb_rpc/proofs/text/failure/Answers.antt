@@ -1,4 +1,4 @@
-use Rattle.std.proofs.Common.{rules, ◌≡◌, sym, ap, ◌∙◌}
+use Rattle.std.proofs.Common.{rules, ◌≡◌, sym, ◌∙◌}
 use Rattle.std.proofs.lemmas.Result.{IfOk-weaker}
 use Rattle.serde_json.specs.Data.{null}
 use Rattle.serde_json.specs.Written.{compact_text}
@@ -13,5 +13,6 @@ pub returns : goal.returns
 returns c =
     let id = printable_data c.args.id in
     let error = failure_data (failure_of c.args.why) in
-    let printed : c.as_slice.result.now ≡ compact_text error = search rules in
-    IfOk-weaker c.response.result _ _ (λ _ is. is ∙ ap (λ t. response_text t (compact_text id) (compact_text null)) printed ∙ sym (message_text error id null)) c.response.ensures
+    let error_printed : c.as_slice.result.now ≡ compact_text error = search rules in
+    let id_printed : c.as_slice-2.result.now ≡ compact_text id = search rules in
+    IfOk-weaker c.response.result _ _ (λ _ is. is ∙ (λ i. response_text (error_printed i) (id_printed i) (compact_text null)) ∙ sym (message_text error id null)) c.response.ensures
