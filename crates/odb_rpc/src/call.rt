@@ -375,7 +375,7 @@ pub fn has_reply(request: &Request) -> bool
 }
 
 /// The id that a reply to the request carries: the request's own, or null where that has a left-out
-/// number. It goes through the id,.
+/// number. It goes through the id.
 pub fn reply_id<'a>(request: &'a Request) -> Printable<'a>
     ensures { printable_data result ≡ reply_id (id_of (request_data request.now)) }
 {

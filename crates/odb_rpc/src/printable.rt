@@ -26,7 +26,7 @@ impl<'a> Printable<'a> {
         Printable { value: None }
     }
 
-    /// The value, unless it has a left-out number anywhere. It goes through the whole value,.
+    /// The value, unless it has a left-out number anywhere. It goes through the whole value.
     pub fn of(value: &'a Value) -> Option<Printable<'a>>
         ensures { option_map printable_data result
             ≡ (if has_left_out (view value.now) then None else Some (view value.now)) }

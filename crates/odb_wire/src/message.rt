@@ -75,7 +75,7 @@ impl Request {
     }
 
     /// Whether a number that is no integer from -(2^63) to 2^63-1 stands anywhere in the message.
-    /// Each call goes through the whole message,.
+    /// Each call goes through the whole message.
     pub fn has_left_out_number(&self) -> bool
         ensures { result ≡ has_left_out (request_data self.now) }
     {

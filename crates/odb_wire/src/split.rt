@@ -122,26 +122,22 @@ impl Unfinished {
         let kept = text.len();
         let room = MAX_MESSAGE - kept;
         let mut further = scan;
-        match further.end_in(&piece[..piece.len().min(room)]) {
-            Some(end) => {
-                let (last, later) = piece.split_at(end);
-                match complete(alloc, &mut text, last, later) {
-                    Ok(step) => Ok(step),
-                    Err(_) => {
-                        text.truncate(kept);
-                        Err(Unfinished { text, scan })
-                    }
-                }
+        let Some(end) = further.end_in(&piece[..piece.len().min(room)]) else {
+            if piece.len() >= room {
+                return Ok(Step::stopped(Vec::new(alloc), WireFault::TooLong));
             }
-            None => {
-                if piece.len() >= room {
-                    return Ok(Step::stopped(Vec::new(alloc), WireFault::TooLong));
-                }
-                if text.extend_from_slice(piece).is_err() {
-                    return Err(Unfinished { text, scan });
-                }
-                let scan = further;
-                Ok(Step::going(Vec::new(alloc), Unfinished { text, scan }))
+            if text.extend_from_slice(piece).is_err() {
+                return Err(Unfinished { text, scan });
+            }
+            let scan = further;
+            return Ok(Step::going(Vec::new(alloc), Unfinished { text, scan }));
+        };
+        let (last, later) = piece.split_at(end);
+        match complete(alloc, &mut text, last, later) {
+            Ok(step) => Ok(step),
+            Err(_) => {
+                text.truncate(kept);
+                Err(Unfinished { text, scan })
             }
         }
     }

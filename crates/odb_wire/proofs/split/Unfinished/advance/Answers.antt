@@ -17,10 +17,10 @@ complete-requires c =
 pub returns-then-piece-room-clause-ok : goal.returns-then-piece-room-clause-ok
 returns-then-piece-room-clause-ok c =
     let begun : IsUnfinished c.args.self.text.items c.args.self.scan = unfinished _ _ _ c.requires (omega arith) c.if-is_empty.ensures in
-    rw c.stopped.ensures (reads_too_long 16777216 max_message-is _ _ _ _ _ _ _ begun (omega arith) (omega arith) c.in-None.ensures.on c.new-then-piece-room.ensures.items)
+    rw c.stopped.ensures (reads_too_long 16777216 max_message-is _ _ _ _ _ _ _ begun (omega arith) (omega arith) c.in_default.ensures.on c.new-then-piece-room.ensures.items)
 
-pub returns-else-is_err-clause-ok : goal.returns-else-is_err-clause-ok
-returns-else-is_err-clause-ok c =
+pub returns-in_default-clause-ok : goal.returns-in_default-clause-ok
+returns-in_default-clause-ok c =
     let begun : IsUnfinished c.args.self.text.items c.args.self.scan = unfinished _ _ _ c.requires (omega arith) c.if-is_empty.ensures in
     let longer : c.extend_from_slice.new.self.items ≡ c.args.self.text.items ++ c.args.piece.now = search rules in
-    rw c.going.ensures (reads_on 16777216 max_message-is _ _ _ _ _ _ begun (omega arith) (omega arith) c.in-None.ensures.on c.in-None.ensures.bound longer c.new-in-None.ensures.items)
+    rw c.going.ensures (reads_on 16777216 max_message-is _ _ _ _ _ _ begun (omega arith) (omega arith) c.in_default.ensures.on c.in_default.ensures.bound longer c.new-in_default.ensures.items)
