@@ -199,7 +199,7 @@ impl Chain {
         ensures stands { (t : model_tables.Table) → IsOf t change.now → StandsAsBefore t self.old self.new }
         ensures labels { (q : ℕ) (u : model_uuid.Uuid) → has_label q (finite.get self.new.rows u) ≡ true → (has_label q (finite.get self.old.rows u) || is_place q (places self.old)) ≡ true }
     {
-        if change.rows().is_empty() {
+        if change.is_empty() {
             return Ok(());
         }
         self.make_room()?;

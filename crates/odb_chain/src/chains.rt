@@ -259,16 +259,9 @@ fn moved_tables(alloc: Global, changes: &[TableChange]) -> Result<Vec<bool>, All
 {
     let mut moved = Vec::with_capacity(alloc, changes.len())?;
     for change in changes {
-        moved.push(is_moved(change))?;
+        moved.push(!change.is_empty())?;
     }
     Ok(moved)
-}
-
-/// Whether the change names a row.
-fn is_moved(change: &TableChange) -> bool
-    ensures { result ≡ is_moved change.now }
-{
-    !change.rows().is_empty()
 }
 
 /// Counts the change of each table that is changed.

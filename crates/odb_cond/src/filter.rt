@@ -39,7 +39,7 @@ impl Model for Filter {
 }
 
 impl Member {
-    /// Whether it holds of the row with the identifier. It costs what `Clause::holds` does,.
+    /// Whether it holds of the row with the identifier. It costs what `Clause::holds` does.
     pub fn holds(&self, uuid: Uuid, row: &Row) -> bool
         ensures { result ≡ member_holds (uuid_of uuid) row.now (member_of self.now) }
     {

@@ -7,7 +7,7 @@ use Rattle.odb_atoms.specs.Error.{Error, syntax_error}
 use Rattle.odb_atoms.specs.FinMap.{get}
 use Rattle.odb_request.specs.Represented.Change as requested
 use Rattle.odb_request.specs.Represented.Shape.{table_name}
-use Rattle.odb_request.specs.Request.{Notation, Request, Shape}
+use Rattle.odb_request.specs.Request.{Notation, Request, Shape, is_conditional}
 use Rattle.odb_request.specs.declared.change.Change.{Change}
 use Rattle.odb_rpc.specs.Message.{Failure, failed, unknown_monitor}
 use Rattle.odb_schema.specs.Json.{Data}
@@ -15,7 +15,7 @@ use Rattle.odb_schema.specs.Schema.{Schema}
 use Rattle.odb_atoms.specs.Uuid.{Uuid}
 use Rattle.odb_service.specs.Service.{Service}
 use Rattle.odb_service.specs.Session.{Watch, renamed, shapes, shift, stopped, sync}
-use Rattle.odb_service.specs.World.{World, asked_of, change_of, fail, is_conditional, on_cancel_monitor, on_monitor, post, shift_with, start_with, watched}
+use Rattle.odb_service.specs.World.{World, asked_of, change_of, fail, on_cancel_monitor, on_monitor, post, shift_with, start_with, watched}
 use Rattle.odb_sessions.specs.Named.{Named, named}
 use Rattle.odb_core.specs.Represented.Monitors.{Filters, are_among, change_for, changed_by, filters_for, is_taken}
 
@@ -74,7 +74,7 @@ module _ (h : Service) (s : ℕ) (d old new : Data) (w : World) where
   pub change_is : (filters : Data) (o : Option Watch)
       → change_of h s d old new filters o w ≡ changed_by s d old new (change_for h (is_taken h old new (get w.sessions s)) (h.read_filters filters) (option_map named o)) w
   change_is filters None = refl
-  change_is filters (Some k) = of_watch k (is_conditional h k.notation) (is_taken h old new (get w.sessions s)) (h.read_filters filters)
+  change_is filters (Some k) = of_watch k (is_conditional k.notation) (is_taken h old new (get w.sessions s)) (h.read_filters filters)
 
 module _ (h : Service) (taken : Bool) (r : Result Filters Error) where
   pub not_found : (o : Option Named) → None ≡ o → Err unknown_monitor ≡ change_for h taken r o
@@ -83,13 +83,13 @@ module _ (h : Service) (taken : Bool) (r : Result Filters Error) where
   abbrev for_found : Named → Bool → Bool → Result Filters Failure
   for_found k c t = cond (not c) (Err unknown_monitor) (cond t (Err (failed syntax_error)) (filters_for k.shapes r))
 
-  pub not_conditional : (o : Option Named) (k : Named) → Some k ≡ o → is_conditional h k.notation ≡ false → Err unknown_monitor ≡ change_for h taken r o
+  pub not_conditional : (o : Option Named) (k : Named) → Some k ≡ o → is_conditional k.notation ≡ false → Err unknown_monitor ≡ change_for h taken r o
   not_conditional o k e plain = sym (ap (λ c. for_found k c taken) plain) ∙ ap (change_for h taken r) e
 
-  pub new_taken : (o : Option Named) (k : Named) → Some k ≡ o → is_conditional h k.notation ≡ true → taken ≡ true → Err (failed syntax_error) ≡ change_for h taken r o
+  pub new_taken : (o : Option Named) (k : Named) → Some k ≡ o → is_conditional k.notation ≡ true → taken ≡ true → Err (failed syntax_error) ≡ change_for h taken r o
   new_taken o k e conditional is = sym ((λ i. for_found k (conditional i) (is i))) ∙ ap (change_for h taken r) e
 
-  pub goes_by_filters : (o : Option Named) (k : Named) → Some k ≡ o → is_conditional h k.notation ≡ true → taken ≡ false → filters_for k.shapes r ≡ change_for h taken r o
+  pub goes_by_filters : (o : Option Named) (k : Named) → Some k ≡ o → is_conditional k.notation ≡ true → taken ≡ false → filters_for k.shapes r ≡ change_for h taken r o
   goes_by_filters o k e conditional isnt = sym ((λ i. for_found k (conditional i) (isnt i))) ∙ ap (change_for h taken r) e
 
 -- ---- the tables of a change

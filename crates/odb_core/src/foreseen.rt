@@ -68,12 +68,11 @@ impl Foreseen {
     }
 
     /// One waits on, and isn't tried.
-    pub(crate) fn pass_over(&mut self, waiting: &Waiting) -> Result<bool, AllocError>
+    pub(crate) fn pass_over(&mut self, waiting: &Waiting) -> Result<(), AllocError>
         ensures left { OnOk result (self.new.left ≡ self.old.left ++ waiting.now ∷ []) }
         ensures posts { self.new.posts.items ≡ self.old.posts.items }
     {
-        self.left.push(waiting.clone()?)?;
-        Ok(true)
+        self.left.push(waiting.clone()?)
     }
 
     /// Notes the forecast of one more; `false` where that is nothing.
@@ -89,8 +88,14 @@ impl Foreseen {
     {
         match forecast {
             Forecast::Nothing => Ok(false),
-            Forecast::Ends { results } => self.end(alloc, waiting, results),
-            Forecast::Waits { deadline } => self.keep(waiting, deadline, commits),
+            Forecast::Ends { results } => {
+                self.end(alloc, waiting, results)?;
+                Ok(true)
+            }
+            Forecast::Waits { deadline } => {
+                self.keep(waiting, deadline, commits)?;
+                Ok(true)
+            }
         }
     }
 
@@ -100,9 +105,9 @@ impl Foreseen {
         alloc: Global,
         waiting: &Waiting,
         results: Vec<Value>,
-    ) -> Result<bool, AllocError>
+    ) -> Result<(), AllocError>
         requires { IsPrintable (forecast.Ends results) }
-        ensures { IfOk result (λ noted. Notes (forecast.Ends results) waiting.now 0 self.old.left self.new.left (map post_of self.old.posts.items) (map post_of self.new.posts.items)) }
+        ensures { OnOk result (Notes (forecast.Ends results) waiting.now 0 self.old.left self.new.left (map post_of self.old.posts.items) (map post_of self.new.posts.items)) }
     {
         let asked = waiting.submitted();
         let item = replied_as(
@@ -112,8 +117,7 @@ impl Foreseen {
             &Value::from(results),
         )?;
         let session = asked.session;
-        self.posts.push(Post { session, item })?;
-        Ok(true)
+        Ok(self.posts.push(Post { session, item })?)
     }
 
     /// One waits again.
@@ -122,12 +126,11 @@ impl Foreseen {
         waiting: &Waiting,
         deadline: Option<u64>,
         commits: u64,
-    ) -> Result<bool, AllocError>
-        ensures { IfOk result (λ noted. Notes (forecast.Waits deadline) waiting.now commits self.old.left self.new.left (map post_of self.old.posts.items) (map post_of self.new.posts.items)) }
+    ) -> Result<(), AllocError>
+        ensures { OnOk result (Notes (forecast.Waits deadline) waiting.now commits self.old.left self.new.left (map post_of self.old.posts.items) (map post_of self.new.posts.items)) }
     {
         let waiting = waiting.clone()?;
-        self.left.push(waiting.tried_again(deadline, commits))?;
-        Ok(true)
+        self.left.push(waiting.tried_again(deadline, commits))
     }
 }
 
@@ -283,7 +286,8 @@ impl State {
             → AreDue schema.now self.entry.now foreseen.new.left rest (map post_of foreseen.new.posts.items)) }
     {
         if !waiting.is_due(self.now) {
-            return foreseen.pass_over(waiting);
+            foreseen.pass_over(waiting)?;
+            return Ok(true);
         }
         let forecast = self.forecast_now(schema, waiting.submitted())?;
         foreseen.note(self.alloc, waiting, forecast, self.sessions.commits())

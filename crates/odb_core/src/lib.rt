@@ -18,4 +18,4 @@ mod waiting_list;
 pub use odb_locks::SessionId;
 pub use odb_sessions::{FirstText, Job, Jobs, Out, Prepared};
 pub use refused::Refused;
-pub use server::Core;
+pub use server::{Core, MAX_SESSIONS};

@@ -21,7 +21,7 @@ ghost use Rattle.odb_schema.specs.Schema as model;
 ghost use Rattle.odb_service.specs.Server.{served_by};
 ghost use Rattle.odb_service.specs.Service.{Service};
 ghost use Rattle.odb_service.specs.Session.{start};
-ghost use Rattle.odb_service.specs.World.{asked_of, change_of, fail, handle, is_conditional};
+ghost use Rattle.odb_service.specs.World.{asked_of, change_of, fail, handle};
 ghost use Rattle.odb_service.specs.World.{on_cancel_monitor, on_monitor, post, watched};
 ghost use Rattle.odb_sessions.specs.Named.{named};
 ghost use Rattle.odb_sessions.specs.Represented.Queued.{filters_of};
@@ -35,7 +35,7 @@ use crate::state::State;
 use odb_locks::SessionId;
 use odb_queue::{ServedSchema, failed};
 use odb_request as monitored;
-use odb_request::{Change, Kind, RequestFault, read_changes, read_requests};
+use odb_request::{Change, RequestFault, read_changes, read_requests};
 use odb_rpc::{Error, Failure, MonitorCall, MonitorChange, MonitorStart, Printable};
 use odb_schema::{Schema, TableId};
 use odb_sessions::{Changes, Changing, Id, Named, Starting};
@@ -188,7 +188,7 @@ impl State {
         let Some(monitor) = self.sessions.asked_watch(session, &old)? else {
             return Ok(Err(Failure::UnknownMonitor));
         };
-        if !is_conditional(monitor.kind()) {
+        if !monitor.kind().is_conditional() {
             return Ok(Err(Failure::UnknownMonitor));
         }
         if self.is_taken(session, &old, asked.new)? {
@@ -259,16 +259,6 @@ fn requests_of(
         Ok(requests) => Ok(Ok(requests)),
         Err(RequestFault::Failed(why)) => Ok(Err(why)),
         Err(RequestFault::Memory) => Err(AllocError),
-    }
-}
-
-/// Whether a monitor of this kind has conditions.
-fn is_conditional(kind: Kind) -> bool
-    ensures { (h : Service) → result ≡ is_conditional h (notation_of kind) }
-{
-    match kind {
-        Kind::Monitor => false,
-        Kind::MonitorCond => true,
     }
 }
 

@@ -27,7 +27,7 @@ use uuid::Uuid;
 const MOST_FOUND: usize = 100;
 
 /// How many sessions may be open at once.
-const MAX_SESSIONS: usize = 4_096;
+pub const MAX_SESSIONS: usize = 4_096;
 
 /// The server of RFC 7047 as a machine over events: sessions open and close, submit requests, and are
 /// given messages by rounds. Contracts see it as the state of the service machine

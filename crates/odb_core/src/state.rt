@@ -41,7 +41,7 @@ use odb_queue::{Finished, Post, failed, notices, replied_as};
 use odb_rpc::{Failure, Printable};
 use odb_schema::Schema;
 use odb_sessions::{FirstText, Out, Prepared, Sessions};
-use odb_tables::{ChangeSet, Db, TableChange};
+use odb_tables::{ChangeSet, Db};
 use odb_wire::Request;
 use serde_json::Value;
 use std::alloc::{AllocError, Global};
@@ -562,13 +562,7 @@ fn back_on_error(
 pub(crate) fn changes_rows(change: &ChangeSet) -> bool
     ensures { result ≡ list_any (λ c. nat_lt 0 (finite.len c)) change.now }
 {
-    change.tables().iter().any(|table| has_rows(table))
-}
-
-fn has_rows(table: &TableChange) -> bool
-    ensures { result ≡ nat_lt 0 (finite.len table.now) }
-{
-    !table.rows().is_empty()
+    change.tables().iter().any(|table| !table.is_empty())
 }
 
 // Written, and not derived, so that each end of a scope is one call to prove.

@@ -1,10 +1,8 @@
 //! At which sessions a thread is to look.
 
+use odb_core::MAX_SESSIONS;
 use std::alloc::{AllocError, Global};
 use std::sync::atomic::{AtomicU64, Ordering};
-
-/// How many places there are for sessions of one thread.
-const PLACES: usize = 4_096;
 
 /// How many places are in one word.
 const WORD: usize = 64;
@@ -21,8 +19,8 @@ pub struct Calls {
 impl Calls {
     /// Makes calls of which there are none. An error says that memory was refused.
     pub fn new(alloc: Global) -> Result<Calls, AllocError> {
-        let mut words = Vec::with_capacity(alloc, PLACES / WORD)?;
-        for _ in 0..PLACES / WORD {
+        let mut words = Vec::with_capacity(alloc, MAX_SESSIONS / WORD)?;
+        for _ in 0..MAX_SESSIONS / WORD {
             words.push(AtomicU64::new(0))?;
         }
         Ok(Calls {
@@ -33,7 +31,7 @@ impl Calls {
 
     /// Says whether a session may have a place of this number: it is below 4,096.
     pub fn has_place(place: usize) -> bool {
-        place < PLACES
+        place < MAX_SESSIONS
     }
 
     /// Calls for a look at the session at this place; of a place that isn't one nothing is called. O(1). Steps: those of

@@ -17,10 +17,10 @@ use Rattle.odb_service.specs.Run.{Event, Sent, State, after, closed, once, opene
 use Rattle.odb_service.specs.Service.{Outcome, Service, ended, waiting}
 use Rattle.odb_service.specs.Session.{Item, Monitor, Out, Revision, Session, Watch, asked, asked_after, asks, at_first, changed, drop_first, gives, leaves, no_request, no_result, renamed, same_id, say, shift, start, stop_at, stopped, sync, take, take_from, to, told, with_content}
 use Rattle.odb_wire.specs.Message.{id_of}
-use Rattle.odb_service.specs.World.{Waiting, World, answer, are_monitored, asked_of, at_moment, attempt, cancel_one, change_of, close, end_transaction, fail, handle, is_conditional, is_due, is_of, locked, notice_of, on_cancel_monitor, on_lock, on_monitor, on_outcome, post, post_notices, post_to, push, retry, retry_all, revision_of, run_transaction, shift_with, split_first, start_with, succeed, tick, try_due, try_one, untried, watched, with_waiting}
+use Rattle.odb_service.specs.World.{Waiting, World, answer, are_monitored, asked_of, at_moment, attempt, cancel_one, change_of, close, end_transaction, fail, handle, is_due, is_of, locked, notice_of, on_cancel_monitor, on_lock, on_monitor, on_outcome, post, post_notices, post_to, push, retry, retry_all, revision_of, run_transaction, shift_with, split_first, start_with, succeed, tick, try_due, try_one, untried, watched, with_waiting}
 use Rattle.odb_locks.specs.Locks.{Answered, Notice, drop_session, lock, steal, unlock}
 use Rattle.odb_monitor.proofs.Views.{some_is}
-use Rattle.odb_request.specs.Request.{Notation, Request}
+use Rattle.odb_request.specs.Request.{Notation, Request, is_conditional}
 use Rattle.odb_rpc.specs.Message.{Call, call_of, failure, reply}
 use Rattle.odb_tables.specs.Database.{Db}
 use Rattle.odb_service.specs.World.{lock_error}
@@ -196,7 +196,7 @@ module _ (h : Service) where
 
   abbrev found_filters : Data → Data → Data → List Watch → Option Watch → List Watch
   found_filters old new filters ks None = ks
-  found_filters old new filters ks (Some k) = with_filters old new k ks (is_conditional h k.notation) (same_id h old new || not (is_some (watched h new ks))) (h.read_filters filters)
+  found_filters old new filters ks (Some k) = with_filters old new k ks (is_conditional k.notation) (same_id h old new || not (is_some (watched h new ks))) (h.read_filters filters)
 
   -- what the law says of a change, in these parts
   in_parts : (id old new filters : Data) (ks : List Watch) → asked_then h (message.change_filters id old new filters) ks ≡ found_filters old new filters ks (watched h old ks)
@@ -205,8 +205,8 @@ module _ (h : Service) where
       inner : (k : Watch) (r : Result (List (List ℕ × Filter)) Error)
           → (elim r as (λ _. List Watch) [
             | Err e ↦ ks
-            | Ok fs ↦ (cond (is_conditional h k.notation && ((same_id h old new || not (is_some (watched h new ks))) && are_monitored h fs k.requests)) (at_first (λ k. same_id h old k.id) (changed h new fs) ks) ks)
-          ]) ≡ with_filters old new k ks (is_conditional h k.notation) (same_id h old new || not (is_some (watched h new ks))) r
+            | Ok fs ↦ (cond (is_conditional k.notation && ((same_id h old new || not (is_some (watched h new ks))) && are_monitored h fs k.requests)) (at_first (λ k. same_id h old k.id) (changed h new fs) ks) ks)
+          ]) ≡ with_filters old new k ks (is_conditional k.notation) (same_id h old new || not (is_some (watched h new ks))) r
       inner k (Err e) = refl
       inner k (Ok fs) = refl
 
@@ -215,9 +215,9 @@ module _ (h : Service) where
             | None ↦ ks
             | Some k ↦ elim r as (λ _. List Watch) [
               | Err e ↦ ks
-              | Ok fs ↦ (cond (is_conditional h k.notation && ((same_id h old new || not (is_some (watched h new ks))) && are_monitored h fs k.requests)) (at_first (λ k. same_id h old k.id) (changed h new fs) ks) ks)
+              | Ok fs ↦ (cond (is_conditional k.notation && ((same_id h old new || not (is_some (watched h new ks))) && are_monitored h fs k.requests)) (at_first (λ k. same_id h old k.id) (changed h new fs) ks) ks)
             ]
-          ]) ≡ (elim o as (λ _. List Watch) [ None ↦ ks | Some k ↦ with_filters old new k ks (is_conditional h k.notation) (same_id h old new || not (is_some (watched h new ks))) r ])
+          ]) ≡ (elim o as (λ _. List Watch) [ None ↦ ks | Some k ↦ with_filters old new k ks (is_conditional k.notation) (same_id h old new || not (is_some (watched h new ks))) r ])
       by None r = refl
       by (Some k) r = inner k r
 
@@ -246,29 +246,29 @@ module _ (h : Service) where
     failing : (name : Failure) (o : Option Watch) → watched h old all ≡ o → all ≡ found_filters old new filters all o → Asks (at_one t law) w (fail t d name w)
     failing name o e same = same_at t law w (fail t d name w) (same ∙ ap (found_filters old new filters all) (sym e) ∙ sym (in_parts id old new filters all)) (fails t d name w)
 
-    shifting : (k : Watch) → watched h old all ≡ Some k → is_conditional h k.notation ≡ true → (same_id h old new || not (is_some (watched h new all))) ≡ true → (r : Result (List (List ℕ × Filter)) Error) → h.read_filters filters ≡ r
+    shifting : (k : Watch) → watched h old all ≡ Some k → is_conditional k.notation ≡ true → (same_id h old new || not (is_some (watched h new all))) ≡ true → (r : Result (List (List ℕ × Filter)) Error) → h.read_filters filters ≡ r
         → Asks (at_one t law) w (shift_with h t d old new k r w)
-    shifting k e b c (Err x) is = failing (failed x) (Some k) e (λ j. with_filters old new k all (is_conditional h k.notation) (same_id h old new || not (is_some (watched h new all))) (sym is j))
+    shifting k e b c (Err x) is = failing (failed x) (Some k) e (λ j. with_filters old new k all (is_conditional k.notation) (same_id h old new || not (is_some (watched h new all))) (sym is j))
     shifting k e b c (Ok fs) is =
         elim (are_monitored h fs k.requests) as (λ m. are_monitored h fs k.requests ≡ m → Asks (at_one t law) w (cond m (post t (shift old fs ∷ renamed d old new fs ∷ []) w) (fail t d (failed syntax_error) w))) [
           | true ↦ λ m. own_as t (λ ks. at_first (λ k. same_id h old k.id) (changed h new fs) ks) law w (post t (shift old fs ∷ renamed d old new fs ∷ []) w)
               ((λ j. cond (sym b j && (sym c j && sym m j)) (at_first (λ k. same_id h old k.id) (changed h new fs) all) all)
-              ∙ (λ j. with_filters old new k all (is_conditional h k.notation) (same_id h old new || not (is_some (watched h new all))) (sym is j))
+              ∙ (λ j. with_filters old new k all (is_conditional k.notation) (same_id h old new || not (is_some (watched h new all))) (sym is j))
               ∙ ap (found_filters old new filters all) (sym e) ∙ sym (in_parts id old new filters all))
               (posts t (shift old fs ∷ renamed d old new fs ∷ []) w)
           | false ↦ λ m. failing (failed syntax_error) (Some k) e
               ((λ j. cond (sym b j && (sym c j && sym m j)) (at_first (λ k. same_id h old k.id) (changed h new fs) all) all)
-              ∙ (λ j. with_filters old new k all (is_conditional h k.notation) (same_id h old new || not (is_some (watched h new all))) (sym is j)))
+              ∙ (λ j. with_filters old new k all (is_conditional k.notation) (same_id h old new || not (is_some (watched h new all))) (sym is j)))
         ] refl
 
     changes : (o : Option Watch) → watched h old all ≡ o → Asks (at_one t law) w (change_of h t d old new filters o w)
     changes None e = failing unknown_monitor None e refl
     changes (Some k) e =
         let n : Bool = same_id h old new || not (is_some (watched h new all)) in
-        elim (is_conditional h k.notation) as (λ b. is_conditional h k.notation ≡ b → Asks (at_one t law) w (cond (not b) (fail t d unknown_monitor w) (cond (not (same_id h old new) && is_some (watched h new all)) (fail t d (failed syntax_error) w) (shift_with h t d old new k (h.read_filters filters) w)))) [
-          | false ↦ λ b. failing unknown_monitor (Some k) e (refused_filters old new k all (is_conditional h k.notation) n (h.read_filters filters) (ap (λ b. b && n) b))
+        elim (is_conditional k.notation) as (λ b. is_conditional k.notation ≡ b → Asks (at_one t law) w (cond (not b) (fail t d unknown_monitor w) (cond (not (same_id h old new) && is_some (watched h new all)) (fail t d (failed syntax_error) w) (shift_with h t d old new k (h.read_filters filters) w)))) [
+          | false ↦ λ b. failing unknown_monitor (Some k) e (refused_filters old new k all (is_conditional k.notation) n (h.read_filters filters) (ap (λ b. b && n) b))
           | true ↦ λ b. elim (not (same_id h old new) && is_some (watched h new all)) as (λ c. (not (same_id h old new) && is_some (watched h new all)) ≡ c → Asks (at_one t law) w (cond c (fail t d (failed syntax_error) w) (shift_with h t d old new k (h.read_filters filters) w))) [
-            | true ↦ λ c. failing (failed syntax_error) (Some k) e (refused_filters old new k all (is_conditional h k.notation) n (h.read_filters filters) (none_of (is_conditional h k.notation) n (not_new (same_id h old new) (is_some (watched h new all)) c)))
+            | true ↦ λ c. failing (failed syntax_error) (Some k) e (refused_filters old new k all (is_conditional k.notation) n (h.read_filters filters) (none_of (is_conditional k.notation) n (not_new (same_id h old new) (is_some (watched h new all)) c)))
             | false ↦ λ c. shifting k e b (is_new (same_id h old new) (is_some (watched h new all)) c) (h.read_filters filters) refl
           ] refl
         ] refl

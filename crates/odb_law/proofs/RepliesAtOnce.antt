@@ -22,7 +22,7 @@ use Rattle.odb_law.specs.Replies.{AreNotices, HasNow, IsRepliedTo, RepliesAtOnce
 use Rattle.odb_locks.specs.Locks.{Answered, lock, steal, unlock}
 use Rattle.odb_monitor.proofs.Views.{some_is}
 use Rattle.odb_monitor.specs.View.{is_none}
-use Rattle.odb_request.specs.Request.{Notation, Request}
+use Rattle.odb_request.specs.Request.{Notation, Request, is_conditional}
 use Rattle.odb_rpc.specs.Message.{Call, Failure, call_of, failed, failure, reply, unknown_monitor}
 use Rattle.odb_service.proofs.SessionMaps.{get-insert, key-itself}
 use Rattle.odb_service.proofs.WhatIsOwed.{change_to, message_of}
@@ -30,7 +30,7 @@ use Rattle.odb_service.specs.Run.{Sent, State, after, submitted}
 use Rattle.odb_service.specs.Service.{Service}
 use Rattle.odb_service.specs.Session.{Answers, Item, Monitor, Out, Revision, Session, Watch, first_out, gives, label, leaves, no_request, no_result, owed, owed_from, renamed, same_id, say, shift, start, stopped, sync, to, update_to}
 use Rattle.odb_service.specs.Session as session
-use Rattle.odb_service.specs.World.{World, answer, are_monitored, asked_of, at_moment, change_of, fail, handle, is_conditional, lock_error, locked, on_cancel_monitor, on_lock, post, post_notices, post_to, push, revision_of, shift_with, start_with, watched}
+use Rattle.odb_service.specs.World.{World, answer, are_monitored, asked_of, at_moment, change_of, fail, handle, lock_error, locked, on_cancel_monitor, on_lock, post, post_notices, post_to, push, revision_of, shift_with, start_with, watched}
 use Rattle.odb_tables.specs.Database.{Db}
 use Rattle.odb_wire.specs.Message.{id_of}
 
@@ -88,7 +88,7 @@ module _ (h : Service) where
   change_posts s d old new filters None w = fail_posts s d unknown_monitor w
   change_posts s d old new filters (Some k) w =
       let taken : Bool = not (same_id h old new) && is_some (watched h new (asked_of h (get w.sessions s))) in
-      either_posts s d (not (is_conditional h k.notation)) (fail s d unknown_monitor w) (cond taken (fail s d (failed syntax_error) w) (shift_with h s d old new k (h.read_filters filters) w))
+      either_posts s d (not (is_conditional k.notation)) (fail s d unknown_monitor w) (cond taken (fail s d (failed syntax_error) w) (shift_with h s d old new k (h.read_filters filters) w))
       (fail_posts s d unknown_monitor w)
       (either_posts s d taken (fail s d (failed syntax_error) w) (shift_with h s d old new k (h.read_filters filters) w) (fail_posts s d (failed syntax_error) w) (shift_posts s d old new k (h.read_filters filters) w))
 

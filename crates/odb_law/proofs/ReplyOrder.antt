@@ -16,7 +16,7 @@ use Rattle.odb_law.specs.Replies.{KeepsOrder, answered_in, with_request}
 use Rattle.odb_locks.specs.Locks.{Answered, Notice, drop_session, lock, steal, unlock}
 use Rattle.odb_monitor.proofs.Views.{some_is}
 use Rattle.odb_monitor.specs.View.{is_none}
-use Rattle.odb_request.specs.Request.{Notation, Request}
+use Rattle.odb_request.specs.Request.{Notation, Request, is_conditional}
 use Rattle.odb_rpc.specs.Message.{Call, Failure, call_of, canceled, failed, failure, reply, unknown_monitor}
 use Rattle.odb_service.proofs.SessionMaps.{get-insert, get-remove, same_key}
 use Rattle.odb_service.proofs.Splits.{Split}
@@ -24,7 +24,7 @@ use Rattle.odb_service.proofs.WhatIsOwed.{change_to, message_of, takes}
 use Rattle.odb_service.specs.Run.{Event, Sent, State, after, closed, given_after, once, opened, opens, round, sent, sent_to, submitted, take_each, take_of, ticked}
 use Rattle.odb_service.specs.Service.{Outcome, Service, ended, waiting}
 use Rattle.odb_service.specs.Session.{Answers, Item, Monitor, Out, Revision, Session, Watch, has_id, label, leaves, no_request, no_result, owed, owed_from, refilter, renamed, same_id, say, shift, start, stopped, sync, take, to, update_to, with_content}
-use Rattle.odb_service.specs.World.{Waiting, World, answer, are_monitored, asked_of, at_moment, attempt, cancel_one, change_of, close, end_transaction, fail, handle, is_conditional, is_due, is_of, lock_error, locked, notice_of, on_cancel_monitor, on_lock, on_outcome, post, post_notices, post_to, push, retry, retry_all, revision_of, shift_with, split_first, start_with, succeed, tick, try_due, try_one, untried, watched, with_waiting}
+use Rattle.odb_service.specs.World.{Waiting, World, answer, are_monitored, asked_of, at_moment, attempt, cancel_one, change_of, close, end_transaction, fail, handle, is_due, is_of, lock_error, locked, notice_of, on_cancel_monitor, on_lock, on_outcome, post, post_notices, post_to, push, retry, retry_all, revision_of, shift_with, split_first, start_with, succeed, tick, try_due, try_one, untried, watched, with_waiting}
 use Rattle.odb_tables.specs.Database.{Db}
 use Rattle.odb_wire.specs.Message.{id_of}
 
@@ -141,7 +141,7 @@ module _ (h : Service) where
   changes t d old new filters None w = fails t d unknown_monitor w
   changes t d old new filters (Some k) w =
       let taken : Bool = not (same_id h old new) && is_some (watched h new (asked_of h (get w.sessions t))) in
-      either (not (is_conditional h k.notation)) w (fail t d unknown_monitor w) (cond taken (fail t d (failed syntax_error) w) (shift_with h t d old new k (h.read_filters filters) w))
+      either (not (is_conditional k.notation)) w (fail t d unknown_monitor w) (cond taken (fail t d (failed syntax_error) w) (shift_with h t d old new k (h.read_filters filters) w))
       (fails t d unknown_monitor w)
       (either taken w (fail t d (failed syntax_error) w) (shift_with h t d old new k (h.read_filters filters) w) (fails t d (failed syntax_error) w) (shifts t d old new k (h.read_filters filters) w))
 

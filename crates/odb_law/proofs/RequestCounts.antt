@@ -23,11 +23,11 @@ use Rattle.odb_wire.specs.Message.{is_request}
 use Rattle.odb_service.specs.Service.{Outcome, Service, ended, waiting}
 use Rattle.odb_service.specs.Session.{Answers, Item, Monitor, Out, Revision, Session, Watch, gives, has_id, label, leaves, no_request, no_result, owed_from, refilter, renamed, same_id, say, shift, start, stop_at, stopped, sync, take, take_from, take_rest, to, update_to, with_content}
 use Rattle.odb_wire.specs.Message.{id_of}
-use Rattle.odb_service.specs.World.{Waiting, World, answer, are_monitored, asked_of, at_moment, attempt, cancel_one, change_of, close, end_transaction, fail, handle, is_conditional, is_due, is_of, is_untried, locked, notice_of, on_cancel_monitor, on_lock, on_monitor, on_outcome, post, post_notices, post_to, push, retry, retry_all, revision_of, run_transaction, shift_with, split_first, start_with, succeed, tick, try_due, try_one, untried, watched, with_waiting}
+use Rattle.odb_service.specs.World.{Waiting, World, answer, are_monitored, asked_of, at_moment, attempt, cancel_one, change_of, close, end_transaction, fail, handle, is_due, is_of, is_untried, locked, notice_of, on_cancel_monitor, on_lock, on_monitor, on_outcome, post, post_notices, post_to, push, retry, retry_all, revision_of, run_transaction, shift_with, split_first, start_with, succeed, tick, try_due, try_one, untried, watched, with_waiting}
 use Rattle.odb_locks.specs.Locks.{Answered, Notice, drop_session, lock, steal, unlock}
 use Rattle.odb_monitor.proofs.Views.{some_is}
 use Rattle.odb_monitor.specs.View.{is_none}
-use Rattle.odb_request.specs.Request.{Notation, Request}
+use Rattle.odb_request.specs.Request.{Notation, Request, is_conditional}
 use Rattle.odb_rpc.specs.Message.{Call, call_of, failure, has_reply, reply}
 use Rattle.odb_tables.specs.Database.{Db}
 use Rattle.odb_service.specs.World.{lock_error}
@@ -315,7 +315,7 @@ module _ (h : Service) (q : Data → Bool) where
   change_grows t d old new filters (Some k) w =
       let b : Bool = not (same_id h old new) && is_some (watched h new (asked_of h (get w.sessions t))) in
       let s : World = shift_with h t d old new k (h.read_filters filters) w in
-      either (not (is_conditional h k.notation)) (own t d) w (fail t d unknown_monitor w) (cond b (fail t d (failed syntax_error) w) s)
+      either (not (is_conditional k.notation)) (own t d) w (fail t d unknown_monitor w) (cond b (fail t d (failed syntax_error) w) s)
       (fail_grows t d unknown_monitor w)
       (either b (own t d) w (fail t d (failed syntax_error) w) s (fail_grows t d (failed syntax_error) w) (shift_grows t d old new k (h.read_filters filters) w))
 

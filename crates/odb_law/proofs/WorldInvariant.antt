@@ -17,11 +17,11 @@ use Rattle.odb_law.specs.Headline.{ReadsNamed, WasLast, about}
 use Rattle.odb_service.specs.Service.{Outcome, Service, ended, waiting}
 use Rattle.odb_service.specs.Session.{Item, Out, Session, Watch, asked, asked_after, asks, at_first, changed, drop_first, no_request, no_result, renamed, same_id, say, shift, start, stopped, sync, to, told, with_content}
 use Rattle.odb_wire.specs.Message.{id_of}
-use Rattle.odb_service.specs.World.{Waiting, World, answer, are_monitored, asked_of, at_moment, attempt, cancel_one, change_of, close, end_transaction, fail, handle, is_conditional, is_due, is_of, is_untried, locked, notice_of, on_cancel_monitor, on_lock, on_monitor, on_outcome, post, post_notices, post_to, push, retry, retry_all, run_transaction, shift_with, split_first, start_with, succeed, tick, try_due, try_one, untried, watched, with_waiting}
+use Rattle.odb_service.specs.World.{Waiting, World, answer, are_monitored, asked_of, at_moment, attempt, cancel_one, change_of, close, end_transaction, fail, handle, is_due, is_of, is_untried, locked, notice_of, on_cancel_monitor, on_lock, on_monitor, on_outcome, post, post_notices, post_to, push, retry, retry_all, run_transaction, shift_with, split_first, start_with, succeed, tick, try_due, try_one, untried, watched, with_waiting}
 use Rattle.odb_locks.specs.Locks.{Answered, Notice, drop_session, lock, steal, unlock}
 use Rattle.odb_monitor.proofs.Views.{some_is}
 use Rattle.odb_monitor.specs.Names.{AreDistinct, IsApart}
-use Rattle.odb_request.specs.Request.{Notation, Request}
+use Rattle.odb_request.specs.Request.{Notation, Request, is_conditional}
 use Rattle.odb_rpc.specs.Message.{Call, failure, notification, reply}
 use Rattle.odb_tables.specs.Database.{Db}
 use Rattle.odb_service.specs.World.{lock_error}
@@ -332,7 +332,7 @@ module _ (h : Service) where
   change_keeps : (s : ℕ) (d old new filters : Data) (o : Option Watch) (w : World) → Asks h d (changes old new filters) → watched h old (asked_of h (get w.sessions s)) ≡ o → Keeps w (change_of h s d old new filters o w)
   change_keeps s d old new filters None w a is = fail_keeps s d unknown_monitor w a.1
   change_keeps s d old new filters (Some k) w a is =
-      elim (not (is_conditional h k.notation)) as (λ b. Keeps w (cond b (fail s d unknown_monitor w) (cond (not (same_id h old new) && is_some (watched h new (asked_of h (get w.sessions s)))) (fail s d (failed syntax_error) w) (shift_with h s d old new k (h.read_filters filters) w)))) [
+      elim (not (is_conditional k.notation)) as (λ b. Keeps w (cond b (fail s d unknown_monitor w) (cond (not (same_id h old new) && is_some (watched h new (asked_of h (get w.sessions s)))) (fail s d (failed syntax_error) w) (shift_with h s d old new k (h.read_filters filters) w)))) [
         | true ↦ fail_keeps s d unknown_monitor w a.1
         | false ↦ elim (not (same_id h old new) && is_some (watched h new (asked_of h (get w.sessions s)))) as (λ b. (not (same_id h old new) && is_some (watched h new (asked_of h (get w.sessions s)))) ≡ b → Keeps w (cond b (fail s d (failed syntax_error) w) (shift_with h s d old new k (h.read_filters filters) w))) [
           | true ↦ λ _. fail_keeps s d (failed syntax_error) w a.1

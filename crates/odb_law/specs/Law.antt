@@ -10,7 +10,8 @@ use Rattle.odb_wire.specs.Message.{is_request}
 use Rattle.odb_service.specs.Service.{Outcome, Service, ended, waiting}
 use Rattle.odb_service.specs.Session.{Answers, Out, Revision, Session, Watch, asked, at_first, changed, content_after, drop_first, newest_number, no_request, owed, same_id, take, to, with_content}
 use Rattle.odb_wire.specs.Message.{id_of}
-use Rattle.odb_service.specs.World.{Waiting, World, are_monitored, at_moment, is_conditional, owed_replies, revision_of, untried, watched}
+use Rattle.odb_request.specs.Request.{is_conditional}
+use Rattle.odb_service.specs.World.{Waiting, World, are_monitored, at_moment, owed_replies, revision_of, untried, watched}
 use Rattle.odb_locks.specs.Locks.{owns}
 use Rattle.odb_rpc.specs.Message.{Call, call_of, reply}
 use Rattle.odb_tables.specs.Database.{Db}
@@ -78,7 +79,7 @@ module _ (h : Service) where
     | None ↦ ks
     | Some k ↦ elim (h.read_filters filters) [
       | Err e ↦ ks
-      | Ok fs ↦ (if is_conditional h k.notation && ((same_id h old new || not (is_some (watched h new ks))) && are_monitored h fs k.requests) then at_first (λ k. same_id h old k.id) (changed h new fs) ks else ks)
+      | Ok fs ↦ (if is_conditional k.notation && ((same_id h old new || not (is_some (watched h new ks))) && are_monitored h fs k.requests) then at_first (λ k. same_id h old k.id) (changed h new fs) ks else ks)
     ]
   ]
   asked_then (message.cancel_monitor id i) ks = drop_first (λ k. same_id h i k.id) ks

@@ -5,7 +5,6 @@
 #![tactic(auto)]
 
 mod elements;
-mod kinds;
 mod mutation;
 mod operator;
 mod pairs;

@@ -15,7 +15,7 @@ ghost use Rattle.odb_mutate.specs.MutationTyping.{takes};
 
 use crate::operator::Operator;
 use crate::pairs::Lack;
-use crate::{elements, kinds, pairs};
+use crate::{elements, pairs};
 use odb_atoms::{Atom, ColType, Entries, Value};
 use std::alloc::{AllocError, Global};
 use std::marker::Model;
@@ -94,27 +94,6 @@ impl Mutation {
         ensures { result ≡ self.now.column }
     {
         self.column
-    }
-
-    /// Whether a column of the type has the mutation with this operand (RFC 7047, section 5.1,
-    /// `<mutation>`): arithmetic with one integer, where the type is of integers and no map;
-    /// where it is a set or a map, `insert` with a value of the type's kind, and `delete` with such a
-    /// value, or on a map with a set of keys.
-    ///
-    /// O(n) for n elements or pairs of the operand, times what `Value::admit` takes for one.
-    pub fn suits(&self, column: &ColType) -> bool
-        ensures { result ≡ takes (type_of column.now) self.now.mutator self.now.value }
-    {
-        match self.mutator {
-            Mutator::Calculate(_) => kinds::are_integers(column)
-                && kinds::is_one_integer(&self.value),
-            Mutator::Insert => !column.is_scalar() && kinds::is_of_kind(&self.value, column),
-            Mutator::Delete => {
-                !column.is_scalar()
-                    && (kinds::is_of_kind(&self.value, column)
-                        || kinds::is_set_of(&self.value, column.key.kind))
-            }
-        }
     }
 
     /// What the mutation makes of a value of a column of the type (RFC 7047, section 5.1,

@@ -82,7 +82,7 @@ fn add_rows(
 ) -> Result<(), AllocError>
     ensures { OnOk result (tables.new.items ≡ tables.old.items ++ undo_at table change.now) }
 {
-    if change.rows().is_empty() {
+    if change.is_empty() {
         return Ok(());
     }
     Ok(tables.push(OldRows::of(alloc, table, change)?)?)

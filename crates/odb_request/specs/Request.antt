@@ -1,5 +1,5 @@
 -- What a monitor asks for (RFC 7047, section 4.1.5; ovsdb-server(7), monitor_cond): of each table the columns, the kinds of change and the filter. [P 9.1]
-use Rattle.std.specs.Prelude.{ℕ, Bool, ◌&&◌, List, map}
+use Rattle.std.specs.Prelude.{ℕ, Bool, true, false, ◌&&◌, List, map, codes}
 use Rattle.std.specs.List.{list_all}
 use Rattle.odb_atoms.specs.ColType.{ColType}
 use Rattle.odb_atoms.specs.Row.{Selector}
@@ -49,3 +49,13 @@ table_names ss = map (λ s. s.name) ss
 -- `monitor` with its `update`, or `monitor_cond` with its `update2`
 pub data Notation : Type 0 where
   update update2 : Notation
+
+-- its requests may have conditions
+abbrev pub is_conditional : Notation → Bool
+is_conditional update = false
+is_conditional update2 = true
+
+-- the method of its notifications
+abbrev pub update_method : Notation → List ℕ
+update_method update = codes "update"
+update_method update2 = codes "update2"

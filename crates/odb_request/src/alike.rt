@@ -1,30 +1,43 @@
 //! Whether two lists of columns are the same, names and types included.
 
 ghost use Rattle.std.specs.Prelude.{◌≡◌, map};
-ghost use Rattle.std.specs.Bool.{OnTrue};
+ghost use Rattle.std.specs.Bool.{Decides};
+ghost use Rattle.odb_atoms.specs.Atom.{uuids};
+ghost use Rattle.odb_atoms.specs.ColType.{scalar};
+ghost use Rattle.odb_atoms.specs.Represented.ColType.{type_of};
 ghost use Rattle.odb_cond.specs.Represented.Clause.{selector_of};
 ghost use Rattle.odb_request.specs.Represented.Parts.{monitored_as};
 ghost use Rattle.odb_schema.specs.Schema.{column_type, selector_name, selector_type};
 
 use crate::columns::name_of;
 use crate::types::same_type;
+use odb_atoms::{ColType, Kind};
 use odb_cond::Selector;
 use odb_schema::TableSchema;
 
+/// Whether it is the type of a column that the schema hasn't.
+fn is_missing(column: &ColType) -> bool
+    ensures { Decides result (type_of column.now ≡ scalar uuids) }
+{
+    same_type(column, &ColType::scalar(Kind::Uuid))
+}
+
 /// Whether the columns at the place have the same type.
 fn same_declared(table: &TableSchema, other: &TableSchema, place: usize) -> bool
-    ensures { OnTrue result
+    ensures { Decides result
         (column_type table.now.columns place ≡ column_type other.now.columns place) }
 {
     match (table.columns().get(place), other.columns().get(place)) {
         (Some(column), Some(other)) => same_type(column.column_type(), other.column_type()),
-        _ => false,
+        (Some(column), None) => is_missing(column.column_type()),
+        (None, Some(other)) => is_missing(other.column_type()),
+        (None, None) => true,
     }
 }
 
 /// Whether the column has the same type in both tables.
 fn same_type_of(table: &TableSchema, other: &TableSchema, column: Selector) -> bool
-    ensures { OnTrue result (selector_type table.now.columns (selector_of column)
+    ensures { Decides result (selector_type table.now.columns (selector_of column)
         ≡ selector_type other.now.columns (selector_of column)) }
 {
     match column {
@@ -35,7 +48,7 @@ fn same_type_of(table: &TableSchema, other: &TableSchema, column: Selector) -> b
 
 /// Whether the column has the same name in both tables.
 fn same_name_of(table: &TableSchema, other: &TableSchema, column: Selector) -> bool
-    ensures { OnTrue result (selector_name table.now.columns (selector_of column)
+    ensures { Decides result (selector_name table.now.columns (selector_of column)
         ≡ selector_name other.now.columns (selector_of column)) }
 {
     name_of(table, column) == name_of(other, column)
@@ -43,7 +56,7 @@ fn same_name_of(table: &TableSchema, other: &TableSchema, column: Selector) -> b
 
 /// Whether the column is the same in both tables.
 fn same_in(table: &TableSchema, other: &TableSchema, column: Selector) -> bool
-    ensures { OnTrue result
+    ensures { Decides result
         (monitored_as table.now.columns column ≡ monitored_as other.now.columns column) }
 {
     same_name_of(table, other, column) && same_type_of(table, other, column)
@@ -56,7 +69,7 @@ fn same_column(
     other_table: &TableSchema,
     other: Selector,
 ) -> bool
-    ensures { OnTrue result
+    ensures { Decides result
         (monitored_as table.now.columns column ≡ monitored_as other_table.now.columns other) }
 {
     column == other && same_in(table, other_table, column)
@@ -69,7 +82,7 @@ pub fn same_columns(
     other: &TableSchema,
     others: &[Selector],
 ) -> bool
-    ensures { OnTrue result (map (monitored_as table.now.columns) columns.now
+    ensures { Decides result (map (monitored_as table.now.columns) columns.now
         ≡ map (monitored_as other.now.columns) others.now) }
 {
     if columns.len() != others.len() {

@@ -1,5 +1,9 @@
 //! The two kinds of monitors.
 
+ghost use Rattle.std.specs.Prelude.{◌≡◌};
+ghost use Rattle.odb_request.specs.Represented.Kind.{notation_of};
+ghost use Rattle.odb_request.specs.Request.{is_conditional, update_method};
+
 /// What a monitor is asked for by, and so the notation of what it is told.
 #[derive(Clone, Copy, PartialEq, Eq)]
 pub enum Kind {
@@ -7,4 +11,26 @@ pub enum Kind {
     Monitor,
     /// `monitor_cond`, whose notifications are `update2` (ovsdb-server(7), 4.1.12 and 4.1.14).
     MonitorCond,
+}
+
+impl Kind {
+    /// Returns whether its requests may have conditions. O(1).
+    pub fn is_conditional(self) -> bool
+        ensures { result ≡ is_conditional (notation_of self) }
+    {
+        match self {
+            Kind::Monitor => false,
+            Kind::MonitorCond => true,
+        }
+    }
+
+    /// Returns the method of its notifications. O(1).
+    pub fn update_method(self) -> &'static str
+        ensures { result.now ≡ update_method (notation_of self) }
+    {
+        match self {
+            Kind::Monitor => "update",
+            Kind::MonitorCond => "update2",
+        }
+    }
 }

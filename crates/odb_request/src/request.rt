@@ -2,7 +2,7 @@
 
 ghost use Rattle.std.specs.Prelude.{◌≡◌, IfOk, map};
 ghost use Rattle.std.specs.Arc.{arc_value};
-ghost use Rattle.std.specs.Bool.{OnTrue};
+ghost use Rattle.std.specs.Bool.{Decides};
 ghost use Rattle.odb_cond.specs.Represented.Clause.{selector_of};
 ghost use Rattle.odb_request.specs.Represented.Select.{select_of};
 ghost use Rattle.odb_request.specs.Represented.Shape.{asked_by, filtered};
@@ -82,11 +82,11 @@ impl Request {
     }
 
     /// Whether the two ask the same: the same of the same table, and with the same members in their filters
-    /// in the same order. `false` says nothing.
+    /// in the same order.
     ///
     /// O(the columns with their constraints, and the filters).
     pub fn same(&self, other: &Request) -> bool
-        ensures { OnTrue result (self.now ≡ other.now) }
+        ensures { Decides result (self.now ≡ other.now) }
     {
         self.shape.same(&other.shape) && self.filter.same(&other.filter)
     }

@@ -2,7 +2,7 @@
 
 ghost use Rattle.std.specs.Prelude.{◌≡◌, ◌<◌, length, map};
 ghost use Rattle.std.specs.Arc.{arc_value};
-ghost use Rattle.std.specs.Bool.{OnTrue};
+ghost use Rattle.std.specs.Bool.{Decides};
 ghost use Rattle.odb_cond.specs.Represented.Clause.{selector_of};
 ghost use Rattle.odb_request.specs.Represented.Parts.{monitored_as};
 ghost use Rattle.odb_request.specs.Represented.Select.{select_of};
@@ -95,39 +95,39 @@ impl Shape {
         self.select
     }
 
-    /// Whether the two ask the same of the same table, names and types included. `false` says nothing.
+    /// Whether the two ask the same of the same table, names and types included.
     ///
     /// O(the columns and their constraints).
     pub fn same(&self, other: &Shape) -> bool
-        ensures { OnTrue result (self.now ≡ other.now) }
+        ensures { Decides result (self.now ≡ other.now) }
     {
         self.asks_alike(other) && self.reads_alike(other)
     }
 
     /// Whether the two have the same place and the same kinds of change.
     fn asks_alike(&self, other: &Shape) -> bool
-        ensures { OnTrue result ((self.now.place ≡ other.now.place) × (self.now.select ≡ other.now.select)) }
+        ensures { Decides result ((self.now.place ≡ other.now.place) × (self.now.select ≡ other.now.select)) }
     {
         self.table == other.table && self.select == other.select
     }
 
     /// Whether the two have the same names and columns.
     fn reads_alike(&self, other: &Shape) -> bool
-        ensures { OnTrue result (self.now.shape ≡ other.now.shape) }
+        ensures { Decides result (self.now.shape ≡ other.now.shape) }
     {
         self.names_alike(other) && self.shows_alike(other)
     }
 
     /// Whether the two have the same table's name.
     fn names_alike(&self, other: &Shape) -> bool
-        ensures { OnTrue result (self.now.shape.name ≡ other.now.shape.name) }
+        ensures { Decides result (self.now.shape.name ≡ other.now.shape.name) }
     {
         self.table_schema().name() == other.table_schema().name()
     }
 
     /// Whether the two have the same columns.
     fn shows_alike(&self, other: &Shape) -> bool
-        ensures { OnTrue result (self.now.shape.columns ≡ other.now.shape.columns) }
+        ensures { Decides result (self.now.shape.columns ≡ other.now.shape.columns) }
     {
         same_columns(
             table_at(&self.schema, self.table),

@@ -5,9 +5,9 @@ use Rattle.json.specs.Token.{Token}
 use Rattle.serde_json.specs.Data.{Data, boolean, string}
 use Rattle.serde_json.specs.Written.{compact_text}
 use Rattle.odb_schema.specs.Json.{array_of}
-use Rattle.odb_request.specs.Request.{Notation, update, update2}
+use Rattle.odb_request.specs.Request.{Notation, update, update2, update_method}
 use Rattle.odb_rpc.specs.Message.{message, notification, one, reply}
-use Rattle.odb_rpc.specs.Represented.Shared.{after_result, after_updates, before_id, update_method}
+use Rattle.odb_rpc.specs.Represented.Shared.{after_result, after_updates, before_id}
 use Rattle.odb_rpc.specs.Represented.Since.{before_found}
 use Rattle.odb_rpc.specs.Represented.Texts.{response_text}
 

@@ -4,9 +4,10 @@ ghost use Rattle.std.specs.Prelude.{◌≡◌, ◌++◌, ◌∷◌, [], IfOk};
 ghost use Rattle.serde_json.specs.Data.{Data};
 ghost use Rattle.serde_json.specs.Written.{compact_text};
 ghost use Rattle.odb_request.specs.Represented.Kind.{notation_of};
+ghost use Rattle.odb_request.specs.Request.{update_method};
 ghost use Rattle.odb_rpc.specs.Message.{notification, reply};
 ghost use Rattle.odb_rpc.specs.Represented.Printable.{printable_data};
-ghost use Rattle.odb_rpc.specs.Represented.Shared.{after_result, after_updates, before_id, update_method};
+ghost use Rattle.odb_rpc.specs.Represented.Shared.{after_result, after_updates};
 
 use crate::printable::Printable;
 use odb_request::Kind;
@@ -50,20 +51,12 @@ pub fn before_updates(
         ≡ compact_text (notification (update_method (notation_of kind)) (printable_data monitor.entry ∷ d ∷ []))) }
 {
     let id_text = monitor.to_vec(alloc)?;
-    let mut text = Vec::from_slice(alloc, before_id(kind))?;
+    let mut text = Vec::from_slice(alloc, b"{\"id\":null,\"method\":\"")?;
+    text.extend_from_slice(kind.update_method().as_bytes())?;
+    text.extend_from_slice(b"\",\"params\":[")?;
     text.extend_from_slice(id_text.as_slice())?;
     text.push(b',')?;
     Ok(text)
-}
-
-/// What comes before the monitor's id.
-fn before_id(kind: Kind) -> &'static [u8]
-    ensures { result.now ≡ before_id (notation_of kind) }
-{
-    match kind {
-        Kind::Monitor => b"{\"id\":null,\"method\":\"update\",\"params\":[",
-        Kind::MonitorCond => b"{\"id\":null,\"method\":\"update2\",\"params\":[",
-    }
 }
 
 /// What comes after the table updates in a notification: `]}`. O(1).

@@ -9,9 +9,9 @@ use Rattle.odb_service.specs.Run.{take_each, take_of}
 use Rattle.odb_service.specs.Service.{Service}
 use Rattle.odb_service.specs.Session.{Earlier, Item, Session, Watch, no_request, renamed, same_id, say, shift, start, stopped, sync, take, to}
 use Rattle.odb_wire.specs.Message.{id_of}
-use Rattle.odb_service.specs.World.{Waiting, World, answer, are_monitored, asked_of, change_of, fail, is_conditional, notice_of, on_cancel_monitor, on_lock, on_monitor, post, post_notices, post_to, push, revision_of, shift_with, start_with, watched}
+use Rattle.odb_service.specs.World.{Waiting, World, answer, are_monitored, asked_of, change_of, fail, notice_of, on_cancel_monitor, on_lock, on_monitor, post, post_notices, post_to, push, revision_of, shift_with, start_with, watched}
 use Rattle.odb_locks.specs.Locks.{Answered, Notice}
-use Rattle.odb_request.specs.Request.{Notation, Request}
+use Rattle.odb_request.specs.Request.{Notation, Request, is_conditional}
 use Rattle.odb_rpc.specs.Message.{failure, reply}
 use Rattle.odb_tables.specs.Database.{Db}
 use Rattle.odb_service.specs.World.{lock_error}
@@ -84,7 +84,7 @@ module _ (h : Service) where
   changes s d old new filters None w = fails s d unknown_monitor w
   changes s d old new filters (Some k) w =
       let c : World = cond (not (same_id h old new) && is_some (watched h new (asked_of h (get w.sessions s)))) (fail s d (failed syntax_error) w) (shift_with h s d old new k (h.read_filters filters) w) in
-      either (not (is_conditional h k.notation)) (fail s d unknown_monitor w) c w
+      either (not (is_conditional k.notation)) (fail s d unknown_monitor w) c w
       (fails s d unknown_monitor w)
       (either (not (same_id h old new) && is_some (watched h new (asked_of h (get w.sessions s)))) (fail s d (failed syntax_error) w) (shift_with h s d old new k (h.read_filters filters) w) w
       (fails s d (failed syntax_error) w) (shifts s d old new k (h.read_filters filters) w))

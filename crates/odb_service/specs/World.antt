@@ -11,7 +11,7 @@ use Rattle.odb_service.specs.Session.{Earlier, Item, Revision, Session, Watch, a
 use Rattle.odb_wire.specs.Message.{id_of}
 use Rattle.odb_locks.specs.Locks.{Answered, Locks, Notice, drop_session, lock, owns, steal, unlock}
 use Rattle.odb_monitor.specs.Update.{one}
-use Rattle.odb_request.specs.Request.{Notation, Request, update, update2}
+use Rattle.odb_request.specs.Request.{Notation, Request, is_conditional, update, update2}
 use Rattle.odb_rpc.specs.Message.{Call, call_of, failure, has_reply, notification, reply}
 use Rattle.odb_tables.specs.Database.{Db}
 use Rattle.odb_atoms.specs.Uuid.{Uuid}
@@ -179,10 +179,6 @@ module _ (h : Service) where
   shift_with s d old new k (Ok fs) w =
       if are_monitored fs k.requests then post s (shift old fs ∷ renamed d old new fs ∷ []) w
       else fail s d (failed syntax_error) w
-
-  abbrev pub is_conditional : Notation → Bool
-  is_conditional update = false
-  is_conditional update2 = true
 
   abbrev pub change_of : ℕ → Data → Data → Data → Data → Option Watch → World → World
   change_of s d old new filters None w = fail s d unknown_monitor w

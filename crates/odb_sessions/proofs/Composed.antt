@@ -6,9 +6,8 @@ use Rattle.odb_atoms.specs.Uuid.{Uuid}
 use Rattle.odb_monitor.specs.Job.{Job, Part, updates_of}
 use Rattle.odb_monitor.specs.Update.{table_updates}
 use Rattle.odb_monitor.specs.View.{View, delta, is_none, nothing, query, selected, shown}
-use Rattle.odb_request.specs.Request.{Notation, Request, update, update2}
+use Rattle.odb_request.specs.Request.{Notation, Request, update, update2, update_method}
 use Rattle.odb_rpc.specs.Message.{notification}
-use Rattle.odb_rpc.specs.Represented.Shared.{update_method}
 use Rattle.odb_rpc.specs.Since.{update3}
 use Rattle.odb_schema.specs.Json.{Data}
 use Rattle.odb_service.specs.Service.{Service}

@@ -5,13 +5,11 @@ mod Books
 mod Brought
 mod Carried
 mod CarriedOut
-mod Columns
 mod Composed
 mod Copies
 mod Counted
 pub mod Crossing
 mod Decisions
-mod Digests
 mod Earlier
 mod Endings
 mod FirstTexts

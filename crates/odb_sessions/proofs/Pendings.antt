@@ -14,13 +14,11 @@ use Rattle.odb_sessions.specs.Book.{Book, revision_in}
 use Rattle.odb_sessions.specs.Jobs.{AreMadeOf, IsOfJob, composition}
 use Rattle.odb_sessions.specs.Planned.{Due, plan}
 use Rattle.odb_sessions.specs.Represented.Composed.{framing}
-use Rattle.odb_sessions.specs.Represented.Ready.{pending_of}
-use Rattle.odb_sessions.specs.Represented.Taking.{coming_sending, pending_by, text_around, text_planned}
+use Rattle.odb_sessions.specs.Represented.Taking.{coming_sending, pending_by, pending_of, text_around, text_planned}
 use Rattle.odb_sessions.specs.Sending.{Framed, Sending, due_sending, framed_due, sent_with}
 use Rattle.odb_sessions.specs.Taken.{Pending, sessions_in}
 use Rattle.odb_sessions.specs.declared.composing.Envelope.{Envelope}
 use Rattle.odb_sessions.specs.declared.jobs.Planned.{Planned}
-use Rattle.odb_sessions.specs.declared.ready.Ready.{Ready}
 use Rattle.odb_sessions.specs.declared.taking.Coming.{Coming}
 use Rattle.odb_sessions.specs.declared.taking.Coming.TheVariants.{Composed, Queued}
 use Rattle.odb_sessions.proofs.Composed.{mapped_twice}
@@ -29,10 +27,10 @@ pub sessions_by : (js : List Job) (ps : List Planned) → sessions_in (map (pend
 sessions_by js ps = mapped_twice (λ (p : Pending). p.0) (pending_by js) ps
 
 -- one more is ready
-pub one_ready : (js : List Job) (done new : List Ready) (r : Ready) (p : Planned) (ps : List Planned) → new ≡ done ++ r ∷ [] → pending_of r ≡ pending_by js p
+pub one_ready : (js : List Job) (done new : List Planned) (r : Planned) (p : Planned) (ps : List Planned) → new ≡ done ++ r ∷ [] → pending_of r ≡ pending_by js p
     → map pending_of new ++ map (pending_by js) ps ≡ map pending_of done ++ map (pending_by js) (p ∷ ps)
 one_ready js done new r p ps grown same =
-    ap (λ (rs : List Ready). map pending_of rs ++ map (pending_by js) ps) grown
+    ap (λ (rs : List Planned). map pending_of rs ++ map (pending_by js) ps) grown
     ∙ ap (λ (qs : List Pending). qs ++ map (pending_by js) ps) (map-append pending_of done (r ∷ []))
     ∙ append_assoc (map pending_of done) (pending_of r ∷ []) (map (pending_by js) ps)
     ∙ (λ i. map pending_of done ++ same i ∷ map (pending_by js) ps)
@@ -42,7 +40,7 @@ length_mapped f [] = refl
 length_mapped f (x ∷ xs) = ap suc (length_mapped f xs)
 
 -- as many are ready as were planned
-pub as_many_ready : (js : List Job) (rs : List Ready) (ps : List Planned) → map pending_of rs ≡ map (pending_by js) ps → length rs ≡ length ps
+pub as_many_ready : (js : List Job) (rs : List Planned) (ps : List Planned) → map pending_of rs ≡ map (pending_by js) ps → length rs ≡ length ps
 as_many_ready js rs ps same = sym (length_mapped pending_of rs) ∙ ap length same ∙ length_mapped (pending_by js) ps
 
 -- ---- what is composed is what is due

@@ -18,9 +18,12 @@ use Rattle.odb_sessions.specs.Carried.{finished_in, last_finished, used_by}
 use Rattle.odb_sessions.specs.Foreseen.{due_text, finished_text, last_used}
 use Rattle.odb_sessions.specs.Planned.{AreOnce, Due, Plan, applied, is_listed, out_of, plan}
 use Rattle.odb_sessions.specs.Posts.{at_number}
+use Rattle.odb_sessions.specs.Represented.Taking.{text_by, text_coming}
 use Rattle.odb_sessions.specs.Sending.{Sending, due_sending}
 use Rattle.odb_sessions.specs.Taken as model
 use Rattle.odb_sessions.specs.Taken.{AreReady, IsReadyFor, Pending, Text, given_by, last_text, sessions_in, text_from, text_taken}
+use Rattle.odb_sessions.specs.declared.taking.Coming.{Coming}
+use Rattle.odb_sessions.specs.declared.taking.Coming.TheVariants.{Composed, Queued}
 use Rattle.odb_sessions.proofs.Plans.{planned_takes}
 use Rattle.odb_sessions.proofs.Posts.{at_open, at_shut}
 
@@ -99,6 +102,13 @@ text_in_queue (Some f) = ap Some f.printed
 pub queued_text : (n : ℕ) (o : Option Session) (f : Option Finished) → option_map item_of f ≡ option_and_then (λ x. last_finished n x.queue) o
     → option_map (λ (g : Finished). g.text.items) f ≡ text_from last_text (option_and_then (λ x. last_used n x.queue) o)
 queued_text n o f e = text_in_queue f ∙ ap (option_and_then finished_text) e ∙ last_text_at n o
+
+-- the text that comes is that of the taking
+pub text_is : (c : Option Coming) (queued body : Option (List ℕ)) (last : Option Item) → queued ≡ text_from last_text last → text_by c queued body ≡ text_from (text_coming c body) last
+text_is None queued body last e = refl
+text_is (Some Queued) queued body last e = e
+text_is (Some (Composed m)) queued None last e = refl
+text_is (Some (Composed m)) queued (Some b) last e = refl
 
 -- ---- one of a round
 

@@ -8,9 +8,8 @@ use Rattle.odb_monitor.specs.Job.{Job, Part}
 use Rattle.odb_monitor.specs.Update.{table_updates}
 use Rattle.odb_monitor.specs.View.{delta, nothing, query, selected, shown}
 use Rattle.odb_recent.specs.Undo.{Undo, table_ago}
-use Rattle.odb_request.specs.Request.{Notation, Request}
+use Rattle.odb_request.specs.Request.{Notation, Request, update_method}
 use Rattle.odb_rpc.specs.Message.{notification}
-use Rattle.odb_rpc.specs.Represented.Shared.{update_method}
 use Rattle.odb_rpc.specs.Since.{update3}
 use Rattle.odb_schema.specs.Json.{Data}
 use Rattle.odb_service.specs.Session.{Monitor, shapes}

@@ -77,7 +77,7 @@ AreMadeOf s b js (p ∷ ps) = IsOfJob s (revision_in b) js (get b.sessions p.0) 
 abbrev pub AreOfJobs : Book → List Job → List Pending → Type 0
 AreOfJobs b js ps = (s : Schema) → AreMadeOf s b js ps
 
--- each job is that of its likeness, whatever the tables were before, where the last commits replaced what leads back to the contents that can be found; and no two have one
+-- No two likenesses are the same, and each job is that of its likeness: for some contents of the tables at earlier places, and for what the last commits replaced, which leads back from now to the contents that can be found.
 abbrev pub AreEachOnce : Revision → List Job → List Likeness → Type 0
 AreEachOnce revision js ls =
     AreUnlike ls

@@ -7,7 +7,6 @@ pub mod Job
 pub mod Origin
 pub mod Out
 pub mod Queued
-pub mod Ready
 pub mod Taking
 pub mod Told
 pub mod Under

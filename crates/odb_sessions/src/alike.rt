@@ -5,7 +5,6 @@ ghost use Rattle.std.specs.Bool.{Decides};
 ghost use Rattle.odb_sessions.specs.Represented.Alike.{ago_in, filter_in, is_first, is_reply, likeness_in, place_in, stand_in, told_in};
 
 use crate::monitor::{Monitor, Watching};
-use crate::shapes::asks_like;
 use crate::under::filter_under;
 use crate::way::Way;
 use odb_chain::Mark;
@@ -132,7 +131,7 @@ fn same_asked<'a>(
 ) -> bool
     ensures { Decides result (record request.now { filter = filter_in way.entry request.now } ≡ record other.now { filter = filter_in other_way.entry other.now }) }
 {
-    way.filter(request).same(other_way.filter(other)) && asks_like(request, other)
+    way.filter(request).same(other_way.filter(other)) && request.shape().same(other.shape())
 }
 
 /// Whether both clients stand to the tables in the same way.

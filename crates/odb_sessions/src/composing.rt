@@ -1,12 +1,18 @@
 //! What is owed to the client of a monitor, by parts, from the marks for what it was told; and its messages. [P 9.2, 9.3, 9.8, 10.1]
-ghost use Rattle.std.specs.Prelude.{◌≡◌, IfOk, map};
+ghost use Rattle.std.specs.Prelude.{◌≡◌, IfOk, map, option_map};
 ghost use Rattle.std.specs.List.{All};
 ghost use Rattle.odb_sessions.specs.Composed.{IsKnown, part_in};
+ghost use Rattle.odb_sessions.specs.Represented.Composed.{bytes_in};
+ghost use Rattle.odb_sessions.specs.Represented.Out.{sent_in};
+ghost use Rattle.odb_sessions.specs.Taken.{whole_text};
 
+use crate::out::Out;
 use crate::owed::Owed;
 use odb_chain::Chains;
+use odb_locks::SessionId;
 use odb_monitor::Part;
 use std::alloc::{AllocError, Global};
+use std::sync::Arc;
 
 /// The parts of these tables; in a first reply the client was told nothing of them. For each the costs are those of
 /// `odb_chain::Chains::since`.
@@ -33,4 +39,26 @@ pub(crate) struct Envelope {
     pub(crate) before: Vec<u8>,
     pub(crate) job: usize,
     pub(crate) after: Vec<u8>,
+}
+
+impl Envelope {
+    /// Makes the message for a session of what is composed of its job, if something is. O(1).
+    pub(crate) fn seal(self, session: SessionId, body: Option<Arc<Vec<u8>>>) -> Option<Out>
+        ensures { option_map sent_in result ≡ option_map (λ b. (session, whole_text self.before.items b self.after.items)) (bytes_in body) }
+    {
+        let Envelope {
+            before,
+            job: _,
+            after,
+        } = self;
+        match body {
+            Some(body) => Some(Out {
+                session,
+                before,
+                body: Some(body),
+                after,
+            }),
+            None => None,
+        }
+    }
 }

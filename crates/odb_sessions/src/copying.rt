@@ -60,7 +60,7 @@ impl Given {
     }
 }
 
-/// Copies the database with its past, and the sessions, whose marks are all that that counts.
+/// Copies the database with its past, and the sessions. Each mark that the past counts is one of these sessions'.
 pub(crate) fn copy_tied(
     alloc: Global,
     past: &Past,
@@ -132,6 +132,7 @@ pub(crate) fn copy_tables(
     Ok(copies)
 }
 
+/// Shares a filter, if there is one. O(1).
 pub(crate) fn filter_again(filter: &Option<Arc<Filter>>) -> Result<Option<Arc<Filter>>, AllocError>
     ensures { IfOk result (λ again. option_map arc_value again ≡ option_map arc_value filter.now) }
 {

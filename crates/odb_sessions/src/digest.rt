@@ -1,18 +1,14 @@
 //! Digests: numbers by which decisions are found. [P 10.1]
 ghost use Rattle.std.specs.Prelude.{◌≡◌, map};
-ghost use Rattle.odb_atoms.specs.Represented.Atom.{atom_of};
 ghost use Rattle.odb_cond.specs.Represented.Filter.{member_of};
-ghost use Rattle.odb_atoms.specs.Represented.Value.{pair_of};
-ghost use Rattle.odb_tables.specs.Represented.Digest.{after_atom, after_atoms, after_pairs, after_value};
 ghost use Rattle.odb_sessions.specs.Represented.Alike.{likeness_in, stand_in};
 ghost use Rattle.odb_sessions.specs.Represented.Digest as spec;
 
 use crate::monitor::{Monitor, Watching};
 use crate::way::Way;
-use odb_atoms::{Atom, Entries, Value};
 use odb_cond::{Filter, Member};
 use odb_schema::TableId;
-use odb_tables::Key;
+use odb_tables::feed_value;
 use std::hash::{DefaultHasher, Hash, Hasher};
 
 /// The digest of what is composed for the client of a monitor in this way: what is alike has the same, other seldom has.
@@ -87,44 +83,5 @@ fn feed_member(state: &mut DefaultHasher, member: &Member)
     match member {
         Member::Always(_) => {}
         Member::When(clause) => feed_value(state, clause.value()),
-    }
-}
-
-/// Feeds the atoms of the value.
-fn feed_value(state: &mut DefaultHasher, value: &Value)
-    ensures { state.new ≡ after_value state.old value.now }
-{
-    match value.entries() {
-        Entries::Set(elements) => feed_elements(state, elements),
-        Entries::Map(pairs) => feed_pairs(state, pairs),
-    }
-}
-
-fn feed_elements(state: &mut DefaultHasher, elements: &[Atom])
-    ensures { state.new ≡ after_atoms state.old (map atom_of elements.now) }
-{
-    for element in elements {
-        feed_atom(state, element);
-    }
-}
-
-fn feed_pairs(state: &mut DefaultHasher, pairs: &[(Atom, Atom)])
-    ensures { state.new ≡ after_pairs state.old (map pair_of pairs.now) }
-{
-    for pair in pairs {
-        feed_atom(state, &pair.0);
-        feed_atom(state, &pair.1);
-    }
-}
-
-/// Feeds an atom.
-fn feed_atom(state: &mut DefaultHasher, atom: &Atom)
-    ensures { state.new ≡ after_atom state.old (atom_of atom.now) }
-{
-    match atom {
-        Atom::Integer(integer) => integer.hash(state),
-        Atom::Boolean(boolean) => boolean.hash(state),
-        Atom::Text(text) => text.as_str().hash(state),
-        Atom::Uuid(uuid) => Key::of(*uuid).hash(state),
     }
 }

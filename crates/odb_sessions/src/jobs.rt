@@ -1,31 +1,31 @@
 //! A round as it is planned: what is to be composed, and then what is to be carried out. [P 10.3]
-ghost use Rattle.std.specs.Prelude.{◌≡◌, IfOk, IfSome, List, map};
+ghost use Rattle.std.specs.Prelude.{◌≡◌, IfOk, IfSome, List, map, option_and_then, slice_get};
 ghost use Rattle.std.specs.List.{All};
 ghost use Rattle.odb_monitor.specs.Job as model_job;
 ghost use Rattle.odb_sessions.specs.FirstTexts.{IsFirstText, IsOfNow};
 ghost use Rattle.odb_sessions.specs.Jobs.{composition};
 ghost use Rattle.odb_sessions.specs.Represented.Composed.{bytes_in};
-ghost use Rattle.odb_sessions.specs.Represented.Ready.{pending_of};
-ghost use Rattle.odb_sessions.specs.Represented.Taking.{pending_by, text_planned};
+ghost use Rattle.odb_sessions.specs.Represented.Taking.{pending_by, pending_of, text_coming, text_planned};
 ghost use Rattle.odb_sessions.specs.Taken.{no_text};
 ghost use Rattle.odb_tables.specs.Database as model_db;
 
 use crate::first_texts::FirstText;
 use crate::job::Job;
 use crate::out::Out;
-use crate::ready::{Ready, with_bodies};
-use crate::taking::Taking;
+use crate::taking::{Coming, Taking};
 use crate::wanted::{Asking, Listed};
 use odb_locks::SessionId;
 use std::alloc::{AllocError, Global};
 use std::marker::Model;
 use std::sync::Arc;
 
-/// A taking as it is planned for a session.
+/// A taking as it is planned for a session, and once its job is composed what comes of that.
 #[derive(Drop)]
 pub(crate) struct Planned {
     pub(crate) session: SessionId,
     pub(crate) taking: Taking,
+    /// What is composed of the job by which a message comes. Other messages may have it too.
+    pub(crate) body: Option<Arc<Vec<u8>>>,
 }
 
 impl Planned {
@@ -41,42 +41,79 @@ impl Planned {
                 monitors: 0,
                 coming: None,
             },
+            body: None,
         }
     }
 
-    /// It, with these bodies.
-    fn ready(self, bodies: &[Option<Arc<Vec<u8>>>]) -> Result<Ready, AllocError>
+    /// Returns it with the body of its job, of these. O(1).
+    fn with_body(self, bodies: &[Option<Arc<Vec<u8>>>]) -> Result<Planned, AllocError>
         ensures { IfOk result (λ ready. (js : List model_job.Job) → map bytes_in bodies.now ≡ map composition js
             → pending_of ready ≡ pending_by js self) }
     {
-        let Planned { session, taking } = self;
-        let Taking {
-            items,
-            monitors,
-            coming,
-        } = taking;
-        let coming = with_bodies(coming, bodies)?;
-        Ok(Ready {
+        let Planned {
             session,
-            items,
-            monitors,
-            coming,
+            taking,
+            body: _,
+        } = self;
+        let body = body_of(&taking.coming, bodies)?;
+        Ok(Planned {
+            session,
+            taking,
+            body,
         })
     }
 }
 
-/// Each of these takings, with these bodies.
-fn all_ready(
+/// Returns the body, of these, by which it comes; `None` where it comes by none. O(1).
+fn body_of(
+    coming: &Option<Coming>,
+    bodies: &[Option<Arc<Vec<u8>>>],
+) -> Result<Option<Arc<Vec<u8>>>, AllocError>
+    ensures { IfOk result (λ body. (js : List model_job.Job) → map bytes_in bodies.now ≡ map composition js
+        → text_coming coming.now (bytes_in body) ≡ text_planned js coming.now) }
+{
+    match coming {
+        None => Ok(None),
+        Some(Coming::Queued) => Ok(None),
+        Some(Coming::Composed(envelope)) => body_at(bodies, envelope.job),
+    }
+}
+
+/// Returns the body at a place, for one message more; `None` where there is none.
+fn body_at(
+    bodies: &[Option<Arc<Vec<u8>>>],
+    place: usize,
+) -> Result<Option<Arc<Vec<u8>>>, AllocError>
+    ensures { IfOk result (λ body. bytes_in body ≡ option_and_then bytes_in (slice_get bodies.now place)) }
+{
+    match bodies.get(place) {
+        Some(body) => shared(body),
+        None => Ok(None),
+    }
+}
+
+/// Shares a body, if there is one.
+fn shared(body: &Option<Arc<Vec<u8>>>) -> Result<Option<Arc<Vec<u8>>>, AllocError>
+    ensures { IfOk result (λ again. bytes_in again ≡ bytes_in body.now) }
+{
+    match body {
+        Some(body) => Ok(Some(body.clone()?)),
+        None => Ok(None),
+    }
+}
+
+/// Returns each of these takings with the body of its job, of these.
+fn with_bodies(
     alloc: Global,
     planned: Vec<Planned>,
     bodies: &[Option<Arc<Vec<u8>>>],
-) -> Result<Vec<Ready>, AllocError>
+) -> Result<Vec<Planned>, AllocError>
     ensures { IfOk result (λ ready. (js : List model_job.Job) → map bytes_in bodies.now ≡ map composition js
         → map pending_of ready.items ≡ map (pending_by js) planned.items) }
 {
     let mut ready = Vec::with_capacity(alloc, planned.len())?;
     for taking in planned {
-        let one = taking.ready(bodies)?;
+        let one = taking.with_body(bodies)?;
         ready.push_reserved(one);
     }
     Ok(ready)
@@ -170,7 +207,7 @@ impl<'a> Jobs<'a> {
             takings,
         } = self;
         let outs = Vec::with_capacity(alloc, takings.len())?;
-        let takings = all_ready(alloc, takings, bodies)?;
+        let takings = with_bodies(alloc, takings, bodies)?;
         Ok(Prepared { takings, outs })
     }
 }
@@ -210,14 +247,14 @@ fn compose_all(alloc: Global, jobs: &[Job<'_>]) -> Result<Vec<Option<Arc<Vec<u8>
 /// A round that is composed, and takes no memory any more.
 #[derive(Drop)]
 pub struct Prepared {
-    pub(crate) takings: Vec<Ready>,
+    pub(crate) takings: Vec<Planned>,
     pub(crate) outs: Vec<Out>,
 }
 
 impl Model for Prepared {
     ghost use Rattle.std.specs.Prelude.{◌≡◌, ◌≤◌, List, [], length, map, vec_capacity};
     ghost use Rattle.odb_sessions.specs.Represented.Codes.{pendings_code};
-    ghost use Rattle.odb_sessions.specs.Represented.Ready.{pending_of};
+    ghost use Rattle.odb_sessions.specs.Represented.Taking.{pending_of};
     ghost use Rattle.odb_sessions.specs.Taken.{Pending};
 
     ghost Value = { List Pending };

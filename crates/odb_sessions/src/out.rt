@@ -1,6 +1,11 @@
 //! What a session is sent.
 
+ghost use Rattle.std.specs.Prelude.{◌≡◌};
+ghost use Rattle.odb_sessions.specs.Represented.Out.{text_of_out};
+
 use odb_locks::SessionId;
+use odb_queue::Finished;
+use std::alloc::Global;
 use std::sync::Arc;
 
 /// A message for a session. Its text is the three parts in order: the body is shared between sessions
@@ -14,6 +19,21 @@ pub struct Out {
     pub body: Option<Arc<Vec<u8>>>,
     /// The text after the body.
     pub after: Vec<u8>,
+}
+
+impl Out {
+    /// Makes the message for a session that a finished text is.
+    pub(crate) fn finished(alloc: Global, session: SessionId, text: Finished) -> Out
+        ensures session { result.session ≡ session }
+        ensures text { text_of_out result ≡ text.text.items }
+    {
+        Out {
+            session,
+            before: text.text,
+            body: None,
+            after: Vec::new(alloc),
+        }
+    }
 }
 
 // Written, and not derived, so that each end of a scope is one call to prove.

@@ -15,8 +15,8 @@ ghost use Rattle.odb_sessions.specs.Jobs.{AreEachOnce, AreMadeOf, AreOfJobs, IsO
 ghost use Rattle.odb_sessions.specs.Planned.{AreOnce};
 ghost use Rattle.odb_sessions.specs.Posts.{at_number};
 ghost use Rattle.odb_sessions.specs.Represented.Out.{sent_in};
-ghost use Rattle.odb_sessions.specs.Represented.Ready.{pending_of, ready_of};
-ghost use Rattle.odb_sessions.specs.Represented.Taking.{pending_by, ready_by, text_planned};
+ghost use Rattle.odb_sessions.specs.Represented.Composed.{bytes_in};
+ghost use Rattle.odb_sessions.specs.Represented.Taking.{pending_by, pending_of, ready_by, ready_of, text_by, text_planned};
 ghost use Rattle.odb_sessions.specs.Taken.{AreOf, AreReady, IsReadyFor, given_by, sessions_in, text_taken};
 ghost use Rattle.odb_sessions.specs.Tied.{AreAllLive};
 ghost use Rattle.odb_sessions.specs.Book.{book_with, revision_at, revision_in};
@@ -26,10 +26,12 @@ use crate::foreseen::Planner;
 use crate::jobs::{Jobs, Planned, Prepared};
 use crate::numbered::Numbered;
 use crate::out::Out;
-use crate::ready::{Delivery, Ready, finished};
 use crate::sessions::Sessions;
+use crate::taking::{Coming, Taking};
 use odb_locks::SessionId;
+use odb_queue::Finished;
 use std::alloc::{AllocError, Global};
+use std::sync::Arc;
 
 /// A round that is composed, and the text of a first reply of it that is to be kept.
 #[derive(Drop)]
@@ -59,7 +61,11 @@ fn taking_at<'a>(
         return Ok(Planned::none(session));
     };
     let taking = of.taking(planner)?;
-    Ok(Planned { session, taking })
+    Ok(Planned {
+        session,
+        taking,
+        body: None,
+    })
 }
 
 /// What is taken for each of these sessions.
@@ -83,6 +89,23 @@ fn takings_at<'a>(
         takings.push_reserved(taking_at(sessions, *session, planner)?);
     }
     Ok(takings)
+}
+
+/// Returns the message that comes to the session: the text that was queued, or the composition with what stands around it.
+fn message(
+    alloc: Global,
+    session: SessionId,
+    coming: Option<Coming>,
+    queued: Option<Finished>,
+    body: Option<Arc<Vec<u8>>>,
+) -> Option<Out>
+    ensures { option_map sent_in result ≡ option_map (λ t. (session, t)) (text_by coming (option_map (λ f. f.text.items) queued) (bytes_in body)) }
+{
+    match coming {
+        None => None,
+        Some(Coming::Queued) => Some(Out::finished(alloc, session, queued?)),
+        Some(Coming::Composed(envelope)) => envelope.seal(session, body),
+    }
 }
 
 impl Sessions {
@@ -130,29 +153,29 @@ impl Sessions {
     }
 
     /// Carries a taking out, and returns the message that comes, if one does. It can't be refused.
-    fn take(&mut self, ready: Ready) -> Option<Out>
-        requires { (s : Schema) → IsReadyFor s (revision_in self.old) (finite.get self.old.sessions ready.session) (ready_of ready) }
-        ensures book { (s : Schema) → self.new ≡ record (self.old) { sessions = at_number (λ x. (take (served_by s) (revision_in self.old) x).1) self.old.sessions ready.session } }
-        ensures out { (s : Schema) → option_map sent_in result ≡ option_map (λ t. (ready.session, t)) (text_taken (served_by s) (revision_in self.old) (finite.get self.old.sessions ready.session)) }
+    fn take(&mut self, planned: Planned) -> Option<Out>
+        requires { (s : Schema) → IsReadyFor s (revision_in self.old) (finite.get self.old.sessions planned.session) (ready_of planned) }
+        ensures book { (s : Schema) → self.new ≡ record (self.old) { sessions = at_number (λ x. (take (served_by s) (revision_in self.old) x).1) self.old.sessions planned.session } }
+        ensures out { (s : Schema) → option_map sent_in result ≡ option_map (λ t. (planned.session, t)) (text_taken (served_by s) (revision_in self.old) (finite.get self.old.sessions planned.session)) }
     {
-        let Ready {
+        let Planned {
             session,
+            taking,
+            body,
+        } = planned;
+        let Taking {
             items,
             monitors,
             coming,
-        } = ready;
+        } = taking;
         let queued = self.carry_out(session, items, monitors);
         self.forget_if_resting(session);
-        match coming {
-            Delivery::Nothing => None,
-            Delivery::Queued => Some(finished(self.alloc, session, queued?)),
-            Delivery::Composed(text) => Some(text.out(session)),
-        }
+        message(self.alloc, session, coming, queued, body)
     }
 
     /// Carries takings out, in their order, and adds the messages that come to these, for which there is room. It can't be
     /// refused.
-    fn take_all(&mut self, takings: Vec<Ready>, outs: Vec<Out>) -> Vec<Out>
+    fn take_all(&mut self, takings: Vec<Planned>, outs: Vec<Out>) -> Vec<Out>
         requires once { AreOnce (sessions_in (map pending_of takings.items)) }
         requires ready { AreOf self.old (map pending_of takings.items) }
         requires none { outs.items ≡ [] }
@@ -162,8 +185,8 @@ impl Sessions {
         ensures revision { revision_in self.new ≡ revision_in self.old }
     {
         let mut sent = outs;
-        for ready in takings {
-            if let Some(out) = self.take(ready) {
+        for planned in takings {
+            if let Some(out) = self.take(planned) {
                 sent.push_reserved(out);
             }
         }

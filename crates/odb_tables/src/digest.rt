@@ -36,7 +36,7 @@ pub(crate) fn of_matches(hashing: RandomState, places: &[usize], conditions: &Wh
     let mut state = hashing.build_hasher();
     for place in places {
         let value = conditions.required(*place)?;
-        feed(&mut state, value);
+        feed_value(&mut state, value);
     }
     Some(Key::of_hash(state.finish()))
 }
@@ -46,13 +46,13 @@ fn feed_cell(state: &mut DefaultHasher, row: &Row, place: usize)
     ensures { state.new ≡ spec.after_value state.old (cell zero_uuid row.now (declared place)) }
 {
     match row.get(place) {
-        Some(value) => feed(state, value),
+        Some(value) => feed_value(state, value),
         None => {}
     }
 }
 
-/// Feeds the value.
-fn feed(state: &mut DefaultHasher, value: &Value)
+/// Feeds a hasher the atoms of a value: those of a set in their order, of a map each key with its value after it. O(the value's bytes).
+pub fn feed_value(state: &mut DefaultHasher, value: &Value)
     ensures { state.new ≡ spec.after_value state.old value.now }
 {
     match value.entries() {

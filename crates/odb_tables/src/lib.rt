@@ -21,6 +21,7 @@ mod table_change;
 
 pub use change_set::ChangeSet;
 pub use database::Db;
+pub use digest::feed_value;
 pub use draft::Draft;
 pub use key::Key;
 pub use row_change::RowChange;

@@ -175,7 +175,7 @@ impl Overlay {
     }
 }
 
-/// Whether the row is there and pass the test.
+/// Whether the row is there and passes the test.
 fn is_found<T: Test>(key: Key, now: Option<&Arc<Row>>, test: &T) -> bool
     ensures { result ≡ passes_now (T.passes test.now) key (row_of (option_copied now.entry)) }
 {

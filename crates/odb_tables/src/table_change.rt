@@ -1,5 +1,5 @@
 //! Changes of tables.
-ghost use Rattle.std.specs.Prelude.{◌≡◌};
+ghost use Rattle.std.specs.Prelude.{◌≡◌, nat_lt, not, true};
 ghost use Rattle.odb_atoms.specs.FinMap as finite;
 ghost use Rattle.odb_tables.specs.Represented.TableChange.{AreDistinct};
 
@@ -42,6 +42,14 @@ impl TableChange {
         ensures distinct { AreDistinct result.now }
     {
         self.rows.as_slice()
+    }
+
+    /// Returns whether no row changes. O(1).
+    pub fn is_empty(&self) -> bool
+        ensures counted { not result ≡ nat_lt 0 (finite.len self.now) }
+        ensures none { result ≡ true → self.now ≡ finite.empty }
+    {
+        self.rows.is_empty()
     }
 
     /// The same, by value. O(1).

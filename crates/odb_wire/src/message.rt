@@ -2,7 +2,7 @@
 ghost use Rattle.std.specs.Prelude.{◌≡◌, Some, None, IsTrue, IfSome, IfOk, option_map, is_some, codes, if◌then◌else◌};
 ghost use Rattle.serde_json.specs.View.{view};
 ghost use Rattle.serde_json.specs.Find.{get};
-ghost use Rattle.odb_wire.specs.Message.{id_of, method_of, is_notification, is_message, has_left_out};
+ghost use Rattle.odb_wire.specs.Message.{method_of, is_notification, is_message, has_left_out};
 ghost use Rattle.odb_wire.specs.Kind.{is_response};
 ghost use Rattle.odb_wire.specs.Stream.{message_of};
 
@@ -80,16 +80,6 @@ impl Request {
         ensures { result ≡ has_left_out (request_data self.now) }
     {
         has_left_out_number(self.message())
-    }
-
-    /// The same for the member `id`.
-    pub fn id_has_left_out_number(&self) -> bool
-        ensures { result ≡ has_left_out (id_of (request_data self.now)) }
-    {
-        match self.id() {
-            Some(id) => has_left_out_number(id),
-            None => false,
-        }
     }
 }
 

@@ -7,7 +7,7 @@ use crate::clerk::serve_desk;
 use crate::daemon::{Begun, Daemon, Patience};
 use crate::desk::Desk;
 use mio::{Poll, net};
-use odb_core::Core;
+use odb_core::{Core, MAX_SESSIONS};
 use odb_par::Workers;
 use odb_schema::Schema;
 use odb_script::RunFault;
@@ -22,8 +22,8 @@ use std::thread::{Builder, Scope, Threads};
 use std::time::{Clock, Duration, Instant};
 use std::{io, thread};
 
-/// How many seats may be given at once. No core has more sessions open.
-const SEATS: u64 = 4_096;
+/// How many seats may be given at once: one for each session that may be open.
+const SEATS: u64 = MAX_SESSIONS as u64;
 
 /// The stack of a thread, in bytes.
 const STACK: usize = 262_144;

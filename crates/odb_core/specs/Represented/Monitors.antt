@@ -7,7 +7,7 @@ use Rattle.odb_atoms.specs.Error.{syntax_error}
 use Rattle.odb_atoms.specs.Represented.Error.{error_of}
 use Rattle.odb_atoms.specs.declared.error.Error.{Error}
 use Rattle.odb_cond.specs.Filter.{Filter}
-use Rattle.odb_request.specs.Request.{Request, Shape}
+use Rattle.odb_request.specs.Request.{Request, Shape, is_conditional}
 use Rattle.odb_rpc.specs.Message as message
 use Rattle.odb_rpc.specs.Message.{failed, unknown_monitor}
 use Rattle.odb_rpc.specs.Represented.Failure.{failure_of}
@@ -15,7 +15,7 @@ use Rattle.odb_rpc.specs.declared.error.Failure.{Failure}
 use Rattle.odb_schema.specs.Json.{Data}
 use Rattle.odb_service.specs.Service.{Service}
 use Rattle.odb_service.specs.Session.{Session, renamed, same_id, shift}
-use Rattle.odb_service.specs.World.{World, asked_of, fail, is_conditional, post, watched}
+use Rattle.odb_service.specs.World.{World, asked_of, fail, post, watched}
 use Rattle.odb_sessions.specs.Named.{Named}
 use Rattle.odb_sessions.specs.Represented.Queued.{filters_of}
 use Rattle.odb_sessions.specs.declared.item.Changes.{Changes}
@@ -52,7 +52,7 @@ module _ (h : Service) where
   abbrev pub change_for : Bool → Result Filters atoms.Error → Option Named → Result Filters message.Failure
   change_for taken read None = Err unknown_monitor
   change_for taken read (Some k) =
-      if not (is_conditional h k.notation) then Err unknown_monitor
+      if not (is_conditional k.notation) then Err unknown_monitor
       else (if taken then Err (failed syntax_error) else filters_for k.shapes read)
 
 -- a change that was read is queued for the session, or refused

@@ -7,7 +7,7 @@ use Rattle.odb_atoms.specs.Row.{Selector, own_uuid, own_version, declared}
 use Rattle.odb_atoms.specs.Value.{Value, value_code}
 use Rattle.odb_cond.specs.Condition.{Function, less, less_or_equal, equal, not_equal, greater_or_equal, greater, includes, excludes, Clause}
 use Rattle.odb_cond.specs.Filter.{Filter, Member, always, when}
-use Rattle.odb_request.specs.Request.{Column, Shape, Select, Request, Notation, update, update2}
+use Rattle.odb_request.specs.Request.{Column, Shape, Select, Request, Notation, is_conditional, update, update2}
 use Rattle.odb_schema.specs.Represented.Codes.{text_code, type_code}
 
 abbrev Text : Type 0
@@ -93,10 +93,6 @@ abbrev pub request_code : Coded Request
 request_code =
     code_by (Shape × (ℕ × (Select × Filter))) (coded× shape_code (coded× coded_ℕ (coded× select_code filter_code)))
     (λ q. (q.shape, (q.place, (q.select, q.filter)))) (λ p. record { shape = p.0; place = p.1.0; select = p.1.1.0; filter = p.1.1.1 }) (λ q. refl)
-
-abbrev is_conditional : Notation → Bool
-is_conditional update = false
-is_conditional update2 = true
 
 abbrev notation_of : Bool → Notation
 notation_of b = cond b update2 update

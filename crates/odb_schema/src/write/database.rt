@@ -62,15 +62,4 @@ impl Schema {
         let value = self.to_value(alloc)?;
         value.to_vec(alloc)
     }
-
-    /// Appends the schema's text to the bytes, as `to_json` writes it. O(n log n) for n bytes that
-    /// are added, and nothing was added.
-    pub fn write_json(&self, alloc: Global, bytes: &mut Vec<u8>) -> Result<(), AllocError>
-        ensures ok { OnOk result (bytes.new.items
-            ≡ bytes.old.items ++ compact_text (model.write_schema self.now)) }
-        ensures err { OnErr result (bytes.new.items ≡ bytes.old.items) }
-    {
-        let text = self.to_json(alloc)?;
-        bytes.extend_from_slice(text.as_slice())
-    }
 }

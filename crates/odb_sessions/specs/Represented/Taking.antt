@@ -4,10 +4,10 @@ use Rattle.odb_monitor.specs.Job.{Job}
 use Rattle.odb_service.specs.Session.{Item}
 use Rattle.odb_sessions.specs.Foreseen.{finished_text, last_used}
 use Rattle.odb_sessions.specs.Jobs.{Keeps, composition_at}
-use Rattle.odb_sessions.specs.Represented.Composed.{sending_under}
+use Rattle.odb_sessions.specs.Represented.Composed.{bytes_in, sending_under}
 use Rattle.odb_sessions.specs.Sending.{Sending, finished}
 use Rattle.odb_sessions.specs.Taken as model
-use Rattle.odb_sessions.specs.Taken.{Pending, composed_text, last_text, no_text}
+use Rattle.odb_sessions.specs.Taken.{Pending, composed_text, last_text, no_text, whole_text}
 use Rattle.odb_sessions.specs.declared.jobs.Planned.{Planned}
 use Rattle.odb_sessions.specs.declared.taking.Coming.{Coming}
 use Rattle.odb_sessions.specs.declared.taking.Coming.TheVariants.{Composed, Queued}
@@ -41,8 +41,27 @@ Comes js c last sending = (all : List Job) → Keeps js all → coming_sending a
 abbrev pub Gives : List Job → Taking → List Item → Option Sending → Type 0
 Gives js t is sending = (all : List Job) → Keeps js all → taking_sending all t is ≡ sending
 
+-- the same, once this is composed of the job
+abbrev pub text_coming : Option Coming → Option (List ℕ) → model.Text
+text_coming None body = no_text
+text_coming (Some Queued) body = last_text
+text_coming (Some (Composed m)) body = text_around m.before.items body m.after.items
+
+-- the text itself, where this is that of the last item that is used up
+abbrev pub text_by : Option Coming → (queued body : Option (List ℕ)) → Option (List ℕ)
+text_by None queued body = None
+text_by (Some Queued) queued body = queued
+text_by (Some (Composed m)) queued body = option_map (λ b. whole_text m.before.items b m.after.items) body
+
 abbrev pub ready_by : List Job → Taking → model.Ready
 ready_by js t = record { items = t.items; monitors = t.monitors; text = text_planned js t.coming }
 
 abbrev pub pending_by : List Job → Planned → Pending
 pending_by js p = (p.session, ready_by js p.taking)
+
+-- the same of one whose job is composed
+abbrev pub ready_of : Planned → model.Ready
+ready_of p = record { items = p.taking.items; monitors = p.taking.monitors; text = text_coming p.taking.coming (bytes_in p.body) }
+
+abbrev pub pending_of : Planned → Pending
+pending_of p = (p.session, ready_of p)

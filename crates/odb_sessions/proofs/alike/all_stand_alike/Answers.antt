@@ -1,7 +1,7 @@
 use Rattle.std.proofs.Common.{rules, ◌≡◌, ◌<◌, false, length, ap, sym, ◌∙◌}
 use mathlib.Core.Bool.{true≢false}
 use Rattle.odb_sessions.specs.Represented.Alike.{stand_in}
-use Rattle.odb_sessions.proofs.Columns.{same_at}
+use Rattle.odb_request.proofs.Shown.{same_at}
 use Rattle.odb_sessions.proofs.alike.all_stand_alike.Goals as goal
 
 pub returns-then-not-stand_alike : goal.returns-then-not-stand_alike

@@ -16,7 +16,7 @@ loop-place-preserved c u r holds =
     let p = get_or ps i 0 in
     let low : i < length ps = search rules in
     let value : cell zero_uuid r (declared p) ≡ c.in_ok-value.value.now = c.in_ok-value.ensures.in_each_match u r holds in
-    let fed : c.feed.new.state ≡ after_value c.loop-place.state c.in_ok-value.value.now = search rules in
+    let fed : c.feed_value.new.state ≡ after_value c.loop-place.state c.in_ok-value.value.now = search rules in
     ap (λ h. after_values h (cells_at (drop (i + 1) ps) r)) (fed ∙ ap (after_value c.loop-place.state) (sym value)) ∙ ap (λ xs. after_values c.loop-place.state (cells_at xs r)) (sym (front_or ps i 0 low)) ∙ c.loop-place.invariant u r holds
 
 pub returns : goal.returns

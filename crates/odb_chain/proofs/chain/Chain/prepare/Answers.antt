@@ -12,18 +12,11 @@ use Rattle.odb_chain.specs.Represented.Places.{IsPast, is_kept, is_place}
 use Rattle.odb_chain.specs.Represented.Chain.{AreApart}
 use Rattle.odb_chain.proofs.Views.{apart}
 use Rattle.odb_chain.proofs.chain.Chain.prepare.Goals as goal
-use Rattle.std.proofs.lemmas.List.{nil_from_length}
 use Rattle.std.proofs.lemmas.Result.{on_ok_weaker}
-use Rattle.odb_atoms.specs.Uuid.{uuid_cmp}
 use Rattle.odb_chain.proofs.Contents.{nothing_named, reached_at, same_content, undone_before}
-use Rattle.odb_tables.proofs.Leading.{Entry}
 
 pub returns-then-is_empty-clause-ok : goal.returns-then-is_empty-clause-ok
-returns-then-is_empty-clause-ok c =
-    let es : List Entry = c.rows.result.now in
-    let none : es ≡ [] = nil_from_length es (search rules) in
-    let empty : c.args.change.now ≡ finite.empty = sym c.rows.ensures.changes ∙ ap (λ (xs : List Entry). finite.from_entries {R = uuid_cmp} xs) none in
-    nothing_named c.args.change.now c.args.self.now empty
+returns-then-is_empty-clause-ok c = nothing_named c.args.change.now c.args.self.now (c.is_empty.ensures.none (search rules))
 
 pub returns-clause-ok : goal.returns-clause-ok
 returns-clause-ok c =

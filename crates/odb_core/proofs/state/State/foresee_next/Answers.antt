@@ -17,11 +17,11 @@ returns-then-not-is_due c =
     let moment : c.self.inside.now ≡ w.now = ap (λ (u : World). u.now) c.self.view_is in
     let off : c.is_due.result ≡ false = search rules in
     let isnt : is_due w.now p.deadline ≡ false = ap (λ (k : ℕ). is_due k p.deadline) (sym moment) ∙ sym c.is_due.ensures ∙ off in
-    IfOk-weaker c.pass_over.result _ _
-    (λ noted left went rest h.
+    let left : new.left ≡ old.left ++ p ∷ [] = search rules in
+    let posts : new.posts.items ≡ old.posts.items = search rules in
+    λ went rest h.
     subst (λ ps. AreDue s w ps rest (map post_of new.posts.items)) (sym left)
-    (subst (λ ps. AreDue s w (old.left ++ p ∷ []) rest (map post_of ps)) (sym c.pass_over.ensures.posts) (not_due s w old.left rest (map post_of old.posts.items) p isnt h)))
-    c.pass_over.ensures.left
+    (subst (λ ps. AreDue s w (old.left ++ p ∷ []) rest (map post_of ps)) (sym posts) (not_due s w old.left rest (map post_of old.posts.items) p isnt h))
 
 pub returns : goal.returns
 returns c =

@@ -6,7 +6,8 @@ use Rattle.odb_atoms.specs.FinMap.{get}
 use Rattle.odb_request.specs.Requests.{read_changes}
 use Rattle.odb_rpc.specs.Represented.Printable.{printable_data}
 use Rattle.odb_service.specs.Server.{served_by}
-use Rattle.odb_service.specs.World.{asked_of, is_conditional, watched}
+use Rattle.odb_request.specs.Request.{is_conditional}
+use Rattle.odb_service.specs.World.{asked_of, watched}
 use Rattle.odb_sessions.specs.Named.{Named, named}
 use Rattle.odb_core.specs.Represented.Monitors.{is_taken}
 use Rattle.odb_core.proofs.AskedMonitors.{goes_by_filters, new_taken, not_conditional, not_found}
@@ -32,7 +33,7 @@ returns-then-not-is_conditional c =
     let k : Named = c.in-Some.monitor in
     let found : Some k ≡ o = search rules in
     let flag : c.is_conditional.result ≡ false = search rules in
-    let plain : is_conditional h k.notation ≡ false = ap (is_conditional h) (sym c.kind.ensures) ∙ sym (c.is_conditional.ensures h) ∙ flag in
+    let plain : is_conditional k.notation ≡ false = ap is_conditional (sym c.kind.ensures) ∙ sym c.is_conditional.ensures ∙ flag in
     not_conditional h (is_taken h old (printable_data c.args.asked.new) x) (read_changes s (view c.args.asked.filters.now)) o k found plain
 
 pub returns-then-branch : goal.returns-then-branch
@@ -46,7 +47,7 @@ returns-then-branch c =
     let k : Named = c.in-Some.monitor in
     let found : Some k ≡ o = search rules in
     let flag : c.is_conditional.result ≡ true = search rules in
-    let conditional : is_conditional h k.notation ≡ true = ap (is_conditional h) (sym c.kind.ensures) ∙ sym (c.is_conditional.ensures h) ∙ flag in
+    let conditional : is_conditional k.notation ≡ true = ap is_conditional (sym c.kind.ensures) ∙ sym c.is_conditional.ensures ∙ flag in
     let taken : is_taken h old new x ≡ true = search rules in
     new_taken h (is_taken h old new x) (read_changes s (view c.args.asked.filters.now)) o k found conditional taken
 
@@ -61,6 +62,6 @@ returns c =
     let k : Named = c.in-Some.monitor in
     let found : Some k ≡ o = search rules in
     let flag : c.is_conditional.result ≡ true = search rules in
-    let conditional : is_conditional h k.notation ≡ true = ap (is_conditional h) (sym c.kind.ensures) ∙ sym (c.is_conditional.ensures h) ∙ flag in
+    let conditional : is_conditional k.notation ≡ true = ap is_conditional (sym c.kind.ensures) ∙ sym c.is_conditional.ensures ∙ flag in
     let free : is_taken h old new x ≡ false = search rules in
     IfOk-weaker c.filters_for.result _ _ (λ r e. e ∙ goes_by_filters h (is_taken h old new x) (read_changes s (view c.args.asked.filters.now)) o k found conditional free) c.filters_for.ensures

@@ -4,7 +4,7 @@ use Rattle.serde_json.specs.Written.{compact_text}
 use Rattle.odb_atoms.specs.Represented.Atom.{uuid_of}
 use Rattle.odb_request.specs.Represented.Kind.{notation_of}
 use Rattle.odb_rpc.specs.Message.{notification}
-use Rattle.odb_rpc.specs.Represented.Shared.{update_method}
+use Rattle.odb_request.specs.Request.{update_method}
 use Rattle.odb_rpc.specs.Since.{update3}
 use Rattle.odb_sessions.specs.Composed.{notified_text}
 use Rattle.odb_sessions.specs.Held.{Held}

@@ -6,7 +6,7 @@ use Rattle.odb_service.specs.Server.{printed, served_by}
 use Rattle.odb_service.specs.World.{World}
 use Rattle.odb_sessions.specs.Book.{Book}
 use Rattle.odb_sessions.specs.Planned.{AreOnce}
-use Rattle.odb_sessions.specs.Represented.Ready.{pending_of}
+use Rattle.odb_sessions.specs.Represented.Taking.{pending_of}
 use Rattle.odb_sessions.specs.Taken.{AreReady, Pending, given_by, sessions_in}
 use Rattle.odb_sessions.proofs.Rounds.{all_given, no_schema}
 use Rattle.odb_sessions.proofs.sessions.Sessions.accept.Goals as goal

@@ -3,9 +3,8 @@ use Rattle.std.specs.Prelude.{vec_capacity, vec_len}
 use Rattle.odb_monitor.specs.Job.{Job}
 use Rattle.odb_sessions.specs.Jobs.{composition}
 use Rattle.odb_sessions.specs.Represented.Composed.{bytes_in}
-use Rattle.odb_sessions.specs.Represented.Ready.{pending_of}
-use Rattle.odb_sessions.specs.Represented.Taking.{pending_by}
-use Rattle.odb_sessions.proofs.jobs.all_ready.Given as goal
+use Rattle.odb_sessions.specs.Represented.Taking.{pending_by, pending_of}
+use Rattle.odb_sessions.proofs.jobs.with_bodies.Given as goal
 
 abbrev pub invariant-loop-taking : goal.invariant-loop-taking
 invariant-loop-taking l =

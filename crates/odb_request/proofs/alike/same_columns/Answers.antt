@@ -1,8 +1,8 @@
 use Rattle.std.proofs.Common.{rules, ◌≡◌, ◌<◌, false, length, sym, ◌∙◌}
 use mathlib.Core.Bool.{true≢false}
 use Rattle.odb_request.specs.Represented.Parts.{monitored_as}
-use Rattle.odb_sessions.proofs.Columns.{same_at}
-use Rattle.odb_sessions.proofs.shapes.same_columns.Goals as goal
+use Rattle.odb_request.proofs.Shown.{same_at}
+use Rattle.odb_request.proofs.alike.same_columns.Goals as goal
 
 pub returns-then-not-same_column : goal.returns-then-not-same_column
 returns-then-not-same_column c =

@@ -1,12 +1,10 @@
 use Rattle.std.proofs.Common.{rules, ◌≡◌, ◌+◌, ◌++◌, ◌≤◌, suc, List, [], ◌∷◌, arith, append-nil, length, map, sym, ap, ◌∙◌}
 use Rattle.std.specs.Prelude.{vec_capacity, vec_len}
 use Rattle.std.proofs.lemmas.List.{nil_from_length}
-use Rattle.odb_sessions.specs.Represented.Ready.{pending_of}
-use Rattle.odb_sessions.specs.Represented.Taking.{pending_by}
+use Rattle.odb_sessions.specs.Represented.Taking.{pending_by, pending_of}
 use Rattle.odb_sessions.specs.declared.jobs.Planned.{Planned}
-use Rattle.odb_sessions.specs.declared.ready.Ready.{Ready}
 use Rattle.odb_sessions.proofs.Pendings.{one_ready}
-use Rattle.odb_sessions.proofs.jobs.all_ready.Goals as goal
+use Rattle.odb_sessions.proofs.jobs.with_bodies.Goals as goal
 
 pub loop-taking-init : goal.loop-taking-init
 loop-taking-init c =
@@ -16,7 +14,7 @@ loop-taking-init c =
     let empty : vec_len c.in_ok-ready.ready ≡ 0 = search rules in
     let long : length c.args.planned.items ≤ vec_capacity c.in_ok-ready.ready = search rules in
     let many : length ps ≡ length c.args.planned.items = ap length all in
-    (λ js same. ap (λ (rs : List Ready). map pending_of rs ++ map (pending_by js) ps) none, omega (arith, empty, long, many))
+    (λ js same. ap (λ (rs : List Planned). map pending_of rs ++ map (pending_by js) ps) none, omega (arith, empty, long, many))
 
 pub push_reserved-requires : goal.push_reserved-requires
 push_reserved-requires c =
@@ -28,7 +26,7 @@ pub loop-taking-preserved : goal.loop-taking-preserved
 loop-taking-preserved c =
     let p : Planned = c.in-Some.taking in
     let ps : List Planned = c.next.new.self.rest.items in
-    let r : Ready = c.in_ok-one.one in
+    let r : Planned = c.in_ok-one.one in
     let steps : c.loop-taking.taking-iterator.rest.items ≡ p ∷ ps = c.in-Some.ensures.steps.0 in
     let grown : c.push_reserved.new.self.items ≡ c.loop-taking.ready.items ++ r ∷ [] = search rules in
     let len : vec_len c.push_reserved.new.self ≡ vec_len c.loop-taking.ready + 1 = search rules in

@@ -1,6 +1,6 @@
 use Rattle.std.proofs.Common.{◌∙◌}
 use Rattle.odb_tables.proofs.Digests.{fed_elements, fed_entries}
-use Rattle.odb_tables.proofs.digest.feed.Goals as goal
+use Rattle.odb_tables.proofs.digest.feed_value.Goals as goal
 
 pub returns-in-Set : goal.returns-in-Set
 returns-in-Set c = c.feed_elements.ensures ∙ fed_elements c.args.state.now c.in-Set.elements c.args.value.now c.in-Set.ensures.listed
