@@ -37,7 +37,7 @@ ServedSchema-send : IsSend (ServedSchema.the_field).row
 ServedSchema-send = served.the_send
 
 State-send : IsSend (State.the_field).row
-State-send = search (Locks-send, book.Sessions-send, WaitingList-send, sendable, heap.crosses) depth 20
+State-send = search (Locks-send, book.Sessions-send, ServedSchema-send, WaitingList-send, sendable, heap.crosses) depth 20
 
 pub Core-send : IsSend (Core.the_field).row
-Core-send = search (State-send, ServedSchema-send, sendable, heap.crosses) depth 20
+Core-send = search (State-send, sendable, heap.crosses) depth 20

@@ -1,5 +1,5 @@
 -- Calls that are over at once.
-use Rattle.std.proofs.Common.{◌≡◌, ℕ, Bool, true, false, List, Option, Some, None, Bor, refl, sym, ◌∙◌, true≢false}
+use Rattle.std.proofs.Common.{◌≡◌, ℕ, Bool, true, false, List, Option, Some, None, Bor, refl, sym, ap, ◌∙◌, true≢false}
 use Rattle.std.specs.Prelude.{option_map, option_to_list}
 use Rattle.odb_atoms.specs.Uuid.{Uuid}
 use Rattle.odb_rpc.specs.Message as message
@@ -11,10 +11,11 @@ use Rattle.odb_rpc.specs.declared.monitor.MonitorCall.{MonitorCall}
 use Rattle.odb_rpc.specs.declared.printable.Printable.{Printable}
 use Rattle.serde_json.specs.declared.value.Value.{Value}
 use Rattle.odb_schema.specs.Json.{Data}
-use Rattle.odb_schema.specs.Schema.{Schema}
-use Rattle.odb_service.specs.Server.{served_by}
-use Rattle.odb_service.specs.World.{World, handle, post}
+use Rattle.odb_service.specs.Server.{Server}
+use Rattle.odb_service.specs.World.{handle, post}
 use Rattle.odb_queue.specs.Represented.Answer.{at_once, said}
+use Rattle.odb_core.specs.Represented.Steps.{by_service, in_world}
+use Rattle.odb_core.proofs.ServerSteps.{placed}
 use Rattle.odb_core.proofs.WorldPosts.{nothing_posted}
 
 abbrev pub is_plain : message.Call → Bool
@@ -30,18 +31,18 @@ is_plain (cancel id) = false
 is_plain passed_over = true
 
 -- it is answered by what it is answered at once, if there is something
-pub plain_as : (s : Schema) (n : ℕ) (d : Data) (fresh : List Uuid) (w v : World) (k : message.Call) → is_plain k ≡ true
-    → ((found : Option Data) → at_once k ≡ Some found → post n (option_to_list (option_map (said d) found)) w ≡ v) → handle (served_by s) n d fresh k w ≡ v
-plain_as s n d fresh w v (answered text) e p = p (Some text) refl
-plain_as s n d fresh w v (transact id ops) e p = absurd (true≢false (sym e))
-plain_as s n d fresh w v (monitor id m i requests since) e p = absurd (true≢false (sym e))
-plain_as s n d fresh w v (change_filters id old new filters) e p = absurd (true≢false (sym e))
-plain_as s n d fresh w v (cancel_monitor id i) e p = absurd (true≢false (sym e))
-plain_as s n d fresh w v (lock id name) e p = absurd (true≢false (sym e))
-plain_as s n d fresh w v (steal id name) e p = absurd (true≢false (sym e))
-plain_as s n d fresh w v (unlock id name) e p = absurd (true≢false (sym e))
-plain_as s n d fresh w v (cancel id) e p = absurd (true≢false (sym e))
-plain_as s n d fresh w v passed_over e p = sym (nothing_posted n w) ∙ p None refl
+pub plain_as : (n : ℕ) (d : Data) (fresh : List Uuid) (w v : Server) (k : message.Call) → is_plain k ≡ true
+    → ((found : Option Data) → at_once k ≡ Some found → in_world (post n (option_to_list (option_map (said d) found))) w ≡ v) → by_service (λ h. handle h n d fresh k) w ≡ v
+plain_as n d fresh w v (answered text) e p = p (Some text) refl
+plain_as n d fresh w v (transact id ops) e p = absurd (true≢false (sym e))
+plain_as n d fresh w v (monitor id m i requests since) e p = absurd (true≢false (sym e))
+plain_as n d fresh w v (change_filters id old new filters) e p = absurd (true≢false (sym e))
+plain_as n d fresh w v (cancel_monitor id i) e p = absurd (true≢false (sym e))
+plain_as n d fresh w v (lock id name) e p = absurd (true≢false (sym e))
+plain_as n d fresh w v (steal id name) e p = absurd (true≢false (sym e))
+plain_as n d fresh w v (unlock id name) e p = absurd (true≢false (sym e))
+plain_as n d fresh w v (cancel id) e p = absurd (true≢false (sym e))
+plain_as n d fresh w v passed_over e p = sym (ap (placed w) (nothing_posted n w.world)) ∙ p None refl
 
 -- what is left beside locks, cancels and transactions
 pub is_left : (db : List ℕ) (schema id : Data) (c : Call)

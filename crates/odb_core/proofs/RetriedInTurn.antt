@@ -4,16 +4,17 @@ use Rattle.std.proofs.lemmas.List.{append-nil}
 use Rattle.std.proofs.lemmas.Option.{none-some, same_Some}
 use Rattle.std.specs.Cmp.{unsigned_Decides}
 use Rattle.std.specs.Prelude.{option_to_list}
-use Rattle.odb_schema.specs.Schema.{Schema}
 use Rattle.odb_service.proofs.Each.{none_passes}
 use Rattle.odb_service.proofs.Retried.{retried_next}
-use Rattle.odb_service.specs.Server.{served_by}
+use Rattle.odb_service.specs.Server.{Server, served_by}
 use Rattle.odb_service.specs.Service.{Outcome, Service, ended, waiting}
-use Rattle.odb_service.specs.World.{Waiting, World, attempt, is_untried, on_outcome, retry_all, split_first, try_one, untried, with_waiting}
+use Rattle.odb_service.specs.World.{Waiting, World, attempt, is_untried, on_outcome, retry_all, split_first, try_one, untried}
 use Rattle.odb_core.specs.Represented.Retrying.{IsRetrying}
+use Rattle.odb_core.specs.Represented.Steps.{by_service, let_wait, try_behind}
 use Rattle.odb_core.proofs.ClosedSessions.{none_pushed}
 use Rattle.odb_core.proofs.HandledRequests.{attempt_waiting, tries_beside}
 use Rattle.odb_core.proofs.RetriedOnce.{first_of, none_untried}
+use Rattle.odb_core.proofs.ServerSteps.{placed}
 
 abbrev Split : Type 0
 Split = List Waiting × Waiting × List Waiting
@@ -35,78 +36,81 @@ again h p (waiting deadline) w v q e =
     let same : record p { deadline = deadline; tried = w.commits } ≡ q = same_Some _ q (ap (λ (t : Tried). t.1) e) in
     (sym (ap (λ (t : Tried). t.0) e), subst (λ x. is_untried w.commits x ≡ false) same (none_untried w.commits p deadline))
 
-module _ (s : Schema) (old w : World) (n : ℕ) (p : Waiting) (rest : List Waiting) (h : IsRetrying s old w n (p ∷ rest)) where
-  abbrev kept : List Waiting
-  kept = w.waiting ++ p ∷ []
+module _ (old now : Server) (n : ℕ) (p : Waiting) (rest : List Waiting) (h : IsRetrying old now n (p ∷ rest)) where
+  abbrev k : Service
+  k = served_by now.schema
+
+  abbrev w : World
+  w = now.world
 
   -- one that isn't tried goes after the others
-  pub passed_over : (w.commits ≡ n → is_untried n p ≡ false) → IsRetrying s old (record w { waiting = kept }) n rest
+  pub passed_over : (w.commits ≡ n → is_untried n p ≡ false) → IsRetrying old (let_wait (w.waiting ++ p ∷ []) now) n rest
   passed_over isnt =
-      let long : length kept ≡ length w.waiting + 1 = length-append w.waiting (p ∷ []) in
-      let few : bit (w.commits == n) + length w.waiting + suc (length rest) ≤ length old.waiting = h.fewer in
+      let long : length (w.waiting ++ p ∷ []) ≡ length w.waiting + 1 = length-append w.waiting (p ∷ []) in
+      let few : bit (w.commits == n) + length w.waiting + suc (length rest) ≤ length old.world.waiting = h.fewer in
       record {
-        same = h.same ∙ ap (λ ps. retry_all (served_by s) (record w { waiting = ps })) (sym (append_assoc w.waiting (p ∷ []) rest));
+        same = h.same ∙ ap (λ ps. by_service retry_all (let_wait ps now)) (sym (append_assoc w.waiting (p ∷ []) rest));
         tried = λ e. none_pushed (is_untried n) w.waiting p (h.tried e) (isnt e);
         fewer = omega (arith, long, few);
       }
 
-  module _ (now : w.commits ≡ n) (is : is_untried n p ≡ true) where
+  module _ (count : w.commits ≡ n) (is : is_untried n p ≡ true) where
     abbrev all : World
     all = record w { waiting = w.waiting ++ p ∷ rest }
 
     abbrev here : Split
     here = (w.waiting, p, rest)
 
-    next : retry_all (served_by s) old ≡ retry_all (served_by s) (try_one (served_by s) here all)
+    next : by_service retry_all old ≡ placed now (retry_all k (try_one k here all))
     next =
-        let first : untried (served_by s) all ≡ Some here =
-        ap (λ c. split_first (is_untried c) (w.waiting ++ p ∷ rest)) now ∙ first_of (is_untried n) w.waiting p rest (none_passes (is_untried n) w.waiting (h.tried now)) is
+        let first : untried k all ≡ Some here =
+        ap (λ c. split_first (is_untried c) (w.waiting ++ p ∷ rest)) count ∙ first_of (is_untried n) w.waiting p rest (none_passes (is_untried n) w.waiting (h.tried count)) is
         in
-        h.same ∙ retried_next (served_by s) all here first
+        h.same ∙ ap (placed now) (retried_next k all here first)
 
     -- what a try comes to
-    came_to : (v : World) (o : Option Waiting) → attempt (served_by s) p w ≡ (v, o) → try_one (served_by s) here all ≡ record v { waiting = w.waiting ++ option_to_list o ++ rest }
-    came_to v o e = tries_beside (served_by s) all w.waiting here v o e
+    came_to : (v : World) (o : Option Waiting) → attempt k p w ≡ (v, o) → try_one k here all ≡ record v { waiting = w.waiting ++ option_to_list o ++ rest }
+    came_to v o e = tries_beside k all w.waiting here v o e
 
-    pub ended_in_turn : (v : World) → attempt (served_by s) p w ≡ (v, None) → IsRetrying s old v n rest
+    pub ended_in_turn : (v : World) → attempt k p w ≡ (v, None) → IsRetrying old (placed now v) n rest
     ended_in_turn v e =
-        let left : v.waiting ≡ w.waiting = attempt_waiting (served_by s) p w v None e in
-        let few : bit (w.commits == n) + length w.waiting + suc (length rest) ≤ length old.waiting = h.fewer in
+        let left : v.waiting ≡ w.waiting = attempt_waiting k p w v None e in
+        let few : bit (w.commits == n) + length w.waiting + suc (length rest) ≤ length old.world.waiting = h.fewer in
         let long : length v.waiting ≡ length w.waiting = ap length left in
         let small : bit (v.commits == n) ≤ 1 = bit_small (v.commits == n) in
         record {
-          same = next ∙ ap (retry_all (served_by s)) (came_to v None e ∙ ap (λ ps. record v { waiting = ps }) (ap (λ ps. ps ++ rest) (append-nil w.waiting ∙ sym left)));
-          tried = λ _. ap (split_first (is_untried n)) left ∙ h.tried now;
+          same = next ∙ ap (λ (u : World). placed now (retry_all k u)) (came_to v None e ∙ ap (λ ps. record v { waiting = ps }) (ap (λ ps. ps ++ rest) (append-nil w.waiting ∙ sym left)));
+          tried = λ _. ap (split_first (is_untried n)) left ∙ h.tried count;
           fewer = omega (arith, few, long, small);
         }
 
-    pub waits_in_turn : (v : World) (q : Waiting) → attempt (served_by s) p w ≡ (v, Some q) → IsRetrying s old (record v { waiting = v.waiting ++ q ∷ [] }) n rest
+    pub waits_in_turn : (v : World) (q : Waiting) → attempt k p w ≡ (v, Some q) → IsRetrying old (let_wait (v.waiting ++ q ∷ []) (placed now v)) n rest
     waits_in_turn v q e =
-        let found : (v ≡ w) × (is_untried w.commits q ≡ false) = again (served_by s) p _ w v q e in
+        let found : (v ≡ w) × (is_untried w.commits q ≡ false) = again k p _ w v q e in
         let left : v.waiting ≡ w.waiting = ap (λ (u : World). u.waiting) found.0 in
-        let few : bit (w.commits == n) + length w.waiting + suc (length rest) ≤ length old.waiting = h.fewer in
+        let few : bit (w.commits == n) + length w.waiting + suc (length rest) ≤ length old.world.waiting = h.fewer in
         let long : length (v.waiting ++ q ∷ []) ≡ length w.waiting + 1 = length-append v.waiting (q ∷ []) ∙ ap (λ ps. length ps + 1) left in
-        let count : bit (v.commits == n) ≡ bit (w.commits == n) = ap (λ (u : World). bit (u.commits == n)) found.0 in
+        let same : bit (v.commits == n) ≡ bit (w.commits == n) = ap (λ (u : World). bit (u.commits == n)) found.0 in
         record {
-          same = next ∙ ap (retry_all (served_by s)) (came_to v (Some q) e ∙ ap (λ ps. record v { waiting = (ps ++ q ∷ []) ++ rest }) (sym left));
-          tried = λ _. none_pushed (is_untried n) v.waiting q (ap (split_first (is_untried n)) left ∙ h.tried now) (ap (λ c. is_untried c q) (sym now) ∙ found.1);
-          fewer = omega (arith, few, long, count);
+          same = next ∙ ap (λ (u : World). placed now (retry_all k u)) (came_to v (Some q) e ∙ ap (λ ps. record v { waiting = (ps ++ q ∷ []) ++ rest }) (sym left));
+          tried = λ _. none_pushed (is_untried n) v.waiting q (ap (split_first (is_untried n)) left ∙ h.tried count) (ap (λ c. is_untried c q) (sym count) ∙ found.1);
+          fewer = omega (arith, few, long, same);
         }
 
     -- one that is tried, whatever it comes to
-    pub tried_in_turn : (v : World) → with_waiting (served_by s) (λ ps o. ps ++ option_to_list o) w.waiting (attempt (served_by s) p w) ≡ v → IsRetrying s old v n rest
-    tried_in_turn v e = subst (λ u. IsRetrying s old u n rest) e (by (attempt (served_by s) p w) refl)
+    pub tried_in_turn : IsRetrying old (by_service (try_behind p) now) n rest
+    tried_in_turn = by (attempt k p w) refl
       where
-        by : (r : Tried) → attempt (served_by s) p w ≡ r → IsRetrying s old (record (r.0) { waiting = w.waiting ++ option_to_list r.1 }) n rest
+        by : (r : Tried) → attempt k p w ≡ r → IsRetrying old (placed now (record (r.0) { waiting = w.waiting ++ option_to_list r.1 })) n rest
         by (u, None) is =
-            subst (λ ps. IsRetrying s old (record u { waiting = ps }) n rest) (attempt_waiting (served_by s) p w u None is ∙ sym (append-nil w.waiting)) (ended_in_turn u is)
+            subst (λ ps. IsRetrying old (let_wait ps (placed now u)) n rest) (attempt_waiting k p w u None is ∙ sym (append-nil w.waiting)) (ended_in_turn u is)
         by (u, Some q) is =
-            subst (λ ps. IsRetrying s old (record u { waiting = ps ++ q ∷ [] }) n rest) (attempt_waiting (served_by s) p w u (Some q) is) (waits_in_turn u q is)
+            subst (λ ps. IsRetrying old (let_wait (ps ++ q ∷ []) (placed now u)) n rest) (attempt_waiting k p w u (Some q) is) (waits_in_turn u q is)
 
 -- a retrying begins with none looked at
-pub begins_in_turn : (s : Schema) (w : World) → IsRetrying s w (record w { waiting = [] }) w.commits w.waiting
-begins_in_turn s w =
-    let count : bit (w.commits == w.commits) ≡ 0 = ap bit (same_number w.commits) in
+pub begins_in_turn : (v : Server) → IsRetrying v (let_wait [] v) v.world.commits v.world.waiting
+begins_in_turn v =
+    let count : bit (v.world.commits == v.world.commits) ≡ 0 = ap bit (same_number v.world.commits) in
     record {
       same = refl;
       tried = λ _. refl;
@@ -117,8 +121,8 @@ begins_in_turn s w =
     same_number n = (unsigned_Decides n n).1 refl
 
 -- and ends with nothing left
-pub ends_in_turn : (s : Schema) (old now : World) (n : ℕ) (rest : List Waiting) → rest ≡ [] → IsRetrying s old now n rest → retry_all (served_by s) old ≡ retry_all (served_by s) now
-ends_in_turn s old now n rest none h = h.same ∙ ap (λ ps. retry_all (served_by s) (record now { waiting = now.waiting ++ ps })) none ∙ ap (λ ps. retry_all (served_by s) (record now { waiting = ps })) (append-nil now.waiting)
+pub ends_in_turn : (old now : Server) (n : ℕ) (rest : List Waiting) → rest ≡ [] → IsRetrying old now n rest → by_service retry_all old ≡ by_service retry_all now
+ends_in_turn old now n rest none h = h.same ∙ ap (λ ps. by_service retry_all (let_wait (now.world.waiting ++ ps) now)) none ∙ ap (λ ps. by_service retry_all (let_wait ps now)) (append-nil now.world.waiting)
 
 pub changed_is : (a b : ℕ) → not (a == b) ≡ false → (a == b) ≡ true
 changed_is a b e = by (a == b) e
@@ -142,9 +146,9 @@ abbrev pub one_if : Bool → ℕ
 one_if b = cond b 1 0
 
 -- where one changed the database, fewer are left
-pub fewer_left : (s : Schema) (old now : World) (n k : ℕ) (rest : List Waiting) → k ≡ now.commits → IsRetrying s old now n rest → one_if (not (k == n)) + length now.waiting ≤ length old.waiting
-fewer_left s old now n k rest e h = by (k == n) (subst (λ m. bit (m == n) + length now.waiting + length rest ≤ length old.waiting) (sym e) h.fewer)
+pub fewer_left : (old now : Server) (n k : ℕ) (rest : List Waiting) → k ≡ now.world.commits → IsRetrying old now n rest → one_if (not (k == n)) + length now.world.waiting ≤ length old.world.waiting
+fewer_left old now n k rest e h = by (k == n) (subst (λ m. bit (m == n) + length now.world.waiting + length rest ≤ length old.world.waiting) (sym e) h.fewer)
   where
-    by : (b : Bool) → bit b + length now.waiting + length rest ≤ length old.waiting → one_if (not b) + length now.waiting ≤ length old.waiting
+    by : (b : Bool) → bit b + length now.world.waiting + length rest ≤ length old.world.waiting → one_if (not b) + length now.world.waiting ≤ length old.world.waiting
     by true few = omega (arith, few)
     by false few = omega (arith, few)

@@ -11,3 +11,4 @@ pub mod Spared
 pub mod Counts
 pub mod Retrying
 pub mod Due
+pub mod Steps

@@ -9,9 +9,7 @@ ghost use Rattle.odb_commit.specs.Sound.{IsSound};
 ghost use Rattle.odb_integrity.specs.Settled.{IsSettled};
 ghost use Rattle.odb_queue.specs.Represented.Post.{post_of};
 ghost use Rattle.odb_rpc.specs.Message.{operations_of};
-ghost use Rattle.odb_service.specs.Service.{Service};
 ghost use Rattle.odb_service.specs.World as model;
-ghost use Rattle.odb_service.specs.World.{untried};
 ghost use Rattle.odb_tables.specs.Change.{all_changed_by, changed_by};
 ghost use Rattle.odb_tables.specs.Database.{table_at};
 ghost use Rattle.odb_tables.specs.Installing.{IsChangeOf};
@@ -20,6 +18,7 @@ ghost use Rattle.odb_wire.specs.Shown.{request_data};
 ghost use Rattle.odb_core.specs.declared.foreseen.Forecast.TheVariants as forecast;
 ghost use Rattle.odb_core.specs.Represented.Spared.{AreOwnSpared, AreSpared, IsOwnSpared, IsSpared};
 ghost use Rattle.odb_core.specs.Represented.Due.{after_due, AreDue, IsDueForeseen};
+ghost use Rattle.odb_core.specs.Represented.Steps.{AreTried, by_service, in_world};
 ghost use Rattle.odb_core.specs.Represented.Foreseen.{committed, is_reading, over, standing, with_side, with_sides, IsForeseen, IsPrintable, Notes, Tells, TellsRead};
 
 use crate::state::{MAX_ROWS, State, changes_rows};
@@ -138,20 +137,16 @@ impl State {
     /// What becomes of those that wait where the change is the next commit; `None` where one of them may change
     /// the database. For each: what its operations cost, O(tables), a copy of the rows of the change, and
     /// O(columns of the schema) where it ends.
-    pub(crate) fn foresee(
-        &self,
-        schema: &Schema,
-        change: &ChangeSet,
-    ) -> Result<Option<Foreseen>, AllocError>
-        requires change { IsChangeOf self.now.db change.now }
-        requires sound { IsSound schema.now (all_changed_by self.now.db change.now) }
-        requires tried { (h : Service) → untried h self.now ≡ None }
-        ensures { IfOk result (λ found. IfSome found (λ f. IsForeseen schema.now (committed change.now self.entry.now) f.left (map post_of f.posts.items))) }
+    pub(crate) fn foresee(&self, change: &ChangeSet) -> Result<Option<Foreseen>, AllocError>
+        requires change { IsChangeOf self.now.world.db change.now }
+        requires sound { IsSound self.now.schema (all_changed_by self.now.world.db change.now) }
+        requires tried { AreTried self.now }
+        ensures { IfOk result (λ found. IfSome found (λ f. IsForeseen self.entry.now.schema (committed change.now self.entry.now.world) f.left (map post_of f.posts.items))) }
     {
         let commits = self.sessions.commits().checked_add(1).ok_or(AllocError)?;
         let mut foreseen = Foreseen::new(self.alloc);
         for waiting in self.waiting.as_slice() {
-            let forecast = self.forecast(schema, change, waiting.submitted())?;
+            let forecast = self.forecast(change, waiting.submitted())?;
             if !foreseen.note(self.alloc, waiting, forecast, commits)? {
                 return Ok(None);
             }
@@ -160,15 +155,10 @@ impl State {
     }
 
     /// The forecast of a transaction where the change is the next commit.
-    fn forecast(
-        &self,
-        schema: &Schema,
-        change: &ChangeSet,
-        asked: &Submitted,
-    ) -> Result<Forecast, AllocError>
-        requires change { IsChangeOf self.now.db change.now }
-        requires sound { IsSound schema.now (all_changed_by self.now.db change.now) }
-        ensures { IfOk result (λ forecast. Tells schema.now (committed change.now self.entry.now) asked.now forecast) }
+    fn forecast(&self, change: &ChangeSet, asked: &Submitted) -> Result<Forecast, AllocError>
+        requires change { IsChangeOf self.now.world.db change.now }
+        requires sound { IsSound self.now.schema (all_changed_by self.now.world.db change.now) }
+        ensures { IfOk result (λ forecast. Tells self.entry.now.schema (committed change.now self.entry.now.world) asked.now forecast) }
     {
         let mut draft = Draft::new(self.alloc, self.sessions.db())?;
         put_change(self.alloc, &mut draft, change)?;
@@ -181,23 +171,18 @@ impl State {
         if is_one_own_removed(&draft, asked.operations()) {
             return Ok(Forecast::Nothing);
         }
-        self.forecast_on(schema, &mut draft, asked)
+        self.forecast_on(&mut draft, asked)
     }
 
     /// The forecast of a transaction on the database as a draft has it.
-    fn forecast_on(
-        &self,
-        schema: &Schema,
-        draft: &mut Draft<'_>,
-        asked: &Submitted,
-    ) -> Result<Forecast, AllocError>
-        requires typed { IsTyped schema.now draft.old.now }
-        requires settled { IsSettled schema.now draft.old.now }
+    fn forecast_on(&self, draft: &mut Draft<'_>, asked: &Submitted) -> Result<Forecast, AllocError>
+        requires typed { IsTyped self.now.schema draft.old.now }
+        requires settled { IsSettled self.now.schema draft.old.now }
         requires long { length draft.old.removed ≡ length draft.old.now }
         requires zero { IsSpared draft.old.removed zero_uuid }
         requires fresh { AreSpared draft.old.removed (map uuid_of asked.now.fresh.items) }
         requires own { AreOwnSpared draft.old.removed (operations_of (request_data asked.now.request)) }
-        ensures { IfOk result (λ forecast. (n : ℕ) → Tells schema.now (over draft.old.now n self.entry.now) asked.now forecast) }
+        ensures { IfOk result (λ forecast. (n : ℕ) → Tells self.entry.now.schema (over draft.old.now n self.entry.now.world) asked.now forecast) }
     {
         let owned = self.locks.owned(self.alloc, asked.session)?;
         let context = Context {
@@ -206,6 +191,7 @@ impl State {
             now: self.now,
             owned: owned.as_slice(),
         };
+        let schema = self.served.schema();
         match run(self.alloc, draft, schema, asked.operations(), &context)? {
             Ran::Finished(results) => Ok(forecast_read(draft, schema, asked, results)),
             Ran::Failed(results) => Ok(Forecast::Ends { results }),
@@ -216,23 +202,21 @@ impl State {
     /// Tries each transaction whose deadline has come, in order of arrival, and then all that wait where one of these
     /// changed the database. O(waiting), and what the tries cost; everything is copied where one of them may change the
     /// database, and else nothing.
-    pub(crate) fn end_due(&mut self, schema: &Schema) -> Result<(), AllocError>
-        requires sound { IsSound schema.now self.old.db }
-        requires tried { (h : Service) → untried h self.old ≡ None }
-        ensures ok { OnOk result (after_due schema.now self.old ≡ self.new) }
-        ensures sound { IsSound schema.now self.new.db }
-        ensures tried { (h : Service) → untried h self.new ≡ None }
+    pub(crate) fn end_due(&mut self) -> Result<(), AllocError>
+        requires tried { AreTried self.old }
+        ensures ok { OnOk result (by_service after_due self.old ≡ self.new) }
+        ensures tried { AreTried self.new }
         ensures err { OnErr result (self.new ≡ self.old) }
     {
-        match self.foresee_due(schema)? {
+        match self.foresee_due()? {
             Some(foreseen) => self.end_foreseen(foreseen),
-            None => self.end_on_copy(schema),
+            None => self.end_on_copy(),
         }
     }
 
     /// Lets come what was foreseen.
     fn end_foreseen(&mut self, foreseen: Foreseen) -> Result<(), AllocError>
-        ensures ok { OnOk result (self.new ≡ standing foreseen.left (map post_of foreseen.posts.items) self.old.sessions self.old) }
+        ensures ok { OnOk result (self.new ≡ in_world (λ w. standing foreseen.left (map post_of foreseen.posts.items) w.sessions w) self.old) }
         ensures err { OnErr result (self.new ≡ self.old) }
     {
         let Foreseen { left, posts } = foreseen;
@@ -241,32 +225,29 @@ impl State {
         Ok(())
     }
 
-    /// Tries them on a copy of all. O(rows + bytes queued), and what the tries cost.
-    fn end_on_copy(&mut self, schema: &Schema) -> Result<(), AllocError>
-        requires sound { IsSound schema.now self.old.db }
-        requires tried { (h : Service) → untried h self.old ≡ None }
-        ensures ok { OnOk result (after_due schema.now self.old ≡ self.new) }
-        ensures sound { IsSound schema.now self.new.db }
-        ensures tried { (h : Service) → untried h self.new ≡ None }
+    /// Tries them on a copy of all. O(rows + bytes queued + bytes of the schema), and what the tries cost.
+    fn end_on_copy(&mut self) -> Result<(), AllocError>
+        requires tried { AreTried self.old }
+        ensures ok { OnOk result (by_service after_due self.old ≡ self.new) }
+        ensures tried { AreTried self.new }
         ensures err { OnErr result (self.new ≡ self.old) }
     {
         let mut copy = self.try_copy()?;
-        copy.try_due(schema)?;
-        copy.retry_all(schema)?;
+        copy.try_due()?;
+        copy.retry_all()?;
         *self = copy;
         Ok(())
     }
 
     /// What becomes of all that wait where those are tried whose deadline has come; `None` where one of these may
     /// change the database.
-    fn foresee_due(&self, schema: &Schema) -> Result<Option<Foreseen>, AllocError>
-        requires sound { IsSound schema.now self.now.db }
-        requires tried { (h : Service) → untried h self.now ≡ None }
-        ensures { IfOk result (λ found. IfSome found (λ f. IsDueForeseen schema.now self.entry.now f.left (map post_of f.posts.items))) }
+    fn foresee_due(&self) -> Result<Option<Foreseen>, AllocError>
+        requires tried { AreTried self.now }
+        ensures { IfOk result (λ found. IfSome found (λ f. IsDueForeseen self.entry.now.schema self.entry.now.world f.left (map post_of f.posts.items))) }
     {
         let mut foreseen = Foreseen::new(self.alloc);
         for waiting in self.waiting.as_slice() {
-            if !self.foresee_next(schema, &mut foreseen, waiting)? {
+            if !self.foresee_next(&mut foreseen, waiting)? {
                 return Ok(None);
             }
         }
@@ -274,31 +255,24 @@ impl State {
     }
 
     /// Adds what becomes of one more; `false` where it may change the database.
-    fn foresee_next(
-        &self,
-        schema: &Schema,
-        foreseen: &mut Foreseen,
-        waiting: &Waiting,
-    ) -> Result<bool, AllocError>
-        requires { IsSound schema.now self.now.db }
+    fn foresee_next(&self, foreseen: &mut Foreseen, waiting: &Waiting) -> Result<bool, AllocError>
         ensures { IfOk result (λ noted. noted ≡ true → (rest : List model.Waiting)
-            → AreDue schema.now self.entry.now foreseen.old.left (waiting.now ∷ rest) (map post_of foreseen.old.posts.items)
-            → AreDue schema.now self.entry.now foreseen.new.left rest (map post_of foreseen.new.posts.items)) }
+            → AreDue self.entry.now.schema self.entry.now.world foreseen.old.left (waiting.now ∷ rest) (map post_of foreseen.old.posts.items)
+            → AreDue self.entry.now.schema self.entry.now.world foreseen.new.left rest (map post_of foreseen.new.posts.items)) }
     {
         if !waiting.is_due(self.now) {
             foreseen.pass_over(waiting)?;
             return Ok(true);
         }
-        let forecast = self.forecast_now(schema, waiting.submitted())?;
+        let forecast = self.forecast_now(waiting.submitted())?;
         foreseen.note(self.alloc, waiting, forecast, self.sessions.commits())
     }
 
     /// The forecast of a transaction as the database is.
-    fn forecast_now(&self, schema: &Schema, asked: &Submitted) -> Result<Forecast, AllocError>
-        requires { IsSound schema.now self.now.db }
-        ensures { IfOk result (λ forecast. Tells schema.now self.entry.now asked.now forecast) }
+    fn forecast_now(&self, asked: &Submitted) -> Result<Forecast, AllocError>
+        ensures { IfOk result (λ forecast. Tells self.entry.now.schema self.entry.now.world asked.now forecast) }
     {
-        match self.outcome(schema, asked)? {
+        match self.outcome(asked)? {
             Outcome::Done { results, change } => {
                 if changes_rows(&change) {
                     return Ok(Forecast::Nothing);

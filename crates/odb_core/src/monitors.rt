@@ -9,7 +9,6 @@ ghost use Rattle.serde_json.specs.View.{view};
 ghost use Rattle.odb_atoms.specs.FinMap.{get};
 ghost use Rattle.odb_atoms.specs.Uuid as identifiers;
 ghost use Rattle.odb_atoms.specs.Uuid.{uuid_from};
-ghost use Rattle.odb_commit.specs.Sound.{IsSound};
 ghost use Rattle.odb_request.specs.Represented.Change as requested;
 ghost use Rattle.odb_request.specs.Represented.Kind.{notation_of};
 ghost use Rattle.odb_request.specs.Represented.Shape.{table_name};
@@ -30,6 +29,7 @@ ghost use Rattle.odb_wire.specs.Message.{has_left_out, id_of};
 ghost use Rattle.odb_wire.specs.Shown.{request_data};
 ghost use Rattle.odb_core.specs.Represented.Monitors.{change_for, changed_by};
 ghost use Rattle.odb_core.specs.Represented.Monitors.{filters_as, filters_for, is_taken, requests_as};
+ghost use Rattle.odb_core.specs.Represented.Steps.{OnlySessions, by_service, in_world};
 
 use crate::state::State;
 use odb_locks::SessionId;
@@ -48,21 +48,19 @@ impl State {
     /// Carries a call about monitors out.
     pub(crate) fn monitor(
         &mut self,
-        served: &ServedSchema,
         session: SessionId,
         request: &Request,
         call: MonitorCall<'_>,
     ) -> Result<(), AllocError>
         requires own { has_left_out (id_of (request_data request.now)) ≡ false }
-        requires sound { IsSound served.now self.old.db }
         ensures ok { OnOk result ((id : Data) (fresh : List identifiers.Uuid)
-            → handle (served_by served.now) session (request_data request.now) fresh (monitor_called id call.entry) self.old ≡ self.new) }
-        ensures rest { self.new ≡ record (self.old) { sessions = self.new.sessions } }
+            → by_service (λ h. handle h session (request_data request.now) fresh (monitor_called id call.entry)) self.old ≡ self.new) }
+        ensures rest { OnlySessions self.old self.new }
         ensures err { OnErr result (self.new ≡ self.old) }
     {
         match call {
-            MonitorCall::Start(asked) => self.start_monitor(served, session, request, asked),
-            MonitorCall::Change(asked) => self.change_monitor(served, session, request, asked),
+            MonitorCall::Start(asked) => self.start_monitor(session, request, asked),
+            MonitorCall::Change(asked) => self.change_monitor(session, request, asked),
             MonitorCall::Cancel(id) => self.cancel_monitor(session, request, id),
         }
     }
@@ -72,22 +70,20 @@ impl State {
     /// `odb_sessions::Sessions::start` do, and O(monitors + items queued) for the session's.
     fn start_monitor(
         &mut self,
-        served: &ServedSchema,
         session: SessionId,
         request: &Request,
         asked: MonitorStart<'_>,
     ) -> Result<(), AllocError>
         requires own { has_left_out (id_of (request_data request.now)) ≡ false }
-        requires sound { IsSound served.now self.old.db }
-        ensures ok { OnOk result (on_monitor (served_by served.now) session (request_data request.now)
-            (notation_of asked.entry.kind) (printable_data asked.entry.id) (option_map uuid_from asked.entry.since) (view asked.entry.requests.now) self.old ≡ self.new) }
-        ensures rest { self.new ≡ record (self.old) { sessions = self.new.sessions } }
+        ensures ok { OnOk result (by_service (λ h. on_monitor h session (request_data request.now)
+            (notation_of asked.entry.kind) (printable_data asked.entry.id) (option_map uuid_from asked.entry.since) (view asked.entry.requests.now)) self.old ≡ self.new) }
+        ensures rest { OnlySessions self.old self.new }
         ensures err { OnErr result (self.new ≡ self.old) }
     {
         if self.is_used(session, asked.id)? {
             return self.fail(session, request, Failure::Failed(Error::SyntaxError));
         }
-        match requests_of(self.alloc, served, asked)? {
+        match requests_of(self.alloc, &self.served, asked)? {
             Ok(requests) => self.begin(session, request, asked, requests),
             Err(why) => self.fail(session, request, Failure::Failed(why)),
         }
@@ -96,7 +92,7 @@ impl State {
     /// Whether the session has a monitor of this id as asked.
     fn is_used(&self, session: SessionId, id: Printable<'_>) -> Result<bool, AllocError>
         ensures { IfOk result (λ used. (schema : model.Schema)
-            → used ≡ is_some (watched (served_by schema) (printable_data id.entry) (asked_of (served_by schema) (get self.entry.now.sessions session)))) }
+            → used ≡ is_some (watched (served_by schema) (printable_data id.entry) (asked_of (served_by schema) (get self.entry.now.world.sessions session)))) }
     {
         let id = Id::new(self.alloc, id)?;
         self.sessions.asked(session, &id)
@@ -111,15 +107,15 @@ impl State {
         requests: Vec<monitored::Request>,
     ) -> Result<(), AllocError>
         requires own { has_left_out (id_of (request_data request.now)) ≡ false }
-        requires tables { AreOfTables self.old.db requests.items }
+        requires tables { AreOfTables self.old.world.db requests.items }
         requires apart { AreApart requests.items }
-        ensures ok { OnOk result (post session (start (request_data request.now) (record {
+        ensures ok { OnOk result (in_world (post session (start (request_data request.now) (record {
           id = printable_data asked.entry.id;
           notation = notation_of asked.entry.kind;
           requests = requests.items;
           since = option_map uuid_from asked.entry.since;
-        }) ∷ []) self.old ≡ self.new) }
-        ensures rest { self.new ≡ record (self.old) { sessions = self.new.sessions } }
+        }) ∷ [])) self.old ≡ self.new) }
+        ensures rest { OnlySessions self.old self.new }
         ensures err { OnErr result (self.new ≡ self.old) }
     {
         let starting = Starting::new(self.alloc, request, asked, requests)?;
@@ -136,9 +132,9 @@ impl State {
         id: Printable<'_>,
     ) -> Result<(), AllocError>
         requires { has_left_out (id_of (request_data request.now)) ≡ false }
-        ensures ok { OnOk result ((schema : model.Schema) → on_cancel_monitor (served_by schema) session (request_data request.now) (printable_data id.entry)
-            (watched (served_by schema) (printable_data id.entry) (asked_of (served_by schema) (get self.old.sessions session))) self.old ≡ self.new) }
-        ensures rest { self.new ≡ record (self.old) { sessions = self.new.sessions } }
+        ensures ok { OnOk result (by_service (λ h w. on_cancel_monitor h session (request_data request.now) (printable_data id.entry)
+            (watched h (printable_data id.entry) (asked_of h (get w.sessions session))) w) self.old ≡ self.new) }
+        ensures rest { OnlySessions self.old self.new }
         ensures err { OnErr result (self.new ≡ self.old) }
     {
         if !self.is_used(session, id)? {
@@ -152,19 +148,18 @@ impl State {
     /// `odb_request::read_changes`, and O(monitors + items queued) for the session's.
     fn change_monitor(
         &mut self,
-        served: &ServedSchema,
         session: SessionId,
         request: &Request,
         asked: MonitorChange<'_>,
     ) -> Result<(), AllocError>
         requires { has_left_out (id_of (request_data request.now)) ≡ false }
-        ensures ok { OnOk result (change_of (served_by served.now) session (request_data request.now)
+        ensures ok { OnOk result (by_service (λ h w. change_of h session (request_data request.now)
             (printable_data asked.entry.old) (printable_data asked.entry.new) (view asked.entry.filters.now)
-            (watched (served_by served.now) (printable_data asked.entry.old) (asked_of (served_by served.now) (get self.old.sessions session))) self.old ≡ self.new) }
-        ensures rest { self.new ≡ record (self.old) { sessions = self.new.sessions } }
+            (watched h (printable_data asked.entry.old) (asked_of h (get w.sessions session))) w) self.old ≡ self.new) }
+        ensures rest { OnlySessions self.old self.new }
         ensures err { OnErr result (self.new ≡ self.old) }
     {
-        match self.read_change(served, session, asked)? {
+        match self.read_change(session, asked)? {
             Ok(changes) => self.shift(session, request, asked, changes),
             Err(why) => self.fail(session, request, why),
         }
@@ -175,14 +170,13 @@ impl State {
     /// table that isn't the monitor's (`syntax error`).
     fn read_change(
         &self,
-        served: &ServedSchema,
         session: SessionId,
         asked: MonitorChange<'_>,
     ) -> Result<Result<Changes, Failure>, AllocError>
-        ensures { IfOk result (λ read. filters_as read ≡ change_for (served_by served.now)
-            (is_taken (served_by served.now) (printable_data asked.entry.old) (printable_data asked.entry.new) (get self.entry.now.sessions session))
-            (read_changes served.now (view asked.entry.filters.now))
-            (option_map named (watched (served_by served.now) (printable_data asked.entry.old) (asked_of (served_by served.now) (get self.entry.now.sessions session))))) }
+        ensures { IfOk result (λ read. filters_as read ≡ change_for (served_by self.entry.now.schema)
+            (is_taken (served_by self.entry.now.schema) (printable_data asked.entry.old) (printable_data asked.entry.new) (get self.entry.now.world.sessions session))
+            (read_changes self.entry.now.schema (view asked.entry.filters.now))
+            (option_map named (watched (served_by self.entry.now.schema) (printable_data asked.entry.old) (asked_of (served_by self.entry.now.schema) (get self.entry.now.world.sessions session))))) }
     {
         let old = Id::new(self.alloc, asked.old)?;
         let Some(monitor) = self.sessions.asked_watch(session, &old)? else {
@@ -194,13 +188,13 @@ impl State {
         if self.is_taken(session, &old, asked.new)? {
             return Ok(Err(Failure::Failed(Error::SyntaxError)));
         }
-        filters_for(self.alloc, served, &monitor, asked.filters)
+        filters_for(self.alloc, &self.served, &monitor, asked.filters)
     }
 
     /// Whether another monitor of the session, as asked, has the new id.
     fn is_taken(&self, session: SessionId, old: &Id, new: Printable<'_>) -> Result<bool, AllocError>
         ensures { IfOk result (λ taken. (schema : model.Schema)
-            → taken ≡ is_taken (served_by schema) old.now (printable_data new.entry) (get self.entry.now.sessions session)) }
+            → taken ≡ is_taken (served_by schema) old.now (printable_data new.entry) (get self.entry.now.world.sessions session)) }
     {
         let new = Id::new(self.alloc, new)?;
         if old.same(&new) {
@@ -218,9 +212,9 @@ impl State {
         changes: Changes,
     ) -> Result<(), AllocError>
         requires { has_left_out (id_of (request_data request.now)) ≡ false }
-        ensures ok { OnOk result (changed_by session (request_data request.now) (printable_data asked.entry.old) (printable_data asked.entry.new)
-            (Ok (filters_of changes)) self.old ≡ self.new) }
-        ensures rest { self.new ≡ record (self.old) { sessions = self.new.sessions } }
+        ensures ok { OnOk result (in_world (changed_by session (request_data request.now) (printable_data asked.entry.old) (printable_data asked.entry.new)
+            (Ok (filters_of changes))) self.old ≡ self.new) }
+        ensures rest { OnlySessions self.old self.new }
         ensures err { OnErr result (self.new ≡ self.old) }
     {
         let changing = Changing::new(self.alloc, request, asked.old, asked.new, changes)?;
@@ -236,8 +230,8 @@ impl State {
         why: Failure,
     ) -> Result<(), AllocError>
         requires { has_left_out (id_of (request_data request.now)) ≡ false }
-        ensures ok { OnOk result (fail session (request_data request.now) (failure_of why) self.old ≡ self.new) }
-        ensures rest { self.new ≡ record (self.old) { sessions = self.new.sessions } }
+        ensures ok { OnOk result (in_world (fail session (request_data request.now) (failure_of why)) self.old ≡ self.new) }
+        ensures rest { OnlySessions self.old self.new }
         ensures err { OnErr result (self.new ≡ self.old) }
     {
         let reply = failed(self.alloc, request, why)?;

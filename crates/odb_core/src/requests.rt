@@ -19,7 +19,6 @@ ghost use Rattle.odb_atoms.specs.Represented.Atom.{uuid_of};
 ghost use Rattle.odb_rpc.specs.Represented.Printable.{printable_data};
 ghost use Rattle.odb_rpc.specs.Represented.Call.{call_view, called};
 ghost use Rattle.odb_schema.specs.SchemaText.{write_schema};
-ghost use Rattle.odb_commit.specs.Sound.{IsSound};
 ghost use Rattle.odb_wire.specs.Message.{has_left_out, id_of};
 ghost use Rattle.odb_wire.specs.Shown.{request_data};
 ghost use Rattle.odb_queue.specs.Represented.Answer.{at_once, call_at, said};
@@ -27,18 +26,17 @@ ghost use Rattle.odb_sessions.specs.Posts.{unposted};
 ghost use Rattle.odb_core.specs.Represented.Locking.{fault_of};
 ghost use Rattle.odb_core.specs.Represented.Waiting.{is_named};
 ghost use Rattle.odb_core.specs.Represented.Requests.{asks_transaction};
-ghost use Rattle.odb_service.specs.Server.{served_by};
+ghost use Rattle.odb_core.specs.Represented.Steps.{AreTried, OnlyLocksAndSessions, OnlySessions, by_service, in_world};
 ghost use Rattle.odb_service.specs.Service.{Service};
 ghost use Rattle.odb_service.specs.Session.{no_result};
-ghost use Rattle.odb_service.specs.World.{at_moment, cancel, close, handle, is_due, owed_replies, post, tick, untried};
+ghost use Rattle.odb_service.specs.World.{at_moment, cancel, close, handle, is_due, owed_replies, post, tick};
 ghost use Rattle.odb_service.specs.World.{fail, lock_error, locked, on_lock, post_notices, succeed};
 
 use crate::state::State;
 use crate::submitted::Submitted;
 use odb_locks::{LockFault, Notice, SessionId};
-use odb_queue::{Post, ServedSchema, answer_at_once, failed, notices, replied};
+use odb_queue::{Post, answer_at_once, failed, notices, replied};
 use odb_rpc::{Call, CallFault, Error, Failure, Printable};
-use odb_schema::Schema;
 use odb_wire::Request;
 use serde_json::{Map, Value};
 use std::alloc::{AllocError, Global};
@@ -49,24 +47,21 @@ impl State {
     /// changes, and the message comes back.
     pub(crate) fn receive(
         &mut self,
-        served: &ServedSchema,
         session: SessionId,
         request: Request,
         fresh: &[Uuid],
         now: u64,
     ) -> Result<(), (Request, AllocError)>
-        requires sound { IsSound served.now self.old.db }
-        requires tried { (h : Service) → untried h self.old ≡ None }
-        ensures ok { OnOk result (handle (served_by served.now) session (request_data request) (map uuid_of fresh.now)
-            (call_at served.now (request_data request)) (at_moment (served_by served.now) now self.old) ≡ self.new) }
-        ensures sound { IsSound served.now self.new.db }
-        ensures tried { (h : Service) → untried h self.new ≡ None }
+        requires tried { AreTried self.old }
+        ensures ok { OnOk result (by_service (λ h w. handle h session (request_data request) (map uuid_of fresh.now)
+            (call_at self.old.schema (request_data request)) (at_moment h now w)) self.old ≡ self.new) }
+        ensures tried { AreTried self.new }
         ensures err { OnErr result (self.new ≡ self.old) }
         ensures back { IfErr result (λ back. back.0 ≡ request) }
     {
         let before = self.now;
         self.now = self.now.max(now);
-        let taken = self.handle(served, session, request, fresh);
+        let taken = self.handle(session, request, fresh);
         if taken.is_err() {
             self.now = before;
         }
@@ -77,7 +72,7 @@ impl State {
     /// `MAX_OWED`. `None` where the session isn't open. O(log n) for n sessions.
     pub(crate) fn is_busy(&self, session: SessionId, request: &Request) -> Option<bool>
         ensures { (h : Service) (s : Schema) → result ≡ option_map (λ x. has_reply (call_at s (request_data request.now))
-            && not (nat_lt (owed_replies h session x self.entry.now) max_owed)) (get self.entry.now.sessions session) }
+            && not (nat_lt (owed_replies h session x self.entry.now.world) max_owed)) (get self.entry.now.world.sessions session) }
     {
         let waiting = self.waiting_of(session);
         self.sessions.owes_too_many(session, request, waiting)
@@ -85,56 +80,50 @@ impl State {
 
     /// How many transactions of the session wait. O(log n).
     fn waiting_of(&self, session: SessionId) -> usize
-        ensures { result ≡ count_by (λ p. p.session == session) self.entry.now.waiting }
+        ensures { result ≡ count_by (λ p. p.session == session) self.entry.now.world.waiting }
     {
         self.waiting.count_of(session)
     }
 
     fn handle(
         &mut self,
-        served: &ServedSchema,
         session: SessionId,
         request: Request,
         fresh: &[Uuid],
     ) -> Result<(), (Request, AllocError)>
-        requires sound { IsSound served.now self.old.db }
-        requires tried { (h : Service) → untried h self.old ≡ None }
-        ensures ok { OnOk result (handle (served_by served.now) session (request_data request) (map uuid_of fresh.now)
-            (call_at served.now (request_data request)) self.old ≡ self.new) }
-        ensures sound { IsSound served.now self.new.db }
-        ensures tried { (h : Service) → untried h self.new ≡ None }
+        requires tried { AreTried self.old }
+        ensures ok { OnOk result (by_service (λ h. handle h session (request_data request) (map uuid_of fresh.now)
+            (call_at self.old.schema (request_data request))) self.old ≡ self.new) }
+        ensures tried { AreTried self.new }
         ensures err { OnErr result (self.new ≡ self.old) }
         ensures back { IfErr result (λ back. back.0 ≡ request) }
     {
-        match self.handle_call(served, session, &request) {
+        match self.handle_call(session, &request) {
             Ok(true) => {
                 drop(request);
                 Ok(())
             }
-            Ok(false) => self.submit_transaction(served, session, request, fresh),
+            Ok(false) => self.submit_transaction(session, request, fresh),
             Err(refused) => Err((request, refused)),
         }
     }
 
     fn submit_transaction(
         &mut self,
-        served: &ServedSchema,
         session: SessionId,
         request: Request,
         fresh: &[Uuid],
     ) -> Result<(), (Request, AllocError)>
-        requires asks { asks_transaction (call_at served.now (request_data request)) ≡ true }
-        requires sound { IsSound served.now self.old.db }
-        requires tried { (h : Service) → untried h self.old ≡ None }
-        ensures ok { OnOk result (handle (served_by served.now) session (request_data request) (map uuid_of fresh.now)
-            (call_at served.now (request_data request)) self.old ≡ self.new) }
-        ensures sound { IsSound served.now self.new.db }
-        ensures tried { (h : Service) → untried h self.new ≡ None }
+        requires asks { asks_transaction (call_at self.old.schema (request_data request)) ≡ true }
+        requires tried { AreTried self.old }
+        ensures ok { OnOk result (by_service (λ h. handle h session (request_data request) (map uuid_of fresh.now)
+            (call_at self.old.schema (request_data request))) self.old ≡ self.new) }
+        ensures tried { AreTried self.new }
         ensures err { OnErr result (self.new ≡ self.old) }
         ensures back { IfErr result (λ back. back.0 ≡ request) }
     {
         let asked = Submitted::new(self.alloc, session, request, fresh, self.now)?;
-        match self.transact(served.schema(), asked) {
+        match self.transact(asked) {
             Ok(()) => Ok(()),
             Err((asked, refused)) => Err((asked.into_request(), refused)),
         }
@@ -142,43 +131,33 @@ impl State {
 
     /// Reads what is asked and carries it out, and says so; but for a `transact`, which needs the
     /// request for itself.
-    fn handle_call(
-        &mut self,
-        served: &ServedSchema,
-        session: SessionId,
-        request: &Request,
-    ) -> Result<bool, AllocError>
-        requires { IsSound served.now self.old.db }
-        ensures done { IfOk result (λ done. done ≡ true → (fresh : List identifiers.Uuid) → handle (served_by served.now) session (request_data request.now) fresh
-            (call_at served.now (request_data request.now)) self.old ≡ self.new) }
-        ensures transaction { IfOk result (λ done. done ≡ false → asks_transaction (call_at served.now (request_data request.now)) ≡ true) }
+    fn handle_call(&mut self, session: SessionId, request: &Request) -> Result<bool, AllocError>
+        ensures done { IfOk result (λ done. done ≡ true → (fresh : List identifiers.Uuid) → by_service (λ h. handle h session (request_data request.now) fresh
+            (call_at self.old.schema (request_data request.now))) self.old ≡ self.new) }
+        ensures transaction { IfOk result (λ done. done ≡ false → asks_transaction (call_at self.old.schema (request_data request.now)) ≡ true) }
         ensures untouched { IfOk result (λ done. done ≡ false → self.new ≡ self.old) }
-        ensures database { self.new.db ≡ self.old.db }
-        ensures tried { (h : Service) → untried h self.old ≡ None → untried h self.new ≡ None }
+        ensures tried { AreTried self.old → AreTried self.new }
         ensures err { OnErr result (self.new ≡ self.old) }
     {
-        match Call::read(request, served.schema()) {
-            Ok(call) => self.carry_out(served, session, request, call),
-            Err(fault) => done(self.answer(served, session, request, Err(fault))),
+        match Call::read(request, self.served.schema()) {
+            Ok(call) => self.carry_out(session, request, call),
+            Err(fault) => done(self.answer(session, request, Err(fault))),
         }
     }
 
     fn carry_out(
         &mut self,
-        served: &ServedSchema,
         session: SessionId,
         request: &Request,
         call: Call<'_>,
     ) -> Result<bool, AllocError>
-        requires call { called served.now.name (write_schema served.now) (reply_id (id_of (request_data request.now))) call
-            ≡ call_at served.now (request_data request.now) }
-        requires sound { IsSound served.now self.old.db }
-        ensures done { IfOk result (λ done. done ≡ true → (fresh : List identifiers.Uuid) → handle (served_by served.now) session (request_data request.now) fresh
-            (call_at served.now (request_data request.now)) self.old ≡ self.new) }
-        ensures transaction { IfOk result (λ done. done ≡ false → asks_transaction (call_at served.now (request_data request.now)) ≡ true) }
+        requires call { called self.old.schema.name (write_schema self.old.schema) (reply_id (id_of (request_data request.now))) call
+            ≡ call_at self.old.schema (request_data request.now) }
+        ensures done { IfOk result (λ done. done ≡ true → (fresh : List identifiers.Uuid) → by_service (λ h. handle h session (request_data request.now) fresh
+            (call_at self.old.schema (request_data request.now))) self.old ≡ self.new) }
+        ensures transaction { IfOk result (λ done. done ≡ false → asks_transaction (call_at self.old.schema (request_data request.now)) ≡ true) }
         ensures untouched { IfOk result (λ done. done ≡ false → self.new ≡ self.old) }
-        ensures database { self.new.db ≡ self.old.db }
-        ensures tried { (h : Service) → untried h self.old ≡ None → untried h self.new ≡ None }
+        ensures tried { AreTried self.old → AreTried self.new }
         ensures err { OnErr result (self.new ≡ self.old) }
     {
         match call {
@@ -187,27 +166,26 @@ impl State {
             Call::Steal(name) => done(self.claim(session, request, name, true)),
             Call::Unlock(name) => done(self.unlock(session, request, name)),
             Call::Cancel(id) => done(self.cancel(session, id)),
-            Call::Monitor(call) => done(self.monitor(served, session, request, call)),
-            call => done(self.answer(served, session, request, Ok(call))),
+            Call::Monitor(call) => done(self.monitor(session, request, call)),
+            call => done(self.answer(session, request, Ok(call))),
         }
     }
 
     /// Queues the reply to a call that is done at once, if it has one.
     fn answer(
         &mut self,
-        served: &ServedSchema,
         session: SessionId,
         request: &Request,
         call: Result<Call<'_>, CallFault>,
     ) -> Result<(), AllocError>
-        requires { call_view served.now.name (write_schema served.now) (request_data request.now) call
-            ≡ call_at served.now (request_data request.now) }
-        ensures ok { OnOk result ((found : Option Data) → at_once (call_at served.now (request_data request.now)) ≡ Some found
-            → post session (option_to_list (option_map (said (request_data request.now)) found)) self.old ≡ self.new) }
-        ensures rest { self.new ≡ record (self.old) { sessions = self.new.sessions } }
+        requires { call_view self.old.schema.name (write_schema self.old.schema) (request_data request.now) call
+            ≡ call_at self.old.schema (request_data request.now) }
+        ensures ok { OnOk result ((found : Option Data) → at_once (call_at self.old.schema (request_data request.now)) ≡ Some found
+            → in_world (post session (option_to_list (option_map (said (request_data request.now)) found))) self.old ≡ self.new) }
+        ensures rest { OnlySessions self.old self.new }
         ensures err { OnErr result (self.new ≡ self.old) }
     {
-        match answer_at_once(self.alloc, served, request, call)? {
+        match answer_at_once(self.alloc, &self.served, request, call)? {
             Some(item) => self.post(session, item),
             None => Ok(()),
         }
@@ -216,9 +194,8 @@ impl State {
     /// `cancel` of a transaction that waits (RFC 7047, section 4.1.4): the session's earliest one
     /// of this id ends. O(waiting transactions).
     fn cancel(&mut self, session: SessionId, id: Printable<'_>) -> Result<(), AllocError>
-        ensures ok { OnOk result ((s : Schema) → cancel (served_by s) session (printable_data id.entry) self.old ≡ self.new) }
-        ensures database { self.new.db ≡ self.old.db }
-        ensures tried { (h : Service) → untried h self.old ≡ None → untried h self.new ≡ None }
+        ensures ok { OnOk result (by_service (λ h. cancel h session (printable_data id.entry)) self.old ≡ self.new) }
+        ensures tried { AreTried self.old → AreTried self.new }
         ensures err { OnErr result (self.new ≡ self.old) }
     {
         let text = id.to_vec(self.alloc)?;
@@ -234,7 +211,7 @@ impl State {
 
     /// Where the session's earliest waiting transaction of this id stands.
     fn place_of(&self, session: SessionId, id: &[u8]) -> Option<usize>
-        ensures { result ≡ position (is_named session id.now) self.entry.now.waiting }
+        ensures { result ≡ position (is_named session id.now) self.entry.now.world.waiting }
     {
         self.waiting
             .as_slice()
@@ -252,9 +229,8 @@ impl State {
         stolen: bool,
     ) -> Result<(), AllocError>
         requires { has_left_out (id_of (request_data request.now)) ≡ false }
-        ensures ok { OnOk result ((h : Service)
-            → on_lock h session (request_data request.now) (locked h) (claim_by stolen self.old.locks session name.now) self.old ≡ self.new) }
-        ensures rest { self.new ≡ record (self.old) { locks = self.new.locks; sessions = self.new.sessions } }
+        ensures ok { OnOk result (by_service (λ h. on_lock h session (request_data request.now) (locked h) (claim_by stolen self.old.world.locks session name.now)) self.old ≡ self.new) }
+        ensures rest { OnlyLocksAndSessions self.old self.new }
         ensures err { OnErr result (self.new ≡ self.old) }
     {
         let preview = match self.locks.preview_claim(session, name, stolen) {
@@ -278,9 +254,8 @@ impl State {
         name: &str,
     ) -> Result<(), AllocError>
         requires { has_left_out (id_of (request_data request.now)) ≡ false }
-        ensures ok { OnOk result ((h : Service)
-            → on_lock h session (request_data request.now) (λ b. no_result) (model.unlock self.old.locks session name.now) self.old ≡ self.new) }
-        ensures rest { self.new ≡ record (self.old) { locks = self.new.locks; sessions = self.new.sessions } }
+        ensures ok { OnOk result (by_service (λ h. on_lock h session (request_data request.now) (λ b. no_result) (model.unlock self.old.world.locks session name.now)) self.old ≡ self.new) }
+        ensures rest { OnlyLocksAndSessions self.old self.new }
         ensures err { OnErr result (self.new ≡ self.old) }
     {
         let notices = match self.locks.preview_unlock(session, name) {
@@ -307,9 +282,9 @@ impl State {
         requires id { has_left_out (id_of (request_data request.now)) ≡ false }
         requires value { has_float (view value.now) ≡ false }
         ensures ok { IfOk result (λ queued.
-            succeed session (request_data request.now) (view value.now) (post_notices (notices_of lock_notices.now) self.old) ≡ self.new) }
-        ensures rest { self.new ≡ record (self.old) { sessions = self.new.sessions } }
-        ensures back { IfOk result (λ queued. unposted queued.items self.new.sessions ≡ self.old.sessions) }
+            in_world (λ w. succeed session (request_data request.now) (view value.now) (post_notices (notices_of lock_notices.now) w)) self.old ≡ self.new) }
+        ensures rest { OnlySessions self.old self.new }
+        ensures back { IfOk result (λ queued. unposted queued.items self.new.world.sessions ≡ self.old.world.sessions) }
         ensures err { OnErr result (self.new ≡ self.old) }
     {
         let mut posts = notices(self.alloc, lock_notices)?;
@@ -327,9 +302,9 @@ impl State {
     ) -> Result<(), AllocError>
         requires { has_left_out (id_of (request_data request.now)) ≡ false }
         ensures ok { OnOk result ((e : model.LockFault) → fault_of fault ≡ Some e
-            → fail session (request_data request.now) (failed (lock_error e)) self.old ≡ self.new) }
+            → in_world (fail session (request_data request.now) (failed (lock_error e))) self.old ≡ self.new) }
         ensures memory { OnOk result (IsSome (fault_of fault)) }
-        ensures rest { self.new ≡ record (self.old) { sessions = self.new.sessions } }
+        ensures rest { OnlySessions self.old self.new }
         ensures err { OnErr result (self.new ≡ self.old) }
     {
         let why = match fault {
@@ -344,9 +319,8 @@ impl State {
     /// A session closes (RFC 7047, section 4.1.8): its claims, its transactions that wait and its
     /// queue go. O(its claims + waiting transactions).
     pub(crate) fn close(&mut self, session: SessionId) -> Result<(), AllocError>
-        ensures ok { OnOk result ((h : Service) → close h session self.old ≡ self.new) }
-        ensures database { self.new.db ≡ self.old.db }
-        ensures tried { (h : Service) → untried h self.old ≡ None → untried h self.new ≡ None }
+        ensures ok { OnOk result (by_service (λ h. close h session) self.old ≡ self.new) }
+        ensures tried { AreTried self.old → AreTried self.new }
         ensures err { OnErr result (self.new ≡ self.old) }
     {
         let lock_notices = self.locks.preview_drop(session)?;
@@ -360,12 +334,10 @@ impl State {
 
     /// Advances the clock to `now` (milliseconds), and tries the transactions whose deadline has
     /// come.
-    pub(crate) fn tick(&mut self, schema: &Schema, now: u64) -> Result<(), AllocError>
-        requires sound { IsSound schema.now self.old.db }
-        requires tried { (h : Service) → untried h self.old ≡ None }
-        ensures ok { OnOk result (tick (served_by schema.now) now self.old ≡ self.new) }
-        ensures sound { IsSound schema.now self.new.db }
-        ensures tried { (h : Service) → untried h self.new ≡ None }
+    pub(crate) fn tick(&mut self, now: u64) -> Result<(), AllocError>
+        requires tried { AreTried self.old }
+        ensures ok { OnOk result (by_service (λ h. tick h now) self.old ≡ self.new) }
+        ensures tried { AreTried self.new }
         ensures err { OnErr result (self.new ≡ self.old) }
     {
         let before = self.moment();
@@ -374,7 +346,7 @@ impl State {
         if !self.has_due(moment) {
             return Ok(());
         }
-        match self.end_due(schema) {
+        match self.end_due() {
             Ok(()) => Ok(()),
             Err(refused) => {
                 self.set_moment(before);
@@ -385,21 +357,21 @@ impl State {
 
     /// The moment now.
     fn moment(&self) -> u64
-        ensures { result ≡ self.entry.now.now }
+        ensures { result ≡ self.entry.now.world.now }
     {
         self.now
     }
 
     /// The moment becomes this one.
     fn set_moment(&mut self, now: u64)
-        ensures { self.new ≡ record (self.old) { now = now } }
+        ensures { self.new ≡ in_world (λ w. record w { now = now }) self.old }
     {
         self.now = now;
     }
 
     /// Whether the deadline of a transaction has come by this moment. O(waiting transactions).
     fn has_due(&self, moment: u64) -> bool
-        ensures { result ≡ list_any (λ p. is_due moment p.deadline) self.entry.now.waiting }
+        ensures { result ≡ list_any (λ p. is_due moment p.deadline) self.entry.now.world.waiting }
     {
         self.waiting
             .as_slice()

@@ -13,7 +13,6 @@ ghost use Rattle.odb_core.specs.declared.refused.Refused.TheVariants as refused;
 use crate::refused::Refused;
 use crate::state::State;
 use odb_locks::SessionId;
-use odb_queue::ServedSchema;
 use odb_schema::Schema;
 use odb_sessions::{FirstText, Jobs, Out, Prepared};
 use odb_wire::Request;
@@ -36,8 +35,6 @@ pub const MAX_SESSIONS: usize = 4_096;
 /// In the costs below `n` sessions are open, and `w` transactions wait.
 pub struct Core {
     alloc: Global,
-    served: ServedSchema,
-    opened: usize,
     state: State,
 }
 
@@ -49,9 +46,9 @@ impl Model for Core {
 
     ghost coded = { server_code };
 
-    ghost view = { λ c. record { schema = c.served; world = c.state; opened = c.opened } };
+    ghost view = { λ c. c.state };
 
-    ghost invariant = { λ c. IsValid c.served c.state c.opened };
+    ghost invariant = { λ c. IsValid c.state };
 }
 
 impl Core {
@@ -92,17 +89,8 @@ impl Core {
         ensures ok { IfOk result (λ core. core ≡ new_server run most schema) }
         ensures err { IfErr result (λ back. (back.0 ≡ schema) × (back.1 ≡ hashing)) }
     {
-        let state = match State::new(alloc, &schema, hashing, run, most) {
-            Ok(state) => state,
-            Err(refused) => return Err((schema, hashing, refused)),
-        };
-        match ServedSchema::new(alloc, schema) {
-            Ok(served) => Ok(Core {
-                alloc,
-                served,
-                opened: 0,
-                state,
-            }),
+        match State::new(alloc, schema, hashing, run, most) {
+            Ok(state) => Ok(Core { alloc, state }),
             Err((schema, refused)) => Err((schema, hashing, refused)),
         }
     }
@@ -120,13 +108,7 @@ impl Core {
         if self.state.sessions.len() >= MAX_SESSIONS {
             return Err(Refused::TooMany);
         }
-        let number = self.opened;
-        if number == usize::MAX {
-            return Err(Refused::Memory);
-        }
-        self.state.sessions.open(number)?;
-        self.opened += 1;
-        Ok(number)
+        Ok(self.state.open()?)
     }
 
     /// Ends a session: its claims are released, with the notices to those that own now, its transactions
@@ -172,10 +154,7 @@ impl Core {
             Some(true) => return Err((request, Refused::Busy)),
             Some(false) => {}
         }
-        match self
-            .state
-            .receive(&self.served, session, request, fresh, now)
-        {
+        match self.state.receive(session, request, fresh, now) {
             Ok(()) => Ok(()),
             Err((request, _)) => Err((request, Refused::Memory)),
         }
@@ -188,7 +167,7 @@ impl Core {
         ensures ok { OnOk result (serve (ticked now) self.old ≡ Ok (self.new, [])) }
         ensures err { OnErr result (self.new ≡ self.old) }
     {
-        self.state.tick(self.served.schema(), now)
+        self.state.tick(now)
     }
 
     /// Gives each session of the list that is open its next message, if it has one: one message at
@@ -255,14 +234,12 @@ impl Core {
     }
 
     /// An equal core: the same state, whose rows and waiting transactions are shared with this one.
-    /// O(rows + w + claims + bytes queued).
+    /// O(rows + w + claims + bytes queued + bytes of the schema).
     pub fn try_copy(&self) -> Result<Core, AllocError>
         ensures { IfOk result (λ copy. copy ≡ self.now) }
     {
         Ok(Core {
             alloc: self.alloc,
-            served: self.served.try_copy()?,
-            opened: self.opened,
             state: self.state.try_copy()?,
         })
     }
@@ -285,11 +262,6 @@ fn once(alloc: Global, ready: &[SessionId]) -> Result<Vec<SessionId>, AllocError
 // Written, and not derived, so that each end of a scope is one call to prove.
 impl Drop for Core {
     fn drop(self) {
-        let Core {
-            alloc: _,
-            served: _,
-            opened: _,
-            state: _,
-        } = self;
+        let Core { alloc: _, state: _ } = self;
     }
 }

@@ -1,22 +1,22 @@
 -- What the parts of a core stand for.
-use Rattle.std.specs.Prelude.{◌≡◌, ◌≤◌, ℕ, false, List, [], None, Some, length, map, replicate}
+use Rattle.std.specs.Prelude.{◌≡◌, ◌≤◌, ◌+◌, ℕ, false, List, [], None, Some, length, map, replicate}
 use Rattle.std.specs.Ordering.{nat_cmp}
 use Rattle.std.specs.BTreeSet.{BTreeSet, contains}
 use Rattle.odb_atoms.specs.FinMap as finite
 use Rattle.odb_service.specs.Server.{Server, served_by}
-use Rattle.odb_service.specs.Service.{Service}
 use Rattle.odb_service.specs.Session.{Session, nothing_earlier, take}
-use Rattle.odb_service.specs.World.{World, revision_of, untried}
+use Rattle.odb_service.specs.World.{World, revision_of}
 use Rattle.odb_schema.specs.Schema.{Schema}
-use Rattle.odb_commit.specs.Sound.{IsSound}
+use Rattle.odb_sessions.specs.Book.{fresh_session}
+use Rattle.odb_core.specs.Represented.Steps.{AreTried}
 
 -- no session has this number or a later one
 abbrev pub AreUnused : finite.FinMap nat_cmp Session → ℕ → Type 0
 AreUnused s opened = (q : ℕ) → opened ≤ q → finite.get s q ≡ None
 
--- the database is sound, each waiting transaction was tried since the newest commit, and numbers of sessions stay below those to come
-abbrev pub IsValid : Schema → World → ℕ → Type 0
-IsValid s w opened = IsSound s w.db × ((h : Service) → untried h w ≡ None) × AreUnused w.sessions opened
+-- each waiting transaction was tried since the newest commit, and numbers of sessions stay below those to come
+abbrev pub IsValid : Server → Type 0
+IsValid v = AreTried v × AreUnused v.world.sessions v.opened
 
 -- empty tables, no commit, no waiting transaction, no lock and no session, in a run with this word, of which so many contents can be found
 abbrev pub empty_world : (run most tables : ℕ) → World
@@ -37,3 +37,7 @@ new_server run most schema = record { schema = schema; world = empty_world run m
 -- a taking of an open session that isn't in the set gives nothing and changes nothing
 abbrev pub IsQuietBut : BTreeSet ℕ → Server → Type 0
 IsQuietBut owed s = (q : ℕ) (x : Session) → contains nat_cmp owed q ≡ false → finite.get s.world.sessions q ≡ Some x → take (served_by s.schema) (revision_of s.world) x ≡ (None, x)
+
+-- the server with one more session, of the next number
+abbrev pub with_session : Server → Server
+with_session v = record v { world = record (v.world) { sessions = finite.insert v.world.sessions v.opened fresh_session }; opened = v.opened + 1 }

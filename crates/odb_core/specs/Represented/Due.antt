@@ -2,6 +2,7 @@
 use Rattle.std.specs.Prelude.{◌≡◌, ℕ, List, [], None}
 use Rattle.odb_schema.specs.Schema.{Schema}
 use Rattle.odb_service.specs.Server.{served_by}
+use Rattle.odb_service.specs.Service.{Service}
 use Rattle.odb_service.specs.Session.{Item}
 use Rattle.odb_service.specs.World.{Waiting, World, is_untried, retry_all, split_first, try_due}
 use Rattle.odb_core.specs.Represented.Foreseen.{standing}
@@ -14,9 +15,9 @@ pub record AreDue (s : Schema) (w : World) (left rest : List Waiting) (posts : L
   pub still : split_first (is_untried w.commits) rest ≡ None
 
 -- the world after those were tried, and what a retrying of all makes of it
-abbrev pub after_due : Schema → World → World
-after_due s w = retry_all (served_by s) (try_due (served_by s) w.waiting (record w { waiting = [] }))
+abbrev pub after_due : Service → World → World
+after_due h w = retry_all h (try_due h w.waiting (record w { waiting = [] }))
 
 -- these are left, each of them tried, and this is posted
 abbrev pub IsDueForeseen : Schema → World → List Waiting → List (ℕ × Item) → Type 0
-IsDueForeseen s w left posts = (after_due s w ≡ standing left posts w.sessions w) × (split_first (is_untried w.commits) left ≡ None)
+IsDueForeseen s w left posts = (after_due (served_by s) w ≡ standing left posts w.sessions w) × (split_first (is_untried w.commits) left ≡ None)

@@ -3,6 +3,7 @@ use Rattle.std.specs.Prelude.{ℕ, ◌+◌, ◌==◌, ◌&&◌, Bool, List, byte
 use Rattle.std.specs.declared.alloc.Global.{Global}
 use Rattle.serde_json.specs.declared.value.Value.{Value}
 use Rattle.odb_commit.specs.Represented.Outcome.{Answers}
+use Rattle.odb_commit.specs.declared.transaction.Outcome.{Outcome}
 use Rattle.odb_commit.specs.declared.transaction.Outcome.TheVariants as outcome
 use Rattle.odb_tables.specs.Change.{Changes}
 use Rattle.serde_json.specs.Written.{compact_text}
@@ -12,12 +13,16 @@ use Rattle.odb_commit.specs.Transaction.{transact}
 use Rattle.odb_locks.specs.Locks.{owns}
 use Rattle.odb_ops.specs.Execution.{Context}
 use Rattle.odb_rpc.specs.Message.{operations_of}
+use Rattle.odb_ops.specs.Represented.Ran.{results_of}
+use Rattle.odb_schema.specs.Json.{array_of}
 use Rattle.odb_schema.specs.Schema.{Schema}
+use Rattle.odb_tables.specs.Database.{Db}
 use Rattle.odb_wire.specs.Message.{id_of}
 use Rattle.odb_wire.specs.Shown.{request_data}
-use Rattle.odb_service.specs.Service.{max_rows}
+use Rattle.odb_service.specs.Server.{Server}
+use Rattle.odb_service.specs.Service.{Service, max_rows}
 use Rattle.odb_service.specs.World as model
-use Rattle.odb_service.specs.World.{World}
+use Rattle.odb_service.specs.World.{World, end_transaction, run_transaction}
 use Rattle.odb_core.specs.declared.submitted.Submitted.{Submitted}
 use Rattle.odb_core.specs.declared.waiting.Tried.{Tried}
 use Rattle.odb_core.specs.declared.waiting.Tried.TheVariants as tried
@@ -43,6 +48,18 @@ abbrev pub left_waiting : Tried → Submitted → ℕ → Option model.Waiting
 left_waiting tried.Ended a commits = None
 left_waiting (tried.Waiting deadline) a commits = Some (waiting_as a deadline commits)
 
--- the transaction goes through with these results and this change
-abbrev pub IsDone : Schema → World → Submitted → Vec Value Global → List Changes → Type 0
-IsDone s w a results change = Answers s w.db (outcome.Done results change) (outcome_in s w a)
+-- the transaction comes to this in the server
+abbrev pub IsOutcome : Server → Submitted → Outcome → Type 0
+IsOutcome v a o = Answers v.schema v.world.db o (outcome_in v.schema v.world a)
+
+-- it goes through with these results and this change
+abbrev pub IsDone : Server → Submitted → Vec Value Global → List Changes → Type 0
+IsDone v a results change = IsOutcome v a (outcome.Done results change)
+
+-- how a service ends it, with these results and this database, or with the database left
+abbrev pub ends : Submitted → Vec Value Global → Option Db → Service → World → World
+ends a results db h w = end_transaction h a.session (request_data a.request) (array_of (results_of results)) db w
+
+-- how a service runs it
+abbrev pub runs : Submitted → Service → World → World
+runs a h w = run_transaction h (waiting_as a None w.commits) w

@@ -7,37 +7,33 @@ use Rattle.odb_sessions.specs.Jobs.{AreEachOnce, AreMadeOf}
 use Rattle.odb_sessions.specs.Taken.{AreReady}
 use Rattle.odb_core.specs.Represented.Rounds.{book_in}
 use Rattle.odb_core.proofs.CoreInvariant.{if_both}
-use Rattle.odb_core.proofs.ServerSteps.{at}
 use Rattle.odb_core.proofs.server.Core.jobs.Goals as goal
 
 pub returns-clause-round : goal.returns-clause-round
 returns-clause-round c =
-    let n = c.self-inside.inside.0.1.1.0 in
-    let s = c.self-inside.inside.0.1.0 in
-    let r = c.self-inside.inside.0.1.1.1.0 in
+    let r = c.self-inside.inside.0.1.0 in
     let w : World = record { db = r.sessions.db; commits = r.sessions.commits; earlier = r.sessions.earlier; now = r.now; waiting = r.waiting; locks = r.locks; sessions = r.sessions.sessions } in
-    let is : at s w n ≡ c.args.self.now = ap (λ i. at i.served i.state i.opened) c.self-inside.view_is ∙ c.self.view_is in
-    let book : r.sessions ≡ book_in c.args.self.now.world = ap (λ (v : Server). book_in v.world) is in
+    let v : Server = record { schema = r.served; world = w; opened = r.opened } in
+    let is : v ≡ c.args.self.now = ap (λ i. i.state) c.self-inside.view_is ∙ c.self.view_is in
+    let book : r.sessions ≡ book_in c.args.self.now.world = ap (λ (u : Server). book_in u.world) is in
     let slice : c.as_slice.result.now ≡ c.in_ok-listed.listed.items = search rules in
     if_both c.jobs.result c.jobs.ensures.sessions c.jobs.ensures.ready
     (λ jobs named ready. (named ∙ slice ∙ c.in_ok-listed.ensures, λ h. subst (λ (b : Book). AreReady h b jobs.takings) book (ready h)))
 
 pub returns-clause-jobs : goal.returns-clause-jobs
 returns-clause-jobs c =
-    let n = c.self-inside.inside.0.1.1.0 in
-    let s = c.self-inside.inside.0.1.0 in
-    let r = c.self-inside.inside.0.1.1.1.0 in
+    let r = c.self-inside.inside.0.1.0 in
     let w : World = record { db = r.sessions.db; commits = r.sessions.commits; earlier = r.sessions.earlier; now = r.now; waiting = r.waiting; locks = r.locks; sessions = r.sessions.sessions } in
-    let is : at s w n ≡ c.args.self.now = ap (λ i. at i.served i.state i.opened) c.self-inside.view_is ∙ c.self.view_is in
-    let book : r.sessions ≡ book_in c.args.self.now.world = ap (λ (v : Server). book_in v.world) is in
+    let v : Server = record { schema = r.served; world = w; opened = r.opened } in
+    let is : v ≡ c.args.self.now = ap (λ i. i.state) c.self-inside.view_is ∙ c.self.view_is in
+    let book : r.sessions ≡ book_in c.args.self.now.world = ap (λ (u : Server). book_in u.world) is in
     IfOk-weaker c.jobs.result _ _ (λ jobs made. λ h. subst (λ (b : Book). AreMadeOf h b jobs.jobs jobs.takings) book (made h)) c.jobs.ensures.jobs
 
 pub returns-clause-once : goal.returns-clause-once
 returns-clause-once c =
-    let n = c.self-inside.inside.0.1.1.0 in
-    let s = c.self-inside.inside.0.1.0 in
-    let r = c.self-inside.inside.0.1.1.1.0 in
+    let r = c.self-inside.inside.0.1.0 in
     let w : World = record { db = r.sessions.db; commits = r.sessions.commits; earlier = r.sessions.earlier; now = r.now; waiting = r.waiting; locks = r.locks; sessions = r.sessions.sessions } in
-    let is : at s w n ≡ c.args.self.now = ap (λ i. at i.served i.state i.opened) c.self-inside.view_is ∙ c.self.view_is in
-    let book : r.sessions ≡ book_in c.args.self.now.world = ap (λ (v : Server). book_in v.world) is in
+    let v : Server = record { schema = r.served; world = w; opened = r.opened } in
+    let is : v ≡ c.args.self.now = ap (λ i. i.state) c.self-inside.view_is ∙ c.self.view_is in
+    let book : r.sessions ≡ book_in c.args.self.now.world = ap (λ (u : Server). book_in u.world) is in
     IfOk-weaker c.jobs.result _ _ (λ jobs once. subst (λ (b : Book). AreEachOnce (revision_in b) jobs.jobs jobs.likenesses) book once) c.jobs.ensures.once

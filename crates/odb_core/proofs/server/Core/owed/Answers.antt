@@ -1,15 +1,14 @@
 use Rattle.std.proofs.Common.{◌≡◌, ap, subst, ◌∙◌}
+use Rattle.odb_service.specs.Server.{Server}
 use Rattle.odb_service.specs.World.{World}
 use Rattle.odb_core.specs.Represented.Core.{IsQuietBut}
 use Rattle.odb_core.proofs.QuietRounds.{quiet_but}
-use Rattle.odb_core.proofs.ServerSteps.{at}
 use Rattle.odb_core.proofs.server.Core.owed.Goals as goal
 
 pub returns : goal.returns
 returns c =
-    let n = c.self-inside.inside.0.1.1.0 in
-    let s = c.self-inside.inside.0.1.0 in
-    let r = c.self-inside.inside.0.1.1.1.0 in
+    let r = c.self-inside.inside.0.1.0 in
     let w : World = record { db = r.sessions.db; commits = r.sessions.commits; earlier = r.sessions.earlier; now = r.now; waiting = r.waiting; locks = r.locks; sessions = r.sessions.sessions } in
-    let is : at s w n ≡ c.args.self.now = ap (λ i. at i.served i.state i.opened) c.self-inside.view_is ∙ c.self.view_is in
-    subst (IsQuietBut c.owed.result.now) is (quiet_but c.owed.result.now (at s w n) c.owed.ensures)
+    let v : Server = record { schema = r.served; world = w; opened = r.opened } in
+    let is : v ≡ c.args.self.now = ap (λ i. i.state) c.self-inside.view_is ∙ c.self.view_is in
+    subst (IsQuietBut c.owed.result.now) is (quiet_but c.owed.result.now v c.owed.ensures)

@@ -1,4 +1,4 @@
-use Rattle.std.proofs.Common.{rules, ◌≡◌, ◌+◌, List, [], map, ap, sym, ◌∙◌}
+use Rattle.std.proofs.Common.{rules, ◌≡◌, ◌+◌, List, [], map, ap, sym, ◌∙◌, subst, false}
 use Rattle.odb_ops.specs.Represented.Ran.{results_of}
 use Rattle.odb_rpc.specs.Message.{reply}
 use Rattle.odb_schema.specs.Json.{array_of}
@@ -9,23 +9,23 @@ use Rattle.odb_queue.specs.Represented.Item.{item_of}
 use Rattle.odb_queue.specs.Represented.Post.{post_of}
 use Rattle.odb_queue.specs.declared.post.Post.{Post}
 use Rattle.odb_service.specs.Session.{say, to, with_content}
-use Rattle.odb_service.specs.World.{World}
-use Rattle.odb_sessions.proofs.Rounds.{no_schema}
+use Rattle.odb_service.specs.Server.{Server}
 use Rattle.odb_sessions.specs.Asked.{ended_in}
 use Rattle.odb_sessions.specs.Book.{Book}
 use Rattle.odb_sessions.specs.Committed.{ended_with}
 use Rattle.odb_sessions.specs.Posts.{at_number}
-use Rattle.odb_core.proofs.Attempts.{commit_as}
+use Rattle.odb_core.proofs.Attempts.{commit_as, done_is, done_whole_results}
+use Rattle.odb_core.proofs.ServerSteps.{placed}
+use Rattle.odb_commit.specs.Sound.{IsSound}
+use Rattle.odb_tables.specs.Installing.{IsChangeOf}
+use Rattle.odb_core.specs.Represented.Waiting.{outcome_in}
+use Rattle.serde_json.specs.Written.{has_float}
 use Rattle.odb_core.proofs.state.State.commit.Goals as goal
 
-pub returns-clause-database : goal.returns-clause-database
-returns-clause-database c =
-    let is : c.commit.new.self ≡ ended_with no_schema c.args.asked.now.session (item_of c.in_ok-reply.reply) (map post_of c.new-posts.result.items) c.args.change c.self.inside.sessions = c.in_ok-commit.ensures.ok no_schema in
-    ap (λ (b : Book). b.db) is ∙ ap (λ (u : World). all_changed_by u.db c.args.change) c.self.view_is
-
 pub returns-clause-ok : goal.returns-clause-ok
-returns-clause-ok c = λ s.
-    let w = c.args.self.now in
+returns-clause-ok c =
+    let s = c.args.self.now.schema in
+    let w = c.args.self.now.world in
     let n = c.args.asked.now.session in
     let d = request_data c.args.asked.now.request in
     let r = array_of (results_of c.args.results) in
@@ -36,7 +36,34 @@ returns-clause-ok c = λ s.
     let told : c.commit.new.self ≡ record { db = all_changed_by w.db c.args.change; commits = w.commits + 1; earlier = with_content w.db w.earlier; sessions = at_number (ended_in s (say (to d) (reply (id_of d) r))) w.sessions n } =
     is ∙ ap (λ (ps : List Post). ended_with s n (item_of c.in_ok-reply.reply) (map post_of ps) c.args.change old) none
     ∙ ap (λ i. ended_with s n i [] c.args.change old) item
-    ∙ ap (λ (u : World). let e : Book = record { db = all_changed_by u.db c.args.change; commits = u.commits + 1; earlier = with_content u.db u.earlier; sessions = at_number (ended_in s (say (to d) (reply (id_of d) r))) u.sessions n } in e) c.self.view_is
+    ∙ ap (λ (u : Server). let e : Book = record { db = all_changed_by u.world.db c.args.change; commits = u.world.commits + 1; earlier = with_content u.world.db u.world.earlier; sessions = at_number (ended_in s (say (to d) (reply (id_of d) r))) u.world.sessions n } in e) c.self.view_is
     in
-    commit_as s n d r (all_changed_by w.db c.args.change) w
-    ∙ (λ i. record { db = (sym told i).db; commits = (sym told i).commits; earlier = (sym told i).earlier; now = (sym c.self.view_is i).now; waiting = (sym c.self.view_is i).waiting; locks = (sym c.self.view_is i).locks; sessions = (sym told i).sessions })
+    ap (placed c.args.self.now) (commit_as s n d r (all_changed_by w.db c.args.change) w)
+    ∙ (λ i. record {
+      schema = (sym c.self.view_is i).schema;
+      world = record { db = (sym told i).db; commits = (sym told i).commits; earlier = (sym told i).earlier; now = (sym c.self.view_is i).world.now; waiting = (sym c.self.view_is i).world.waiting; locks = (sym c.self.view_is i).world.locks; sessions = (sym told i).sessions };
+      opened = (sym c.self.view_is i).opened;
+    })
+
+pub replied_as-requires-clause-value : goal.replied_as-requires-clause-value
+replied_as-requires-clause-value c =
+    let v : Server = c.args.self.now in
+    let whole : has_float (array_of (results_of c.args.results)) ≡ false = done_whole_results v.schema v.world c.args.asked.now c.args.results c.args.change c.requires in
+    search (rules, whole)
+
+pub commit-requires : goal.commit-requires
+commit-requires c =
+    let v : Server = c.args.self.now in
+    let is : IsChangeOf v.world.db c.args.change × IsSound v.schema (all_changed_by v.world.db c.args.change) = done_is v.schema v.world.db c.args.results c.args.change (outcome_in v.schema v.world c.args.asked.now) c.requires in
+    subst (λ (u : Server). IsChangeOf u.world.db c.args.change) (sym c.self.view_is) is.0
+
+pub invariant_of-self : goal.invariant_of-self
+invariant_of-self c = subst (λ (b : Book). IsSound c.self.inside.served b.db) (sym c.in_err-commit.ensures.err) c.self.invariant
+
+pub invariant_of-self-2 : goal.invariant_of-self-2
+invariant_of-self-2 c =
+    let v : Server = c.args.self.now in
+    let i = c.self.inside in
+    let is : IsChangeOf v.world.db c.args.change × IsSound v.schema (all_changed_by v.world.db c.args.change) = done_is v.schema v.world.db c.args.results c.args.change (outcome_in v.schema v.world c.args.asked.now) c.requires in
+    let sound : IsSound i.served (all_changed_by i.sessions.db c.args.change) = subst (λ (u : Server). IsSound u.schema (all_changed_by u.world.db c.args.change)) (sym c.self.view_is) is.1 in
+    subst (λ (b : Book). IsSound i.served b.db) (sym (c.in_ok-commit.ensures.ok v.schema)) sound

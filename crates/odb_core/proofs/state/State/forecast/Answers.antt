@@ -19,29 +19,29 @@ use Rattle.odb_core.proofs.state.State.forecast.Goals as goal
 
 pub is_removed-requires : goal.is_removed-requires
 is_removed-requires c =
-    let w : World = c.args.self.now in
+    let w : World = c.args.self.now.world in
     let d : Draft = c.in_ok-draft.draft in
     let made : d ≡ draft_of w.db = search rules in
     as_long w.db c.args.change.now d c.put_change.new.draft c.requires.change.0 made c.put_change.ensures.removed c.in_ok-put_change.ensures.now
 
 pub is_one_removed-requires : goal.is_one_removed-requires
 is_one_removed-requires c =
-    let w : World = c.args.self.now in
+    let w : World = c.args.self.now.world in
     let d : Draft = c.in_ok-draft.draft in
     let made : d ≡ draft_of w.db = search rules in
     as_long w.db c.args.change.now d c.put_change.new.draft c.requires.change.0 made c.put_change.ensures.removed c.in_ok-put_change.ensures.now
 
 pub is_one_own_removed-requires : goal.is_one_own_removed-requires
 is_one_own_removed-requires c =
-    let w : World = c.args.self.now in
+    let w : World = c.args.self.now.world in
     let d : Draft = c.in_ok-draft.draft in
     let made : d ≡ draft_of w.db = search rules in
     as_long w.db c.args.change.now d c.put_change.new.draft c.requires.change.0 made c.put_change.ensures.removed c.in_ok-put_change.ensures.now
 
 pub forecast_on-requires-clause-settled : goal.forecast_on-requires-clause-settled
 forecast_on-requires-clause-settled c =
-    let s = c.args.schema.now in
-    let w : World = c.args.self.now in
+    let s = c.args.self.now.schema in
+    let w : World = c.args.self.now.world in
     let d : Draft = c.in_ok-draft.draft in
     let made : d ≡ draft_of w.db = search rules in
     let new : Db = c.put_change.new.draft.now in
@@ -50,7 +50,7 @@ forecast_on-requires-clause-settled c =
 
 pub forecast_on-requires-clause-long : goal.forecast_on-requires-clause-long
 forecast_on-requires-clause-long c =
-    let w : World = c.args.self.now in
+    let w : World = c.args.self.now.world in
     let d : Draft = c.in_ok-draft.draft in
     let made : d ≡ draft_of w.db = search rules in
     as_long w.db c.args.change.now d c.put_change.new.draft c.requires.change.0 made c.put_change.ensures.removed c.in_ok-put_change.ensures.now
@@ -72,8 +72,8 @@ on_change s cs w a (forecast.Waits deadline) h = h
 
 pub returns : goal.returns
 returns c =
-    let s = c.args.schema.now in
-    let w : World = c.args.self.now in
+    let s = c.args.self.now.schema in
+    let w : World = c.args.self.now.world in
     let a = c.args.asked.now in
     let cs = c.args.change.now in
     let d : Draft = c.in_ok-draft.draft in

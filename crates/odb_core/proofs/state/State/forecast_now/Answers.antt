@@ -10,8 +10,8 @@ use Rattle.odb_core.proofs.state.State.forecast_now.Goals as goal
 
 pub returns-else-changes_rows : goal.returns-else-changes_rows
 returns-else-changes_rows c =
-    let s = c.args.schema.now in
-    let w : World = c.args.self.now in
+    let s = c.args.self.now.schema in
+    let w : World = c.args.self.now.world in
     let a = c.args.asked.now in
     let done : Answers s w.db (outcome.Done c.in-Done.results c.in-Done.change) (outcome_in s w a) = search rules in
     let none : list_any (λ f. nat_lt 0 (len f)) c.in-Done.change ≡ false = search rules in
@@ -19,16 +19,16 @@ returns-else-changes_rows c =
 
 pub returns-in-Failed : goal.returns-in-Failed
 returns-in-Failed c =
-    let s = c.args.schema.now in
-    let w : World = c.args.self.now in
+    let s = c.args.self.now.schema in
+    let w : World = c.args.self.now.world in
     let a = c.args.asked.now in
     let failed : Answers s w.db (outcome.Failed c.in-Failed.results) (outcome_in s w a) = search rules in
     tells_refused s w a c.in-Failed.results failed
 
 pub returns-in-Waiting : goal.returns-in-Waiting
 returns-in-Waiting c =
-    let s = c.args.schema.now in
-    let w : World = c.args.self.now in
+    let s = c.args.self.now.schema in
+    let w : World = c.args.self.now.world in
     let a = c.args.asked.now in
     let waits : Answers s w.db (outcome.Waiting c.in-Waiting.deadline) (outcome_in s w a) = search rules in
     tells_to_wait s w a c.in-Waiting.deadline waits

@@ -10,8 +10,8 @@ use Rattle.odb_core.proofs.state.State.foresee.Goals as goal
 
 pub loop-waiting-init : goal.loop-waiting-init
 loop-waiting-init c =
-    let s = c.args.schema.now in
-    let w : World = c.args.self.now in
+    let s = c.args.self.now.schema in
+    let w : World = c.args.self.now.world in
     let v : World = committed c.args.change.now w in
     let all : IsOnTheWay s v [] w.waiting [] = begins s v (are_untried w.commits w.waiting (none_passes (is_untried w.commits) w.waiting (c.requires.tried (served_by s)))) in
     subst (λ ps. IsOnTheWay s v ps w.waiting (map post_of c.new-foreseen.result.posts.items)) (sym c.new-foreseen.ensures.left)
@@ -19,8 +19,8 @@ loop-waiting-init c =
 
 pub loop-waiting-preserved : goal.loop-waiting-preserved
 loop-waiting-preserved c =
-    let s = c.args.schema.now in
-    let w : World = c.args.self.now in
+    let s = c.args.self.now.schema in
+    let w : World = c.args.self.now.world in
     let v : World = committed c.args.change.now w in
     let a = c.submitted.result.now in
     let p : Waiting = c.waiting-item.result in
@@ -41,8 +41,8 @@ loop-waiting-preserved c =
 
 pub returns : goal.returns
 returns c =
-    let s = c.args.schema.now in
-    let w : World = c.args.self.now in
+    let s = c.args.self.now.schema in
+    let w : World = c.args.self.now.world in
     let v : World = committed c.args.change.now w in
     let i = c.loop-waiting.waiting-index in
     let f = c.loop-waiting.foreseen in

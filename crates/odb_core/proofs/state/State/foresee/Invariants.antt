@@ -7,5 +7,5 @@ use Rattle.odb_core.proofs.state.State.foresee.Given as goal
 
 abbrev pub invariant-loop-waiting : goal.invariant-loop-waiting
 invariant-loop-waiting l =
-    let w : World = l.fn.self in
-    IsOnTheWay l.schema (committed l.change w) l.foreseen.left (drop l.waiting-index w.waiting) (map post_of l.foreseen.posts.items)
+    let w : World = l.fn.self.world in
+    IsOnTheWay l.fn.self.schema (committed l.change w) l.foreseen.left (drop l.waiting-index w.waiting) (map post_of l.foreseen.posts.items)

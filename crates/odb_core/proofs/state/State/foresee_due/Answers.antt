@@ -9,16 +9,16 @@ use Rattle.odb_core.proofs.state.State.foresee_due.Goals as goal
 
 pub loop-waiting-init : goal.loop-waiting-init
 loop-waiting-init c =
-    let s = c.args.schema.now in
-    let w : World = c.args.self.now in
+    let s = c.args.self.now.schema in
+    let w : World = c.args.self.now.world in
     let all : AreDue s w [] w.waiting [] = begins_due s w (c.requires.tried (served_by s)) in
     subst (λ ps. AreDue s w ps w.waiting (map post_of c.new-foreseen.result.posts.items)) (sym c.new-foreseen.ensures.left)
     (subst (λ xs. AreDue s w [] w.waiting (map post_of xs)) (sym c.new-foreseen.ensures.posts) all)
 
 pub loop-waiting-preserved : goal.loop-waiting-preserved
 loop-waiting-preserved c =
-    let s = c.args.schema.now in
-    let w : World = c.args.self.now in
+    let s = c.args.self.now.schema in
+    let w : World = c.args.self.now.world in
     let p : Waiting = c.waiting-item.result in
     let i = c.loop-waiting.waiting-index in
     let old = c.loop-waiting.foreseen in
@@ -31,8 +31,8 @@ loop-waiting-preserved c =
 
 pub returns : goal.returns
 returns c =
-    let s = c.args.schema.now in
-    let w : World = c.args.self.now in
+    let s = c.args.self.now.schema in
+    let w : World = c.args.self.now.world in
     let i = c.loop-waiting.waiting-index in
     let f = c.loop-waiting.foreseen in
     let past : length w.waiting ≤ i = search rules in

@@ -6,5 +6,5 @@ use Rattle.odb_core.proofs.state.State.foresee_due.Given as goal
 
 abbrev pub invariant-loop-waiting : goal.invariant-loop-waiting
 invariant-loop-waiting l =
-    let w : World = l.fn.self in
-    AreDue l.schema w l.foreseen.left (drop l.waiting-index w.waiting) (map post_of l.foreseen.posts.items)
+    let w : World = l.fn.self.world in
+    AreDue l.fn.self.schema w l.foreseen.left (drop l.waiting-index w.waiting) (map post_of l.foreseen.posts.items)

@@ -1,26 +1,33 @@
 use Rattle.std.proofs.Common.{rules, ◌≡◌, ◌++◌, ◌∷◌, [], Some, None, Option, sym, ap, ◌∙◌}
-use Rattle.odb_service.specs.Server.{served_by}
+use Rattle.std.specs.Prelude.{option_to_list}
+use Rattle.std.proofs.lemmas.List.{append-nil}
+use Rattle.odb_service.specs.Server.{Server, served_by}
 use Rattle.odb_service.specs.World.{Waiting, World, attempt}
-use Rattle.odb_core.proofs.HandledRequests.{behind_ended, behind_waits}
+use Rattle.odb_core.specs.Represented.Steps.{attempted, let_wait}
+use Rattle.odb_core.proofs.HandledRequests.{attempt_waiting}
 use Rattle.odb_core.proofs.state.State.retry.Goals as goal
 
-pub returns-in_ok-keep-clause-ok : goal.returns-in_ok-keep-clause-ok
-returns-in_ok-keep-clause-ok c =
-    let h = served_by c.args.schema.now in
-    let w : World = c.args.self.now in
+pub returns-in_ok-keep : goal.returns-in_ok-keep
+returns-in_ok-keep c =
+    let v : Server = c.args.self.now in
+    let h = served_by v.schema in
     let p : Waiting = c.args.waiting in
     let q : Waiting = c.in-Some.waiting in
-    let v : World = c.retried.new.self in
-    let tried : attempt h p w ≡ (v, Some q) = c.in_ok-waiting.ensures.ok ∙ ap (λ o. let r : World × Option Waiting = (v, o) in r) c.in-Some.is in
-    let kept : c.keep.new.self ≡ record v { waiting = v.waiting ++ q ∷ [] } = search rules in
-    behind_waits h p q w v tried ∙ sym kept
+    let u : Server = c.retried.new.self in
+    let tried : attempted p v ≡ (u, Some q) = c.in_ok-waiting.ensures ∙ ap (λ o. let r : Server × Option Waiting = (u, o) in r) c.in-Some.is in
+    let came_to : attempt h p v.world ≡ (u.world, Some q) = ap (λ (r : Server × Option Waiting). let t : World × Option Waiting = (r.0.world, r.1) in t) tried in
+    let kept : c.keep.new.self ≡ let_wait (u.world.waiting ++ q ∷ []) u = search rules in
+    ap (λ (r : Server × Option Waiting). let_wait (v.world.waiting ++ option_to_list r.1) r.0) tried
+    ∙ ap (λ ps. let_wait (ps ++ q ∷ []) u) (sym (attempt_waiting h p v.world u.world (Some q) came_to)) ∙ sym kept
 
-pub returns-in_default-clause-ok : goal.returns-in_default-clause-ok
-returns-in_default-clause-ok c =
-    let h = served_by c.args.schema.now in
-    let w : World = c.args.self.now in
+pub returns-in_default : goal.returns-in_default
+returns-in_default c =
+    let v : Server = c.args.self.now in
+    let h = served_by v.schema in
     let p : Waiting = c.args.waiting in
-    let v : World = c.retried.new.self in
+    let u : Server = c.retried.new.self in
     let none : c.in_ok-waiting.field-0 ≡ None = search rules in
-    let tried : attempt h p w ≡ (v, None) = c.in_ok-waiting.ensures.ok ∙ ap (λ o. let r : World × Option Waiting = (v, o) in r) none in
-    behind_ended h p w v tried
+    let tried : attempted p v ≡ (u, None) = c.in_ok-waiting.ensures ∙ ap (λ o. let r : Server × Option Waiting = (u, o) in r) none in
+    let came_to : attempt h p v.world ≡ (u.world, None) = ap (λ (r : Server × Option Waiting). let t : World × Option Waiting = (r.0.world, r.1) in t) tried in
+    ap (λ (r : Server × Option Waiting). let_wait (v.world.waiting ++ option_to_list r.1) r.0) tried
+    ∙ ap (λ ps. let_wait ps u) (append-nil v.world.waiting ∙ sym (attempt_waiting h p v.world u.world None came_to))
