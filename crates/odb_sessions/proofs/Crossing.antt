@@ -12,6 +12,7 @@ use Rattle.odb_sessions.proofs.granted.Granted.TheSendSync as granted
 use Rattle.odb_sessions.proofs.monitor.Watching.TheSendSync as watching
 use Rattle.odb_sessions.proofs.origin.Origin.TheSendSync as origin
 use Rattle.odb_sessions.proofs.past.Past.TheSendSync as past
+use Rattle.slab.proofs.Slab.TheSendSync as slab
 use Rattle.odb_interest.proofs.Crossing.{Interest-send}
 use Rattle.odb_recent.proofs.Crossing.{Recent-send}
 use Rattle.odb_queue.proofs.finished.Finished.TheSendSync as finished
@@ -101,7 +102,7 @@ Session-send : IsSend (Session.the_field).row
 Session-send = search (Queue-send, Monitor-send, sendable, heap.crosses) depth 20
 
 Numbered-send : IsSend (Numbered.the_field).row
-Numbered-send = search (Session-send, sendable, heap.crosses, maps.crosses) depth 20
+Numbered-send = search (Session-send, slab.the_send, sendable, heap.crosses, maps.crosses) depth 20
 
 pub Sessions-send : IsSend (Sessions.the_field).row
 Sessions-send = search (Past-send, Recent-send, Numbered-send, Interest-send, Refreshing-send, sendable, heap.crosses, maps.crosses) depth 20

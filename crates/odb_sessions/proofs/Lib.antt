@@ -16,6 +16,7 @@ mod FirstTexts
 mod Firsts
 mod Gives
 mod Interests
+mod Keyed
 mod Leading
 mod Lent
 mod Likenesses

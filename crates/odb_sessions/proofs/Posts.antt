@@ -2,8 +2,6 @@
 use Rattle.std.proofs.Common.{◌≡◌, ℕ, Bool, true, false, cond, List, [], ◌∷◌, ◌++◌, Option, Some, None, Result, Ok, Err, refl, sym, ap, ◌∙◌, append_assoc}
 use Rattle.std.specs.Prelude.{OnErr}
 use Rattle.std.proofs.lemmas.List.{append-nil}
-use Rattle.std.specs.BTreeMap as tree
-use Rattle.std.specs.BTreeMap.{BTreeMap}
 use Rattle.std.specs.Ordering.{eq_by_cmp, nat_cmp}
 use Rattle.odb_atoms.specs.FinMap as finite
 use Rattle.odb_atoms.specs.FinMap.{get, insert}
@@ -11,7 +9,6 @@ use Rattle.odb_sessions.specs.Held.{Kept, Queued, Sessions}
 use Rattle.odb_sessions.specs.Posts.{at_number, kept_unposted, with_item, with_items, without_newest}
 use Rattle.odb_service.proofs.SessionMaps.{get-insert, key-itself, same_key, same_map}
 use Rattle.odb_sessions.proofs.Newest.{last_dropped}
-use Rattle.odb_sessions.proofs.Numbers.{Updates, get-sessions_in, inserted, sessions_in}
 
 module _ {X : Type 0} (f : X → X) (m : finite.FinMap nat_cmp X) (s : ℕ) where
   abbrev found_at : Option X → finite.FinMap nat_cmp X
@@ -52,25 +49,21 @@ kept_unposted-append (t ∷ ts) s m = ap (λ k. at_number without_newest k t) (k
 pushed_back : (q : Queued) (x : Kept) → without_newest (with_item q x) ≡ x
 pushed_back q x = λ k. record { queue = last_dropped x.queue q k; monitors = x.monitors }
 
--- ---- the table
+-- ---- one session is written
 
-module _ (old : BTreeMap ℕ Kept) (s : ℕ) where
-  pub changed_at : (f : Kept → Kept) (new : BTreeMap ℕ Kept) (x y : Kept) → tree.get nat_cmp old s ≡ Some x → Updates old new s (Some y) → y ≡ f x → sessions_in new ≡ at_number f (sessions_in old) s
-  changed_at f new x y there changed is =
-      inserted old new s y changed ∙ ap (insert (sessions_in old) s) is ∙ sym (at_open f (sessions_in old) s x (get-sessions_in old s ∙ there))
+module _ (old : Sessions) (s : ℕ) where
+  pub changed_at : (f : Kept → Kept) (x y : Kept) → get old s ≡ Some x → y ≡ f x → insert old s y ≡ at_number f old s
+  changed_at f x y there is = ap (insert old s) is ∙ sym (at_open f old s x there)
 
-  pub unchanged_at : (f : Kept → Kept) → tree.get nat_cmp old s ≡ None → sessions_in old ≡ at_number f (sessions_in old) s
-  unchanged_at f shut = sym (at_shut f (sessions_in old) s (get-sessions_in old s ∙ shut))
+  pub unchanged_at : (f : Kept → Kept) → get old s ≡ None → old ≡ at_number f old s
+  unchanged_at f shut = sym (at_shut f old s shut)
 
-  pub kept_at : (new : BTreeMap ℕ Kept) (x y : Kept) → tree.get nat_cmp old s ≡ Some x → Updates old new s (Some y) → y ≡ x → sessions_in new ≡ sessions_in old
-  kept_at new x y there changed is =
-      inserted old new s y changed ∙ ap (insert (sessions_in old) s) is ∙ reinserted (sessions_in old) s x (get-sessions_in old s ∙ there)
+  pub kept_at : (x y : Kept) → get old s ≡ Some x → y ≡ x → insert old s y ≡ old
+  kept_at x y there is = ap (insert old s) is ∙ reinserted old s x there
 
   -- an item that was put at the end is taken back
-  pub taken_off : (new : BTreeMap ℕ Kept) (x y : Kept) (q : Queued) → tree.get nat_cmp old s ≡ Some x → Updates old new s (Some y) → y ≡ with_item q x → kept_unposted (s ∷ []) (sessions_in new) ≡ sessions_in old
-  taken_off new x y q there changed is =
-      ap (λ (m : Sessions). at_number without_newest m s) (inserted old new s y changed)
-      ∙ undone without_newest (sessions_in old) s x y (get-sessions_in old s ∙ there) (ap without_newest is ∙ pushed_back q x)
+  pub taken_off : (x y : Kept) (q : Queued) → get old s ≡ Some x → y ≡ with_item q x → kept_unposted (s ∷ []) (insert old s y) ≡ old
+  taken_off x y q there is = undone without_newest old s x y there (ap without_newest is ∙ pushed_back q x)
 
 -- what holds whatever the result holds of an error
 pub whatever : {A E : Type 0} (P : Type 0) (r : Result A E) → P → OnErr r P

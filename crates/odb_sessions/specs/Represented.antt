@@ -4,6 +4,8 @@ pub mod Composed
 pub mod Decided
 pub mod Digest
 pub mod Job
+pub mod Keyed
+pub mod LentSession
 pub mod Origin
 pub mod Out
 pub mod Queued

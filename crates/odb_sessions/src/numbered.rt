@@ -1,11 +1,13 @@
 //! The open sessions by their numbers.
 ghost use Rattle.std.specs.Prelude.{◌≡◌, ◌≤◌, true, map, is_some, option_and_then, option_map, Some, IfErr, IfOk, IfSome, OnErr, OnOk};
-ghost use Rattle.std.specs.Option.{option_copied};
+ghost use Rattle.std.specs.Borrow.{sem};
+ghost use Rattle.std.specs.Option.{option_copied, option_copied_mut};
 ghost use Rattle.odb_atoms.specs.FinMap as finite;
 ghost use Rattle.odb_queue.specs.Represented.Item.{item_of};
 ghost use Rattle.odb_queue.specs.Represented.Post.{post_of};
 ghost use Rattle.odb_sessions.specs.Carried.{IsCarriedOut, IsReady, last_finished};
 ghost use Rattle.odb_sessions.specs.Held.{Kept, marks_of, seen};
+ghost use Rattle.odb_sessions.specs.Represented.LentSession.{lends_session};
 ghost use Rattle.odb_sessions.specs.Posts.{all_kept_posted, at_number, kept_unposted, newest_at, with_item, with_items, without_newest};
 ghost use Rattle.odb_sessions.specs.Represented.Queued.{queued_of};
 ghost use Rattle.odb_sessions.specs.Tied.{all_marks};
@@ -17,6 +19,7 @@ use crate::session::Session;
 use odb_chain::Mark;
 use odb_locks::SessionId;
 use odb_queue::{Finished, Post};
+use slab::Slab;
 use std::alloc::{AllocError, AllocFailed, Global};
 use std::collections::BTreeMap;
 use std::marker::Model;
@@ -24,19 +27,23 @@ use std::marker::Model;
 /// The open sessions by their numbers.
 #[derive(Drop)]
 pub(crate) struct Numbered {
-    sessions: BTreeMap<SessionId, Session>,
+    /// The key of each open session in `sessions`.
+    keys: BTreeMap<SessionId, usize>,
+    sessions: Slab<Session>,
 }
 
 impl Model for Numbered {
-    ghost use Rattle.odb_atoms.specs.FinMap as finite;
     ghost use Rattle.odb_sessions.specs.Held as model;
+    ghost use Rattle.odb_sessions.specs.Represented.Keyed.{IsKeyed, sessions_under};
     ghost use Rattle.odb_sessions.specs.Represented.Codes.{sessions_code};
 
     ghost Value = { model.Sessions };
 
     ghost coded = { sessions_code };
 
-    ghost view = { λ s. finite.from_entries s.sessions.entries };
+    ghost view = { λ s. sessions_under s.keys.entries s.sessions.slots };
+
+    ghost invariant = { λ s. IsKeyed s.keys.entries s.sessions.slots };
 }
 
 impl Numbered {
@@ -45,7 +52,8 @@ impl Numbered {
         ensures { result ≡ finite.empty }
     {
         Numbered {
-            sessions: BTreeMap::new(alloc),
+            keys: BTreeMap::new(alloc),
+            sessions: Slab::new(alloc),
         }
     }
 
@@ -53,7 +61,7 @@ impl Numbered {
     pub(crate) fn len(&self) -> usize
         ensures { result ≡ finite.len self.now }
     {
-        self.sessions.len()
+        self.keys.len()
     }
 
     /// Puts a session in.
@@ -61,7 +69,13 @@ impl Numbered {
         ensures ok { OnOk result (self.new ≡ finite.insert self.old number session) }
         ensures err { OnErr result (self.new ≡ self.old) }
     {
-        drop(self.sessions.insert(number, session)?);
+        if let Some(place) = self.get_mut(number) {
+            *place = session;
+            return Ok(());
+        }
+        self.sessions.reserve(1)?;
+        self.keys.insert(number, self.sessions.vacant_key())?;
+        self.sessions.insert_reserved(session);
         Ok(())
     }
 
@@ -70,14 +84,27 @@ impl Numbered {
         ensures session { result ≡ finite.get self.old number }
         ensures sessions { self.new ≡ finite.remove self.old number }
     {
-        self.sessions.remove(&number)
+        let key = self.keys.remove(&number)?;
+        self.sessions.try_remove(key)
     }
 
     /// A session, if it is open.
     pub(crate) fn get(&self, number: SessionId) -> Option<&Session>
         ensures { option_copied result ≡ finite.get self.now number }
     {
-        self.sessions.get(&number)
+        let key = self.keys.get(&number)?;
+        self.sessions.get(*key)
+    }
+
+    /// A session for writing, if it is open.
+    fn get_mut(&mut self, number: SessionId) -> Option<&mut Session>
+        ensures* writes_back { sem 𝓛 (lends_session self.entry number result) }
+        ensures value { option_copied_mut result ≡ finite.get self.old number }
+    {
+        match self.keys.get(&number).copied() {
+            Some(key) => self.sessions.get_mut(key),
+            None => None,
+        }
     }
 
     /// Whether a session is open.
@@ -99,8 +126,8 @@ impl Numbered {
     pub(crate) fn first_from(&self, number: SessionId) -> Option<(SessionId, usize)>
         ensures { IfSome result (λ found. number ≤ found.0) }
     {
-        let (found, session) = self.sessions.range(number..).next()?;
-        Some((*found, session.monitors.len()))
+        let (found, _) = self.keys.range(number..).next()?;
+        Some((*found, self.monitors(*found)))
     }
 
     /// Posts each item to its session, and returns the sessions for which one was queued.
@@ -157,7 +184,7 @@ impl Numbered {
         ensures posted_to { OnErr result (posted_to.new.items ≡ posted_to.old.items) }
     {
         posted_to.reserve(1)?;
-        let Some(to) = self.sessions.get_mut(&session) else {
+        let Some(to) = self.get_mut(session) else {
             return Ok(());
         };
         to.push(item)?;
@@ -172,7 +199,7 @@ impl Numbered {
         ensures err { OnErr result (self.new ≡ self.old) }
         ensures handed_back { IfErr result (λ refused. refused.value ≡ item) }
     {
-        let Some(to) = self.sessions.get_mut(&session) else {
+        let Some(to) = self.get_mut(session) else {
             return Err(AllocFailed { value: item });
         };
         to.push(item)
@@ -193,7 +220,7 @@ impl Numbered {
         ensures sessions { self.new ≡ at_number without_newest self.old session }
         ensures item { option_map queued_of result ≡ newest_at self.old session }
     {
-        let Some(of) = self.sessions.get_mut(&session) else {
+        let Some(of) = self.get_mut(session) else {
             return None;
         };
         of.take_newest()
@@ -211,7 +238,7 @@ impl Numbered {
         ensures carried { IsCarriedOut past.old past.new self.old self.new session items monitors }
         ensures text { option_map item_of result ≡ option_and_then (λ x. last_finished items (seen x).queue) (finite.get self.old session) }
     {
-        let Some(of) = self.sessions.get_mut(&session) else {
+        let Some(of) = self.get_mut(session) else {
             return None;
         };
         of.carry_out(items, monitors, past)
@@ -222,8 +249,10 @@ impl Numbered {
         ensures { IfOk result (λ marks. map (λ m. m.now) marks.items ≡ all_marks self.now) }
     {
         let mut marks = Vec::new(alloc);
-        for (_, session) in self.sessions.iter() {
-            session.lend(&mut marks)?;
+        for (_, key) in self.keys.iter() {
+            if let Some(session) = self.sessions.get(*key) {
+                session.lend(&mut marks)?;
+            }
         }
         Ok(marks)
     }
@@ -235,8 +264,10 @@ impl Numbered {
     {
         let mut given = Given::new(marks);
         let mut copy = Numbered::new(alloc);
-        for (number, session) in self.sessions.iter() {
-            copy.insert(*number, session.copy(alloc, &mut given)?)?;
+        for (number, key) in self.keys.iter() {
+            if let Some(session) = self.sessions.get(*key) {
+                copy.insert(*number, session.copy(alloc, &mut given)?)?;
+            }
         }
         Ok(copy)
     }
