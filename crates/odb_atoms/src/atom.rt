@@ -42,7 +42,7 @@ pub enum Kind {
 }
 
 impl Atom {
-    /// What a column of the kind has by default (RFC 7047, section 5.2.1): 0, `false`, the empty
+    /// Returns what a column of the kind has by default (RFC 7047, section 5.2.1): 0, `false`, the empty
     /// string or the zero UUID. O(1); it takes no memory, but an empty string keeps the allocator.
     pub fn zero(alloc: Global, kind: Kind) -> Atom
         ensures { atom_of result ≡ zero_atom (kind_in kind) }
@@ -55,7 +55,7 @@ impl Atom {
         }
     }
 
-    /// The atomic type that the atom is of.
+    /// Returns the atomic type that the atom is of.
     pub fn kind(&self) -> Kind
         ensures { kind_in result ≡ kind_of (atom_of self.now) }
     {
@@ -67,14 +67,14 @@ impl Atom {
         }
     }
 
-    /// Whether the atom is of the kind.
+    /// Returns whether the atom is of the kind.
     pub fn is_a(&self, kind: Kind) -> bool
         ensures { result ≡ is_a (kind_in kind) (atom_of self.now) }
     {
         self.kind() == kind
     }
 
-    /// An equal atom. Only a text takes memory, O(its length).
+    /// Makes an equal atom. Only a text takes memory, O(its length).
     pub fn try_copy(&self, alloc: Global) -> Result<Atom, AllocError>
         ensures { IfOk result (λ copy. atom_of copy ≡ atom_of self.now) }
     {

@@ -99,7 +99,7 @@ impl Model for Enumeration {
 }
 
 impl Enumeration {
-    /// The elements of a set. O(1).
+    /// Makes an enumeration of the elements of a set. O(1).
     pub fn new(atoms: Value) -> Enumeration
         requires { model_value.is_map atoms ≡ false }
         ensures { set_of result ≡ atoms }
@@ -107,14 +107,14 @@ impl Enumeration {
         Enumeration { atoms }
     }
 
-    /// The atoms, as a set. O(1).
+    /// Returns the atoms, as a set. O(1).
     pub fn atoms(&self) -> &Value
         ensures { result.now ≡ set_of self.now }
     {
         &self.atoms
     }
 
-    /// An equal enumeration. O(the bytes copied).
+    /// Makes an equal enumeration. O(the bytes copied).
     pub fn try_copy(&self, alloc: Global) -> Result<Enumeration, AllocError>
         ensures { IfOk result (λ copy. copy ≡ self.now) }
     {
@@ -123,7 +123,7 @@ impl Enumeration {
 }
 
 impl Reference {
-    /// An equal reference. O(the bytes copied).
+    /// Makes an equal reference. O(the bytes copied).
     pub fn try_copy(&self, alloc: Global) -> Result<Reference, AllocError>
         ensures { IfOk result (λ copy. reference_of copy ≡ reference_of self.now) }
     {
@@ -135,7 +135,7 @@ impl Reference {
 }
 
 impl Base {
-    /// The kind without constraints. O(1).
+    /// Returns the kind without constraints. O(1).
     pub fn plain(kind: Kind) -> Base
         ensures { base_of result ≡ model.plain (kind_in kind) }
     {
@@ -150,7 +150,7 @@ impl Base {
         }
     }
 
-    /// Whether the atom meets the constraints, its kind aside. O(log e) comparisons for an `enum`
+    /// Returns whether the atom meets the constraints, its kind aside. O(log e) comparisons for an `enum`
     /// of e atoms, and O(the bytes) of a string.
     pub fn meets(&self, atom: &Atom) -> bool
         ensures { result ≡ model.meets (base_of self.now) (atom_of atom.now) }
@@ -185,7 +185,7 @@ impl Base {
         }
     }
 
-    /// An equal base type. O(the bytes copied).
+    /// Makes an equal base type. O(the bytes copied).
     pub fn try_copy(&self, alloc: Global) -> Result<Base, AllocError>
         ensures { IfOk result (λ copy. base_of copy ≡ base_of self.now) }
     {
@@ -223,7 +223,7 @@ fn is_within(min: Option<i64>, max: Option<i64>, number: i128) -> bool
 }
 
 impl ColType {
-    /// The scalar of the kind without constraints (RFC 7047, section 3.2, `<type>`): the type of
+    /// Returns the scalar of the kind without constraints (RFC 7047, section 3.2, `<type>`): the type of
     /// `_uuid` and `_version`, for one. O(1).
     pub fn scalar(kind: Kind) -> ColType
         ensures { type_of result ≡ model.scalar (kind_in kind) }
@@ -236,7 +236,7 @@ impl ColType {
         }
     }
 
-    /// Whether `max` is 1, so that a difference is the new value itself (ovsdb-server(7), update2).
+    /// Returns whether `max` is 1, so that a difference is the new value itself (ovsdb-server(7), update2).
     /// O(1).
     pub fn is_single(&self) -> bool
         ensures { result ≡ model.is_single (type_of self.now) }
@@ -244,7 +244,7 @@ impl ColType {
         self.max == Some(1)
     }
 
-    /// Whether it is a scalar (RFC 7047, section 3.2, `<type>`): neither a set nor a map, but of
+    /// Returns whether it is a scalar (RFC 7047, section 3.2, `<type>`): neither a set nor a map, but of
     /// exactly one element. O(1).
     pub fn is_scalar(&self) -> bool
         ensures { result ≡ model.is_scalar (type_of self.now) }
@@ -252,7 +252,7 @@ impl ColType {
         self.is_single() && self.min == 1 && self.value.is_none()
     }
 
-    /// An equal type. O(the bytes copied).
+    /// Makes an equal type. O(the bytes copied).
     pub fn try_copy(&self, alloc: Global) -> Result<ColType, AllocError>
         ensures { IfOk result (λ copy. type_of copy ≡ type_of self.now) }
     {
@@ -271,7 +271,7 @@ impl ColType {
 }
 
 impl Value {
-    /// Whether the type admits the value (RFC 7047, section 3.2), or else the first of these
+    /// Returns whether the type admits the value (RFC 7047, section 3.2), or else the first of these
     /// faults: `Kind` for a set in place of a map, a map in place of a set, or an atom of another
     /// kind; `TooFew`; `TooMany`; `Constraint`.
     ///
@@ -321,7 +321,7 @@ impl Value {
     }
 }
 
-/// The default of a column (RFC 7047, section 5.2.1): the empty set or map where `min` is 0, and
+/// Returns the default of a column (RFC 7047, section 5.2.1): the empty set or map where `min` is 0, and
 /// else one element or pair of 0, `false`, the empty string or the zero UUID. O(1); only a map
 /// takes memory.
 pub fn default_of(alloc: Global, column: &ColType) -> Result<Value, AllocError>

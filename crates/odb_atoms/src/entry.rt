@@ -17,15 +17,15 @@ use std::cmp::Ordering;
 pub trait Entry: Drop {
     ghost entry: { Self → model.Atom × Option model.Atom };
 
-    /// What the entries of a value are ordered by.
+    /// Returns what the entries of a value are ordered by.
     fn key(&self) -> &Atom
         ensures { atom_of result.now ≡ (entry self.now).0 };
 
-    /// Whether an entry with this key has the same value, too.
+    /// Returns whether an entry with this key has the same value, too.
     fn is_alike(&self, other: &Self) -> bool
         ensures { result ≡ alike (entry self.now).1 (entry other.now).1 };
 
-    /// An equal entry.
+    /// Makes an equal entry.
     fn try_copy(&self, alloc: Global) -> Result<Self, AllocError>
         ensures { IfOk result (λ copy. entry copy ≡ entry self.now) };
 }
@@ -73,7 +73,7 @@ pub fn sort<E: Entry>(entries: &mut Vec<E>) -> bool
     entries.is_sorted_by(|x, y| x.key().cmp(y.key()).is_lt())
 }
 
-/// The entry at the key, by binary search.
+/// Returns the entry at the key, by binary search.
 pub fn find<'a, E: Entry>(entries: &'a [E], key: &Atom) -> Option<&'a E>
     requires { IsRising (map E.entry entries.now) }
     ensures { option_map (λ found. (E.entry found.now).1) result
@@ -85,7 +85,7 @@ pub fn find<'a, E: Entry>(entries: &'a [E], key: &Atom) -> Option<&'a E>
     }
 }
 
-/// Whether the entry is among `entries`. O(log n) comparisons.
+/// Returns whether the entry is among `entries`. O(log n) comparisons.
 fn has<E: Entry>(entries: &[E], entry: &E) -> bool
     requires { IsRising (map E.entry entries.now) }
     ensures { result ≡ has_entry (map E.entry entries.now) (E.entry entry.now) }
@@ -96,13 +96,13 @@ fn has<E: Entry>(entries: &[E], entry: &E) -> bool
     }
 }
 
-/// Whether to look for `few` entries one by one among `many`, and not to go through both: where
+/// Returns whether to look for `few` entries one by one among `many`, and not to go through both: where
 /// those are 16 times as many, as a search is 16 comparisons among 65,536 entries.
 fn are_few(few: usize, many: usize) -> bool {
     few < many / 16
 }
 
-/// Whether each of `wanted` is among `entries`. O(m + n) comparisons for m wanted among n, and
+/// Returns whether each of `wanted` is among `entries`. O(m + n) comparisons for m wanted among n, and
 /// O(m log n) where m is less than a sixteenth of n.
 pub fn includes<E: Entry>(entries: &[E], wanted: &[E]) -> bool
     requires rising { IsRising (map E.entry entries.now) }
@@ -115,7 +115,7 @@ pub fn includes<E: Entry>(entries: &[E], wanted: &[E]) -> bool
     includes_by_pass(entries, wanted)
 }
 
-/// Whether each of `wanted` is among `entries`. One pass over both.
+/// Returns whether each of `wanted` is among `entries`. One pass over both.
 fn includes_by_pass<E: Entry>(entries: &[E], wanted: &[E]) -> bool
     requires rising { IsRising (map E.entry entries.now) }
     requires wanted_rising { IsRising (map E.entry wanted.now) }
@@ -137,7 +137,7 @@ fn includes_by_pass<E: Entry>(entries: &[E], wanted: &[E]) -> bool
     true
 }
 
-/// Whether none of `unwanted` is among `entries`. O(m + n) comparisons for m unwanted among n, and
+/// Returns whether none of `unwanted` is among `entries`. O(m + n) comparisons for m unwanted among n, and
 /// O(m log n) where m is less than a sixteenth of n.
 pub fn excludes<E: Entry>(entries: &[E], unwanted: &[E]) -> bool
     requires rising { IsRising (map E.entry entries.now) }
@@ -151,7 +151,7 @@ pub fn excludes<E: Entry>(entries: &[E], unwanted: &[E]) -> bool
     excludes_by_pass(entries, unwanted)
 }
 
-/// Whether none of `unwanted` is among `entries`. One pass over both.
+/// Returns whether none of `unwanted` is among `entries`. One pass over both.
 fn excludes_by_pass<E: Entry>(entries: &[E], unwanted: &[E]) -> bool
     requires rising { IsRising (map E.entry entries.now) }
     requires unwanted_rising { IsRising (map E.entry unwanted.now) }
@@ -177,7 +177,7 @@ fn excludes_by_pass<E: Entry>(entries: &[E], unwanted: &[E]) -> bool
     true
 }
 
-/// The entries by which two lists differ: those whose key one alone has, and where both have the
+/// Returns the entries by which two lists differ: those whose key one alone has, and where both have the
 /// key with other values, those of `new`. One pass over both.
 pub fn changed<E: Entry>(alloc: Global, old: &[E], new: &[E]) -> Result<Vec<E>, AllocError>
     requires old_rising { IsRising (map E.entry old.now) }
@@ -216,7 +216,7 @@ pub fn changed<E: Entry>(alloc: Global, old: &[E], new: &[E]) -> Result<Vec<E>, 
     Ok(change)
 }
 
-/// Equal entries, in the same order.
+/// Makes equal entries, in the same order.
 pub fn copies<E: Entry>(alloc: Global, entries: &[E]) -> Result<Vec<E>, AllocError>
     ensures { IfOk result (λ v. map E.entry v.items ≡ map E.entry entries.now) }
 {

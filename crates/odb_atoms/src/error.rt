@@ -28,7 +28,7 @@ pub enum Error {
 }
 
 impl Error {
-    /// Its name, as it is printed. O(1).
+    /// Returns its name, as it is printed. O(1).
     pub fn name(self) -> &'static str
         ensures { result.now ≡ error_name (error_of self) }
     {

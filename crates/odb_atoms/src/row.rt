@@ -34,28 +34,28 @@ impl Model for Row {
 }
 
 impl Row {
-    /// The row with the values of its declared columns, in the order of the columns' names. O(1).
+    /// Makes the row with the values of its declared columns, in the order of the columns' names. O(1).
     pub fn new(version: Uuid, columns: Vec<Value>) -> Row
         ensures { result ≡ record { version = uuid_of version; columns = columns.items } }
     {
         Row { version, columns }
     }
 
-    /// `_version`. O(1).
+    /// Returns `_version`. O(1).
     pub fn version(&self) -> Uuid
         ensures { uuid_of result ≡ self.now.version }
     {
         self.version
     }
 
-    /// The values of the declared columns, in the order of the columns' names. O(1).
+    /// Returns the values of the declared columns, in the order of the columns' names. O(1).
     pub fn columns(&self) -> &[Value]
         ensures { result.now ≡ self.now.columns }
     {
         self.columns.as_slice()
     }
 
-    /// The value of the declared column at the place, if there is one. O(1).
+    /// Returns the value of the declared column at the place, if there is one. O(1).
     pub fn get(&self, place: usize) -> Option<&Value>
         ensures { option_copied result ≡ slice_get self.now.columns place }
     {
@@ -78,7 +78,7 @@ impl Row {
         std::mem::replace(&mut self.columns[place], value)
     }
 
-    /// An equal row. O(the bytes copied).
+    /// Makes an equal row. O(the bytes copied).
     pub fn try_copy(&self, alloc: Global) -> Result<Row, AllocError>
         ensures { IfOk result (λ copy. copy ≡ self.now) }
     {

@@ -11,7 +11,7 @@ use crate::entry;
 use crate::value::{Entries, Value};
 use std::alloc::{AllocError, Global};
 
-/// What leads from the old value of a column to the new one (ovsdb-server(7), "update2
+/// Returns what leads from the old value of a column to the new one (ovsdb-server(7), "update2
 /// notification"): with `max` 1 the new value itself; of sets the elements that are in exactly one
 /// of the two; of maps the pairs whose key is in one alone, and, where both have the key with other
 /// values, the new pair.
@@ -40,7 +40,7 @@ pub fn difference(
 }
 
 impl Value {
-    /// What the difference makes of this value of a column (ovsdb-server(7), "update2
+    /// Returns what the difference makes of this value of a column (ovsdb-server(7), "update2
     /// notification"): with `max` 1 the difference itself; of sets the elements that are in exactly
     /// one of the two; of maps this value's pairs and those of the difference, without the pairs
     /// that both have, and with the difference's pair where both have the key.
@@ -62,7 +62,7 @@ impl Value {
     }
 }
 
-/// The elements or pairs by which two values differ, and of a set and a map the second.
+/// Returns the elements or pairs by which two values differ, and of a set and a map the second.
 fn changed(alloc: Global, left: &Value, right: &Value) -> Result<Value, AllocError>
     ensures { IfOk result (λ d. d ≡ model.changed left.now right.now) }
 {

@@ -98,7 +98,7 @@ impl Model for Value {
 }
 
 impl Value {
-    /// The set of one atom, which is what a scalar is. O(1).
+    /// Makes the set of one atom, which is what a scalar is. O(1).
     pub fn one(atom: Atom) -> Value
         ensures { result ≡ set_of (atoms (atom_of atom ∷ [])) }
     {
@@ -107,7 +107,7 @@ impl Value {
         }
     }
 
-    /// The set without elements. O(1); it takes no memory, but keeps the allocator.
+    /// Makes the set without elements. O(1); it takes no memory, but keeps the allocator.
     pub fn empty_set(alloc: Global) -> Value
         ensures { result ≡ set_of set.empty }
     {
@@ -116,7 +116,7 @@ impl Value {
         }
     }
 
-    /// The map without pairs. O(1); it takes no memory, but keeps the allocator.
+    /// Makes the map without pairs. O(1); it takes no memory, but keeps the allocator.
     pub fn empty_map(alloc: Global) -> Value
         ensures { result ≡ map_of finite.empty }
     {
@@ -125,7 +125,7 @@ impl Value {
         }
     }
 
-    /// The set of the elements, which may come in any order. O(n log n) for n elements.
+    /// Makes the set of the elements, which may come in any order. O(n log n) for n elements.
     ///
     /// The elements have to be of one kind, and none may stand twice (RFC 7047, section 5.1,
     /// `<set>`). Otherwise they are handed back, in some order, with the fault, of which
@@ -144,7 +144,7 @@ impl Value {
         Ok(Value::of_elements(elements))
     }
 
-    /// The map of the pairs, which may come in any order. O(n log n) for n pairs.
+    /// Makes the map of the pairs, which may come in any order. O(n log n) for n pairs.
     ///
     /// The keys have to be of one kind and the values of one kind, and no key may stand twice (RFC
     /// 7047, section 5.1, `<map>`). Otherwise the pairs are handed back, in some order, with the
@@ -163,7 +163,7 @@ impl Value {
         Ok(Value::of_pairs(pairs))
     }
 
-    /// The map of one pair. O(1); where memory is refused the atoms are dropped.
+    /// Makes the map of one pair. O(1); where memory is refused the atoms are dropped.
     pub(crate) fn one_pair(alloc: Global, key: Atom, value: Atom) -> Result<Value, AllocError>
         ensures { IfOk result (λ v. v ≡ map_of (finite.from_entries ((atom_of key, atom_of value) ∷ []))) }
     {
@@ -172,7 +172,7 @@ impl Value {
         Ok(Value::of_pairs(pairs))
     }
 
-    /// The set of ascending elements, of which a lone one moves inline.
+    /// Makes the set of ascending elements, of which a lone one moves inline.
     pub(crate) fn of_elements(mut elements: Vec<Atom>) -> Value
         requires { AreAscending elements.items }
         ensures { result ≡ set_in elements.items }
@@ -187,7 +187,7 @@ impl Value {
         }
     }
 
-    /// The map of pairs whose keys ascend.
+    /// Makes the map of pairs whose keys ascend.
     pub(crate) fn of_pairs(pairs: Vec<(Atom, Atom)>) -> Value
         requires { HaveAscendingKeys pairs.items }
         ensures { result ≡ map_in pairs.items }
@@ -197,7 +197,7 @@ impl Value {
         }
     }
 
-    /// The elements or the pairs, in ascending order. O(1).
+    /// Returns the elements or the pairs, in ascending order. O(1).
     pub fn entries(&self) -> Entries<'_>
         ensures listed { Lists result self.now }
         ensures value { value_in result ≡ self.now }
@@ -210,7 +210,7 @@ impl Value {
         }
     }
 
-    /// The number of elements or pairs. O(1).
+    /// Returns the number of elements or pairs. O(1).
     pub fn len(&self) -> usize
         ensures { result ≡ model.size self.now }
     {
@@ -220,14 +220,14 @@ impl Value {
         }
     }
 
-    /// Whether there is no element or pair. O(1).
+    /// Returns whether there is no element or pair. O(1).
     pub fn is_empty(&self) -> bool
         ensures { result ≡ (model.size self.now == 0) }
     {
         self.len() == 0
     }
 
-    /// Whether it is a map, and not a set. O(1).
+    /// Returns whether it is a map, and not a set. O(1).
     pub fn is_map(&self) -> bool
         ensures { result ≡ model.is_map self.now }
     {
@@ -237,7 +237,7 @@ impl Value {
         }
     }
 
-    /// Whether the atom is an element of the set, or a key of the map. O(log n) comparisons.
+    /// Returns whether the atom is an element of the set, or a key of the map. O(log n) comparisons.
     pub fn contains(&self, atom: &Atom) -> bool
         ensures { result ≡ has self.now (atom_of atom.now) }
     {
@@ -247,7 +247,7 @@ impl Value {
         }
     }
 
-    /// The value that a map has at the key; a set has none. O(log n) comparisons.
+    /// Returns the value that a map has at the key; a set has none. O(log n) comparisons.
     pub fn get(&self, key: &Atom) -> Option<&Atom>
         ensures { option_map (λ value. atom_of value.now) result ≡ value_at self.now (atom_of key.now) }
     {
@@ -260,7 +260,7 @@ impl Value {
         }
     }
 
-    /// Whether each element or pair of `other` is in this value, which a set and a map never say of
+    /// Returns whether each element or pair of `other` is in this value, which a set and a map never say of
     /// each other (RFC 7047, section 5.1, `<condition>`: "includes"). O(m + n)
     /// comparisons for m of `other` and n of this, O(m log n) where m is less than n / 16.
     pub fn includes(&self, other: &Value) -> bool
@@ -273,7 +273,7 @@ impl Value {
         }
     }
 
-    /// Whether no element or pair of `other` is in this value, which a set and a map never say of
+    /// Returns whether no element or pair of `other` is in this value, which a set and a map never say of
     /// each other (RFC 7047, section 5.1, `<condition>`: "excludes"). O(m + n)
     /// comparisons for m of `other` and n of this, O(m log n) where m is less than n / 16.
     pub fn excludes(&self, other: &Value) -> bool
@@ -286,7 +286,7 @@ impl Value {
         }
     }
 
-    /// An equal value. O(the bytes copied).
+    /// Makes an equal value. O(the bytes copied).
     pub fn try_copy(&self, alloc: Global) -> Result<Value, AllocError>
         ensures { IfOk result (λ copy. copy ≡ self.now) }
     {
@@ -346,7 +346,7 @@ impl Eq for Value {
     ghost laws = { values_equivalent };
 }
 
-/// Whether the elements are of the first one's kind.
+/// Returns whether the elements are of the first one's kind.
 fn are_of_one_kind(elements: &[Atom]) -> bool
     ensures { result ≡ members.are_of_one_kind (map atom_of elements.now) }
 {
@@ -356,7 +356,7 @@ fn are_of_one_kind(elements: &[Atom]) -> bool
     }
 }
 
-/// Whether the keys are of the first one's kind, and the values too.
+/// Returns whether the keys are of the first one's kind, and the values too.
 fn have_one_kind_each(pairs: &[(Atom, Atom)]) -> bool
     ensures { result ≡ members.have_one_kind_each (map pair_of pairs.now) }
 {
@@ -366,14 +366,14 @@ fn have_one_kind_each(pairs: &[(Atom, Atom)]) -> bool
     }
 }
 
-/// Whether each element is of the kind.
+/// Returns whether each element is of the kind.
 pub(crate) fn are_all_a(elements: &[Atom], kind: Kind) -> bool
     ensures { result ≡ each_element (is_a (kind_in kind)) elements.now }
 {
     elements.iter().all(|atom| atom.is_a(kind))
 }
 
-/// Whether each key and each value is of its kind.
+/// Returns whether each key and each value is of its kind.
 pub(crate) fn are_all_pairs_of(pairs: &[(Atom, Atom)], key: Kind, value: Kind) -> bool
     ensures { result ≡ each_pair (is_a (kind_in key)) (is_a (kind_in value)) pairs.now }
 {

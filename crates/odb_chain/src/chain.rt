@@ -48,7 +48,7 @@ impl Model for Chain {
 }
 
 impl Chain {
-    /// No change was made, and nothing is kept.
+    /// Makes a chain of which no change was made, and nothing is kept.
     pub(crate) fn new(alloc: Global, hashing: RandomState) -> Chain
         ensures { result ≡ nothing_kept }
     {
@@ -60,7 +60,7 @@ impl Chain {
         }
     }
 
-    /// The same once more. O(old rows).
+    /// Makes the same once more. O(old rows).
     pub(crate) fn try_copy(&self, hashing: RandomState) -> Result<Chain, AllocError>
         ensures { IfOk result (λ copy. IsCopyOf self.now copy) }
     {
@@ -74,14 +74,14 @@ impl Chain {
         })
     }
 
-    /// How many changes the table had.
+    /// Returns how many changes the table had.
     pub(crate) fn version(&self) -> u64
         ensures { result ≡ self.now.version }
     {
         self.version
     }
 
-    /// How many places have marks.
+    /// Returns how many places have marks.
     pub(crate) fn len(&self) -> usize
         ensures { result ≡ length (places self.now) }
     {
@@ -92,14 +92,14 @@ impl Chain {
         }
     }
 
-    /// How many of them are before the version.
+    /// Returns how many of them are before the version.
     pub(crate) fn earlier(&self) -> usize
         ensures { result ≡ length self.now.live }
     {
         self.live.len()
     }
 
-    /// One mark more for what the table is now.
+    /// Counts one mark more for what the table is now.
     pub(crate) fn mark(&mut self)
         requires { self.old.fresh + 1 < 2 ^ 64 }
         ensures { self.new ≡ record (self.old) { fresh = self.old.fresh + 1 } }
@@ -107,8 +107,8 @@ impl Chain {
         self.fresh += 1;
     }
 
-    /// One mark less at the place. Where that was the earliest one and goes, all notes before the next one go, with the rows of
-    /// these that didn't change since it; after the last place all goes.
+    /// Counts one mark less at the place. Where that was the earliest one and goes, all notes before the next one go,
+    /// with the rows of these that didn't change since it; after the last place all goes.
     pub(crate) fn release(&mut self, place: u64)
         requires { is_place place (places self.old) ≡ true }
         ensures version { self.new.version ≡ self.old.version }
@@ -155,7 +155,7 @@ impl Chain {
         }
     }
 
-    /// The earliest place.
+    /// Returns the earliest place.
     fn oldest(&self) -> Option<u64>
         ensures none { IfNone result (places self.now ≡ []) }
         ensures some { IfSome result (λ oldest. (p : ℕ) → is_place p (places self.now) ≡ true → nat_le oldest p ≡ true) }
@@ -167,7 +167,7 @@ impl Chain {
         }
     }
 
-    /// The latest place.
+    /// Returns the latest place.
     fn newest(&self) -> Option<u64>
         ensures none { IfNone result (places self.now ≡ []) }
         ensures some { IfSome result (λ newest. (p : ℕ) → is_place p (places self.now) ≡ true → (nat_le p newest ≡ true) × (is_kept newest self.now.live p ≡ true)) }
@@ -180,7 +180,7 @@ impl Chain {
         }
     }
 
-    /// The version, where marks stand for what the table is now.
+    /// Returns the version, where marks stand for what the table is now.
     fn here(&self) -> Option<u64>
         ensures none { IfNone result (self.now.fresh ≡ 0) }
         ensures some { IfSome result (λ place. (place ≡ self.now.version) × (0 < self.now.fresh)) }
@@ -248,7 +248,7 @@ impl Chain {
         self.version += 1;
     }
 
-    /// What leads from the table at the place to the table now. O(rows kept).
+    /// Returns what leads from the table at the place to the table now. O(rows kept).
     pub(crate) fn since(&self, table: &Table, place: u64) -> Result<TableChange, AllocError>
         ensures { IfOk result (λ made. made ≡ change (content_at place table.now self.now.rows) table.now) }
     {
@@ -256,7 +256,7 @@ impl Chain {
     }
 }
 
-/// One mark less at the place.
+/// Counts one mark less at the place.
 fn take_in(live: &mut Vec<Live>, place: u64)
     ensures { live.new.items ≡ fewer place live.old.items }
 {

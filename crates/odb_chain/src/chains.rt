@@ -45,7 +45,7 @@ impl Model for Chains {
 }
 
 impl Chains {
-    /// The database, without changes and marks. O(tables).
+    /// Makes chains of the database, without changes and marks. O(tables).
     pub fn new(alloc: Global, db: Db, hashing: RandomState) -> Result<Chains, AllocError>
         ensures chains { IfOk result (λ chains. chains ≡ chains_of db) }
         ensures now { IfOk result (λ chains. IsNow chains) }
@@ -62,7 +62,7 @@ impl Chains {
         })
     }
 
-    /// The database as it is now. There are as many lists of live marks as it has tables. O(1).
+    /// Returns the database as it is now. There are as many lists of live marks as it has tables. O(1).
     pub fn db(&self) -> &Db
         ensures db { result.now ≡ self.now.db }
         ensures lists { length self.now.live ≡ length self.now.db }
@@ -70,7 +70,7 @@ impl Chains {
         &self.db
     }
 
-    /// Whether the table had no change since the mark was made. O(1).
+    /// Returns whether the table had no change since the mark was made. O(1).
     pub fn is_now(&self, mark: &Mark) -> bool
         requires { IsLive self.now mark.now }
         ensures place { result ≡ nat_eq mark.now.place (version self.now mark.now.table) }
@@ -79,7 +79,7 @@ impl Chains {
         mark.place == self.chains[mark.table.place()].version()
     }
 
-    /// How many contents of the table marks stand for; marks between which it didn't change count once. O(1).
+    /// Returns how many contents of the table marks stand for; marks between which it didn't change count once. O(1).
     pub fn distinct_marks(&self, table: TableId) -> usize
         requires { table < length self.now.db }
         ensures { result ≡ contents_held self.now table }
@@ -87,7 +87,7 @@ impl Chains {
         self.chains[table.place()].len()
     }
 
-    /// How many segments of the table are kept: the changes from one content for which marks stand to the
+    /// Returns how many segments of the table are kept: the changes from one content for which marks stand to the
     /// next one, or to now. There are never more of them than distinct marks. O(1).
     pub fn segments(&self, table: TableId) -> usize
         requires { table < length self.now.db }
@@ -119,7 +119,7 @@ impl Chains {
         Ok(())
     }
 
-    /// A mark for what the table is now. O(1).
+    /// Gives out a mark for what the table is now. O(1).
     pub fn mark_now(&mut self, table: TableId) -> Mark
         requires inside { table < length self.old.db }
         requires few { count self.old table (version self.old table) < 2 ^ 64 - 1 }
@@ -137,7 +137,7 @@ impl Chains {
         }
     }
 
-    /// One mark less. What no other mark needs is dropped: rows that didn't change since the
+    /// Counts one mark less. What no other mark needs is dropped: rows that didn't change since the
     /// earliest mark that is left.
     pub fn release(&mut self, mark: Mark)
         requires { IsLive self.old mark }
@@ -161,7 +161,7 @@ impl Chains {
         self.release(old);
     }
 
-    /// What leads from the content for which the mark stands to what its table is now: each row
+    /// Returns what leads from the content for which the mark stands to what its table is now: each row
     /// that differs, once. O(k log k) for the k rows changed since, each counted as often as it changed for
     /// the first time since a mark was made.
     pub fn since(&self, mark: &Mark) -> Result<TableChange, AllocError>
@@ -172,7 +172,7 @@ impl Chains {
         self.chains[place].since(&self.db.tables()[place], mark.place)
     }
 
-    /// The mark's table as it is now. O(1).
+    /// Returns the mark's table as it is now. O(1).
     pub fn table(&self, mark: &Mark) -> &Table
         requires { IsLive self.now mark.now }
         ensures { result.now ≡ table_at self.now.db mark.now.table }
@@ -206,7 +206,7 @@ impl Chains {
         })
     }
 
-    /// The table of a mark, which the database has.
+    /// Returns the table of a mark, which the database has.
     fn table_of(&self, mark: &Mark) -> TableId
         requires { IsLive self.now mark.now }
         ensures table { result ≡ mark.now.table }
@@ -220,7 +220,7 @@ impl Chains {
     }
 }
 
-/// A table of the database.
+/// Returns a table of the database.
 fn table_in(tables: &[Table], table: TableId) -> &Table
     requires { table < length tables.now }
     ensures { result.now ≡ table_at tables.now table }
@@ -253,7 +253,7 @@ fn prepare(chains: &mut Vec<Chain>, changes: &[TableChange]) -> Result<(), Alloc
     Ok(())
 }
 
-/// Which tables are changed.
+/// Returns which tables are changed.
 fn moved_tables(alloc: Global, changes: &[TableChange]) -> Result<Vec<bool>, AllocError>
     ensures { IfOk result (λ moved. moved.items ≡ map is_moved changes.now) }
 {

@@ -21,14 +21,14 @@ impl Model for Content {
 unsafe impl Send for Content {}
 
 impl Content {
-    /// What the table is now.
+    /// Returns what the table is now.
     pub(crate) fn of(_table: &Table) -> Content
         ensures { result.table ≡ _table.now }
     {
         Content {}
     }
 
-    /// The same.
+    /// Makes the same.
     pub(crate) fn copy(&self) -> Content
         ensures { result.table ≡ self.now.table }
     {

@@ -34,7 +34,7 @@ impl Model for Old {
 }
 
 impl Old {
-    /// The same once more, with the row shared.
+    /// Makes the same once more, with the row shared.
     fn try_copy(&self) -> Result<Old, AllocError>
         ensures { IfOk result (λ copy. copy ≡ self.now) }
     {
@@ -101,14 +101,14 @@ impl History {
         })
     }
 
-    /// Tells whether it is kept what the row was at the place. O(1).
+    /// Returns whether it is kept what the row was at the place. O(1).
     pub(crate) fn reaches(&self, place: u64) -> bool
         ensures { result ≡ reaches place self.now }
     {
         place <= self.latest
     }
 
-    /// Tells whether it is kept what the row was up to a later place. O(1).
+    /// Returns whether it is kept what the row was up to a later place. O(1).
     pub(crate) fn passes(&self, place: u64) -> bool
         ensures { result ≡ passes place self.now }
     {
@@ -206,7 +206,7 @@ fn twice(number: usize) -> usize
     }
 }
 
-/// The same row once more.
+/// Returns the same row once more.
 pub(crate) fn share(row: Option<&Arc<Row>>) -> Result<Option<Arc<Row>>, AllocError>
     ensures { IfOk result (λ shared. row_of shared ≡ row_of (option_copied row.entry)) }
 {

@@ -51,7 +51,7 @@ impl Model for Kept {
 }
 
 impl Kept {
-    /// Nothing is kept.
+    /// Makes one in which nothing is kept.
     pub(crate) fn new(alloc: Global, hashing: RandomState) -> Kept
         ensures rows { result.rows ≡ finite.empty }
         ensures notes { result.notes ≡ [] }
@@ -88,7 +88,7 @@ impl Kept {
         history.push(old, live)
     }
 
-    /// The same once more, with the rows shared. O(old rows).
+    /// Makes the same once more, with the rows shared. O(old rows).
     pub(crate) fn try_copy(&self, hashing: RandomState) -> Result<Kept, AllocError>
         ensures { IfOk result (λ copy. copy ≡ self.now) }
     {
@@ -121,7 +121,7 @@ impl Kept {
         Ok(())
     }
 
-    /// What leads from the table at the place to the table now. O(k log k) for the k rows that changed since,
+    /// Returns what leads from the table at the place to the table now. O(k log k) for the k rows that changed since,
     /// each as often as it was kept since.
     pub(crate) fn since(&self, table: &Table, place: u64) -> Result<TableChange, AllocError>
         ensures { IfOk result (λ made. made ≡ change (content_at place table.now self.now.rows) table.now) }
@@ -130,7 +130,7 @@ impl Kept {
         self.changes(table, place, &keys)
     }
 
-    /// The same, where each row that changed since is one of these.
+    /// Returns the same, where each row that changed since is one of these.
     fn changes(
         &self,
         table: &Table,
@@ -162,7 +162,7 @@ impl Kept {
         add(rows, change)
     }
 
-    /// What the row was at the place, where it is this now.
+    /// Returns what the row was at the place, where it is this now.
     fn row_at<'a>(&'a self, key: Key, place: u64, now: Option<&'a Arc<Row>>) -> Option<&'a Arc<Row>>
         ensures { row_of (option_copied result) ≡ at_place place (row_of (option_copied now.entry)) (finite.get self.now.rows key) }
     {

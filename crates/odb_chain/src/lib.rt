@@ -18,7 +18,7 @@ mod mark;
 pub use chains::Chains;
 pub use mark::Mark;
 
-/// What segments are, of all chains: the changes between neighbouring contents that are kept. The call does
+/// States what segments are, of all chains: the changes between neighbouring contents that are kept. The call does
 /// nothing.
 pub fn law()
     // Undoing from now the segments after a mark gives the content for which it stands.

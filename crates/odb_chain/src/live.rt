@@ -47,7 +47,7 @@ impl<'a> Model for Places<'a> {
 }
 
 impl<'a> Places<'a> {
-    /// These places.
+    /// Takes these places.
     pub(crate) fn of(live: &'a [Live]) -> Places<'a>
         requires { AreApart live.now }
         ensures { result ≡ live.now }
@@ -55,7 +55,7 @@ impl<'a> Places<'a> {
         Places { live }
     }
 
-    /// Whether one of the places is after the first one and up to the last one. O(log n) for n places.
+    /// Returns whether one of the places is after the first one and up to the last one. O(log n) for n places.
     pub(crate) fn is_between(&self, after: u64, up_to: u64) -> bool
         ensures { result ≡ is_between self.now after up_to }
     {

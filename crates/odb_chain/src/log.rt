@@ -62,7 +62,7 @@ impl Model for Log {
 }
 
 impl Log {
-    /// Nothing is noted.
+    /// Makes a log in which nothing is noted.
     pub(crate) fn new(alloc: Global) -> Log
         ensures { result ≡ [] }
     {
@@ -74,7 +74,7 @@ impl Log {
         }
     }
 
-    /// The same once more. O(notes).
+    /// Makes the same once more. O(notes).
     pub(crate) fn try_copy(&self, alloc: Global) -> Result<Log, AllocError>
         ensures { IfOk result (λ copy. copy ≡ self.now) }
     {
@@ -96,14 +96,14 @@ impl Log {
         Ok(self.noted.push(Noted { place, key })?)
     }
 
-    /// The rows that are noted with the place or a later one. O(k log k) for k notes of them.
+    /// Returns the rows that are noted with the place or a later one. O(k log k) for k notes of them.
     pub(crate) fn since(&self, alloc: Global, place: u64) -> Result<BTreeSet<Key>, AllocError>
         ensures { IfOk result (λ keys. (u : model_uuid.Uuid) → is_noted place u self.now ≡ true → contains uuid_cmp keys u ≡ true) }
     {
         keys_of(alloc, self.from(place))
     }
 
-    /// The notes from the place on. O(log n).
+    /// Returns the notes from the place on. O(log n).
     fn from(&self, place: u64) -> &[Noted]
         ensures { (u : model_uuid.Uuid) → is_noted place u self.now ≡ true → is_named u result.now ≡ true }
     {
@@ -198,7 +198,7 @@ fn copies(alloc: Global, noted: &[Noted]) -> Result<Vec<Noted>, AllocError>
     Ok(made)
 }
 
-/// The notes from this one on.
+/// Returns the notes from this one on.
 fn after(noted: &[Noted], first: usize) -> &[Noted]
     requires { first ≤ length noted.now }
     ensures { result.now ≡ drop first noted.now }
@@ -206,7 +206,7 @@ fn after(noted: &[Noted], first: usize) -> &[Noted]
     &noted[first..]
 }
 
-/// The later one of two places.
+/// Returns the later one of two places.
 fn later(a: u64, b: u64) -> u64
     ensures first { a ≤ result }
     ensures second { b ≤ result }
@@ -214,7 +214,7 @@ fn later(a: u64, b: u64) -> u64
     if a < b { b } else { a }
 }
 
-/// Whether the row is kept, and up to no later place.
+/// Returns whether the row is kept, and up to no later place.
 fn is_needed(rows: &IndexMap<Key, History, RandomState>, note: &Noted) -> bool
     ensures { result ≡ is_needed (keyed (λ h. h) rows.now) note.now }
 {
@@ -224,7 +224,7 @@ fn is_needed(rows: &IndexMap<Key, History, RandomState>, note: &Noted) -> bool
     }
 }
 
-/// The rows of the notes, each once.
+/// Returns the rows of the notes, each once.
 fn keys_of(alloc: Global, noted: &[Noted]) -> Result<BTreeSet<Key>, AllocError>
     ensures { IfOk result (λ keys. (u : model_uuid.Uuid) → is_named u noted.now ≡ true → contains uuid_cmp keys u ≡ true) }
 {

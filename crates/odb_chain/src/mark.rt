@@ -27,14 +27,14 @@ impl Model for Mark {
 }
 
 impl Mark {
-    /// The table whose content it stands for. O(1).
+    /// Returns the table whose content it stands for. O(1).
     pub fn table(&self) -> TableId
         ensures { result ≡ self.now.table }
     {
         self.table
     }
 
-    /// How many changes the table had when the mark was made, which tells it apart from marks for other
+    /// Returns how many changes the table had when the mark was made, which tells it apart from marks for other
     /// contents of this table. O(1).
     pub fn place(&self) -> u64
         ensures { result ≡ self.now.place }

@@ -92,7 +92,7 @@ fn finish(
     }
 }
 
-/// The results with one more.
+/// Returns the results with one more.
 fn with(mut results: Vec<Value>, last: Value) -> Result<Vec<Value>, AllocError>
     ensures { IfOk result (λ all. results_of all ≡ results_of results ++ (view last ∷ [])) }
 {
@@ -100,7 +100,7 @@ fn with(mut results: Vec<Value>, last: Value) -> Result<Vec<Value>, AllocError>
     Ok(results)
 }
 
-/// The `_version` of the rows that the commit of this number changes.
+/// Returns the `_version` of the rows that the commit of this number changes.
 fn version(number: u64) -> Uuid
     ensures { uuid_of result ≡ uuid_from number }
 {

@@ -71,7 +71,7 @@ impl Model for Clause {
 }
 
 impl Clause {
-    /// The condition that the column stands so to the value. O(1).
+    /// Makes the condition that the column stands so to the value. O(1).
     ///
     /// Any function and any value may be given. The protocol has the ordered functions on integer
     /// scalars alone (RFC 7047, section 5.1), which is for the reader to test.
@@ -89,42 +89,42 @@ impl Clause {
         }
     }
 
-    /// The column that it tests (RFC 7047, section 5.1, `<column>`). O(1).
+    /// Returns the column that it tests (RFC 7047, section 5.1, `<column>`). O(1).
     pub fn column(&self) -> Selector
         ensures { selector_of result ≡ self.now.column }
     {
         self.column
     }
 
-    /// How the column has to stand to the value (RFC 7047, section 5.1, `<function>`). O(1).
+    /// Returns how the column has to stand to the value (RFC 7047, section 5.1, `<function>`). O(1).
     pub fn function(&self) -> Function
         ensures { function_of result ≡ self.now.function }
     {
         self.function
     }
 
-    /// The value to which the column has to stand so (RFC 7047, section 5.1, `<value>`). O(1).
+    /// Returns the value to which the column has to stand so (RFC 7047, section 5.1, `<value>`). O(1).
     pub fn value(&self) -> &Value
         ensures { result.now ≡ self.now.value }
     {
         &self.value
     }
 
-    /// Whether the two are the same condition.
+    /// Returns whether the two are the same condition.
     pub(crate) fn same(&self, other: &Clause) -> bool
         ensures { Decides result (self.now ≡ other.now) }
     {
         self.asks_alike(other) && self.value == other.value
     }
 
-    /// Whether the two have the same column and the same function.
+    /// Returns whether the two have the same column and the same function.
     fn asks_alike(&self, other: &Clause) -> bool
         ensures { Decides result ((self.now.column ≡ other.now.column) × (self.now.function ≡ other.now.function)) }
     {
         self.column == other.column && self.function == other.function
     }
 
-    /// Whether it holds of the row with the identifier (RFC 7047, section 5.1, `<condition>`).
+    /// Returns whether it holds of the row with the identifier (RFC 7047, section 5.1, `<condition>`).
     ///
     /// A set and a map never include or exclude each other, and aren't equal. A declared column
     /// past the row's counts as the empty set.
@@ -157,7 +157,7 @@ impl Clause {
         }
     }
 
-    /// Whether it holds of the empty set.
+    /// Returns whether it holds of the empty set.
     #[tactic(auto, using(crate::proofs::Relations::of_nothing))]
     fn holds_of_nothing(&self) -> bool
         ensures { result ≡ model.relates self.now.function (set_of set.empty) self.now.value }
@@ -171,7 +171,7 @@ impl Clause {
         }
     }
 
-    /// Whether the value is the empty set.
+    /// Returns whether the value is the empty set.
     #[tactic(auto, using(crate::proofs::Relations::nothing_wanted))]
     fn wants_nothing(&self) -> bool
         ensures { result ≡ same_value (set_of set.empty) self.now.value }
@@ -179,7 +179,7 @@ impl Clause {
         self.value.is_empty() && !self.value.is_map()
     }
 
-    /// The identifier that it wants `_uuid` to be, if it wants one by `==` or `includes`.
+    /// Returns the identifier that it wants `_uuid` to be, if it wants one by `==` or `includes`.
     pub(crate) fn pinned(&self) -> Option<Uuid>
         ensures { option_map uuid_of result ≡ pinned_by self.now }
     {
@@ -190,7 +190,7 @@ impl Clause {
         }
     }
 
-    /// The value that the declared column at the place has where it holds, if it asks it by `==`.
+    /// Returns the value that the declared column at the place has where it holds, if it asks it by `==`.
     pub(crate) fn required(&self, place: usize) -> Option<&Value>
         ensures { IfSome result (λ value. (u : model_uuid.Uuid) (r : model_row.Row)
             → IsTrue (model.holds self.now u r) → cell u r (declared place) ≡ value.now) }
@@ -201,7 +201,7 @@ impl Clause {
         Some(&self.value)
     }
 
-    /// Whether it is a condition `==` on the declared column at the place.
+    /// Returns whether it is a condition `==` on the declared column at the place.
     fn is_equality_at(&self, place: usize) -> bool
         ensures { OnTrue result ((self.now.column ≡ declared place) × (self.now.function ≡ model.equal)) }
     {
@@ -211,7 +211,7 @@ impl Clause {
         }
     }
 
-    /// An equal condition. O(the bytes copied).
+    /// Makes an equal condition. O(the bytes copied).
     pub fn try_copy(&self, alloc: Global) -> Result<Clause, AllocError>
         ensures { IfOk result (λ copy. copy ≡ self.now) }
     {
@@ -224,7 +224,7 @@ impl Clause {
 }
 
 impl Function {
-    /// Whether some atom of a set stands so to some atom of the other, by an ordered function.
+    /// Returns whether some atom of a set stands so to some atom of the other, by an ordered function.
     fn compares(self, column: &Value, value: &Value) -> bool
         ensures { result ≡ model.compares (test_of self) column.now value.now }
     {
@@ -246,7 +246,7 @@ impl Function {
         others.iter().any(|other| self.allows(atom.cmp(other)))
     }
 
-    /// Whether an ordered function holds of atoms in this order.
+    /// Returns whether an ordered function holds of atoms in this order.
     fn allows(self, order: Ordering) -> bool
         ensures { result ≡ test_of self order }
     {
@@ -261,7 +261,7 @@ impl Function {
     }
 }
 
-/// The one element of a set, if it is an identifier.
+/// Returns the one element of a set, if it is an identifier.
 fn lone_uuid(value: &Value) -> Option<Uuid>
     ensures { option_map uuid_of result ≡ uuid_in value.now }
 {

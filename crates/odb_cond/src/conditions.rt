@@ -30,14 +30,14 @@ impl Model for Where {
 }
 
 impl Where {
-    /// The `where` with these conditions. O(1).
+    /// Makes the `where` with these conditions. O(1).
     pub fn new(clauses: Vec<Clause>) -> Where
         ensures { result ≡ clauses.items }
     {
         Where { clauses }
     }
 
-    /// Whether each condition holds of the row with the identifier (RFC 7047, section 5.2.2).
+    /// Returns whether each condition holds of the row with the identifier (RFC 7047, section 5.2.2).
     ///
     /// O(the conditions, times the sizes of their columns and values), as `Clause::holds` says it.
     pub fn holds(&self, uuid: Uuid, row: &Row) -> bool
@@ -46,7 +46,7 @@ impl Where {
         self.clauses.iter().all(|clause| clause.holds(uuid, row))
     }
 
-    /// The identifier that the first condition on `_uuid` pins by `==` or `includes` of one
+    /// Returns the identifier that the first condition on `_uuid` pins by `==` or `includes` of one
     /// identifier, if there is such a condition: the rows that match are then this one or none.
     ///
     /// O(the conditions).
@@ -64,7 +64,7 @@ impl Where {
         None
     }
 
-    /// The value that the declared column at the place has in each row that matches, by the first
+    /// Returns the value that the declared column at the place has in each row that matches, by the first
     /// condition that asks it by `==`, if there is such a condition.
     ///
     /// O(the conditions).

@@ -39,7 +39,7 @@ impl Model for Filter {
 }
 
 impl Member {
-    /// Whether it holds of the row with the identifier. It costs what `Clause::holds` does.
+    /// Returns whether it holds of the row with the identifier. It costs what `Clause::holds` does.
     pub fn holds(&self, uuid: Uuid, row: &Row) -> bool
         ensures { result ≡ member_holds (uuid_of uuid) row.now (member_of self.now) }
     {
@@ -49,7 +49,7 @@ impl Member {
         }
     }
 
-    /// Whether the two are the same member.
+    /// Returns whether the two are the same member.
     fn same(&self, other: &Member) -> bool
         ensures { Decides result (member_of self.now ≡ member_of other.now) }
     {
@@ -60,7 +60,7 @@ impl Member {
         }
     }
 
-    /// An equal member. O(the bytes copied).
+    /// Makes an equal member. O(the bytes copied).
     pub fn try_copy(&self, alloc: Global) -> Result<Member, AllocError>
         ensures { IfOk result (λ copy. member_of copy ≡ member_of self.now) }
     {
@@ -72,21 +72,21 @@ impl Member {
 }
 
 impl Filter {
-    /// The filter with these members. O(1).
+    /// Makes the filter with these members. O(1).
     pub fn new(members: Vec<Member>) -> Filter
         ensures { result ≡ map member_of members.items }
     {
         Filter { members }
     }
 
-    /// Its members, in the order in which they were given. O(1).
+    /// Returns its members, in the order in which they were given. O(1).
     pub fn members(&self) -> &[Member]
         ensures { map member_of result.now ≡ self.now }
     {
         self.members.as_slice()
     }
 
-    /// Whether the two are the same filter: the same members in the same order. Two filters that aren't
+    /// Returns whether the two are the same filter: the same members in the same order. Two filters that aren't
     /// the same may select the same rows all the same (`true` and no member at all).
     ///
     /// O(the members and the entries of their values), each atom compared once.
@@ -96,7 +96,7 @@ impl Filter {
         are_same(&self.members, &other.members)
     }
 
-    /// Whether it selects the row with the identifier: some member holds of it, or there is no
+    /// Returns whether it selects the row with the identifier: some member holds of it, or there is no
     /// member.
     ///
     /// O(the members, times the sizes of their columns and values), as `Clause::holds` says it.
@@ -107,7 +107,7 @@ impl Filter {
         self.members.is_empty() || some_member_holds(&self.members, uuid, row)
     }
 
-    /// An equal filter. O(the bytes copied).
+    /// Makes an equal filter. O(the bytes copied).
     pub fn try_copy(&self, alloc: Global) -> Result<Filter, AllocError>
         ensures { IfOk result (λ copy. copy ≡ self.now) }
     {
@@ -126,7 +126,7 @@ fn some_member_holds(members: &[Member], uuid: Uuid, row: &Row) -> bool
     members.iter().any(|member| member.holds(uuid, row))
 }
 
-/// Whether the two lists have the same members, one by one.
+/// Returns whether the two lists have the same members, one by one.
 fn are_same(members: &[Member], others: &[Member]) -> bool
     ensures { Decides result (map member_of members.now ≡ map member_of others.now) }
 {

@@ -16,7 +16,7 @@ pub(crate) struct Counts {
 impl Counts {
     ghost use Rattle.odb_core.specs.Represented.Counts.{count_of, Forgets, HasOneMore, IsSame};
 
-    /// Each session has none.
+    /// Makes counts in which each session has none.
     pub(crate) fn new(alloc: Global) -> Counts
         ensures { (s : ℕ) → count_of result s ≡ 0 }
     {
@@ -25,7 +25,7 @@ impl Counts {
         }
     }
 
-    /// How many the session has. O(log n).
+    /// Returns how many the session has. O(log n).
     pub(crate) fn get(&self, session: SessionId) -> usize
         ensures { result ≡ count_of self.now session }
     {
@@ -35,7 +35,7 @@ impl Counts {
         }
     }
 
-    /// The session has one more. O(log n).
+    /// Counts one more for the session. O(log n).
     pub(crate) fn add(&mut self, session: SessionId) -> Result<(), AllocError>
         ensures ok { OnOk result (HasOneMore self.old self.new session) }
         ensures err { OnErr result (IsSame self.old self.new) }
@@ -45,7 +45,7 @@ impl Counts {
         Ok(())
     }
 
-    /// The session has one less, if it has one. O(log n).
+    /// Counts one less for the session, if it has one. O(log n).
     pub(crate) fn take(&mut self, session: SessionId)
         ensures { 0 < count_of self.old session → HasOneMore self.new self.old session }
     {
@@ -56,14 +56,14 @@ impl Counts {
         *count = less;
     }
 
-    /// The session has none. O(log n).
+    /// Forgets the session's count. O(log n).
     pub(crate) fn forget(&mut self, session: SessionId)
         ensures { Forgets self.old self.new session }
     {
         self.counts.remove(&session);
     }
 
-    /// Equal counts. O(n).
+    /// Makes equal counts. O(n).
     pub(crate) fn try_copy(&self) -> Result<Counts, AllocError>
         ensures { IfOk result (λ copy. IsSame self.now copy) }
     {

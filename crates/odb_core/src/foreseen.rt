@@ -55,7 +55,7 @@ pub(crate) struct Foreseen {
 }
 
 impl Foreseen {
-    /// Nothing yet.
+    /// Foresees nothing yet.
     pub(crate) fn new(alloc: Global) -> Foreseen
         ensures left { result.left ≡ [] }
         ensures posts { result.posts.items ≡ [] }
@@ -66,7 +66,7 @@ impl Foreseen {
         }
     }
 
-    /// One waits on, and isn't tried.
+    /// Passes over one, which waits on and isn't tried.
     pub(crate) fn pass_over(&mut self, waiting: &Waiting) -> Result<(), AllocError>
         ensures left { OnOk result (self.new.left ≡ self.old.left ++ waiting.now ∷ []) }
         ensures posts { self.new.posts.items ≡ self.old.posts.items }
@@ -98,7 +98,7 @@ impl Foreseen {
         }
     }
 
-    /// One ends: its reply is posted.
+    /// Ends one: its reply is posted.
     fn end(
         &mut self,
         alloc: Global,
@@ -119,7 +119,7 @@ impl Foreseen {
         Ok(self.posts.push(Post { session, item })?)
     }
 
-    /// One waits again.
+    /// Keeps one, which waits again.
     fn keep(
         &mut self,
         waiting: &Waiting,
@@ -134,7 +134,7 @@ impl Foreseen {
 }
 
 impl State {
-    /// What becomes of those that wait where the change is the next commit; `None` where one of them may change
+    /// Returns what becomes of those that wait where the change is the next commit; `None` where one of them may change
     /// the database. For each: what its operations cost, O(tables), a copy of the rows of the change, and
     /// O(columns of the schema) where it ends.
     pub(crate) fn foresee(&self, change: &ChangeSet) -> Result<Option<Foreseen>, AllocError>
@@ -154,7 +154,7 @@ impl State {
         Ok(Some(foreseen))
     }
 
-    /// The forecast of a transaction where the change is the next commit.
+    /// Returns the forecast of a transaction where the change is the next commit.
     fn forecast(&self, change: &ChangeSet, asked: &Submitted) -> Result<Forecast, AllocError>
         requires change { IsChangeOf self.now.world.db change.now }
         requires sound { IsSound self.now.schema (all_changed_by self.now.world.db change.now) }
@@ -174,7 +174,7 @@ impl State {
         self.forecast_on(&mut draft, asked)
     }
 
-    /// The forecast of a transaction on the database as a draft has it.
+    /// Returns the forecast of a transaction on the database as a draft has it.
     fn forecast_on(&self, draft: &mut Draft<'_>, asked: &Submitted) -> Result<Forecast, AllocError>
         requires typed { IsTyped self.now.schema draft.old.now }
         requires settled { IsSettled self.now.schema draft.old.now }
@@ -239,8 +239,8 @@ impl State {
         Ok(())
     }
 
-    /// What becomes of all that wait where those are tried whose deadline has come; `None` where one of these may
-    /// change the database.
+    /// Returns what becomes of all that wait where those are tried whose deadline has come; `None` where one of these
+    /// may change the database.
     fn foresee_due(&self) -> Result<Option<Foreseen>, AllocError>
         requires tried { AreTried self.now }
         ensures { IfOk result (λ found. IfSome found (λ f. IsDueForeseen self.entry.now.schema self.entry.now.world f.left (map post_of f.posts.items))) }
@@ -268,7 +268,7 @@ impl State {
         foreseen.note(self.alloc, waiting, forecast, self.sessions.commits())
     }
 
-    /// The forecast of a transaction as the database is.
+    /// Returns the forecast of a transaction as the database is.
     fn forecast_now(&self, asked: &Submitted) -> Result<Forecast, AllocError>
         ensures { IfOk result (λ forecast. Tells self.entry.now.schema self.entry.now.world asked.now forecast) }
     {
@@ -285,7 +285,7 @@ impl State {
     }
 }
 
-/// The forecast of a transaction whose operations went through with these results, on the database as they
+/// Returns the forecast of a transaction whose operations went through with these results, on the database as they
 /// left it: that it ends with them, where none of them changes a row and a settlement certainly leaves the
 /// database too; else nothing. O(operations), and where these only read O(rows touched), O(tables) and
 /// O(columns of the schema).
@@ -308,7 +308,7 @@ fn forecast_read(
     Forecast::Ends { results }
 }
 
-/// Whether a row of this identifier was taken out of the draft. O(tables).
+/// Returns whether a row of this identifier was taken out of the draft. O(tables).
 fn is_removed(draft: &Draft<'_>, uuid: Uuid) -> bool
     requires { length draft.now.removed ≡ length draft.now.now }
     ensures { result ≡ false → IsSpared draft.now.removed (uuid_of uuid) }
@@ -321,7 +321,7 @@ fn is_removed(draft: &Draft<'_>, uuid: Uuid) -> bool
     false
 }
 
-/// Whether a row of one of these identifiers was taken out of the draft. O(tables) for each.
+/// Returns whether a row of one of these identifiers was taken out of the draft. O(tables) for each.
 fn is_one_removed(draft: &Draft<'_>, uuids: &[Uuid]) -> bool
     requires { length draft.now.removed ≡ length draft.now.now }
     ensures { result ≡ false → AreSpared draft.now.removed (map uuid_of uuids.now) }
@@ -334,7 +334,7 @@ fn is_one_removed(draft: &Draft<'_>, uuids: &[Uuid]) -> bool
     false
 }
 
-/// Whether a row was taken out of the draft whose identifier the operation has of its own. O(tables).
+/// Returns whether a row was taken out of the draft whose identifier the operation has of its own. O(tables).
 fn is_own_removed(draft: &Draft<'_>, operation: &Value) -> bool
     requires { length draft.now.removed ≡ length draft.now.now }
     ensures { result ≡ false → IsOwnSpared draft.now.removed (view operation.now) }
@@ -345,7 +345,7 @@ fn is_own_removed(draft: &Draft<'_>, operation: &Value) -> bool
     }
 }
 
-/// The same of one of these operations. O(tables) for each.
+/// Returns the same of one of these operations. O(tables) for each.
 fn is_one_own_removed(draft: &Draft<'_>, operations: &[Value]) -> bool
     requires { length draft.now.removed ≡ length draft.now.now }
     ensures { result ≡ false → AreOwnSpared draft.now.removed (map view operations.now) }

@@ -65,8 +65,8 @@ impl State {
         }
     }
 
-    /// `monitor`, `monitor_cond` or `monitor_cond_since`. Where the session has a monitor of the id as asked it is `syntax error`; then
-    /// come the faults of the requests. It costs what `odb_request::read_requests` and
+    /// Carries out `monitor`, `monitor_cond` or `monitor_cond_since`. Where the session has a monitor of the id as
+    /// asked it is `syntax error`; then come the faults of the requests. It costs what `odb_request::read_requests` and
     /// `odb_sessions::Sessions::start` do, and O(monitors + items queued) for the session's.
     fn start_monitor(
         &mut self,
@@ -89,7 +89,7 @@ impl State {
         }
     }
 
-    /// Whether the session has a monitor of this id as asked.
+    /// Returns whether the session has a monitor of this id as asked.
     fn is_used(&self, session: SessionId, id: Printable<'_>) -> Result<bool, AllocError>
         ensures { IfOk result (λ used. (schema : model.Schema)
             → used ≡ is_some (watched (served_by schema) (printable_data id.entry) (asked_of (served_by schema) (get self.entry.now.world.sessions session)))) }
@@ -123,7 +123,7 @@ impl State {
         Ok(())
     }
 
-    /// `monitor_cancel`: of no monitor as asked it is `unknown monitor`. The costs are those of
+    /// Carries out `monitor_cancel`: of no monitor as asked it is `unknown monitor`. The costs are those of
     /// `odb_sessions::Sessions::stop`, and O(monitors + items queued) for the session's.
     fn cancel_monitor(
         &mut self,
@@ -144,7 +144,7 @@ impl State {
         Ok(())
     }
 
-    /// `monitor_cond_change`: the faults in their order are those of `read_change`. The costs are those of
+    /// Carries out `monitor_cond_change`: the faults in their order are those of `read_change`. The costs are those of
     /// `odb_request::read_changes`, and O(monitors + items queued) for the session's.
     fn change_monitor(
         &mut self,
@@ -165,9 +165,9 @@ impl State {
         }
     }
 
-    /// The new filters, or why the change is refused: the session has no monitor of the old id as asked, or one of
-    /// `monitor` (`unknown monitor`); it has another of the new id (`syntax error`); a fault of the filters; or a
-    /// table that isn't the monitor's (`syntax error`).
+    /// Reads the new filters, or returns why the change is refused: the session has no monitor of the old id as asked,
+    /// or one of `monitor` (`unknown monitor`); it has another of the new id (`syntax error`); a fault of the filters;
+    /// or a table that isn't the monitor's (`syntax error`).
     fn read_change(
         &self,
         session: SessionId,
@@ -191,7 +191,7 @@ impl State {
         filters_for(self.alloc, &self.served, &monitor, asked.filters)
     }
 
-    /// Whether another monitor of the session, as asked, has the new id.
+    /// Returns whether another monitor of the session, as asked, has the new id.
     fn is_taken(&self, session: SessionId, old: &Id, new: Printable<'_>) -> Result<bool, AllocError>
         ensures { IfOk result (λ taken. (schema : model.Schema)
             → taken ≡ is_taken (served_by schema) old.now (printable_data new.entry) (get self.entry.now.world.sessions session)) }
@@ -239,7 +239,7 @@ impl State {
     }
 }
 
-/// The requests of a monitor, or their first fault.
+/// Returns the requests of a monitor, or their first fault.
 fn requests_of(
     alloc: Global,
     served: &ServedSchema,
@@ -256,7 +256,7 @@ fn requests_of(
     }
 }
 
-/// The filters for the monitor, or why they are refused.
+/// Returns the filters for the monitor, or why they are refused.
 fn filters_for(
     alloc: Global,
     served: &ServedSchema,
@@ -274,7 +274,7 @@ fn filters_for(
     }
 }
 
-/// The filters, unless one is for a table that isn't the monitor's.
+/// Returns the filters, unless one is for a table that isn't the monitor's.
 fn of_its_tables(
     schema: Arc<Schema>,
     changes: Vec<Change>,
@@ -288,7 +288,7 @@ fn of_its_tables(
     Ok(Changes { schema, changes })
 }
 
-/// Whether each change is of one of the monitor's tables.
+/// Returns whether each change is of one of the monitor's tables.
 fn are_among(schema: &Schema, changes: &[Change], monitor: &Named<'_>) -> bool
     ensures { result ≡ list_all (λ c. list_any (λ s. bytes_eq (table_name schema.now c.table) s.name) monitor.now.shapes) changes.now }
 {

@@ -68,7 +68,7 @@ impl State {
         taken
     }
 
-    /// Whether to refuse the request as Busy: it needs a reply, and the session is already owed
+    /// Returns whether to refuse the request as Busy: it needs a reply, and the session is already owed
     /// `MAX_OWED`. `None` where the session isn't open. O(log n) for n sessions.
     pub(crate) fn is_busy(&self, session: SessionId, request: &Request) -> Option<bool>
         ensures { (h : Service) (s : Schema) → result ≡ option_map (λ x. has_reply (call_at s (request_data request.now))
@@ -78,7 +78,7 @@ impl State {
         self.sessions.owes_too_many(session, request, waiting)
     }
 
-    /// How many transactions of the session wait. O(log n).
+    /// Returns how many transactions of the session wait. O(log n).
     fn waiting_of(&self, session: SessionId) -> usize
         ensures { result ≡ count_by (λ p. p.session == session) self.entry.now.world.waiting }
     {
@@ -191,7 +191,7 @@ impl State {
         }
     }
 
-    /// `cancel` of a transaction that waits (RFC 7047, section 4.1.4): the session's earliest one
+    /// Carries out `cancel` of a transaction that waits (RFC 7047, section 4.1.4): the session's earliest one
     /// of this id ends. O(waiting transactions).
     fn cancel(&mut self, session: SessionId, id: Printable<'_>) -> Result<(), AllocError>
         ensures ok { OnOk result (by_service (λ h. cancel h session (printable_data id.entry)) self.old ≡ self.new) }
@@ -209,7 +209,7 @@ impl State {
         Ok(())
     }
 
-    /// Where the session's earliest waiting transaction of this id stands.
+    /// Returns where the session's earliest waiting transaction of this id stands.
     fn place_of(&self, session: SessionId, id: &[u8]) -> Option<usize>
         ensures { result ≡ position (is_named session id.now) self.entry.now.world.waiting }
     {
@@ -219,7 +219,7 @@ impl State {
             .position(|waiting| waiting.has_id_and_session(session, id))
     }
 
-    /// `lock` of a name, or `steal` where the claim is `stolen` (RFC 7047, section 4.1.8).
+    /// Carries out `lock` of a name, or `steal` where the claim is `stolen` (RFC 7047, section 4.1.8).
     /// O(log n + c) for n names and c claims of this one.
     pub(crate) fn claim(
         &mut self,
@@ -246,7 +246,7 @@ impl State {
         Ok(())
     }
 
-    /// `unlock` of a name (RFC 7047, section 4.1.8). O(log n + c).
+    /// Carries out `unlock` of a name (RFC 7047, section 4.1.8). O(log n + c).
     pub(crate) fn unlock(
         &mut self,
         session: SessionId,
@@ -316,7 +316,7 @@ impl State {
         self.post(session, reply)
     }
 
-    /// A session closes (RFC 7047, section 4.1.8): its claims, its transactions that wait and its
+    /// Closes a session (RFC 7047, section 4.1.8): its claims, its transactions that wait and its
     /// queue go. O(its claims + waiting transactions).
     pub(crate) fn close(&mut self, session: SessionId) -> Result<(), AllocError>
         ensures ok { OnOk result (by_service (λ h. close h session) self.old ≡ self.new) }
@@ -355,21 +355,21 @@ impl State {
         }
     }
 
-    /// The moment now.
+    /// Returns the moment now.
     fn moment(&self) -> u64
         ensures { result ≡ self.entry.now.world.now }
     {
         self.now
     }
 
-    /// The moment becomes this one.
+    /// Sets the moment.
     fn set_moment(&mut self, now: u64)
         ensures { self.new ≡ in_world (λ w. record w { now = now }) self.old }
     {
         self.now = now;
     }
 
-    /// Whether the deadline of a transaction has come by this moment. O(waiting transactions).
+    /// Returns whether the deadline of a transaction has come by this moment. O(waiting transactions).
     fn has_due(&self, moment: u64) -> bool
         ensures { result ≡ list_any (λ p. is_due moment p.deadline) self.entry.now.world.waiting }
     {
@@ -380,7 +380,7 @@ impl State {
     }
 }
 
-/// That a call was carried out, unless memory was refused.
+/// Returns that a call was carried out, unless memory was refused.
 fn done(ended: Result<(), AllocError>) -> Result<bool, AllocError>
     ensures ok { IsOk result ↔ IsOk ended }
     ensures done { IfOk result (λ done. done ≡ true) }
@@ -391,7 +391,7 @@ fn done(ended: Result<(), AllocError>) -> Result<bool, AllocError>
     }
 }
 
-/// The result of `lock` and `steal` (RFC 7047, section 4.1.8).
+/// Returns the result of `lock` and `steal` (RFC 7047, section 4.1.8).
 fn locked(alloc: Global, owns: bool) -> Result<Value, AllocError>
     ensures value { IfOk result (λ value. (h : Service) → view value ≡ locked h owns) }
     ensures float { IfOk result (λ value. has_float (view value) ≡ false) }

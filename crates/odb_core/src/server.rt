@@ -182,7 +182,7 @@ impl Core {
         self.state.round(listed.as_slice())
     }
 
-    /// What `round` gives these sessions, as it is planned: the jobs that are to be composed for it, of which no two
+    /// Plans what `round` gives these sessions: the jobs that are to be composed for it, of which no two
     /// are alike, those of replies to who resumes among them. A text that is composed is of the job of what is due to
     /// its session, which says what the client was told and what is asked, and what stands around the composition is what
     /// the protocol has around any table updates there. Nothing is composed, and nothing is taken. O(k log k + k log n)
@@ -218,22 +218,23 @@ impl Core {
         self.state.accept(prepared)
     }
 
-    /// The sessions that may be owed something. A round gives nothing to any other, and changes nothing of it. O(1).
+    /// Returns the sessions that may be owed something. A round gives nothing to any other, and changes nothing of it.
+    /// O(1).
     pub fn owed(&self) -> &BTreeSet<SessionId>
         ensures { IsQuietBut result.now self.now }
     {
         self.state.sessions.owed()
     }
 
-    /// The earliest moment, in milliseconds, at which a transaction that waits is due: a `tick` of an earlier moment
-    /// tries none. `None` where none waits, or each for ever. O(1).
+    /// Returns the earliest moment, in milliseconds, at which a transaction that waits is due: a `tick` of an earlier
+    /// moment tries none. `None` where none waits, or each for ever. O(1).
     pub fn next_deadline(&self) -> Option<u64>
         ensures { result ≡ earliest self.now.world.waiting }
     {
         self.state.waiting.earliest()
     }
 
-    /// An equal core: the same state, whose rows and waiting transactions are shared with this one.
+    /// Makes an equal core: the same state, whose rows and waiting transactions are shared with this one.
     /// O(rows + w + claims + bytes queued + bytes of the schema).
     pub fn try_copy(&self) -> Result<Core, AllocError>
         ensures { IfOk result (λ copy. copy ≡ self.now) }
@@ -245,7 +246,7 @@ impl Core {
     }
 }
 
-/// Each session of a list once, where it stands first. O(n log n).
+/// Lists each session once, where it stands first. O(n log n).
 fn once(alloc: Global, ready: &[SessionId]) -> Result<Vec<SessionId>, AllocError>
     ensures { IfOk result (λ listed. listed.items ≡ once ready.now) }
 {

@@ -80,8 +80,8 @@ impl State {
     ghost use Rattle.odb_core.specs.Represented.Steps.{AreTried, OnlySessions, attempted, by_service, in_world, let_wait, try_behind};
     ghost use Rattle.odb_core.specs.Represented.Waiting.{IsDone, IsOutcome, ends, runs};
 
-    /// Empty tables that keep what the schema asks for, at moment 0, with no commit and no session, in a run with this
-    /// word, of which so many contents can be found. Where memory is refused it hands the schema back.
+    /// Makes empty tables that keep what the schema asks for, at moment 0, with no commit and no session, in a run with
+    /// this word, of which so many contents can be found. Where memory is refused it hands the schema back.
     pub(crate) fn new(
         alloc: Global,
         schema: Schema,
@@ -124,7 +124,7 @@ impl State {
         Ok(number)
     }
 
-    /// What a transaction comes to now, as the next commit. Nothing is changed.
+    /// Returns what a transaction comes to now, as the next commit. Nothing is changed.
     pub(crate) fn outcome(&self, asked: &Submitted) -> Result<Outcome, AllocError>
         ensures { IfOk result (λ outcome. IsOutcome self.entry.now asked.now outcome) }
     {
@@ -263,7 +263,7 @@ impl State {
         Ok(self.count_of_commits() != commits)
     }
 
-    /// How many commits there were.
+    /// Returns how many commits there were.
     fn count_of_commits(&self) -> u64
         ensures { result ≡ self.entry.now.world.commits }
     {
@@ -291,7 +291,7 @@ impl State {
         Ok(())
     }
 
-    /// Whether there are as many commits as that, and the transaction wasn't tried at these.
+    /// Returns whether there are as many commits as that, and the transaction wasn't tried at these.
     fn is_to_try(&self, waiting: &Waiting, commits: u64) -> bool
         ensures { result ≡ (self.entry.now.world.commits == commits) && is_untried commits waiting.now }
     {
@@ -334,7 +334,7 @@ impl State {
         self.retry(waiting)
     }
 
-    /// A new transaction (RFC 7047, section 4.1.3): it ends, or waits after the others. Where
+    /// Carries out a new transaction (RFC 7047, section 4.1.3): it ends, or waits after the others. Where
     /// memory is refused nothing changes, and it comes back. It costs what its operations and its
     /// settlement do, by the rows touched where these suffice; a commit while others wait costs their
     /// tries too, and works on a copy, O(rows + bytes queued + bytes of the schema), where one of them may change the
@@ -404,7 +404,7 @@ impl State {
         }
     }
 
-    /// The same on a copy of all, where a transaction that waits may change the database too. O(rows + bytes
+    /// Does the same on a copy of all, where a transaction that waits may change the database too. O(rows + bytes
     /// queued + bytes of the schema), and what the tries cost.
     fn commit_on_copy(
         &mut self,
@@ -425,7 +425,7 @@ impl State {
         Ok(())
     }
 
-    /// The same, where it is foreseen what becomes of those that wait. What `commit` costs, and O(log n) for each
+    /// Does the same, where it is foreseen what becomes of those that wait. What `commit` costs, and O(log n) for each
     /// reply.
     fn commit_foreseen(
         &mut self,
@@ -493,7 +493,7 @@ impl State {
         self.sessions.accept(prepared)
     }
 
-    /// An equal state. O(rows + waiting transactions + claims + bytes queued + bytes of the schema).
+    /// Makes an equal state. O(rows + waiting transactions + claims + bytes queued + bytes of the schema).
     pub(crate) fn try_copy(&self) -> Result<State, AllocError>
         ensures { IfOk result (λ copy. copy ≡ self.entry.now) }
     {
@@ -509,7 +509,7 @@ impl State {
     }
 }
 
-/// Empty tables of the schema, with no commit and no session.
+/// Makes sessions over empty tables of the schema, with no commit, of which none is open.
 fn no_sessions(
     alloc: Global,
     schema: &Schema,
@@ -523,7 +523,7 @@ fn no_sessions(
     Sessions::new(alloc, db, hashing, run, most)
 }
 
-/// The transaction comes back where memory was refused.
+/// Hands the transaction back where memory was refused.
 fn back_on_error(
     ended: Result<(), AllocError>,
     asked: Submitted,
@@ -540,7 +540,7 @@ fn back_on_error(
     }
 }
 
-/// Whether the change has a row. O(tables).
+/// Returns whether the change has a row. O(tables).
 pub(crate) fn changes_rows(change: &ChangeSet) -> bool
     ensures { result ≡ list_any (λ c. nat_lt 0 (finite.len c)) change.now }
 {

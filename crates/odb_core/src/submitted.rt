@@ -31,7 +31,7 @@ pub(crate) struct Submitted {
 }
 
 impl Submitted {
-    /// A request of a session with identifiers for its inserts. Where memory is refused the request comes
+    /// Submits a request of a session with identifiers for its inserts. Where memory is refused the request comes
     /// back.
     pub(crate) fn new(
         alloc: Global,
@@ -59,14 +59,14 @@ impl Submitted {
         }
     }
 
-    /// The request, by value.
+    /// Returns the request, by value.
     pub(crate) fn into_request(self) -> Request
         ensures { result ≡ self.request }
     {
         self.request
     }
 
-    /// Its operations (RFC 7047, section 4.1.3).
+    /// Returns its operations (RFC 7047, section 4.1.3).
     pub(crate) fn operations(&self) -> &[Value]
         ensures { map view result.now ≡ operations_of (request_data self.now.request) }
     {
@@ -74,7 +74,7 @@ impl Submitted {
     }
 }
 
-/// The text of the request's id, and a copy of the identifiers.
+/// Returns the text of the request's id, and a copy of the identifiers.
 fn parts(
     alloc: Global,
     request: &Request,

@@ -43,7 +43,7 @@ impl Waiting {
     ghost use Rattle.std.specs.Arc.{arc_value};
     ghost use Rattle.odb_service.specs.World.{is_due, is_untried};
 
-    /// A transaction that waits until the deadline, in milliseconds, and was tried at this number of
+    /// Makes a transaction that waits until the deadline, in milliseconds, and was tried at this number of
     /// commits. Where memory is refused it comes back.
     pub(crate) fn new(
         alloc: Global,
@@ -64,14 +64,14 @@ impl Waiting {
         }
     }
 
-    /// The transaction as it was submitted. O(1).
+    /// Returns the transaction as it was submitted. O(1).
     pub(crate) fn submitted(&self) -> &Submitted
         ensures { waiting_as result.now self.now.deadline self.now.tried ≡ self.now }
     {
         &self.submitted
     }
 
-    /// The same one, which waits until another deadline and was tried again. O(1).
+    /// Returns the same one, which waits until another deadline and was tried again. O(1).
     pub(crate) fn tried_again(self, deadline: Option<u64>, tried: u64) -> Waiting
         ensures { result ≡ record (self) { deadline = deadline; tried = tried } }
     {
@@ -82,7 +82,7 @@ impl Waiting {
         }
     }
 
-    /// Whether its deadline has come by this moment. O(1).
+    /// Returns whether its deadline has come by this moment. O(1).
     pub(crate) fn is_due(&self, now: u64) -> bool
         ensures { result ≡ is_due now self.now.deadline }
     {
@@ -92,35 +92,35 @@ impl Waiting {
         }
     }
 
-    /// Until when it waits, in milliseconds; `None` is for ever. O(1).
+    /// Returns until when it waits, in milliseconds; `None` is for ever. O(1).
     pub(crate) fn deadline(&self) -> Option<u64>
         ensures { result ≡ self.now.deadline }
     {
         self.deadline
     }
 
-    /// Whether there was a commit since it was tried. O(1).
+    /// Returns whether there was a commit since it was tried. O(1).
     pub(crate) fn is_untried(&self, commits: u64) -> bool
         ensures { result ≡ is_untried commits self.now }
     {
         self.tried != commits
     }
 
-    /// The session that asked for it. O(1).
+    /// Returns the session that asked for it. O(1).
     pub(crate) fn session(&self) -> SessionId
         ensures { result ≡ self.now.session }
     {
         self.submitted.session
     }
 
-    /// Whether it is the session's. O(1).
+    /// Returns whether it is the session's. O(1).
     pub(crate) fn belongs_to(&self, session: SessionId) -> bool
         ensures { result ≡ (self.now.session == session) }
     {
         self.submitted.session == session
     }
 
-    /// Whether it is the session's, and its request has the id of this text. O(bytes of the id).
+    /// Returns whether it is the session's, and its request has the id of this text. O(bytes of the id).
     pub(crate) fn has_id_and_session(&self, session: SessionId, id: &[u8]) -> bool
         ensures { result ≡ is_named session id.now self.now }
     {
@@ -133,7 +133,7 @@ impl Clone for Waiting {
 
     ghost is_clone = { λ x y. y ≡ x };
 
-    /// The same transaction, shared. O(1).
+    /// Shares the same transaction. O(1).
     fn clone(&self) -> Result<Waiting, AllocError> {
         Ok(Waiting {
             submitted: self.submitted.clone()?,

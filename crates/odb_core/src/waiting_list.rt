@@ -40,7 +40,7 @@ impl Model for WaitingList {
 }
 
 impl WaitingList {
-    /// None waits.
+    /// Makes a list in which none waits.
     pub(crate) fn new(alloc: Global) -> WaitingList
         ensures { result ≡ [] }
     {
@@ -52,21 +52,22 @@ impl WaitingList {
         }
     }
 
-    /// The earliest moment, in milliseconds, at which one of them is due; `None` where each waits for ever. O(1).
+    /// Returns the earliest moment, in milliseconds, at which one of them is due; `None` where each waits for ever.
+    /// O(1).
     pub(crate) fn earliest(&self) -> Option<u64>
         ensures { result ≡ earliest self.now }
     {
         self.earliest
     }
 
-    /// All of them. O(1).
+    /// Returns all of them. O(1).
     pub(crate) fn as_slice(&self) -> &[Waiting]
         ensures { result.now ≡ self.now }
     {
         self.items.as_slice()
     }
 
-    /// The one at this place. O(1).
+    /// Returns the one at this place. O(1).
     pub(crate) fn at(&self, place: usize) -> &Waiting
         requires { place < length self.now }
         ensures { slice_get self.now place ≡ Some result.now }
@@ -74,7 +75,7 @@ impl WaitingList {
         &self.items[place]
     }
 
-    /// How many are the session's. O(log n).
+    /// Returns how many are the session's. O(log n).
     pub(crate) fn count_of(&self, session: SessionId) -> usize
         ensures { result ≡ count_by (λ p. p.session == session) self.now }
     {
@@ -157,7 +158,7 @@ impl WaitingList {
         all
     }
 
-    /// An equal list, whose transactions are shared. O(w + n).
+    /// Makes an equal list, whose transactions are shared. O(w + n).
     pub(crate) fn try_copy(&self) -> Result<WaitingList, AllocError>
         ensures { IfOk result (λ copy. copy ≡ self.now) }
     {
@@ -170,7 +171,7 @@ impl WaitingList {
     }
 }
 
-/// The earlier of two moments, of which each may be never.
+/// Returns the earlier of two moments, of which each may be never.
 fn earlier(one: Option<u64>, other: Option<u64>) -> Option<u64>
     ensures { result ≡ earlier one other }
 {
@@ -183,7 +184,7 @@ fn earlier(one: Option<u64>, other: Option<u64>) -> Option<u64>
     }
 }
 
-/// The earliest of their deadlines. O(w).
+/// Returns the earliest of their deadlines. O(w).
 fn earliest_of(waiting: &[Waiting]) -> Option<u64>
     ensures { result ≡ earliest waiting.now }
 {

@@ -39,7 +39,7 @@ impl Bell {
         self.told.store(moment, Ordering::SeqCst);
     }
 
-    /// Says whether the session was given nothing in the last milliseconds before this moment.
+    /// Returns whether the session was given nothing in the last milliseconds before this moment.
     pub(crate) fn has_rested(&self, moment: u64) -> bool {
         moment.saturating_sub(self.told.load(Ordering::SeqCst)) >= REST
     }
@@ -56,7 +56,7 @@ impl Bell {
         }
     }
 
-    /// Says whether a message is held back.
+    /// Returns whether a message is held back.
     pub fn is_held_back(&self) -> bool {
         self.holds.load(Ordering::SeqCst) != 0
     }

@@ -44,14 +44,14 @@ impl Buffer {
         }
     }
 
-    /// Says whether nothing is to be written.
+    /// Returns whether nothing is to be written.
     pub(crate) fn is_empty(&self) -> bool
         ensures { result ≡ (length self.now == 0) }
     {
         self.written == self.bytes.len()
     }
 
-    /// Says whether nothing more is to be added until all is written.
+    /// Returns whether nothing more is to be added until all is written.
     pub(crate) fn is_full(&self) -> bool {
         self.bytes.len() >= PIECE
     }

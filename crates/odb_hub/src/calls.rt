@@ -29,7 +29,7 @@ impl Calls {
         })
     }
 
-    /// Says whether a session may have a place of this number: it is below 4,096.
+    /// Returns whether a session may have a place of this number: it is below 4,096.
     pub fn has_place(place: usize) -> bool {
         place < MAX_SESSIONS
     }
@@ -43,17 +43,18 @@ impl Calls {
         }
     }
 
-    /// Says whether something was called that wasn't heard.
+    /// Returns whether something was called that wasn't heard.
     pub fn is_any(&self) -> bool {
         self.any.load(Ordering::SeqCst) != 0
     }
 
-    /// Says whether something was called since the last time, which it forgets: then all words are to be heard. Step: `begins`.
+    /// Returns whether something was called since the last time, which it forgets: then all words are to be heard.
+    /// Step: `begins`.
     pub fn begin(&self) -> bool {
         self.any.swap(0, Ordering::SeqCst) != 0
     }
 
-    /// How many words there are to hear, each of 64 places.
+    /// Returns how many words there are to hear, each of 64 places.
     pub fn words(&self) -> usize {
         self.words.len()
     }

@@ -85,7 +85,7 @@ impl<L: Ledger> Counted<L> {
     ghost use Rattle.odb_hub.specs.Represented.Submission.{events_of};
     ghost use Rattle.odb_hub.specs.Rings.{fresh_ring, IsFlushedAt};
 
-    /// A hub's state over a core without sessions, of which so many seats may be given at once.
+    /// Makes a hub's state over a core without sessions, of which so many seats may be given at once.
     pub fn new(alloc: Global, core: Core, blank: Blank, seats: u64) -> Counted<L>
         requires core { (core.world.sessions ≡ empty) × (core.opened ≡ 0) }
         requires ledger { (blank.name ≡ L.name) × (blank.parts ≡ L.parts) }
@@ -102,7 +102,7 @@ impl<L: Ledger> Counted<L> {
         }
     }
 
-    /// The hub's state, and what is so of the ledger whenever the lock is free. O(1).
+    /// Returns the hub's state, and what is so of the ledger whenever the lock is free. O(1).
     pub fn state(&self) -> &HubState
         ensures kept { result.now ≡ self.now.kept }
         ensures counted { IsCounted self.now }
@@ -167,7 +167,7 @@ impl<L: Ledger> Counted<L> {
         }
     }
 
-    /// As [`HubState::rounds_for`].
+    /// Does what [`HubState::rounds_for`] does.
     pub fn rounds_for(&mut self, session: SessionId) -> Result<(), AllocError>
         ensures rounds { GivesOwn session self.old.kept self.new.kept }
         ensures given { OnOk result (IsGiven session self.new.kept) }
@@ -176,7 +176,7 @@ impl<L: Ledger> Counted<L> {
         self.state.rounds_for(session)
     }
 
-    /// As [`HubState::tick`].
+    /// Does what [`HubState::tick`] does.
     pub fn tick(&mut self, now: u64) -> Result<(), AllocError>
         ensures ok { OnOk result (Takes (ticked now) self.old.kept self.new.kept []) }
         ensures rings { OnOk result (self.new.kept.rings ≡ self.old.kept.rings) }
@@ -213,7 +213,7 @@ impl<L: Ledger> Counted<L> {
         })
     }
 
-    /// As [`HubState::settle`]. The submits in the journal count as settled.
+    /// Does what [`HubState::settle`] does. The submits in the journal count as settled.
     pub fn settle(&mut self) -> u64
         ensures count { result ≡ counted self.old.kept.events }
         ensures kept { self.new.kept ≡ record self.old.kept { base = self.old.kept.server.world; events = [] } }
@@ -256,7 +256,7 @@ impl<L: Ledger> Counted<L> {
     }
 }
 
-/// Says whether a moment comes before another, of which each may be never.
+/// Returns whether a moment comes before another, of which each may be never.
 fn is_sooner(moment: Option<u64>, other: Option<u64>) -> bool
     ensures { result ≡ batch.is_sooner moment other }
 {

@@ -23,7 +23,7 @@ pub struct Hub<L: Ledger> {
 impl<L: Ledger> Hub<L> {
     ghost use Rattle.odb_atoms.specs.FinMap.{empty};
 
-    /// A hub over a core without sessions, of which so many seats may be given at once.
+    /// Makes a hub over a core without sessions, of which so many seats may be given at once.
     pub fn new(alloc: Global, core: Core, blank: Blank, seats: u64) -> Hub<L>
         requires core { (core.world.sessions ≡ empty) × (core.opened ≡ 0) }
         requires ledger { (blank.name ≡ L.name) × (blank.parts ≡ L.parts) }

@@ -30,14 +30,14 @@ unsafe impl Send for Journal {}
 impl Journal {
     ghost use Rattle.odb_hub.specs.Represented.Happened.{event_of};
 
-    /// That begins here, with no event.
+    /// Makes the journal that begins here, with no event.
     pub(crate) fn begin(_core: &Core) -> Journal
         ensures { (result.base ≡ _core.now.world) × (result.events ≡ []) }
     {
         Journal {}
     }
 
-    /// That with one event more.
+    /// Returns that with one event more.
     pub(crate) fn with(&self, event: Happened) -> Journal
         ensures base { result.base ≡ self.now.base }
         ensures events { result.events ≡ self.now.events ++ event_of event ∷ [] }

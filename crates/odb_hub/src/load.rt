@@ -36,7 +36,7 @@ impl Model for RingLoad {
 impl RingLoad {
     ghost use Rattle.odb_hub.specs.Room.{IsLooked, has_room};
 
-    /// Nothing is in the ring.
+    /// Makes the load of a ring in which nothing is.
     pub(crate) fn new(alloc: Global) -> Result<RingLoad, AllocError>
         ensures { IfOk result (λ waiting. waiting ≡ []) }
     {
@@ -46,8 +46,8 @@ impl RingLoad {
         })
     }
 
-    /// Whether there is room for a message of so many bytes: one always fits into a ring that is empty, which has room for
-    /// 64 of them, and for 512 KiB of text.
+    /// Returns whether there is room for a message of so many bytes: one always fits into a ring that is empty, which
+    /// has room for 64 of them, and for 512 KiB of text.
     pub(crate) fn has_room(&self, size: usize) -> bool
         ensures { result ≡ has_room self.now size }
     {
@@ -55,7 +55,7 @@ impl RingLoad {
             || (self.sizes.len() < ROOM && self.bytes.saturating_add(size) <= TEXT)
     }
 
-    /// A message of so many bytes was sent into the ring.
+    /// Notes that a message of so many bytes was sent into the ring.
     pub(crate) fn push(&mut self, size: usize)
         requires { has_room self.old size ≡ true }
         ensures { self.new ≡ self.old ++ size ∷ [] }
@@ -64,7 +64,7 @@ impl RingLoad {
         self.bytes = self.bytes.saturating_add(size);
     }
 
-    /// So many messages are in the ring at most.
+    /// Notes that so many messages are in the ring at most.
     pub(crate) fn cut(&mut self, left: usize)
         ensures looked { IsLooked self.old self.new }
         ensures left { length self.new ≡ min left (length self.old) }

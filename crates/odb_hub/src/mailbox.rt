@@ -15,7 +15,7 @@ pub struct Mailbox {
 }
 
 impl Mailbox {
-    /// The next message, if the ring has one now. It waits for nobody.
+    /// Takes the next message out, if the ring has one now. It waits for nobody.
     pub fn next(&mut self) -> Option<Out>
         ensures some { IfSome result (λ out. taken self.new ≡ taken self.old ++ out ∷ []) }
         ensures none { IfNone result (taken self.new ≡ taken self.old) }

@@ -53,12 +53,12 @@ impl Outbox {
         }
     }
 
-    /// What wakes the thread that takes messages out.
+    /// Returns what wakes the thread that takes messages out.
     pub fn bell(&self) -> &Bell {
         &*self.mailbox.bell
     }
 
-    /// Says whether something was taken out that isn't written yet.
+    /// Returns whether something was taken out that isn't written yet.
     pub fn has_rest(&self) -> bool
         ensures { result ≡ not (length self.now.left == 0) }
     {
@@ -132,7 +132,8 @@ impl Outbox {
         Ok(self.settle())
     }
 
-    /// Says whether there is a text to move and room for it. It takes the next message out where none is in the midst.
+    /// Returns whether there is a text to move and room for it. It takes the next message out where none is in the
+    /// midst.
     fn has_next(&mut self) -> bool
         ensures { Takes self.old self.new }
     {
@@ -162,7 +163,7 @@ impl Outbox {
         moved
     }
 
-    /// Says whether something is left. Where nothing is, the buffer's room is given back.
+    /// Returns whether something is left. Where nothing is, the buffer's room is given back.
     fn settle(&mut self) -> bool
         ensures same { self.new ≡ self.old }
         ensures some { result ≡ not (length self.new.left == 0) }
@@ -175,7 +176,7 @@ impl Outbox {
     }
 }
 
-/// Says whether no message is in the midst.
+/// Returns whether no message is in the midst.
 fn is_moved(rest: &Option<MessageRest>) -> bool
     ensures { result ≡ (length (bytes_of rest.now) == 0) }
 {

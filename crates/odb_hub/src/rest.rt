@@ -45,7 +45,7 @@ impl MessageRest {
         }
     }
 
-    /// Says whether all is moved.
+    /// Returns whether all is moved.
     pub(crate) fn is_empty(&self) -> bool
         ensures { result ≡ (length self.now == 0) }
     {
@@ -71,7 +71,7 @@ impl MessageRest {
         Ok(())
     }
 
-    /// The rest, unless all is moved.
+    /// Returns the rest, unless all is moved.
     pub(crate) fn unless_empty(self) -> Option<MessageRest>
         ensures { bytes_of result ≡ self }
     {

@@ -42,7 +42,7 @@ impl Ring {
     ghost use Rattle.odb_hub.specs.Rings.{IsFlushed, IsLookedAt, IsPut, IsUnsent, fresh_ring};
     ghost use Rattle.odb_hub.specs.Room.{has_room};
 
-    /// A ring that nothing was sent into, which rings this bell, and the mailbox where it comes out.
+    /// Makes a ring that nothing was sent into, which rings this bell, and the mailbox where it comes out.
     pub(crate) fn new(alloc: Global, bell: Bell) -> Result<(Ring, Mailbox), AllocError>
         ensures ring { IfOk result (λ ends. ends.0 ≡ fresh_ring (name_of ends.1)) }
         ensures mailbox { IfOk result (λ ends. taken ends.1 ≡ []) }
@@ -63,14 +63,15 @@ impl Ring {
         Ok((ring, mailbox))
     }
 
-    /// Whether a message is held back.
+    /// Returns whether a message is held back.
     pub(crate) fn holds(&self) -> bool
         ensures { result ≡ is_some self.now.held }
     {
         self.held.is_some()
     }
 
-    /// By what the thread that serves the session is called, and is known when the session was given something. O(1).
+    /// Returns by what the thread that serves the session is called, and is known when the session was given something.
+    /// O(1).
     pub(crate) fn bell(&self) -> &Bell {
         &*self.bell
     }
@@ -126,7 +127,8 @@ impl Ring {
         Ok(())
     }
 
-    /// Whether there is room for a message of so many bytes; where there isn't as far as is known, it learns what was taken out.
+    /// Returns whether there is room for a message of so many bytes; where there isn't as far as is known, it learns
+    /// what was taken out.
     fn makes_room(&mut self, size: usize) -> bool
         ensures looked { IsLookedAt self.old self.new }
         ensures room { result ≡ has_room self.new.waiting size }
@@ -147,7 +149,7 @@ impl Ring {
     }
 }
 
-/// How many bytes the text of a message has.
+/// Returns how many bytes the text of a message has.
 fn size_of(out: &Out) -> usize
     ensures { result ≡ room.size_of (text_of_out out.now) }
 {

@@ -40,7 +40,7 @@ impl Rings {
     ghost use Rattle.odb_hub.specs.Represented.Mailbox.{name_of, taken};
     ghost use Rattle.odb_hub.specs.Rings.{AreShort, HandsOver, IsFlushedAt, HasRoom, IsPutAt, fresh_ring, free_of, is_free_at, texts_to};
 
-    /// No session has a ring.
+    /// Makes rings, of which no session has one.
     pub(crate) fn new(alloc: Global) -> Rings
         ensures { result ≡ empty }
     {
@@ -59,7 +59,8 @@ impl Rings {
         self.moment = now;
     }
 
-    /// Says whether half of these sessions, or more, have rested. O(k log n) for k of them. No contract speaks of it.
+    /// Returns whether half of these sessions, or more, have rested. O(k log n) for k of them. No contract speaks of
+    /// it.
     pub(crate) fn have_rested(&self, owed: &BTreeSet<SessionId>) -> bool {
         let mut rested: usize = 0;
         for session in owed.iter() {
@@ -70,7 +71,7 @@ impl Rings {
         rested.saturating_mul(2) >= owed.len()
     }
 
-    /// Says whether the session was given nothing in the last milliseconds.
+    /// Returns whether the session was given nothing in the last milliseconds.
     fn has_rested(&self, session: SessionId) -> bool {
         match self.rings.get(&session) {
             Some(ring) => ring.bell().has_rested(self.moment),
@@ -85,7 +86,7 @@ impl Rings {
         let _opened = &self.rings;
     }
 
-    /// A ring for a session, and the mailbox where it comes out. O(log n).
+    /// Adds a ring for a session, and returns the mailbox where it comes out. O(log n).
     pub(crate) fn add(&mut self, session: SessionId, bell: Bell) -> Result<Mailbox, AllocError>
         ensures ok { IfOk result (λ mailbox. self.new ≡ insert self.old session (fresh_ring (name_of mailbox))) }
         ensures mailbox { IfOk result (λ mailbox. taken mailbox ≡ []) }
@@ -96,7 +97,7 @@ impl Rings {
         Ok(mailbox)
     }
 
-    /// The ring of a session goes, with what is held back. O(log n).
+    /// Removes the ring of a session, with what is held back. O(log n).
     pub(crate) fn remove(&mut self, session: SessionId)
         ensures { self.new ≡ remove self.old session }
     {
@@ -143,7 +144,7 @@ impl Rings {
         Ok(self.is_free(session))
     }
 
-    /// The session isn't noted any more.
+    /// Forgets the note of the session.
     fn forget(&mut self, session: SessionId)
         ensures { self.new ≡ self.old }
     {
@@ -173,12 +174,12 @@ impl Rings {
         }
     }
 
-    /// How many sessions have a message held back. O(1).
+    /// Returns how many sessions have a message held back. O(1).
     pub(crate) fn held(&self) -> usize {
         self.holding.len()
     }
 
-    /// Those of `owed` for which nothing is held back, ascending.
+    /// Returns those of `owed` for which nothing is held back, ascending.
     fn free_among(&self, owed: &BTreeSet<SessionId>) -> Result<Vec<SessionId>, AllocError>
         ensures { IfOk result (λ free. free.items ≡ filter (contains nat_cmp owed.now) (free_of self.now)) }
     {
@@ -191,7 +192,7 @@ impl Rings {
         Ok(free)
     }
 
-    /// Whether the session has a ring, and nothing is held back for it. O(log n).
+    /// Returns whether the session has a ring, and nothing is held back for it. O(log n).
     pub(crate) fn is_free(&self, session: SessionId) -> bool
         ensures { result ≡ is_free_at (get self.now session) }
     {

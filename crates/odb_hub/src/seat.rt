@@ -26,7 +26,7 @@ impl<L: Ledger> Model for Seat<L> {
 }
 
 impl<L: Ledger> Seat<L> {
-    /// The session.
+    /// Returns the session.
     pub fn session(&self) -> SessionId
         ensures { result ≡ self.now.session }
     {

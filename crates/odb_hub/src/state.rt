@@ -66,7 +66,7 @@ impl HubState {
     ghost use Rattle.odb_hub.specs.Represented.Mailbox.{name_of, taken};
     ghost use Rattle.odb_hub.specs.Rings.{AreShort, fresh_ring, IsFlushedAt};
 
-    /// A core without sessions, with the state that it is in for base, and no event.
+    /// Makes a core without sessions, with the state that it is in for base, and no event.
     pub fn new(alloc: Global, core: Core) -> HubState
         requires { (core.world.sessions ≡ empty) × (core.opened ≡ 0) }
         ensures { result ≡ record { server = core; base = core.world; events = []; rings = empty } }
@@ -80,7 +80,7 @@ impl HubState {
         }
     }
 
-    /// How many events there were since the base, and what is so whenever the lock is free.
+    /// Returns how many events there were since the base, and what is so whenever the lock is free.
     pub fn since_base(&self) -> u64
         ensures count { result ≡ counted self.now.events }
         ensures kept { IsKept self.now }
@@ -186,7 +186,7 @@ impl HubState {
         Turn::begin(rt)
     }
 
-    /// The moment is `now` in milliseconds, and what waits till then is tried.
+    /// Sets the moment to `now`, in milliseconds, and tries what waits till then.
     pub fn tick(&mut self, now: u64) -> Result<(), AllocError>
         ensures ok { OnOk result (Takes (ticked now) self.old self.new []) }
         ensures rings { OnOk result (self.new.rings ≡ self.old.rings) }
@@ -277,48 +277,48 @@ impl HubState {
         Err(AllocError)
     }
 
-    /// Says whether nothing is owed to the session, and nothing is held back for it. O(log n).
+    /// Returns whether nothing is owed to the session, and nothing is held back for it. O(log n).
     fn rests(&self, session: SessionId) -> bool
         ensures { result ≡ true → IsOwedNothing session self.now.server }
     {
         !self.may_be_owed(session) && self.rings.is_free(session)
     }
 
-    /// Says whether the session is among those that may be owed something. O(log n).
+    /// Returns whether the session is among those that may be owed something. O(log n).
     fn may_be_owed(&self, session: SessionId) -> bool
         ensures { result ≡ false → IsOwedNothing session self.now.server }
     {
         self.core.owed().contains(&session)
     }
 
-    /// The server, which knows when a transaction that waits is due ([`Core::next_deadline`]). O(1).
+    /// Returns the server, which knows when a transaction that waits is due ([`Core::next_deadline`]). O(1).
     pub fn core(&self) -> &Core
         ensures { result.now ≡ self.now.server }
     {
         &self.core
     }
 
-    /// Whether a session may be owed something. O(1).
+    /// Returns whether a session may be owed something. O(1).
     pub fn owes(&self) -> bool
         ensures { result ≡ false → IsQuiet self.now.server }
     {
         !self.core.owed().is_empty()
     }
 
-    /// Says whether at most 32 sessions may be owed something, half of which or more were given nothing in the last
+    /// Returns whether at most 32 sessions may be owed something, half of which or more were given nothing in the last
     /// milliseconds: then little is gained by waiting until they are owed more. O(log n). No contract speaks of it.
     pub(crate) fn owes_few(&self) -> bool {
         let owed = self.core.owed();
         owed.len() <= FEW && self.rings.have_rested(owed)
     }
 
-    /// Whether more sessions may be owed something than have a message held back, so that another round is likely to give
-    /// something. O(1). No contract speaks of it.
+    /// Returns whether more sessions may be owed something than have a message held back, so that another round is
+    /// likely to give something. O(1). No contract speaks of it.
     pub(crate) fn has_more(&self) -> bool {
         self.core.owed().len() > self.rings.held()
     }
 
-    /// The base becomes the state that the server is in, and the journal empty: nothing is copied. It returns how many
+    /// Makes the state that the server is in the base, and empties the journal: nothing is copied. It returns how many
     /// events there were, 2^64-1 where there were more.
     pub fn settle(&mut self) -> u64
         ensures count { result ≡ counted self.old.events }

@@ -15,7 +15,7 @@ pub struct Submission {
 }
 
 impl Submission {
-    /// The request with at least as many identifiers as it has inserts.
+    /// Makes the request with at least as many identifiers as it has inserts.
     pub fn new(request: Request, fresh: Vec<Uuid>) -> Submission
         requires { inserts_of (request_data request) ≤ vec_len fresh }
         ensures { (result.request ≡ request) × (result.fresh ≡ fresh) }

@@ -19,7 +19,7 @@ impl Turn {
         }
     }
 
-    /// How long it is since the beginning, zero where the clock can't be read.
+    /// Returns how long it is since the beginning, zero where the clock can't be read.
     pub(crate) fn took<R: Clock>(&self, rt: &R) -> Duration {
         let none = Duration::from_millis(0);
         match &self.begun {
@@ -28,7 +28,7 @@ impl Turn {
         }
     }
 
-    /// Whether 200 microseconds are over. No contract speaks of time.
+    /// Returns whether 200 microseconds are over. No contract speaks of time.
     pub(crate) fn is_over<R: Clock>(&self, rt: &R) -> bool {
         self.took(rt) >= Duration::from_micros(LONG)
     }

@@ -13,7 +13,7 @@ use odb_atoms::{Row, Value};
 use odb_schema::{Column, Schema, TableId, TableSchema};
 use odb_tables::Draft;
 
-/// Whether a column of a row has fewer elements than its `min`. No row but those of the list may have
+/// Returns whether a column of a row has fewer elements than its `min`. No row but those of the list may have
 /// one. O(the rows of the list and their columns).
 pub(crate) fn has_too_few(draft: &Draft, schema: &Schema, rows: &[RowId]) -> bool
     requires { Covers (model.has_too_few schema.now) draft.now.now rows.now }
@@ -53,7 +53,7 @@ fn has_fewer(column: &Column, value: &Value) -> bool
     value.len() < column.column_type().min as usize
 }
 
-/// Whether a table has more rows than its `maxRows`. O(rows touched) and O(tables).
+/// Returns whether a table has more rows than its `maxRows`. O(rows touched) and O(tables).
 pub(crate) fn has_too_many(draft: &Draft, schema: &Schema) -> bool
     requires { length draft.now.now ≡ length schema.now.tables }
     ensures { result ≡ not (list_all within_max_rows (zip schema.now.tables draft.now.now)) }
@@ -75,7 +75,7 @@ fn exceeds_max_rows(draft: &Draft, id: TableId, table: &TableSchema) -> bool
     }
 }
 
-/// Whether there are more rows than these in all. O(rows touched) and O(tables).
+/// Returns whether there are more rows than these in all. O(rows touched) and O(tables).
 pub(crate) fn exceeds_limit(draft: &Draft, max_rows: usize) -> bool
     ensures { result ≡ not (nat_le (row_count draft.now.now) max_rows) }
 {

@@ -11,7 +11,7 @@ use odb_schema::Schema;
 use odb_tables::Draft;
 use std::alloc::{AllocError, Global};
 
-/// Whether a row has a strong reference to a row that isn't there. No row but those of the list may
+/// Returns whether a row has a strong reference to a row that isn't there. No row but those of the list may
 /// have one. O(the rows of the list and their atoms).
 pub(crate) fn has_dangling(
     alloc: Global,
@@ -43,14 +43,14 @@ fn dangles(alloc: Global, draft: &Draft, schema: &Schema, id: RowId) -> Result<b
     }
 }
 
-/// Whether one of the rows isn't there. O(the rows).
+/// Returns whether one of the rows isn't there. O(the rows).
 pub(crate) fn is_one_missing(draft: &Draft, rows: &[RowId]) -> bool
     ensures { result ≡ list_any (λ x. not (is_there draft.now.now x)) rows.now }
 {
     rows.iter().any(|row| is_missing(draft, *row))
 }
 
-/// Whether the row isn't there. O(1).
+/// Returns whether the row isn't there. O(1).
 pub(crate) fn is_missing(draft: &Draft, row: RowId) -> bool
     ensures { result ≡ not (is_there draft.now.now row) }
 {

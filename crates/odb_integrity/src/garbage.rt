@@ -48,7 +48,7 @@ pub(crate) fn collect_garbage(
     remove_lost(alloc, draft, schema, &references, waiting)
 }
 
-/// Whether each table is a root table. O(tables).
+/// Returns whether each table is a root table. O(tables).
 fn is_all_root(schema: &Schema) -> bool
     ensures { IsTrue result → (t : ℕ) → t < length schema.now.tables → is_root_at schema.now t ≡ true }
 {
@@ -60,7 +60,7 @@ fn is_all_root(schema: &Schema) -> bool
     true
 }
 
-/// The rows that may lack what keeps them: those that are new, and those to which touched rows had strong
+/// Returns the rows that may lack what keeps them: those that are new, and those to which touched rows had strong
 /// references before, but for rows to which a touched row has one now. Where a column pairs weak references
 /// with strong ones, a row of a settled database may lack it, and all rows are listed.
 fn first_waiting(alloc: Global, draft: &Draft, schema: &Schema) -> Result<Vec<RowId>, AllocError>
@@ -77,7 +77,7 @@ fn first_waiting(alloc: Global, draft: &Draft, schema: &Schema) -> Result<Vec<Ro
     once_each(alloc, &waiting)
 }
 
-/// The rows of the list that weren't there before, and those to which the others had strong references.
+/// Returns the rows of the list that weren't there before, and those to which the others had strong references.
 fn hanging_on(
     alloc: Global,
     draft: &Draft,
@@ -111,7 +111,7 @@ fn append_hanging(
     }
 }
 
-/// The rows in order, each of them once. O(n log n).
+/// Returns the rows in order, each of them once. O(n log n).
 fn once_each(alloc: Global, rows: &[RowId]) -> Result<Vec<RowId>, AllocError>
     ensures { IfOk result (λ each. (x : model.RowId)
         → list_any (same_row x) each.items ≡ list_any (same_row x) rows.now) }
@@ -123,7 +123,7 @@ fn once_each(alloc: Global, rows: &[RowId]) -> Result<Vec<RowId>, AllocError>
     in_order(alloc, &set)
 }
 
-/// Those of the rows that are neither of a root table nor among `referred`.
+/// Returns those of the rows that are neither of a root table nor among `referred`.
 fn without_support(
     alloc: Global,
     schema: &Schema,
@@ -195,7 +195,7 @@ fn take_out(
     Ok(referents)
 }
 
-/// Those of the rows that are there, but neither of a root table nor strongly referenced by another row.
+/// Returns those of the rows that are there, but neither of a root table nor strongly referenced by another row.
 fn lost_of(
     alloc: Global,
     draft: &Draft,
@@ -234,7 +234,7 @@ fn is_lost(
     Ok(!referred)
 }
 
-/// Whether another row has a strong reference to the row.
+/// Returns whether another row has a strong reference to the row.
 fn is_referred(
     draft: &Draft,
     schema: &Schema,
@@ -253,7 +253,7 @@ fn is_referred(
     Ok(false)
 }
 
-/// Whether the reference is strong, and another row that mentions the row by it refers to it strongly.
+/// Returns whether the reference is strong, and another row that mentions the row by it refers to it strongly.
 fn is_referred_by(
     draft: &Draft,
     schema: &Schema,
@@ -276,7 +276,7 @@ fn is_referred_by(
     Ok(has_referrer(draft, schema, reference.table(), &uuids, row))
 }
 
-/// Whether one of these rows of the table, and not `row` itself, has a strong reference to it.
+/// Returns whether one of these rows of the table, and not `row` itself, has a strong reference to it.
 fn has_referrer(draft: &Draft, schema: &Schema, table: TableId, uuids: &[Uuid], row: RowId) -> bool
     ensures { result ≡ list_any (λ uuid. is_referrer schema.now draft.now.now row (table, uuid_of uuid)) uuids.now }
 {
@@ -298,7 +298,7 @@ fn refers(draft: &Draft, schema: &Schema, id: RowId, referent: RowId) -> bool
     }
 }
 
-/// The rows to which a row of the list, and not they themselves, has a strong reference.
+/// Returns the rows to which a row of the list, and not they themselves, has a strong reference.
 fn referred(
     alloc: Global,
     draft: &Draft,

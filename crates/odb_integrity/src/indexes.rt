@@ -18,7 +18,7 @@ use odb_tables::Draft;
 use std::alloc::{AllocError, Global};
 use uuid::Uuid;
 
-/// Whether two rows of a table have the same values in all columns of an index. Since the tables were
+/// Returns whether two rows of a table have the same values in all columns of an index. Since the tables were
 /// settled, only rows that are new, or have another value in a column of an index than before, may have
 /// the values of another row. O(rows touched, for each index of their table) and O(tables).
 pub(crate) fn has_duplicates(
@@ -67,7 +67,7 @@ fn table_has_duplicates(
     Ok(false)
 }
 
-/// Whether two rows of the table have the same values at the places, where no two had before, and the
+/// Returns whether two rows of the table have the same values at the places, where no two had before, and the
 /// rows that aren't listed are as they were.
 fn has_twins_at(
     draft: &Draft,
@@ -88,7 +88,7 @@ fn has_twins_at(
     Ok(false)
 }
 
-/// Whether the row is new or has another value at the places than before, and another row has the same
+/// Returns whether the row is new or has another value at the places than before, and another row has the same
 /// values there.
 fn gets_twin(draft: &Draft, id: TableId, places: &[usize], uuid: Uuid) -> Result<bool, AllocError>
     ensures twin { IfOk result (λ twin. IsTrue twin
@@ -102,7 +102,7 @@ fn gets_twin(draft: &Draft, id: TableId, places: &[usize], uuid: Uuid) -> Result
     draft.has_twin(id, places, uuid)
 }
 
-/// Whether the row isn't there, or was there before with the same values at the places.
+/// Returns whether the row isn't there, or was there before with the same values at the places.
 fn is_alike(draft: &Draft, id: TableId, uuid: Uuid, places: &[usize]) -> bool
     ensures { IsTrue result → AlikeAt (cells_at places.now) (table_at draft.now.old id) (table_at draft.now.now id) (uuid_of uuid) }
 {
@@ -115,7 +115,7 @@ fn is_alike(draft: &Draft, id: TableId, uuid: Uuid, places: &[usize]) -> bool
     }
 }
 
-/// Whether the rows have the same values at the places.
+/// Returns whether the rows have the same values at the places.
 fn are_same_at(old: &Row, row: &Row, places: &[usize]) -> bool
     ensures { result ≡ list_all (same_at old.now row.now) places.now }
 {
@@ -136,7 +136,7 @@ fn is_same(old: Option<&Value>, now: Option<&Value>) -> bool
     }
 }
 
-/// The places of the columns that the index names.
+/// Returns the places of the columns that the index names.
 fn places_of(
     alloc: Global,
     table: &TableSchema,

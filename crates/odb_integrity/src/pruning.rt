@@ -43,7 +43,7 @@ pub(crate) fn prune(
     put_all(draft, changes)
 }
 
-/// The rows of the list that pruning changes, as it makes them.
+/// Returns the rows of the list that pruning changes, as it makes them.
 fn prunings(
     alloc: Global,
     draft: &Draft,
@@ -154,7 +154,7 @@ fn is_stale_pair(
     is_stale(draft, keys, &pair.0) || is_stale(draft, values, &pair.1)
 }
 
-/// Whether the atom names a row of the table that isn't there. O(1).
+/// Returns whether the atom names a row of the table that isn't there. O(1).
 fn is_stale(draft: &Draft, target: Option<TableId>, atom: &Atom) -> bool
     ensures { result ≡ model.is_stale draft.now.now target (atom_of atom.now) }
 {
@@ -262,7 +262,7 @@ fn pruned_pairs(
     Ok(pruned)
 }
 
-/// The set of distinct elements of one kind.
+/// Makes the set of distinct elements of one kind.
 fn set_of(elements: Vec<Atom>) -> Value
     requires { set_fault (map atom_of elements.items) ≡ None }
     ensures { result ≡ model_value.set_of (atoms (map atom_of elements.items)) }
@@ -273,7 +273,7 @@ fn set_of(elements: Vec<Atom>) -> Value
     }
 }
 
-/// The map of pairs of one kind each, with distinct keys.
+/// Makes the map of pairs of one kind each, with distinct keys.
 fn map_of(pairs: Vec<(Atom, Atom)>) -> Value
     requires { map_fault (map pair_of pairs.items) ≡ None }
     ensures { result ≡ model_value.map_of (finite.from_entries (map pair_of pairs.items)) }

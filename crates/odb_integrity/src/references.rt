@@ -17,7 +17,7 @@ use odb_atoms::{Atom, Base, ColType, Entries, Row, Value};
 use odb_schema::{Column, Schema, TableId, TableSchema};
 use std::alloc::{AllocError, Global};
 
-/// The columns of the table. O(1).
+/// Returns the columns of the table. O(1).
 pub(crate) fn columns_of(schema: &Schema, table: TableId) -> &[Column]
     ensures { result.now ≡ columns_at schema.now table }
 {
@@ -27,7 +27,7 @@ pub(crate) fn columns_of(schema: &Schema, table: TableId) -> &[Column]
     }
 }
 
-/// The table to which atoms of the base type have strong references. O(log n) for n tables.
+/// Returns the table to which atoms of the base type have strong references. O(log n) for n tables.
 pub(crate) fn strong_target(schema: &Schema, base: &Base) -> Option<TableId>
     ensures { result ≡ model.strong_target schema.now (base_of base.now) }
 {
@@ -43,7 +43,7 @@ pub(crate) fn strong_target(schema: &Schema, base: &Base) -> Option<TableId>
     }
 }
 
-/// The table to which atoms of the base type have weak references. O(log n) for n tables.
+/// Returns the table to which atoms of the base type have weak references. O(log n) for n tables.
 pub(crate) fn weak_target(schema: &Schema, base: &Base) -> Option<TableId>
     ensures { result ≡ model.weak_target schema.now (base_of base.now) }
 {
@@ -59,7 +59,7 @@ pub(crate) fn weak_target(schema: &Schema, base: &Base) -> Option<TableId>
     }
 }
 
-/// The row of the table that an atom names. O(1).
+/// Returns the row of the table that an atom names. O(1).
 pub(crate) fn referent(target: TableId, atom: &Atom) -> Option<RowId>
     ensures { result ≡ model.referent (Some target) (atom_of atom.now) }
 {
@@ -69,7 +69,7 @@ pub(crate) fn referent(target: TableId, atom: &Atom) -> Option<RowId>
     }
 }
 
-/// The rows to which a row has strong references, in the order of its columns. O(atoms).
+/// Returns the rows to which a row has strong references, in the order of its columns. O(atoms).
 pub(crate) fn strong_of_row(
     alloc: Global,
     schema: &Schema,
@@ -100,7 +100,7 @@ pub(crate) fn append_strong(
     Ok(())
 }
 
-/// Whether the row has a strong reference to the referent. O(columns), and O(log n) comparisons for a set
+/// Returns whether the row has a strong reference to the referent. O(columns), and O(log n) comparisons for a set
 /// of n elements, O(n) for a map.
 pub(crate) fn row_refers(schema: &Schema, id: RowId, row: &Row, referent: RowId) -> bool
     ensures { result ≡ list_any (same_row referent) (model.strong_of_row schema.now id row.now) }
@@ -130,7 +130,7 @@ fn value_refers(schema: &Schema, column: &ColType, value: &Value, referent: RowI
     }
 }
 
-/// Whether a set of atoms that refer to the target has the referent.
+/// Returns whether a set of atoms that refer to the target has the referent.
 fn set_refers(target: Option<TableId>, value: &Value, referent: RowId) -> bool
     ensures { result ≡ (unwrap_or (option_map (λ k. referent.0 == k) target) false && has value.now (uuid referent.1)) }
 {
@@ -140,7 +140,7 @@ fn set_refers(target: Option<TableId>, value: &Value, referent: RowId) -> bool
     }
 }
 
-/// Whether the key of one of the pairs, or its value, names the referent.
+/// Returns whether the key of one of the pairs, or its value, names the referent.
 fn has_pair_for(
     keys: Option<TableId>,
     values: Option<TableId>,
@@ -186,7 +186,7 @@ fn append_value(
     }
 }
 
-/// The base type of a map's values, or of a set's elements. O(1).
+/// Returns the base type of a map's values, or of a set's elements. O(1).
 pub(crate) fn value_base(column: &ColType) -> &Base
     ensures { base_of result.now ≡ model_type.value_base (type_of column.now) }
 {
@@ -196,7 +196,7 @@ pub(crate) fn value_base(column: &ColType) -> &Base
     }
 }
 
-/// Whether a column pairs weak references with strong ones. O(columns of the schema).
+/// Returns whether a column pairs weak references with strong ones. O(columns of the schema).
 pub(crate) fn has_mixed(schema: &Schema) -> bool
     ensures { result ≡ has_type is_mixed schema.now }
 {

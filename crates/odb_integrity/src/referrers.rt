@@ -32,28 +32,28 @@ pub(crate) struct Reference {
 }
 
 impl Reference {
-    /// The table to which it leads. O(1).
+    /// Returns the table to which it leads. O(1).
     pub(crate) fn target(&self) -> TableId
         ensures { result ≡ self.now.target }
     {
         self.target
     }
 
-    /// The table of the column. O(1).
+    /// Returns the table of the column. O(1).
     pub(crate) fn table(&self) -> TableId
         ensures { result ≡ self.now.table }
     {
         self.table
     }
 
-    /// The place of the column. O(1).
+    /// Returns the place of the column. O(1).
     pub(crate) fn place(&self) -> usize
         ensures { result ≡ self.now.place }
     {
         self.place
     }
 
-    /// Whether it is weak. O(1).
+    /// Returns whether it is weak. O(1).
     pub(crate) fn is_weak(&self) -> bool
         ensures { result ≡ self.now.weak }
     {
@@ -61,7 +61,7 @@ impl Reference {
     }
 }
 
-/// The references that the columns of the schema make. O(columns of the schema), and O(log n) for each
+/// Returns the references that the columns of the schema make. O(columns of the schema), and O(log n) for each
 /// reference, with n tables.
 pub(crate) fn references_of(alloc: Global, schema: &Schema) -> Result<Vec<Reference>, AllocError>
     ensures { IfOk result (λ references. references.items ≡ references_of schema.now) }
@@ -108,7 +108,7 @@ fn append_column(
     }
 }
 
-/// The reference that a base type makes in the column at the place.
+/// Returns the reference that a base type makes in the column at the place.
 fn reference_by(schema: &Schema, table: TableId, place: usize, base: &Base) -> Option<Reference>
     ensures { option_to_list result ≡ base_references schema.now table place (base_of base.now) }
 {
@@ -138,7 +138,7 @@ fn append_one(
     }
 }
 
-/// The rows of the list, and those that mention one of them which isn't there by one of the references.
+/// Returns the rows of the list, and those that mention one of them which isn't there by one of the references.
 /// O(rows), and for each that isn't there O(references) and O(log n) for each of the n rows that mention
 /// it.
 pub(crate) fn with_referrers(

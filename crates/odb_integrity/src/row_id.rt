@@ -38,7 +38,7 @@ impl Model for RowId {
 }
 
 impl RowId {
-    /// The row of the table with the identifier. O(1).
+    /// Makes the row of the table with the identifier. O(1).
     pub(crate) fn new(table: TableId, uuid: Uuid) -> RowId
         ensures { result ≡ (table, uuid_of uuid) }
     {
@@ -48,14 +48,14 @@ impl RowId {
         }
     }
 
-    /// Its table. O(1).
+    /// Returns its table. O(1).
     pub(crate) fn table(self) -> TableId
         ensures { result ≡ self.0 }
     {
         self.table
     }
 
-    /// Its identifier. O(1).
+    /// Returns its identifier. O(1).
     pub(crate) fn uuid(self) -> Uuid
         ensures { uuid_of result ≡ self.1 }
     {

@@ -13,7 +13,7 @@ use odb_tables::Draft;
 use std::alloc::{AllocError, Global};
 use std::collections::BTreeSet;
 
-/// The rows that the draft has now: table by table, in each by ascending identifier. O(n log n) for
+/// Returns the rows that the draft has now: table by table, in each by ascending identifier. O(n log n) for
 /// n rows.
 pub(crate) fn rows_of(alloc: Global, draft: &Draft) -> Result<Vec<RowId>, AllocError>
     ensures { IfOk result (λ rows. rows.items ≡ row_ids draft.now.now) }
@@ -37,7 +37,7 @@ fn append_table(draft: &Draft, table: TableId, rows: &mut Vec<RowId>) -> Result<
     Ok(())
 }
 
-/// The rows that the draft touched; the others are as they were. O(rows touched) and O(tables).
+/// Returns the rows that the draft touched; the others are as they were. O(rows touched) and O(tables).
 pub(crate) fn touched_rows(alloc: Global, draft: &Draft) -> Result<Vec<RowId>, AllocError>
     ensures { IfOk result (λ rows. SameBut rows.items draft.now.old draft.now.now) }
 {
@@ -64,7 +64,7 @@ fn append_touched(
     Ok(())
 }
 
-/// The rows of the set, in its order. O(rows).
+/// Returns the rows of the set, in its order. O(rows).
 pub(crate) fn in_order(alloc: Global, set: &BTreeSet<RowId>) -> Result<Vec<RowId>, AllocError>
     ensures { IfOk result (λ rows. rows.items ≡ set.now.keys) }
 {

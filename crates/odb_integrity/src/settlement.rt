@@ -73,7 +73,7 @@ pub fn settle(
     constrained(alloc, draft, schema, max_rows)
 }
 
-/// Whether it is certain that a settlement leaves the draft's database as it is. The database has to be
+/// Returns whether it is certain that a settlement leaves the draft's database as it is. The database has to be
 /// settled; then only two things can be in the way: a column that pairs weak references with strong ones,
 /// where a row may lack what keeps it, and more than `max_rows` rows in all. O(rows touched), O(tables) and
 /// O(columns of the schema).
@@ -88,7 +88,7 @@ pub fn stays_settled(draft: &Draft, schema: &Schema, max_rows: usize) -> bool
     !exceeds_limit(draft, max_rows)
 }
 
-/// The rows that may have a reference to a row that isn't there. The rows of the base had none; so these
+/// Returns the rows that may have a reference to a row that isn't there. The rows of the base had none; so these
 /// are among the rows that were touched and, where one of those isn't there any more, the rows that refer
 /// to it.
 fn rows_to_test(alloc: Global, draft: &Draft, schema: &Schema) -> Result<Vec<RowId>, AllocError>
@@ -104,7 +104,7 @@ fn rows_to_test(alloc: Global, draft: &Draft, schema: &Schema) -> Result<Vec<Row
     with_referrers(alloc, draft, &references, &touched)
 }
 
-/// The first constraint that the draft breaks, if it breaks one.
+/// Returns the first constraint that the draft breaks, if it breaks one.
 fn constrained(
     alloc: Global,
     draft: &Draft,

@@ -50,7 +50,7 @@ impl Asked {
         &self.filter
     }
 
-    /// Tells whether it is this filter of this table: the same members in the same order. O(members).
+    /// Returns whether it is this filter of this table: the same members in the same order. O(members).
     pub fn is(&self, table: TableId, filter: &Filter) -> bool
         ensures { Decides result (self.now ≡ (table, filter.now)) }
     {

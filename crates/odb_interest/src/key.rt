@@ -42,7 +42,7 @@ impl<'a> Key<'a> {
         }
     }
 
-    /// Tells whether the two are the same key.
+    /// Returns whether the two are the same key.
     fn same(self, other: Key<'_>) -> bool
         ensures { result ≡ same_key (key_in self.entry) (key_in other.entry) }
     {
@@ -55,21 +55,21 @@ impl<'a> Key<'a> {
         }
     }
 
-    /// Tells whether one of the filters of the table is looked up by the key. O(their members).
+    /// Returns whether one of the filters of the table is looked up by the key. O(their members).
     pub(crate) fn is_asked(self, table: TableId, filters: &[Asked]) -> bool
         ensures { result ≡ is_asked filters.now table (key_in self.entry) }
     {
         filters.iter().any(|asked| self.is_in(table, asked))
     }
 
-    /// Tells whether it is a filter of the table, and is looked up by the key.
+    /// Returns whether it is a filter of the table, and is looked up by the key.
     fn is_in(self, table: TableId, asked: &Asked) -> bool
         ensures { result ≡ ((asked.now.0 == table) && has_key (key_in self.entry) asked.now.1) }
     {
         asked.table().place() == table.place() && self.is_of(asked.filter())
     }
 
-    /// Tells whether the filter is looked up by the key.
+    /// Returns whether the filter is looked up by the key.
     fn is_of(self, filter: &Filter) -> bool
         ensures { result ≡ has_key (key_in self.entry) filter.now }
     {
@@ -80,14 +80,14 @@ impl<'a> Key<'a> {
         self.is_among(members)
     }
 
-    /// Tells whether one of the members is looked up by the key.
+    /// Returns whether one of the members is looked up by the key.
     fn is_among(self, members: &[Member]) -> bool
         ensures { result ≡ among members.now (key_in self.entry) }
     {
         members.iter().any(|member| self.is_of_member(member))
     }
 
-    /// Tells whether the member is looked up by the key.
+    /// Returns whether the member is looked up by the key.
     fn is_of_member(self, member: &Member) -> bool
         ensures { result ≡ held (same_key (key_in self.entry)) (key_of (member_of member.now)) }
     {
@@ -98,7 +98,7 @@ impl<'a> Key<'a> {
     }
 }
 
-/// Tells whether the two are the same column.
+/// Returns whether the two are the same column.
 fn is_same_column(column: Selector, other: Selector) -> bool
     ensures { result ≡ same_column (selector_of column) (selector_of other) }
 {

@@ -19,7 +19,7 @@ use uuid::Uuid;
 /// What reads nothing.
 pub const SYNTAX: OpFault = OpFault::Failed(Error::SyntaxError);
 
-/// The UUID that stands after "uuid".
+/// Returns the UUID that stands after "uuid".
 fn uuid_behind(content: &Value) -> Result<Uuid, OpFault>
     ensures { Gives uuid_of result (behind_uuid (view content.now)) }
 {
@@ -29,7 +29,7 @@ fn uuid_behind(content: &Value) -> Result<Uuid, OpFault>
     parse_uuid(text).ok_or(SYNTAX)
 }
 
-/// The UUID of the name that stands after "named-uuid".
+/// Returns the UUID of the name that stands after "named-uuid".
 fn named_behind(content: &Value, names: Option<&Names>) -> Result<Uuid, OpFault>
     ensures { Gives uuid_of result
         (behind_name (option_map (λ n. n.now) names.entry) (view content.now)) }
@@ -48,7 +48,7 @@ fn named_behind(content: &Value, names: Option<&Names>) -> Result<Uuid, OpFault>
         .ok_or(OpFault::Failed(Error::UnknownUuidName))
 }
 
-/// `["uuid", text]` or `["named-uuid", name]`.
+/// Reads `["uuid", text]` or `["named-uuid", name]`.
 fn read_uuid(value: &Value, names: Option<&Names>) -> Result<Uuid, OpFault>
     ensures { Gives uuid_of result
         (notation.read_uuid (option_map (λ n. n.now) names.entry) (view value.now)) }
@@ -62,7 +62,7 @@ fn read_uuid(value: &Value, names: Option<&Names>) -> Result<Uuid, OpFault>
     }
 }
 
-/// The identifier that an insert has of its own (ovsdb-server(7), 5.2.1, `uuid`): its text of 36
+/// Reads the identifier that an insert has of its own (ovsdb-server(7), 5.2.1, `uuid`): its text of 36
 /// characters, or `["uuid", text]`; `SyntaxError` for all else. O(1).
 pub fn read_own_uuid(value: &Value) -> Result<Uuid, OpFault>
     ensures { Gives uuid_of result (read_own_uuid (view value.now)) }
@@ -73,7 +73,7 @@ pub fn read_own_uuid(value: &Value) -> Result<Uuid, OpFault>
     }
 }
 
-/// An atom of the kind. O(its length + log n) for n names.
+/// Reads an atom of the kind. O(its length + log n) for n names.
 pub fn read_atom(
     alloc: Global,
     kind: Kind,

@@ -25,7 +25,7 @@ use odb_schema::TableSchema;
 use serde_json::{Map, Value};
 use std::alloc::Global;
 
-/// The function with the name.
+/// Returns the function with the name.
 fn function_named(name: &str) -> Option<Function>
     ensures { option_map function_of result ≡ model.function_named name.now }
 {
@@ -42,7 +42,7 @@ fn function_named(name: &str) -> Option<Function>
     }
 }
 
-/// Whether it is one that orders integers.
+/// Returns whether it is one that orders integers.
 fn is_ordered(function: Function) -> bool
     ensures { result ≡ model.is_ordered (function_of function) }
 {
@@ -54,14 +54,14 @@ fn is_ordered(function: Function) -> bool
     }
 }
 
-/// Whether there is one integer, or one at most: in a scalar, or in a set whose `max` is 1.
+/// Returns whether there is one integer, or one at most: in a scalar, or in a set whose `max` is 1.
 fn is_comparable(column: &ColType) -> bool
     ensures { result ≡ model.is_comparable (type_of column.now) }
 {
     column.is_single() && column.value.is_none() && column.key.kind == Kind::Integer
 }
 
-/// Whether a column of the type takes the function: the ordered ones are for integers of which
+/// Returns whether a column of the type takes the function: the ordered ones are for integers of which
 /// there is no second.
 fn takes_function(column: &ColType, function: Function) -> bool
     ensures { result ≡ model.takes_function (type_of column.now) (function_of function) }
@@ -69,7 +69,7 @@ fn takes_function(column: &ColType, function: Function) -> bool
     !is_ordered(function) || is_comparable(column)
 }
 
-/// The three members of an array of three.
+/// Returns the three members of an array of three.
 pub fn triple(value: &Value) -> Option<(&Value, &Value, &Value)>
     ensures { option_map (λ parts. (view parts.0.now, view parts.1.now, view parts.2.now)) result
         ≡ model.triple (view value.now) }
@@ -80,7 +80,7 @@ pub fn triple(value: &Value) -> Option<(&Value, &Value, &Value)>
     }
 }
 
-/// The function that a string names, if a column of the type takes it.
+/// Reads the function that a string names, if a column of the type takes it.
 fn read_function(column: &ColType, value: &Value) -> Result<Function, OpFault>
     ensures { Gives function_of result (model.read_function (type_of column.now) (view value.now)) }
 {
@@ -92,7 +92,7 @@ fn read_function(column: &ColType, value: &Value) -> Result<Function, OpFault>
     Ok(function)
 }
 
-/// The value of a condition: for the ordered functions one integer, else one of the column's kind.
+/// Reads the value of a condition: for the ordered functions one integer, else one of the column's kind.
 fn read_operand(
     alloc: Global,
     value: &Value,
@@ -111,7 +111,7 @@ fn read_operand(
     }
 }
 
-/// A condition on rows of the table, `[column, function, value]` (RFC 7047, section 5.1,
+/// Reads a condition on rows of the table, `[column, function, value]` (RFC 7047, section 5.1,
 /// `<condition>`). `names` are the identifiers that the names of a transaction stand for; outside a
 /// transaction there are none, and no `["named-uuid", name]`.
 ///
@@ -139,7 +139,7 @@ pub fn read_clause(
     clause
 }
 
-/// What `read_clause` reads. `uuid` is the type of `_uuid` and `_version`.
+/// Reads what `read_clause` reads. `uuid` is the type of `_uuid` and `_version`.
 fn read_triple(
     alloc: Global,
     value: &Value,
@@ -160,7 +160,7 @@ fn read_triple(
     Ok(Clause::new(column, function, value))
 }
 
-/// The conditions of an array.
+/// Reads the conditions of an array.
 fn read_clauses(
     alloc: Global,
     items: &[Value],
@@ -178,7 +178,7 @@ fn read_clauses(
     Ok(clauses)
 }
 
-/// `where` of an operation.
+/// Reads `where` of an operation.
 pub fn read_where(
     alloc: Global,
     members: &Map<String, Value>,

@@ -24,7 +24,7 @@ use odb_schema::{Column, TableSchema, member};
 use serde_json::{Map, Value};
 use std::alloc::Global;
 
-/// The column of the table with the name.
+/// Returns the column of the table with the name.
 pub fn selector(table: &TableSchema, name: &str) -> Option<Selector>
     ensures { option_map selector_of result ≡ model_schema.selector table.now.columns name.now }
 {
@@ -38,7 +38,7 @@ pub fn selector(table: &TableSchema, name: &str) -> Option<Selector>
     }
 }
 
-/// The column that a string names.
+/// Reads the column that a string names.
 pub fn read_selector(table: &TableSchema, value: &Value) -> Result<Selector, OpFault>
     ensures { Gives selector_of result (read_selector table.now.columns (view value.now)) }
 {
@@ -46,7 +46,7 @@ pub fn read_selector(table: &TableSchema, value: &Value) -> Result<Selector, OpF
     selector(table, name).ok_or(OpFault::Failed(Error::UnknownColumn))
 }
 
-/// The type of a column of the table, where `uuid` is the type of `_uuid` and of `_version`.
+/// Returns the type of a column of the table, where `uuid` is the type of `_uuid` and of `_version`.
 pub fn type_of<'a>(table: &'a TableSchema, column: Selector, uuid: &'a ColType) -> &'a ColType
     requires { type_of uuid.now ≡ model_type.scalar uuids }
     ensures { type_of result.now
@@ -61,7 +61,7 @@ pub fn type_of<'a>(table: &'a TableSchema, column: Selector, uuid: &'a ColType) 
     }
 }
 
-/// `_uuid`, `_version` and each declared column.
+/// Returns `_uuid`, `_version` and each declared column.
 fn all_columns(alloc: Global, table: &TableSchema) -> Result<Vec<Selector>, OpFault>
     ensures { Reads (λ v. map selector_of v.items) result (Ok (model.all_columns table.now.columns)) }
 {
@@ -74,7 +74,7 @@ fn all_columns(alloc: Global, table: &TableSchema) -> Result<Vec<Selector>, OpFa
     Ok(columns)
 }
 
-/// Whether the column is among the columns.
+/// Returns whether the column is among the columns.
 fn is_among(columns: &[Selector], column: Selector) -> bool
     ensures { result
         ≡ list_any (λ other. same_selector (selector_of column) (selector_of other)) columns.now }
@@ -82,7 +82,7 @@ fn is_among(columns: &[Selector], column: Selector) -> bool
     columns.iter().any(|other| column == *other)
 }
 
-/// The columns that the strings name, none of them twice.
+/// Returns the columns that the strings name, none of them twice.
 ///
 /// There are at most 258 columns, so that what was read stays that short, and the search in it too.
 fn distinct_columns(
@@ -104,7 +104,7 @@ fn distinct_columns(
     Ok(columns)
 }
 
-/// The member `columns` of `select`, of `wait` or of a monitor's request: the columns that its
+/// Reads the member `columns` of `select`, of `wait` or of a monitor's request: the columns that its
 /// strings name, in their order, and where it is left out `_uuid`, `_version` and each declared
 /// column by ascending name (RFC 7047, section 5.2.2).
 ///

@@ -77,7 +77,7 @@ fn read_front(
     })
 }
 
-/// The set of an array's elements, of which none may stand twice. Those in front of the first fault
+/// Reads the set of an array's elements, of which none may stand twice. Those in front of the first fault
 /// are sorted before it counts, since one among them that stands twice is an earlier fault.
 fn read_elements(
     alloc: Global,
@@ -98,7 +98,7 @@ fn read_elements(
     }
 }
 
-/// A set, or an atom alone for one element. O(n log n) comparisons for n elements.
+/// Reads a set, or an atom alone for one element. O(n log n) comparisons for n elements.
 pub fn read_set(
     alloc: Global,
     kind: Kind,

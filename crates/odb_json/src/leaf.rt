@@ -17,21 +17,21 @@ use odb_schema::{is_id, member};
 use serde_json::{Map, Value};
 use std::alloc::Global;
 
-/// The text that a string is.
+/// Reads the text that a string is.
 pub fn read_text(value: &Value) -> Result<&str, OpFault>
     ensures { Gives (λ text. text.now) result (read_text (view value.now)) }
 {
     value.as_str().ok_or(SYNTAX)
 }
 
-/// The boolean that `true` or `false` is.
+/// Reads the boolean that `true` or `false` is.
 pub fn read_bool(value: &Value) -> Result<bool, OpFault>
     ensures { Gives (λ boolean. boolean) result (model.read_bool (view value.now)) }
 {
     value.as_bool().ok_or(SYNTAX)
 }
 
-/// The members of an array; `SyntaxError` for all else. O(1).
+/// Reads the members of an array; `SyntaxError` for all else. O(1).
 pub fn read_array(value: &Value) -> Result<&[Value], OpFault>
     ensures { Gives (λ items. items_view items.now) result
         (ok_or (json.as_array (view value.now)) syntax_error) }
@@ -42,7 +42,7 @@ pub fn read_array(value: &Value) -> Result<&[Value], OpFault>
     }
 }
 
-/// The members of an object; `SyntaxError` for all else. O(1).
+/// Reads the members of an object; `SyntaxError` for all else. O(1).
 pub fn read_object(value: &Value) -> Result<&Map<String, Value>, OpFault>
     ensures { Gives (λ members. members_view members.now.entries) result
         (ok_or (json.as_object (view value.now)) syntax_error) }
@@ -50,7 +50,7 @@ pub fn read_object(value: &Value) -> Result<&Map<String, Value>, OpFault>
     value.as_object().ok_or(SYNTAX)
 }
 
-/// An integer of at least 0 that fits 63 bits.
+/// Reads an integer of at least 0 that fits 63 bits.
 pub fn read_natural(value: &Value) -> Result<u64, OpFault>
     ensures { Gives (λ number. number) result (model.read_natural (view value.now)) }
 {
@@ -60,7 +60,7 @@ pub fn read_natural(value: &Value) -> Result<u64, OpFault>
     }
 }
 
-/// A text that is an id (RFC 7047, section 3.1, `<id>`).
+/// Reads a text that is an id (RFC 7047, section 3.1, `<id>`).
 pub fn read_id(alloc: Global, value: &Value) -> Result<String, OpFault>
     ensures { Reads (λ id. string_bytes id) result (model.read_id (view value.now)) }
 {
@@ -71,7 +71,7 @@ pub fn read_id(alloc: Global, value: &Value) -> Result<String, OpFault>
     Ok(String::from_str(alloc, id)?)
 }
 
-/// The member that has to be there.
+/// Returns the member that has to be there.
 pub fn needed<'a>(key: &str, members: &'a Map<String, Value>) -> Result<&'a Value, OpFault>
     ensures { Gives (λ value. view value.now) result
         (json.needed syntax_error key.now (members_view members.now.entries)) }

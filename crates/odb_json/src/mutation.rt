@@ -29,7 +29,7 @@ use odb_schema::{ColumnId, TableSchema, tagged};
 use serde_json::{Map, Value};
 use std::alloc::Global;
 
-/// The mutator with the name.
+/// Returns the mutator with the name.
 fn mutator_named(name: &str) -> Option<Mutator>
     ensures { option_map mutator_of result ≡ model.mutator_named name.now }
 {
@@ -45,7 +45,7 @@ fn mutator_named(name: &str) -> Option<Mutator>
     }
 }
 
-/// Whether a column of the type takes the mutator: arithmetic is for integers that are no map,
+/// Returns whether a column of the type takes the mutator: arithmetic is for integers that are no map,
 /// `insert` and `delete` for sets and maps.
 fn takes_mutator(column: &ColType, mutator: Mutator) -> bool
     ensures { result ≡ model.takes_mutator (type_of column.now) (mutator_of mutator) }
@@ -56,7 +56,7 @@ fn takes_mutator(column: &ColType, mutator: Mutator) -> bool
     }
 }
 
-/// The mutator that a string names, if a column of the type takes it.
+/// Reads the mutator that a string names, if a column of the type takes it.
 fn read_mutator(column: &ColType, value: &Value) -> Result<Mutator, OpFault>
     ensures { Gives mutator_of result (model.read_mutator (type_of column.now) (view value.now)) }
 {
@@ -68,7 +68,7 @@ fn read_mutator(column: &ColType, value: &Value) -> Result<Mutator, OpFault>
     Ok(mutator)
 }
 
-/// Whether the declared column can change after `insert`.
+/// Returns whether the declared column can change after `insert`.
 fn is_mutable(table: &TableSchema, place: usize) -> bool
     ensures { result ≡ model_schema.is_mutable table.now.columns place }
 {
@@ -78,7 +78,7 @@ fn is_mutable(table: &TableSchema, place: usize) -> bool
     }
 }
 
-/// The column with the name, if `update` and `mutate` may change it: `_uuid`, `_version` and an
+/// Returns the column with the name, if `update` and `mutate` may change it: `_uuid`, `_version` and an
 /// immutable one are `constraint violation`.
 pub fn changeable(table: &TableSchema, name: &str) -> Result<ColumnId, OpFault>
     ensures { Gives (λ column. column) result (model.changeable table.now.columns name.now) }
@@ -92,7 +92,7 @@ pub fn changeable(table: &TableSchema, name: &str) -> Result<ColumnId, OpFault>
     }
 }
 
-/// The column that a string names, if a mutation may change it.
+/// Reads the column that a string names, if a mutation may change it.
 fn read_changeable(table: &TableSchema, value: &Value) -> Result<ColumnId, OpFault>
     ensures { Gives (λ column. column) result
         (model.read_changeable table.now.columns (view value.now)) }
@@ -101,7 +101,7 @@ fn read_changeable(table: &TableSchema, value: &Value) -> Result<ColumnId, OpFau
     changeable(table, name)
 }
 
-/// The type of a set of keys of a map, of any number of them, without their constraints: these are
+/// Returns the type of a set of keys of a map, of any number of them, without their constraints: these are
 /// no part of what a value is read by.
 fn key_set(map: &ColType) -> ColType
     ensures { type_of result ≡ record {
@@ -119,14 +119,14 @@ fn key_set(map: &ColType) -> ColType
     }
 }
 
-/// Whether it is `["map", content]`.
+/// Returns whether it is `["map", content]`.
 fn is_map_notation(value: &Value) -> bool
     ensures { result ≡ is_map_notation (view value.now) }
 {
     tagged("map", value).is_some()
 }
 
-/// The value of a mutation: for arithmetic one integer; for `delete` also a set of keys; else a
+/// Reads the value of a mutation: for arithmetic one integer; for `delete` also a set of keys; else a
 /// value of the column's kind.
 fn read_operand(
     alloc: Global,
@@ -150,7 +150,7 @@ fn read_operand(
     }
 }
 
-/// A mutation of rows of the table, `[column, mutator, value]` (RFC 7047, section 5.1,
+/// Reads a mutation of rows of the table, `[column, mutator, value]` (RFC 7047, section 5.1,
 /// `<mutation>`). `names` are the identifiers that the names of a transaction stand for; without
 /// any there is no `["named-uuid", name]`.
 ///
@@ -179,7 +179,7 @@ pub fn read_mutation(
     mutation
 }
 
-/// What `read_mutation` reads. `uuid` is the type of `_uuid` and `_version`.
+/// Reads what `read_mutation` reads. `uuid` is the type of `_uuid` and `_version`.
 fn read_triple(
     alloc: Global,
     value: &Value,
@@ -200,7 +200,7 @@ fn read_triple(
     Ok(Mutation::new(column, mutator, value))
 }
 
-/// The mutations of an array.
+/// Reads the mutations of an array.
 fn read_all(
     alloc: Global,
     items: &[Value],
@@ -218,7 +218,7 @@ fn read_all(
     Ok(mutations)
 }
 
-/// `mutations` of `mutate`.
+/// Reads `mutations` of `mutate`.
 pub fn read_mutations(
     alloc: Global,
     members: &Map<String, Value>,

@@ -30,7 +30,7 @@ impl Model for Names {
 }
 
 impl Names {
-    /// No names. O(1).
+    /// Makes names, of which there are none. O(1).
     pub fn new(alloc: Global) -> Names
         ensures { result ≡ finite.empty }
     {
@@ -39,7 +39,7 @@ impl Names {
         }
     }
 
-    /// The UUID that the name stands for, if it stands for one. O(log n) for n names.
+    /// Returns the UUID that the name stands for, if it stands for one. O(log n) for n names.
     pub fn get(&self, name: &str) -> Option<Uuid>
         ensures { option_map uuid_of result ≡ finite.get self.now name.now }
     {

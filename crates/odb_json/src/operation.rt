@@ -45,7 +45,7 @@ enum TableVerb {
     Wait,
 }
 
-/// The verb with the name.
+/// Returns the verb with the name.
 fn verb_named(name: &str) -> Option<Verb>
     ensures { option_map verb_of result ≡ model.verb_named name.now }
 {
@@ -64,7 +64,7 @@ fn verb_named(name: &str) -> Option<Verb>
     }
 }
 
-/// `table` of an operation.
+/// Reads `table` of an operation.
 fn read_table(schema: &Schema, members: &Map<String, Value>) -> Result<TableId, OpFault>
     ensures place { Gives (λ table. table) result
         (model.read_table schema.now (members_view members.now.entries)) }
@@ -76,7 +76,7 @@ fn read_table(schema: &Schema, members: &Map<String, Value>) -> Result<TableId, 
         .ok_or(OpFault::Failed(Error::UnknownTable))
 }
 
-/// `uuid-name` of `insert`, where it is given.
+/// Reads `uuid-name` of `insert`, where it is given.
 fn read_name(alloc: Global, members: &Map<String, Value>) -> Result<Option<String>, OpFault>
     ensures { Reads (option_map string_bytes) result
         (if_given model.read_id
@@ -88,7 +88,7 @@ fn read_name(alloc: Global, members: &Map<String, Value>) -> Result<Option<Strin
     }
 }
 
-/// `uuid` of `insert`, where it is given.
+/// Reads `uuid` of `insert`, where it is given.
 fn read_uuid(members: &Map<String, Value>) -> Result<Option<Uuid>, OpFault>
     ensures { Gives (option_map uuid_of) result
         (if_given model.read_own_uuid
@@ -100,7 +100,7 @@ fn read_uuid(members: &Map<String, Value>) -> Result<Option<Uuid>, OpFault>
     }
 }
 
-/// `until` of `wait`.
+/// Reads `until` of `wait`.
 fn read_until(members: &Map<String, Value>) -> Result<Until, OpFault>
     ensures { Gives until_of result
         (model.read_needed (codes "until") model.read_until (members_view members.now.entries)) }
@@ -113,7 +113,7 @@ fn read_until(members: &Map<String, Value>) -> Result<Until, OpFault>
     }
 }
 
-/// `timeout` of `wait`, where it is given.
+/// Reads `timeout` of `wait`, where it is given.
 fn read_timeout(members: &Map<String, Value>) -> Result<Option<u64>, OpFault>
     ensures { Gives (λ timeout. timeout) result
         (if_given model.read_natural
@@ -136,7 +136,7 @@ struct OnTable<'a> {
 }
 
 impl OnTable<'_> {
-    /// `insert`.
+    /// Reads `insert`.
     fn read_insert(&self) -> Result<Op, OpFault>
         ensures { Reads op_of result (read_by model.read_insert self.entry.now) }
     {
@@ -153,7 +153,7 @@ impl OnTable<'_> {
         }))
     }
 
-    /// `select`.
+    /// Reads `select`.
     fn read_select(&self) -> Result<Op, OpFault>
         ensures { Reads op_of result (read_by model.read_select self.entry.now) }
     {
@@ -167,7 +167,7 @@ impl OnTable<'_> {
         }))
     }
 
-    /// `update`.
+    /// Reads `update`.
     fn read_update(&self) -> Result<Op, OpFault>
         ensures { Reads op_of result (read_by model.read_update self.entry.now) }
     {
@@ -182,7 +182,7 @@ impl OnTable<'_> {
         }))
     }
 
-    /// `mutate`.
+    /// Reads `mutate`.
     fn read_mutate(&self) -> Result<Op, OpFault>
         ensures { Reads op_of result (read_by model.read_mutate self.entry.now) }
     {
@@ -196,7 +196,7 @@ impl OnTable<'_> {
         }))
     }
 
-    /// `delete`.
+    /// Reads `delete`.
     fn read_delete(&self) -> Result<Op, OpFault>
         ensures { Reads op_of result (read_by model.read_delete self.entry.now) }
     {
@@ -208,7 +208,7 @@ impl OnTable<'_> {
         }))
     }
 
-    /// `wait`.
+    /// Reads `wait`.
     fn read_wait(&self) -> Result<Op, OpFault>
         ensures { Reads op_of result (read_by model.read_wait self.entry.now) }
     {
@@ -233,7 +233,7 @@ impl OnTable<'_> {
         }))
     }
 
-    /// The operation that `op` names.
+    /// Reads the operation that `op` names.
     fn read(&self, verb: TableVerb) -> Result<Op, OpFault>
         ensures { Reads op_of result (read_by (table_reader verb) self.entry.now) }
     {
@@ -248,7 +248,7 @@ impl OnTable<'_> {
     }
 }
 
-/// An operation on a table.
+/// Reads an operation on a table.
 fn read_on_table(
     alloc: Global,
     verb: TableVerb,
@@ -272,7 +272,7 @@ fn read_on_table(
     operation.read(verb)
 }
 
-/// `commit`.
+/// Reads `commit`.
 fn read_commit(members: &Map<String, Value>) -> Result<Op, OpFault>
     ensures { Gives op_of result (model.read_commit (members_view members.now.entries)) }
 {
@@ -281,7 +281,7 @@ fn read_commit(members: &Map<String, Value>) -> Result<Op, OpFault>
     Ok(Op::Commit { durable })
 }
 
-/// `abort`.
+/// Reads `abort`.
 fn read_abort(members: &Map<String, Value>) -> Result<Op, OpFault>
     ensures { Gives op_of result (model.read_abort (members_view members.now.entries)) }
 {
@@ -289,7 +289,7 @@ fn read_abort(members: &Map<String, Value>) -> Result<Op, OpFault>
     Ok(Op::Abort)
 }
 
-/// `comment`.
+/// Reads `comment`.
 fn read_comment(members: &Map<String, Value>) -> Result<Op, OpFault>
     ensures { Gives op_of result (model.read_comment (members_view members.now.entries)) }
 {
@@ -298,7 +298,7 @@ fn read_comment(members: &Map<String, Value>) -> Result<Op, OpFault>
     Ok(Op::Comment)
 }
 
-/// `assert`.
+/// Reads `assert`.
 fn read_assert(alloc: Global, members: &Map<String, Value>) -> Result<Op, OpFault>
     ensures { Reads op_of result (model.read_assert (members_view members.now.entries)) }
 {
@@ -307,7 +307,7 @@ fn read_assert(alloc: Global, members: &Map<String, Value>) -> Result<Op, OpFaul
     Ok(Op::Assert { lock })
 }
 
-/// What stands after `op`.
+/// Reads what stands after `op`.
 fn read_members(
     alloc: Global,
     verb: Verb,
@@ -328,7 +328,7 @@ fn read_members(
     }
 }
 
-/// An operation on a database of the schema (RFC 7047, section 5.2). `names` are the identifiers
+/// Reads an operation on a database of the schema (RFC 7047, section 5.2). `names` are the identifiers
 /// that the names of the transaction stand for.
 ///
 /// The first of these faults is returned: an object with a string `op`, else `syntax error`; an

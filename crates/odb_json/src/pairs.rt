@@ -33,7 +33,7 @@ struct Front {
     fault: Option<Error>,
 }
 
-/// `[key, value]`.
+/// Returns the two members of `[key, value]`.
 fn two_of(item: &Value) -> Option<(&Value, &Value)>
     ensures { option_map (λ pair. (view pair.0.now, view pair.1.now)) result
         ≡ notation.pair_of (view item.now) }
@@ -125,7 +125,7 @@ impl PairReader<'_> {
         Ok(Front { pairs, fault: None })
     }
 
-    /// The map of an array's pairs, of which no two may have the same key.
+    /// Reads the map of an array's pairs, of which no two may have the same key.
     fn read_pairs(self, items: &[Value]) -> Result<odb_atoms::Value, OpFault>
         ensures { Reads (λ v. v) result (map_value (notation.read_pairs
             (option_map (λ n. n.now) self.entry.names) (kind_in self.entry.kinds.key) (kind_in self.entry.kinds.value)
@@ -141,7 +141,7 @@ impl PairReader<'_> {
         }
     }
 
-    /// A map. O(n log n) comparisons for n pairs.
+    /// Reads a map. O(n log n) comparisons for n pairs.
     pub fn read_map(self, value: &Value) -> Result<odb_atoms::Value, OpFault>
         ensures { Reads (λ v. v) result (map_value (notation.read_map
             (option_map (λ n. n.now) self.entry.names) (kind_in self.entry.kinds.key) (kind_in self.entry.kinds.value)

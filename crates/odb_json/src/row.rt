@@ -36,7 +36,7 @@ pub enum WrittenBy {
     Update,
 }
 
-/// The column with the name, if `insert` may give it a value: `_uuid` and `_version` are
+/// Returns the column with the name, if `insert` may give it a value: `_uuid` and `_version` are
 /// `constraint violation`.
 fn insertable(table: &TableSchema, name: &str) -> Result<ColumnId, OpFault>
     ensures { Gives (λ column. column) result (model.insertable table.now.columns name.now) }
@@ -48,7 +48,7 @@ fn insertable(table: &TableSchema, name: &str) -> Result<ColumnId, OpFault>
     }
 }
 
-/// The column with the name, if the row may name it.
+/// Returns the column with the name, if the row may name it.
 fn writable(table: &TableSchema, name: &str, writing: WrittenBy) -> Result<ColumnId, OpFault>
     ensures { Gives (λ column. column) result (written writing table.now.columns name.now) }
 {
@@ -68,7 +68,7 @@ struct RowReader<'a> {
 }
 
 impl RowReader<'_> {
-    /// A column of a row and its value.
+    /// Reads a column of a row and its value.
     fn read_cell(self, name: &str, value: &Value) -> Result<(ColumnId, odb_atoms::Value), OpFault>
         ensures { Reads (λ cell. cell) result
             (model.read_cell self.entry.names.now self.entry.table.now.columns
@@ -80,7 +80,7 @@ impl RowReader<'_> {
         cell
     }
 
-    /// What `read_cell` reads. `uuid` is the type of `_uuid` and `_version`.
+    /// Reads what `read_cell` reads. `uuid` is the type of `_uuid` and `_version`.
     fn read_member(
         self,
         name: &str,
@@ -98,7 +98,7 @@ impl RowReader<'_> {
         Ok((column, value))
     }
 
-    /// The columns of a row and their values, by ascending name.
+    /// Reads the columns of a row and their values, by ascending name.
     fn read_cells(
         self,
         members: &Map<String, Value>,
@@ -115,7 +115,7 @@ impl RowReader<'_> {
     }
 }
 
-/// The row that `insert` or `update` writes (RFC 7047, section 5.1, `<row>`): the columns that it
+/// Reads the row that `insert` or `update` writes (RFC 7047, section 5.1, `<row>`): the columns that it
 /// names and their values, by ascending name. `names` are the identifiers that the names of the
 /// transaction stand for.
 ///
@@ -145,7 +145,7 @@ pub fn read_row(
     reader.read_cells(read_object(value)?)
 }
 
-/// A value of the column's kind.
+/// Reads a value of the column's kind.
 fn read_of_column(
     alloc: Global,
     value: &Value,
@@ -162,7 +162,7 @@ fn read_of_column(
     read
 }
 
-/// A column of a row of `wait` and its value.
+/// Reads a column of a row of `wait` and its value.
 fn read_expected_cell(
     alloc: Global,
     name: &str,
@@ -178,7 +178,7 @@ fn read_expected_cell(
     Ok((column, value))
 }
 
-/// The columns of a row of `wait` and their values, by ascending name.
+/// Reads the columns of a row of `wait` and their values, by ascending name.
 fn read_expected_cells(
     alloc: Global,
     members: &Map<String, Value>,
@@ -196,7 +196,7 @@ fn read_expected_cells(
     Ok(row)
 }
 
-/// A row of `wait`.
+/// Reads a row of `wait`.
 fn read_expected(
     alloc: Global,
     value: &Value,
@@ -209,7 +209,7 @@ fn read_expected(
     read_expected_cells(alloc, read_object(value)?, table, names)
 }
 
-/// The rows of an array.
+/// Reads the rows of an array.
 fn read_all(
     alloc: Global,
     items: &[Value],
@@ -226,7 +226,7 @@ fn read_all(
     Ok(rows)
 }
 
-/// `rows` of `wait`.
+/// Reads `rows` of `wait`.
 pub fn read_expected_rows(
     alloc: Global,
     members: &Map<String, Value>,

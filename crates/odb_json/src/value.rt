@@ -21,7 +21,7 @@ use std::alloc::{AllocError, Global};
 /// How many elements or pairs a value may have.
 const MAX_ELEMENTS: usize = 65_536;
 
-/// A value of the type's kind, of any number of elements.
+/// Reads a value of the type's kind, of any number of elements.
 fn read_any(
     alloc: Global,
     value: &Value,
@@ -48,7 +48,7 @@ fn read_any(
     }
 }
 
-/// The value, if it has no more elements than a value may have.
+/// Returns the value, if it has no more elements than a value may have.
 fn limited(value: odb_atoms::Value) -> Result<odb_atoms::Value, OpFault>
     ensures { Gives (λ v. v) result (in_limit value) }
 {
@@ -58,7 +58,7 @@ fn limited(value: odb_atoms::Value) -> Result<odb_atoms::Value, OpFault>
     Ok(value)
 }
 
-/// A value of a column in the row of `insert` or `update` (RFC 7047, sections 5.2.1 and 5.2.3): one
+/// Reads a value of a column in the row of `insert` or `update` (RFC 7047, sections 5.2.1 and 5.2.3): one
 /// that the type admits. `names` are those of the transaction, and `None` stands for the outside of
 /// one, where `["named-uuid", name]` isn't read.
 ///
@@ -85,7 +85,7 @@ pub fn read_value(
     }
 }
 
-/// A value of a condition, of a mutation, or of a row of `wait` (RFC 7047, sections 5.1 and 5.2.6):
+/// Reads a value of a condition, of a mutation, or of a row of `wait` (RFC 7047, sections 5.1 and 5.2.6):
 /// one of the type's kind, with exactly one element for a scalar and any number of them for a set or
 /// a map. Constraints aren't looked at.
 ///
@@ -108,7 +108,7 @@ pub fn read_by_kind(
     limited(read)
 }
 
-/// What `read_by_kind` reads, by a type that is handed over.
+/// Reads what `read_by_kind` reads, by a type that is handed over.
 pub fn read_of_type(
     alloc: Global,
     value: &Value,
@@ -124,7 +124,7 @@ pub fn read_of_type(
     read
 }
 
-/// The notation of a value: a set of exactly one element as the atom, any other as
+/// Writes the notation of a value: a set of exactly one element as the atom, any other as
 /// `["set", [atom, ..]]`, a map as `["map", [[key, value], ..]]`, with elements and keys ascending
 /// (RFC 7047, section 5.1, `<value>`).
 ///

@@ -13,7 +13,8 @@ ghost use Rattle.odb_law.specs.Sent.{HoldsOfTexts, IsRun, RepliesAreWhole, Texts
 ghost use Rattle.odb_service.specs.Server.{served_by};
 ghost use Rattle.odb_service.specs.Service.{service_of};
 
-/// The monitor law, for every schema, whichever methods are served, and over every run of the service machine. The call does nothing.
+/// States the monitor law, for every schema, whichever methods are served, and over every run of the service machine.
+/// The call does nothing.
 pub fn law()
     // A client that takes what it is owed has just what its newest filters select from the database now.
     ensures brought_to_now { (serves : List ℕ → Bool) (s : Schema) → HoldsAlways (service_of serves s) (IsBroughtToNow (service_of serves s)) }
@@ -57,7 +58,9 @@ pub fn law()
     ensures tried { (serves : List ℕ → Bool) (s : Schema) → AllAreTried (service_of serves s) }
 {}
 
-/// The monitor law of what a server sent: for every schema, every word of the run and number of contents to be found, whatever events a new server of it took, and the texts that it sent by them. A call of a server says of itself that it is such a step. The call does nothing.
+/// States the monitor law of what a server sent: for every schema, every word of the run and number of contents to be
+/// found, whatever events a new server of it took, and the texts that it sent by them. A call of a server says of
+/// itself that it is such a step. The call does nothing.
 pub fn law_of_texts()
     // What was sent are the texts of the messages that the machine gives by the same events, and the server ends as the machine does.
     ensures is_run { (s : Schema) (word most : ℕ) → IsRun s word most }

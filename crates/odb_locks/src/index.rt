@@ -17,7 +17,7 @@ pub struct Index {
 impl Index {
     ghost use Rattle.odb_locks.specs.Represented.Index.{Forgets, IsUnchanged, Sets, has_name, names_have};
 
-    /// No names.
+    /// Makes an index of no names.
     pub fn new(alloc: Global) -> Index
         ensures { (s : ℕ) (q : List ℕ) → has_name result s q ≡ false }
     {
@@ -26,7 +26,7 @@ impl Index {
         }
     }
 
-    /// The names that the session has a claim of, in the order of their bytes.
+    /// Returns the names that the session has a claim of, in the order of their bytes.
     pub fn names(&self, session: usize) -> Option<&BTreeSet<String>>
         ensures { (q : List ℕ) → names_have (option_copied result) q ≡ has_name self.now session q }
     {
@@ -65,7 +65,7 @@ impl Index {
         self.names.remove(&session);
     }
 
-    /// An equal index.
+    /// Makes an equal index.
     pub fn try_copy(&self) -> Result<Index, AllocError>
         ensures { IfOk result (λ copy. IsUnchanged self.now copy) }
     {

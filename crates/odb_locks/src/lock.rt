@@ -30,7 +30,7 @@ impl Model for Claim {
 }
 
 impl Claim {
-    /// The claim of a session, by `steal` or else by `lock`.
+    /// Makes the claim of a session, by `steal` or else by `lock`.
     pub fn new(session: usize, stolen: bool) -> Claim
         ensures { result ≡ record { session = session; stolen = stolen } }
     {
@@ -56,7 +56,7 @@ impl Model for Lock {
 }
 
 impl Lock {
-    /// A lock that nobody claims.
+    /// Makes a lock that nobody claims.
     pub fn new(alloc: Global) -> Lock
         ensures { result ≡ record { claims = []; robbed = [] } }
     {
@@ -66,14 +66,14 @@ impl Lock {
         }
     }
 
-    /// Whether nobody claims it, or was robbed of it.
+    /// Returns whether nobody claims it, or was robbed of it.
     pub fn is_free(&self) -> bool
         ensures { result ≡ is_free self.now }
     {
         self.claims.is_empty() && self.robbed.is_empty()
     }
 
-    /// Whether the session has a claim that it hasn't unlocked.
+    /// Returns whether the session has a claim that it hasn't unlocked.
     pub fn has_claim(&self, session: usize) -> bool
         ensures { result ≡ has_claim session self.now }
     {
@@ -92,14 +92,14 @@ impl Lock {
         self.robbed.contains(&session)
     }
 
-    /// The session whose claim is the first.
+    /// Returns the session whose claim is the first.
     pub fn owner(&self) -> Option<usize>
         ensures { result ≡ first_of self.now.claims }
     {
         self.claims.first().map(|claim| claim.session)
     }
 
-    /// The session whose claim becomes the first when this session's goes.
+    /// Returns the session whose claim becomes the first when this session's goes.
     pub fn next_owner(&self, session: usize) -> Option<usize>
         ensures { result ≡ next_of session self.now.claims }
     {

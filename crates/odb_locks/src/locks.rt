@@ -86,7 +86,7 @@ impl Model for Locks {
 }
 
 impl Locks {
-    /// No locks. O(1).
+    /// Makes locks, of which there are none. O(1).
     pub fn new(alloc: Global) -> Locks
         ensures { result ≡ finite.empty }
     {
@@ -97,14 +97,14 @@ impl Locks {
         }
     }
 
-    /// Whether the session owns the lock of the name: has its first claim. O(log n).
+    /// Returns whether the session owns the lock of the name: has its first claim. O(log n).
     pub fn owns(&self, session: SessionId, name: &str) -> bool
         ensures { result ≡ model.owns self.now session name.now }
     {
         self.table.is_owned_by(name, session)
     }
 
-    /// `lock` (RFC 7047, section 4.1.8): the session's claim joins the end, and owns if it's alone.
+    /// Carries out `lock` (RFC 7047, section 4.1.8): the session's claim joins the end, and owns if it's alone.
     /// It notifies nobody. O(log n + c).
     pub fn lock(&mut self, session: SessionId, name: &str) -> Result<LockOutcome, LockFault>
         ensures ok { IfOk result (λ taken. model.lock self.old session name.now
@@ -118,7 +118,7 @@ impl Locks {
         self.claim(session, name, false)
     }
 
-    /// `steal` (RFC 7047, section 4.1.8): the session's claim goes in front, and owns. The owner
+    /// Carries out `steal` (RFC 7047, section 4.1.8): the session's claim goes in front, and owns. The owner
     /// before is told `stolen`. If its claim was by `lock` it stands after the thief; if it was by
     /// `steal` it leaves and was robbed: it won't own again by itself, yet has to unlock. O(log n +
     /// c).
@@ -134,7 +134,7 @@ impl Locks {
         self.claim(session, name, true)
     }
 
-    /// `steal` where it is `stolen`, and else `lock`. O(log n + c).
+    /// Carries out `steal` where it is `stolen`, and else `lock`. O(log n + c).
     pub fn claim(
         &mut self,
         session: SessionId,
@@ -162,7 +162,7 @@ impl Locks {
         }
     }
 
-    /// What `claim` would return now. Nothing changes. O(log n + c).
+    /// Returns what `claim` would return now. Nothing changes. O(log n + c).
     pub fn preview_claim(
         &self,
         session: SessionId,
@@ -193,7 +193,7 @@ impl Locks {
         })
     }
 
-    /// `unlock` (RFC 7047, section 4.1.8): the session's claim goes, or its having been robbed. If
+    /// Carries out `unlock` (RFC 7047, section 4.1.8): the session's claim goes, or its having been robbed. If
     /// it owned and another claim is first now, that one's session is told `locked`. O(log n + c).
     pub fn unlock(&mut self, session: SessionId, name: &str) -> Result<Vec<Notice>, LockFault>
         ensures ok { IfOk result (λ notices. model.unlock self.old session name.now
@@ -210,7 +210,7 @@ impl Locks {
         Ok(notices)
     }
 
-    /// What `unlock` would return now. Nothing changes. O(log n + c).
+    /// Returns what `unlock` would return now. Nothing changes. O(log n + c).
     pub fn preview_unlock(&self, session: SessionId, name: &str) -> Result<Vec<Notice>, LockFault>
         ensures ok { IfOk result (λ notices. answer_of (model.unlock self.now session name.now)
             ≡ Ok (notices_of notices.items, false)) }
@@ -242,7 +242,7 @@ impl Locks {
         Ok(notices)
     }
 
-    /// The notices of `drop_session`, without doing it. For each name that the session has a claim
+    /// Returns the notices of `drop_session`, without doing it. For each name that the session has a claim
     /// of O(log n + c).
     pub fn preview_drop(&self, session: SessionId) -> Result<Vec<Notice>, AllocError>
         ensures { IfOk result (λ notices.
@@ -266,7 +266,7 @@ impl Locks {
         self.index.forget(session);
     }
 
-    /// The names of the locks that the session owns, has the first claim of, by ascending bytes.
+    /// Returns the names of the locks that the session owns, has the first claim of, by ascending bytes.
     /// For each name that it has a claim of O(log n).
     pub fn owned(&self, alloc: Global, session: SessionId) -> Result<Vec<&str>, AllocError>
         ensures ascending { IfOk result (λ names. map (λ name. name.now) names.items
@@ -281,7 +281,7 @@ impl Locks {
         }
     }
 
-    /// Equal locks. O(the bytes copied).
+    /// Makes equal locks. O(the bytes copied).
     pub fn try_copy(&self, alloc: Global) -> Result<Locks, AllocError>
         ensures { IfOk result (λ copy. copy ≡ self.now) }
     {

@@ -35,7 +35,7 @@ impl Model for Table {
 }
 
 impl Table {
-    /// No locks.
+    /// Makes locks, of which there are none.
     pub fn new(alloc: Global) -> Table
         ensures { result ≡ finite.empty }
     {
@@ -44,35 +44,35 @@ impl Table {
         }
     }
 
-    /// How many names there are.
+    /// Returns how many names there are.
     pub fn len(&self) -> usize
         ensures { result ≡ finite.len self.now }
     {
         self.locks.len()
     }
 
-    /// Whether nobody claims the name, or was robbed of it.
+    /// Returns whether nobody claims the name, or was robbed of it.
     pub fn is_free(&self, name: &str) -> bool
         ensures { result ≡ is_free (lock_of self.now name.now) }
     {
         self.get(name).is_none_or(|lock| lock.is_free())
     }
 
-    /// Whether the session has a claim of the name that it hasn't unlocked.
+    /// Returns whether the session has a claim of the name that it hasn't unlocked.
     pub fn has_claim(&self, name: &str, session: usize) -> bool
         ensures { result ≡ has_claim session (lock_of self.now name.now) }
     {
         self.get(name).is_some_and(|lock| lock.has_claim(session))
     }
 
-    /// The session whose claim of the name is the first.
+    /// Returns the session whose claim of the name is the first.
     pub fn owner(&self, name: &str) -> Option<usize>
         ensures { result ≡ first_of (lock_of self.now name.now).claims }
     {
         self.get(name).and_then(|lock| lock.owner())
     }
 
-    /// The session whose claim of the name becomes the first when this session's goes.
+    /// Returns the session whose claim of the name becomes the first when this session's goes.
     pub fn next_owner(&self, name: &str, session: usize) -> Option<usize>
         ensures { result ≡ next_of session (lock_of self.now name.now).claims }
     {
@@ -113,7 +113,7 @@ impl Table {
         }
     }
 
-    /// The notices that releasing the claims of the session on `names` causes, in the order of
+    /// Returns the notices that releasing the claims of the session on `names` causes, in the order of
     /// `names`.
     pub fn notices_of_release(
         &self,
@@ -134,7 +134,7 @@ impl Table {
         Ok(notices)
     }
 
-    /// Those of the names whose lock the session owns, in their order.
+    /// Returns those of the names whose lock the session owns, in their order.
     pub fn owned_among<'a>(
         &self,
         alloc: Global,
@@ -155,7 +155,7 @@ impl Table {
         Ok(owned)
     }
 
-    /// Whether the session's claim of the name is the first.
+    /// Returns whether the session's claim of the name is the first.
     pub fn is_owned_by(&self, name: &str, session: usize) -> bool
         ensures { result ≡ owns self.now session name.now }
     {
@@ -173,7 +173,7 @@ impl Table {
         }
     }
 
-    /// An equal table.
+    /// Makes an equal table.
     pub fn try_copy(&self) -> Result<Table, AllocError>
         ensures { IfOk result (λ copy. copy ≡ self.now) }
     {

@@ -39,7 +39,7 @@ impl<'a> Model for Columns<'a> {
 }
 
 impl<'a> Columns<'a> {
-    /// The columns of the table. O(1).
+    /// Returns the columns of the table. O(1).
     pub fn of(alloc: Global, table: &'a TableSchema) -> Columns<'a>
         ensures { result ≡ table.now.columns }
     {
@@ -50,7 +50,7 @@ impl<'a> Columns<'a> {
         }
     }
 
-    /// The column's name. O(1).
+    /// Returns the column's name. O(1).
     pub fn name(&self, column: Selector) -> &str
         ensures { result.now ≡ selector_name self.now (selector_of column) }
     {
@@ -64,7 +64,7 @@ impl<'a> Columns<'a> {
         }
     }
 
-    /// The column's type. O(1).
+    /// Returns the column's type. O(1).
     fn column_type(&self, column: Selector) -> &ColType
         ensures { type_of result.now ≡ selector_type self.now (selector_of column) }
     {
@@ -77,21 +77,21 @@ impl<'a> Columns<'a> {
         }
     }
 
-    /// Whether the column has at most one element or pair. O(1).
+    /// Returns whether the column has at most one element or pair. O(1).
     pub fn is_single(&self, column: Selector) -> bool
         ensures { result ≡ model.is_single (selector_type self.now (selector_of column)) }
     {
         self.column_type(column).is_single()
     }
 
-    /// What the column has by default (RFC 7047, section 5.2.1). O(1).
+    /// Returns what the column has by default (RFC 7047, section 5.2.1). O(1).
     pub fn default_of(&self, column: Selector) -> Result<Value, AllocError>
         ensures { IfOk result (λ v. v ≡ model.default_of (selector_type self.now (selector_of column))) }
     {
         default_of(self.alloc, self.column_type(column))
     }
 
-    /// What leads from the old value of the column to the new one (ovsdb-server(7), 4.1.14). O(the values).
+    /// Returns what leads from the old value of the column to the new one (ovsdb-server(7), 4.1.14). O(the values).
     pub fn difference(
         &self,
         column: Selector,

@@ -37,7 +37,7 @@ pub struct Comparison<'a> {
 }
 
 impl<'a> Comparison<'a> {
-    /// By this a row is compared. O(1).
+    /// Makes the comparison by which a row is compared. O(1).
     pub fn of(alloc: Global, first: bool, told: Told<'a>, request: &'a Request) -> Comparison<'a>
         ensures first { result.first ≡ first }
         ensures told { result.told ≡ told.entry }
@@ -51,7 +51,7 @@ impl<'a> Comparison<'a> {
         }
     }
 
-    /// What is shown of a row. O(the members of the filters, and the values of the monitored
+    /// Returns what is shown of a row. O(the members of the filters, and the values of the monitored
     /// columns).
     pub fn line<'r>(&self, sides: &Sides<'r>) -> Option<Line<'r>>
         ensures { option_map (line_in self.now.request.now.shape.columns) result
@@ -67,7 +67,7 @@ impl<'a> Comparison<'a> {
         })
     }
 
-    /// What becomes of a row, also where that is switched off.
+    /// Returns what becomes of a row, also where that is switched off.
     fn change<'r>(&self, sides: &Sides<'r>) -> Option<Change<'r>>
         ensures { option_map (change_in self.now.request.now.shape.columns (uuid_of sides.now.uuid)) result
             ≡ change
@@ -79,7 +79,7 @@ impl<'a> Comparison<'a> {
         self.between(sides.uuid, old, new)
     }
 
-    /// The row of which the client was told.
+    /// Returns the row of which the client was told.
     fn old<'r>(&self, sides: &Sides<'r>) -> Option<&'r Row>
         ensures { option_copied result ≡ passed (tells self.now.told self.now.request.now.filter)
             (uuid_of sides.now.uuid) (option_copied sides.now.old) }
@@ -90,7 +90,7 @@ impl<'a> Comparison<'a> {
         }
     }
 
-    /// The row that is asked for.
+    /// Returns the row that is asked for.
     fn new<'r>(&self, sides: &Sides<'r>) -> Option<&'r Row>
         ensures { option_copied result ≡ passed (selects self.now.request.now.filter)
             (uuid_of sides.now.uuid) (option_copied sides.now.new) }
@@ -101,7 +101,7 @@ impl<'a> Comparison<'a> {
         }
     }
 
-    /// What leads from one row to the other.
+    /// Returns what leads from one row to the other.
     fn between<'r>(
         &self,
         uuid: Uuid,
@@ -121,7 +121,7 @@ impl<'a> Comparison<'a> {
         }
     }
 
-    /// Whether the rows differ in a monitored column.
+    /// Returns whether the rows differ in a monitored column.
     fn difference<'r>(&self, uuid: Uuid, old: &'r Row, new: &'r Row) -> Option<Change<'r>>
         ensures { option_map (change_in self.now.request.now.shape.columns (uuid_of uuid)) result
             ≡ change
@@ -134,7 +134,7 @@ impl<'a> Comparison<'a> {
         Some(Change::Differs(old, new))
     }
 
-    /// Whether the rows are the same in the monitored columns.
+    /// Returns whether the rows are the same in the monitored columns.
     fn have_same_cells(&self, uuid: Uuid, old: &Row, new: &Row) -> bool
         ensures { result ≡ same_values (cut self.now.request.now.shape.columns (uuid_of uuid) old.now)
             (cut self.now.request.now.shape.columns (uuid_of uuid) new.now) }
@@ -148,21 +148,21 @@ impl<'a> Comparison<'a> {
     }
 }
 
-/// Whether the cells of these columns are the same.
+/// Returns whether the cells of these columns are the same.
 fn are_same(columns: &[Selector], old: &RowCells<'_>, new: &RowCells<'_>) -> bool
     ensures { result ≡ list_all (is_same_in old.now new.now) columns.now }
 {
     columns.iter().all(|column| is_same(*column, old, new))
 }
 
-/// Whether the cells of the column are the same.
+/// Returns whether the cells of the column are the same.
 fn is_same(column: Selector, old: &RowCells<'_>, new: &RowCells<'_>) -> bool
     ensures { result ≡ is_same_in old.now new.now column }
 {
     *old.get(column) == *new.get(column)
 }
 
-/// Whether the kind of change isn't switched off (RFC 7047, section 4.1.5, `<monitor-select>`).
+/// Returns whether the kind of change isn't switched off (RFC 7047, section 4.1.5, `<monitor-select>`).
 fn is_shown(first: bool, select: Select, change: Change<'_>) -> bool
     ensures { (cs : List model.Column) (u : model_uuid.Uuid) → result ≡ view.is_shown first (select_of select) (change_in cs u change.entry) }
 {

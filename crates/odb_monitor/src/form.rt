@@ -32,7 +32,7 @@ pub enum Form<'a> {
     Differences(&'a RowCells<'a>, &'a RowCells<'a>),
 }
 
-/// A column with its value.
+/// Prints a column with its value.
 fn put_member(out: &mut Printer, name: &str, value: &Value) -> Result<(), AllocError>
     ensures { OnOk result (out.new ≡ out.old ++ token.key name.now ∷ tokens_of (write_value value.now)) }
 {
@@ -40,7 +40,7 @@ fn put_member(out: &mut Printer, name: &str, value: &Value) -> Result<(), AllocE
     put_value(out, value)
 }
 
-/// A column with its value, unless that is equal to the other.
+/// Prints a column with its value, unless that is equal to the other.
 fn put_unless(out: &mut Printer, name: &str, value: &Value, other: &Value) -> Result<(), AllocError>
     ensures { OnOk result (out.new ≡ out.old ++ member_tokens name.now (option_map write_value
         (if same_value value.now other.now then None else Some value.now))) }
@@ -51,7 +51,7 @@ fn put_unless(out: &mut Printer, name: &str, value: &Value, other: &Value) -> Re
     put_member(out, name, value)
 }
 
-/// A column with its difference, unless it stayed.
+/// Prints a column with its difference, unless it stayed.
 fn put_difference(
     out: &mut Printer,
     columns: &Columns<'_>,
@@ -74,7 +74,7 @@ fn put_difference(
     put_member(out, columns.name(column), &difference)
 }
 
-/// A column, as far as the form names it.
+/// Prints a column, as far as the form names it.
 fn put_column(
     out: &mut Printer,
     columns: &Columns<'_>,
@@ -97,7 +97,7 @@ fn put_column(
     }
 }
 
-/// The columns, one after the other.
+/// Prints the columns, one after the other.
 fn put_columns(
     out: &mut Printer,
     columns: &Columns<'_>,
@@ -113,7 +113,7 @@ fn put_columns(
     Ok(())
 }
 
-/// A row: an object with the columns that the form names. O(the bytes printed, and the values compared).
+/// Prints a row: an object with the columns that the form names. O(the bytes printed, and the values compared).
 pub fn put_object(
     out: &mut Printer,
     columns: &Columns<'_>,

@@ -43,7 +43,7 @@ impl<'a> Model for Job<'a> {
 }
 
 impl<'a> Job<'a> {
-    /// What is owed by these parts, in a first reply or later. O(1).
+    /// Makes the job of what is owed by these parts, in a first reply or later. O(1).
     pub fn new(kind: Kind, first: bool, parts: Vec<Part<'a>>) -> Job<'a>
         ensures { result ≡ record { notation = notation_of kind; first = first; reply = first; parts = parts.entry.items } }
     {
@@ -68,7 +68,8 @@ impl<'a> Job<'a> {
         }
     }
 
-    /// Whether something is sent: some row is shown, or this is a reply. It stops at the first row that is shown.
+    /// Returns whether something is sent: some row is shown, or this is a reply. It stops at the first row that is
+    /// shown.
     ///
     /// O(the rows changed) where the filter stayed, and O(the table) where nothing was told yet or another filter
     /// was asked.
@@ -82,7 +83,7 @@ impl<'a> Job<'a> {
     }
 }
 
-/// Whether a row of some part is shown.
+/// Returns whether a row of some part is shown.
 fn has_lines(alloc: Global, first: bool, parts: &[Part<'_>]) -> Result<bool, AllocError>
     ensures { IfOk result (λ shown. shown ≡ list_any (λ p. not (is_silent first p)) parts.now) }
 {
@@ -130,7 +131,7 @@ fn put_object(
     Ok(shown)
 }
 
-/// What is sent of the job, as compact JSON text (RFC 8259): the table updates (RFC 7047, section
+/// Composes what is sent of the job, as compact JSON text (RFC 8259): the table updates (RFC 7047, section
 /// 4.1.6) of `monitor`, or those of `monitor_cond` (ovsdb-server(7), 4.1.14), without the kinds of
 /// change that are switched off; `None` where nothing of them is left, but that a reply is always
 /// sent.

@@ -55,7 +55,7 @@ impl<'a> Model for Layout<'a> {
 }
 
 impl<'a> Layout<'a> {
-    /// How the rows of what is monitored are printed. O(1).
+    /// Returns how the rows of what is monitored are printed. O(1).
     pub fn of(alloc: Global, shape: &'a Shape, kind: Kind, first: bool) -> Layout<'a>
         ensures { result ≡ record {
           notation = notation_of kind;
@@ -72,7 +72,7 @@ impl<'a> Layout<'a> {
         }
     }
 
-    /// The columns that the form names.
+    /// Prints the columns that the form names.
     fn put_object(&self, out: &mut Printer, form: &Form<'_>) -> Result<(), AllocError>
         ensures { OnOk result (out.new ≡ out.old
             ++ tokens_of (row_object self.now.columns (map (named_by form.now) self.now.columns))) }
@@ -80,7 +80,7 @@ impl<'a> Layout<'a> {
         put_object(out, &self.columns, self.named, form)
     }
 
-    /// `{name: columns}`.
+    /// Prints `{name: columns}`.
     fn put_one(&self, out: &mut Printer, name: &str, form: &Form<'_>) -> Result<(), AllocError>
         ensures { OnOk result (out.new ≡ out.old ++ tokens_of
             (one name.now (row_object self.now.columns (map (named_by form.now) self.now.columns)))) }
@@ -91,7 +91,7 @@ impl<'a> Layout<'a> {
         out.put(Token::EndObject)
     }
 
-    /// `{"new": columns, "old": columns}`: every column, and the old values of those that differ
+    /// Prints `{"new": columns, "old": columns}`: every column, and the old values of those that differ
     /// (RFC 7047, section 4.1.6).
     fn put_both<'c>(
         &self,
@@ -111,7 +111,7 @@ impl<'a> Layout<'a> {
         out.put(Token::EndObject)
     }
 
-    /// What becomes of a row, as `update` has it: every column of one that comes in or goes out
+    /// Prints what becomes of a row, as `update` has it: every column of one that comes in or goes out
     /// (RFC 7047, section 4.1.6).
     fn put_update(&self, out: &mut Printer, line: &Line<'_>) -> Result<(), AllocError>
         ensures { OnOk result (out.new ≡ out.old ++ tokens_of (row_update update self.now.first self.now.columns
@@ -124,7 +124,7 @@ impl<'a> Layout<'a> {
         }
     }
 
-    /// `{name: columns}`, with every column of the row.
+    /// Prints `{name: columns}`, with every column of the row.
     fn put_whole(
         &self,
         out: &mut Printer,
@@ -141,7 +141,7 @@ impl<'a> Layout<'a> {
         put
     }
 
-    /// `{"new": columns, "old": columns}` of a row that differs.
+    /// Prints `{"new": columns, "old": columns}` of a row that differs.
     fn put_changed(
         &self,
         out: &mut Printer,
@@ -162,7 +162,7 @@ impl<'a> Layout<'a> {
         put
     }
 
-    /// What becomes of a row, as `update2` has it: of one that comes in the columns that aren't equal to their
+    /// Prints what becomes of a row, as `update2` has it: of one that comes in the columns that aren't equal to their
     /// default, and of one that differs the differences of its columns (ovsdb-server(7), 4.1.14).
     fn put_update2(&self, out: &mut Printer, line: &Line<'_>) -> Result<(), AllocError>
         ensures { OnOk result (out.new ≡ out.old ++ tokens_of (row_update update2 self.now.first self.now.columns
@@ -175,7 +175,7 @@ impl<'a> Layout<'a> {
         }
     }
 
-    /// A row that comes in, with the columns that aren't equal to their default.
+    /// Prints a row that comes in, with the columns that aren't equal to their default.
     fn put_set(&self, out: &mut Printer, uuid: Uuid, row: &Row) -> Result<(), AllocError>
         ensures { OnOk result (out.new ≡ out.old ++ tokens_of (one
             (if self.now.first then codes "initial" else codes "insert")
@@ -187,7 +187,7 @@ impl<'a> Layout<'a> {
         put
     }
 
-    /// A row that differs, with the differences of its columns.
+    /// Prints a row that differs, with the differences of its columns.
     fn put_differences(
         &self,
         out: &mut Printer,
@@ -207,14 +207,14 @@ impl<'a> Layout<'a> {
         put
     }
 
-    /// What a row that comes in stands under in `update2`.
+    /// Returns what a row that comes in stands under in `update2`.
     fn coming(&self) -> &'static str
         ensures { result.now ≡ (if self.now.first then codes "initial" else codes "insert") }
     {
         if self.first { "initial" } else { "insert" }
     }
 
-    /// A row's identifier, and what becomes of the row.
+    /// Prints a row's identifier, and what becomes of the row.
     fn put_row(&self, out: &mut Printer, line: &Line<'_>) -> Result<(), AllocError>
         ensures { OnOk result (out.new ≡ out.old ++ row_tokens self.now (line_in self.now.columns line.now)) }
     {
@@ -225,7 +225,7 @@ impl<'a> Layout<'a> {
         }
     }
 
-    /// The rows, one after the other.
+    /// Prints the rows, one after the other.
     fn put_rows(&self, out: &mut Printer, lines: &[Line<'_>]) -> Result<(), AllocError>
         ensures { OnOk result (out.new ≡ out.old
             ++ flat_map (row_tokens self.now) (map (line_in self.now.columns) lines.now)) }
@@ -236,7 +236,7 @@ impl<'a> Layout<'a> {
         Ok(())
     }
 
-    /// A table's name and its rows; nothing where it has no rows.
+    /// Prints a table's name and its rows; nothing where it has no rows.
     ///
     /// O(the bytes printed, and the values compared).
     pub fn put_table(
@@ -258,7 +258,7 @@ impl<'a> Layout<'a> {
     }
 }
 
-/// `{"delete": null}`.
+/// Prints `{"delete": null}`.
 fn put_delete(out: &mut Printer) -> Result<(), AllocError>
     ensures { OnOk result (out.new ≡ out.old ++ tokens_of (one (codes "delete") null)) }
 {

@@ -24,7 +24,7 @@ pub use job::{Job, compose};
 pub use part::Part;
 pub use told::Told;
 
-/// What a strict client makes of the messages of a monitor. The call does nothing.
+/// States what a strict client makes of the messages of a monitor. The call does nothing.
 pub fn law()
     // A first reply with all of a view gives that view.
     ensures first { FirstReplyGives }

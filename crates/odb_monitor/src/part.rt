@@ -50,7 +50,7 @@ impl<'a> Model for Part<'a> {
 }
 
 impl<'a> Part<'a> {
-    /// What is asked of a table, what the client was told of it, the table as it is now, and how
+    /// Puts together what is asked of a table, what the client was told of it, the table as it is now, and how
     /// its rows have changed since the client was told: `None` where they haven't. O(1).
     ///
     /// Of a change the old row is read, and not the new one, which is the table's. Where the client was told
@@ -91,7 +91,7 @@ impl<'a> Part<'a> {
         Ok(!lines.is_empty())
     }
 
-    /// Whether some row is shown.
+    /// Returns whether some row is shown.
     pub(crate) fn has_lines(&self, alloc: Global, first: bool) -> Result<bool, AllocError>
         ensures { IfOk result (λ shown. shown ≡ not (is_silent first self.now)) }
     {
@@ -100,7 +100,7 @@ impl<'a> Part<'a> {
         Ok(has_line(&comparison, &sides))
     }
 
-    /// What is shown of the table, by ascending identifier.
+    /// Returns what is shown of the table, by ascending identifier.
     fn lines(&self, alloc: Global, first: bool) -> Result<Vec<Line<'_>>, AllocError>
         ensures { IfOk result (λ lines. map (line_in self.now.request.shape.columns) lines.items
             ≡ (changes_shown first self.now).entries) }
@@ -113,7 +113,7 @@ impl<'a> Part<'a> {
     }
 }
 
-/// The rows that were changed.
+/// Returns the rows that were changed.
 fn rows_of(changes: &Option<Arc<TableChange>>) -> &[RowChange]
     ensures distinct { AreDistinct result.now }
     ensures was { (now : model_table.Table) → WasSo result.now (table_then (option_map arc_value changes.now) now) now }
@@ -124,7 +124,7 @@ fn rows_of(changes: &Option<Arc<TableChange>>) -> &[RowChange]
     }
 }
 
-/// The rows of which something may be shown.
+/// Returns the rows of which something may be shown.
 fn sides_of<'a>(
     alloc: Global,
     told: Told<'a>,
@@ -143,7 +143,7 @@ fn sides_of<'a>(
     }
 }
 
-/// Each row of the table, as one that comes in.
+/// Returns each row of the table, as one that comes in.
 fn all_fresh<'a>(alloc: Global, table: &'a Table) -> Result<Vec<Sides<'a>>, AllocError>
     ensures { IfOk result (λ sides. (rows : List (model_uuid.Uuid × model_row.Row)) × IsListOf rows table.now
         × (map sides_in sides.items ≡ map fresh_in rows)) }
@@ -152,7 +152,7 @@ fn all_fresh<'a>(alloc: Global, table: &'a Table) -> Result<Vec<Sides<'a>>, Allo
     fresh(alloc, &rows)
 }
 
-/// Each row of the table, and each that was changed.
+/// Returns each row of the table, and each that was changed.
 fn all_rows<'a>(
     alloc: Global,
     changes: &'a [RowChange],
@@ -169,7 +169,7 @@ fn all_rows<'a>(
     Ok(all)
 }
 
-/// What is shown of these rows.
+/// Returns what is shown of these rows.
 fn lines_of<'r>(
     alloc: Global,
     comparison: &Comparison<'_>,
@@ -204,7 +204,7 @@ fn add_line<'r>(
     Ok(())
 }
 
-/// Whether something is shown of one of these rows.
+/// Returns whether something is shown of one of these rows.
 fn has_line(comparison: &Comparison<'_>, sides: &[Sides<'_>]) -> bool
     ensures { result ≡ list_any (λ row.
         is_some (line_at comparison.now.first comparison.now.told comparison.now.request.now (sides_in row))) sides.now }

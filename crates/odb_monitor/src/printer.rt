@@ -32,7 +32,7 @@ impl Model for Printer {
 }
 
 impl Printer {
-    /// Text without a token.
+    /// Makes a text without a token.
     pub fn new(alloc: Global) -> Printer
         ensures { result ≡ [] }
     {
@@ -49,14 +49,14 @@ impl Printer {
         self.writer.token(token)
     }
 
-    /// An integer, in decimal.
+    /// Prints an integer, in decimal.
     pub fn integer(&mut self, integer: i64) -> Result<(), AllocError>
         ensures { OnOk result (self.new ≡ self.old ++ token.number (signed_decimal integer) ∷ []) }
     {
         self.writer.i64(integer)
     }
 
-    /// The text.
+    /// Returns the text.
     pub fn finish(self) -> Vec<u8>
         ensures { result.items ≡ print self }
     {

@@ -44,7 +44,7 @@ impl<'a> Model for RowCells<'a> {
 }
 
 impl<'a> RowCells<'a> {
-    /// The cells of the row with the identifier. O(1).
+    /// Makes the cells of the row with the identifier. O(1).
     pub fn new(alloc: Global, key: Uuid, row: &'a Row) -> RowCells<'a>
         ensures { result ≡ (uuid_of key, row.now) }
     {
@@ -57,7 +57,7 @@ impl<'a> RowCells<'a> {
         }
     }
 
-    /// The cell of the column: the empty set for a declared one past the row's. O(1).
+    /// Returns the cell of the column: the empty set for a declared one past the row's. O(1).
     pub fn get(&self, column: Selector) -> &Value
         ensures { result.now ≡ model_row.cell self.now.0 self.now.1 (selector_of column) }
     {

@@ -25,7 +25,7 @@ pub struct Sides<'a> {
     pub new: Option<&'a Row>,
 }
 
-/// The rows, as ones that come in.
+/// Returns the rows, as ones that come in.
 pub fn fresh<'a>(alloc: Global, rows: &[(Uuid, &'a Row)]) -> Result<Vec<Sides<'a>>, AllocError>
     ensures { IfOk result (λ sides. map sides_in sides.items ≡ map fresh_in (map listed rows.now)) }
 {
@@ -43,7 +43,7 @@ pub fn fresh<'a>(alloc: Global, rows: &[(Uuid, &'a Row)]) -> Result<Vec<Sides<'a
     Ok(all)
 }
 
-/// The rows that were changed, each as it was and as the table has it.
+/// Returns the rows that were changed, each as it was and as the table has it.
 pub fn changed<'a>(
     alloc: Global,
     changes: &'a [RowChange],
@@ -65,7 +65,7 @@ pub fn changed<'a>(
     Ok(all)
 }
 
-/// The keys of the rows that were changed.
+/// Returns the keys of the rows that were changed.
 pub fn keys_of(alloc: Global, changes: &[RowChange]) -> Result<BTreeSet<Key>, AllocError>
     ensures { IfOk result (λ keys. (u : model_uuid.Uuid) → contains uuid_cmp keys u ≡ is_changed changes.now u) }
 {

@@ -19,7 +19,7 @@ pub enum Told<'a> {
 }
 
 impl<'a> Told<'a> {
-    /// Whether the client was told of a row that is so, where this filter is asked.
+    /// Returns whether the client was told of a row that is so, where this filter is asked.
     pub(crate) fn tells(self, asked: &Filter, uuid: Uuid, row: &Row) -> bool
         ensures { result ≡ tells self.entry asked.now (uuid_of uuid) row.now }
     {

@@ -14,7 +14,7 @@ use odb_atoms::{Atom, Entries, Value};
 use std::alloc::AllocError;
 use uuid::Uuid;
 
-/// An identifier's text as a key.
+/// Prints an identifier's text as a key.
 pub fn put_key(out: &mut Printer, uuid: Uuid) -> Result<(), AllocError>
     ensures { OnOk result (out.new ≡ out.old ++ token.key (uuid_text (uuid_of uuid)) ∷ []) }
 {
@@ -25,7 +25,7 @@ pub fn put_key(out: &mut Printer, uuid: Uuid) -> Result<(), AllocError>
     out.put(Token::Key(text))
 }
 
-/// An identifier's text as a string.
+/// Prints an identifier's text as a string.
 fn put_text(out: &mut Printer, uuid: Uuid) -> Result<(), AllocError>
     ensures { OnOk result (out.new ≡ out.old ++ token.string (uuid_text (uuid_of uuid)) ∷ []) }
 {
@@ -35,7 +35,7 @@ fn put_text(out: &mut Printer, uuid: Uuid) -> Result<(), AllocError>
     out.put(Token::String(text))
 }
 
-/// `["uuid", text]`.
+/// Prints `["uuid", text]`.
 fn put_uuid(out: &mut Printer, uuid: Uuid) -> Result<(), AllocError>
     ensures { OnOk result (out.new ≡ out.old ++ tokens_of (notation.write_uuid (uuid_of uuid))) }
 {
@@ -45,7 +45,7 @@ fn put_uuid(out: &mut Printer, uuid: Uuid) -> Result<(), AllocError>
     out.put(Token::EndArray)
 }
 
-/// An atom.
+/// Prints an atom.
 #[tactic(auto, using(crate::proofs::Tokens::integer_tokens))]
 fn put_atom(out: &mut Printer, atom: &Atom) -> Result<(), AllocError>
     ensures { OnOk result (out.new ≡ out.old ++ tokens_of (notation.write_atom (atom_of atom.now))) }
@@ -69,7 +69,7 @@ fn put_atoms(out: &mut Printer, atoms: &[Atom]) -> Result<(), AllocError>
     Ok(())
 }
 
-/// `["tag", [`: an array of the tag and of another array, whose items come next.
+/// Prints `["tag", [`: an array of the tag and of another array, whose items come next.
 fn begin_tagged(out: &mut Printer, tag: &str) -> Result<(), AllocError>
     ensures { OnOk result (out.new
         ≡ out.old ++ token.begin_array ∷ token.string tag.now ∷ token.begin_array ∷ []) }
@@ -79,7 +79,7 @@ fn begin_tagged(out: &mut Printer, tag: &str) -> Result<(), AllocError>
     out.put(Token::BeginArray)
 }
 
-/// `]]`.
+/// Prints `]]`.
 fn end_tagged(out: &mut Printer) -> Result<(), AllocError>
     ensures { OnOk result (out.new ≡ out.old ++ token.end_array ∷ token.end_array ∷ []) }
 {
@@ -87,7 +87,7 @@ fn end_tagged(out: &mut Printer) -> Result<(), AllocError>
     out.put(Token::EndArray)
 }
 
-/// `["set", [atom, ..]]`.
+/// Prints `["set", [atom, ..]]`.
 fn put_set_of(out: &mut Printer, atoms: &[Atom]) -> Result<(), AllocError>
     ensures { OnOk result (out.new ≡ out.old ++ tokens_of
         (array_of (string (codes "set") ∷ array_of (map notation.write_atom (map atom_of atoms.now)) ∷ []))) }
@@ -97,7 +97,7 @@ fn put_set_of(out: &mut Printer, atoms: &[Atom]) -> Result<(), AllocError>
     end_tagged(out)
 }
 
-/// A set, of which one atom stands alone.
+/// Prints a set, of which one atom stands alone.
 fn put_set(out: &mut Printer, atoms: &[Atom]) -> Result<(), AllocError>
     ensures { OnOk result (out.new
         ≡ out.old ++ tokens_of (notation.write_atoms (map atom_of atoms.now))) }
@@ -108,7 +108,7 @@ fn put_set(out: &mut Printer, atoms: &[Atom]) -> Result<(), AllocError>
     }
 }
 
-/// `[key, value]`.
+/// Prints `[key, value]`.
 fn put_pair(out: &mut Printer, pair: &(Atom, Atom)) -> Result<(), AllocError>
     ensures { OnOk result (out.new ≡ out.old ++ tokens_of (notation.write_pair (pair_of pair.now))) }
 {
@@ -129,7 +129,7 @@ fn put_pairs(out: &mut Printer, pairs: &[(Atom, Atom)]) -> Result<(), AllocError
     Ok(())
 }
 
-/// `["map", [pair, ..]]`.
+/// Prints `["map", [pair, ..]]`.
 fn put_map(out: &mut Printer, pairs: &[(Atom, Atom)]) -> Result<(), AllocError>
     ensures { OnOk result (out.new ≡ out.old ++ tokens_of
         (array_of (string (codes "map") ∷ array_of (map notation.write_pair (map pair_of pairs.now)) ∷ []))) }
@@ -139,7 +139,7 @@ fn put_map(out: &mut Printer, pairs: &[(Atom, Atom)]) -> Result<(), AllocError>
     end_tagged(out)
 }
 
-/// A value (RFC 7047, section 5.1), its elements and keys ascending. O(its bytes).
+/// Prints a value (RFC 7047, section 5.1), its elements and keys ascending. O(its bytes).
 pub fn put_value(out: &mut Printer, value: &Value) -> Result<(), AllocError>
     ensures { OnOk result (out.new ≡ out.old ++ tokens_of (notation.write_value value.now)) }
 {

@@ -10,7 +10,7 @@ ghost use Rattle.odb_mutate.specs.Represented.Kinds.{HasOneElement, elements_in}
 use odb_atoms::{Atom, Entries, Value};
 use std::alloc::{AllocError, Global};
 
-/// The elements of a set, in ascending order.
+/// Returns the elements of a set, in ascending order.
 pub fn of(value: &Value) -> &[Atom]
     requires { is_map value.now ≡ false }
     ensures { map atom_of result.now ≡ elements_in value.now }
@@ -21,7 +21,7 @@ pub fn of(value: &Value) -> &[Atom]
     }
 }
 
-/// The one element of a set.
+/// Returns the one element of a set.
 pub fn lone(value: &Value) -> &Atom
     requires { HasOneElement value.now }
     ensures { elements_in value.now ≡ atom_of result.now ∷ [] }
@@ -65,7 +65,7 @@ pub fn append_others(
     Ok(())
 }
 
-/// The set of distinct elements of one kind.
+/// Makes the set of distinct elements of one kind.
 pub fn set_of(elements: Vec<Atom>) -> Value
     requires { set_fault (map atom_of elements.items) ≡ None }
     ensures { result ≡ model.set_of (atoms (map atom_of elements.items)) }

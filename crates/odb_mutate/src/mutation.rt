@@ -73,7 +73,7 @@ impl Model for Mutation {
 }
 
 impl Mutation {
-    /// The mutation of the declared column at the place, from 0, in the order of the columns'
+    /// Makes the mutation of the declared column at the place, from 0, in the order of the columns'
     /// names. O(1).
     pub fn new(column: usize, mutator: Mutator, value: Value) -> Mutation
         ensures { result ≡ record {
@@ -89,14 +89,14 @@ impl Mutation {
         }
     }
 
-    /// The place of the declared column that it changes, from 0. O(1).
+    /// Returns the place of the declared column that it changes, from 0. O(1).
     pub fn column(&self) -> usize
         ensures { result ≡ self.now.column }
     {
         self.column
     }
 
-    /// What the mutation makes of a value of a column of the type (RFC 7047, section 5.1,
+    /// Returns what the mutation makes of a value of a column of the type (RFC 7047, section 5.1,
     /// `<mutation>`), or else the first of these faults:
     ///
     /// - `DomainError` for a zero divisor, and `RangeError` for a result outside 64 bits, element by
@@ -133,7 +133,7 @@ impl Mutation {
     }
 }
 
-/// The value, if it is within the limit and the type admits it.
+/// Returns the value, if it is within the limit and the type admits it.
 fn admitted(new: Value, column: &ColType) -> Result<Value, MutationFault>
     ensures { answered (λ v. v) result ≡ admitted (type_of column.now) new }
 {
@@ -146,7 +146,7 @@ fn admitted(new: Value, column: &ColType) -> Result<Value, MutationFault>
     Ok(new)
 }
 
-/// The elements of a set, each calculated with the one operand.
+/// Returns the elements of a set, each calculated with the one operand.
 fn calculate(
     alloc: Global,
     operator: Operator,
@@ -166,7 +166,7 @@ fn calculate(
     }
 }
 
-/// The set of the results, unless some have become equal.
+/// Returns the set of the results, unless some have become equal.
 fn set_of_results(results: Vec<Atom>) -> Result<Value, MutationFault>
     requires { IsTrue (each_element (is_a integers) results.items) }
     ensures { answered (λ v. v) result ≡ set_of_results (map atom_of results.items) }
@@ -177,7 +177,7 @@ fn set_of_results(results: Vec<Atom>) -> Result<Value, MutationFault>
     }
 }
 
-/// The value with the elements, or with the pairs whose key it doesn't have.
+/// Returns the value with the elements, or with the pairs whose key it doesn't have.
 fn insert(alloc: Global, value: &Value, added: &Value) -> Result<Value, AllocError>
     requires { AreAlike value.now added.now }
     ensures { IfOk result (λ new. Ok new ≡ result_of model.insert value.now added.now) }
@@ -199,7 +199,7 @@ fn insert(alloc: Global, value: &Value, added: &Value) -> Result<Value, AllocErr
     }
 }
 
-/// The value without the elements, the keys or the pairs.
+/// Returns the value without the elements, the keys or the pairs.
 fn delete(alloc: Global, value: &Value, deleted: &Value) -> Result<Value, AllocError>
     requires kinds { HasKinds value.now }
     requires shape { IsTrue (is_map deleted.now) → IsTrue (is_map value.now) }

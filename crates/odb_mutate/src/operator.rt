@@ -29,7 +29,7 @@ pub enum Operator {
 }
 
 impl Operator {
-    /// The result for each element, in order, or the fault of the first that has one.
+    /// Returns the result for each element, in order, or the fault of the first that has one.
     pub(crate) fn calculate_each(
         self,
         alloc: Global,
@@ -85,7 +85,7 @@ impl Operator {
     }
 }
 
-/// The result, where 64 bits hold it.
+/// Returns the result, where 64 bits hold it.
 fn in_range(exact: Option<i64>) -> Result<i64, MutationFault>
     ensures { result ≡ ok_or exact MutationFault.RangeError }
 {

@@ -57,7 +57,7 @@ pub fn append_others(
     Ok(())
 }
 
-/// Whether the value lacks the pair, or its key.
+/// Returns whether the value lacks the pair, or its key.
 fn lacks(value: &Value, lack: Lack, pair: &(Atom, Atom)) -> bool
     ensures { result ≡ lacks lack value.now (pair_of pair.now) }
 {
@@ -67,7 +67,7 @@ fn lacks(value: &Value, lack: Lack, pair: &(Atom, Atom)) -> bool
     }
 }
 
-/// Whether the map has the pair.
+/// Returns whether the map has the pair.
 fn has_pair(value: &Value, pair: &(Atom, Atom)) -> bool
     ensures { result ≡ has_at value.now (pair_of pair.now) }
 {
@@ -83,7 +83,7 @@ fn copy_of(alloc: Global, pair: &(Atom, Atom)) -> Result<(Atom, Atom), AllocErro
     Ok((pair.0.try_copy(alloc)?, pair.1.try_copy(alloc)?))
 }
 
-/// The map of pairs of one kind each, with distinct keys.
+/// Makes the map of pairs of one kind each, with distinct keys.
 pub fn map_of(pairs: Vec<(Atom, Atom)>) -> Value
     requires { map_fault (map pair_of pairs.items) ≡ None }
     ensures { result ≡ model.map_of (finite.from_entries (map pair_of pairs.items)) }

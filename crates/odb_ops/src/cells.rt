@@ -36,14 +36,14 @@ impl Model for Cells {
 }
 
 impl Cells {
-    /// These values.
+    /// Takes these values.
     pub fn new(values: Vec<Value>) -> Cells
         ensures { result ≡ values.items }
     {
         Cells { values }
     }
 
-    /// The values.
+    /// Returns the values.
     pub fn values(&self) -> &[Value]
         ensures { result.now ≡ self.now }
     {
@@ -51,7 +51,7 @@ impl Cells {
     }
 }
 
-/// The value of a column of a row.
+/// Returns the value of a column of a row.
 fn cell(alloc: Global, uuid: Uuid, row: &Row, column: Selector) -> Result<Value, AllocError>
     ensures { IfOk result (λ value. value ≡ model_row.cell (uuid_of uuid) row.now (selector_of column)) }
 {
@@ -65,7 +65,7 @@ fn cell(alloc: Global, uuid: Uuid, row: &Row, column: Selector) -> Result<Value,
     }
 }
 
-/// The values of the columns of a row.
+/// Returns the values of the columns of a row.
 fn project(alloc: Global, uuid: Uuid, row: &Row, columns: &[Selector]) -> Result<Cells, AllocError>
     ensures { IfOk result (λ cells. cells
         ≡ model.project (map selector_of columns.now) (uuid_of uuid) row.now) }
@@ -77,7 +77,7 @@ fn project(alloc: Global, uuid: Uuid, row: &Row, columns: &[Selector]) -> Result
     Ok(Cells::new(values))
 }
 
-/// The values of the columns of each row that matches, in the order of the rows' identifiers.
+/// Returns the values of the columns of each row that matches, in the order of the rows' identifiers.
 ///
 /// What `Draft::matching` costs, and the bytes of the values.
 pub fn selected(
@@ -94,7 +94,7 @@ pub fn selected(
     rows_of(alloc, draft, table, &uuids, columns)
 }
 
-/// The values of the columns of the rows with these identifiers.
+/// Returns the values of the columns of the rows with these identifiers.
 fn rows_of(
     alloc: Global,
     draft: &Draft,
@@ -113,7 +113,7 @@ fn rows_of(
     Ok(rows)
 }
 
-/// The values of the columns of the row with the identifier, if there is one.
+/// Returns the values of the columns of the row with the identifier, if there is one.
 fn row_of(
     alloc: Global,
     draft: &Draft,

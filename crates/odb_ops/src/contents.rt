@@ -10,7 +10,7 @@ use odb_atoms::Value;
 use std::alloc::{AllocError, Global};
 use std::collections::BTreeSet;
 
-/// The rows, of each that are equal the first.
+/// Returns the rows, of each that are equal the first.
 ///
 /// O(n log n) comparisons of rows for n rows.
 pub fn first_of_each(alloc: Global, rows: &[Cells]) -> Result<Vec<&Cells>, AllocError>
@@ -50,7 +50,7 @@ fn is_new<'a>(seen: &mut BTreeSet<&'a [Value]>, row: &'a Cells) -> Result<bool, 
     }
 }
 
-/// The contents of the rows. O(n log n) comparisons for n rows.
+/// Returns the contents of the rows. O(n log n) comparisons for n rows.
 pub fn contents(alloc: Global, rows: &[Cells]) -> Result<BTreeSet<&[Value]>, AllocError>
     ensures { IfOk result (λ set. IsSetOf set rows.now) }
 {
@@ -61,7 +61,7 @@ pub fn contents(alloc: Global, rows: &[Cells]) -> Result<BTreeSet<&[Value]>, All
     Ok(seen)
 }
 
-/// Whether each of the rows is among those of which these are the contents. O(n log m) comparisons
+/// Returns whether each of the rows is among those of which these are the contents. O(n log m) comparisons
 /// for n rows and m contents.
 pub fn are_among<'a>(rows: &'a [Cells], set: &BTreeSet<&'a [Value]>) -> bool
     ensures { (others : List (List model.Value)) → IsSetOf set.now others → result ≡ each_in rows.now others }

@@ -40,7 +40,7 @@ pub struct Target<'a> {
 }
 
 impl<'a> Setting<'a> {
-    /// A table of the schema.
+    /// Returns a table of the schema.
     pub fn target(&self, table: TableId) -> Target<'a>
         requires { table < length self.now.schema.now.tables }
         ensures table { result.table ≡ table }

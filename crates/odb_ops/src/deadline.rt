@@ -8,14 +8,14 @@ use crate::context::Context;
 use crate::stop::Stop;
 use odb_atoms::Error;
 
-/// Until when it has time, if not for ever: a moment past 2^64-1 is never reached.
+/// Returns until when it has time, if not for ever: a moment past 2^64-1 is never reached.
 fn deadline(context: &Context, timeout: Option<u64>) -> Option<u64>
     ensures { result ≡ model.deadline (context_of context.entry.now) timeout }
 {
     context.arrival.checked_add(timeout?)
 }
 
-/// Whether the moment is there.
+/// Returns whether the moment is there.
 fn has_passed(context: &Context, moment: Option<u64>) -> bool
     ensures { result ≡ model.has_passed (context_of context.entry.now) moment }
 {
@@ -25,7 +25,7 @@ fn has_passed(context: &Context, moment: Option<u64>) -> bool
     }
 }
 
-/// What a `wait` that isn't met comes to: it waits, or its time is up.
+/// Returns what a `wait` that isn't met comes to: it waits, or its time is up.
 pub fn unmet(context: &Context, timeout: Option<u64>) -> Stop
     ensures { stop_of result ≡ Some (model.unmet (context_of context.entry.now)
         (model.deadline (context_of context.entry.now) timeout)) }

@@ -59,7 +59,7 @@ fn read_and_perform(
     perform(setting, draft, taken, uuid, op)
 }
 
-/// The results, and a `null` for each of the later operations.
+/// Returns the results, and a `null` for each of the later operations.
 fn with_nulls(mut results: Vec<Value>, nulls: usize) -> Result<Vec<Value>, AllocError>
     ensures { IfOk result (λ v. map view v.items
         ≡ map view results.items ++ replicate nulls null) }
@@ -70,7 +70,7 @@ fn with_nulls(mut results: Vec<Value>, nulls: usize) -> Result<Vec<Value>, Alloc
     Ok(results)
 }
 
-/// The results with the error of the operation that failed, and null for each later one.
+/// Returns the results with the error of the operation that failed, and null for each later one.
 fn with_failure(
     alloc: Global,
     mut results: Vec<Value>,
@@ -84,7 +84,7 @@ fn with_failure(
     with_nulls(results, later)
 }
 
-/// How a transaction ends when an operation fails or must wait, with `later` operations after it.
+/// Returns how a transaction ends when an operation fails or must wait, with `later` operations after it.
 fn stopped(alloc: Global, results: Vec<Value>, stop: Stop, later: usize) -> Result<Ran, AllocError>
     ensures { IfOk result (λ ran. Ends ran (map view results.items) (stop_of stop) later) }
 {

@@ -10,14 +10,14 @@ use odb_schema::member;
 use serde_json::Value;
 use uuid::Uuid;
 
-/// The member of an object, where it is a string.
+/// Returns the member of an object, where it is a string.
 pub fn string_member<'a>(key: &str, value: &'a Value) -> Option<&'a str>
     ensures { option_map (λ text. text.now) result ≡ json.string_member key.now (view value.now) }
 {
     member(key, value.as_object()?)?.as_str()
 }
 
-/// The first of the identifiers that are left, and zero where there is none.
+/// Returns the first of the identifiers that are left, and zero where there is none.
 pub fn next_uuid(fresh: &[Uuid]) -> Uuid
     ensures { uuid_of result ≡ model.first_fresh (map uuid_of fresh.now) }
 {
@@ -27,7 +27,7 @@ pub fn next_uuid(fresh: &[Uuid]) -> Uuid
     }
 }
 
-/// What an insert has of its own under `uuid` (ovsdb-server(7), 5.2.1), where it can be read. O(log n)
+/// Returns what an insert has of its own under `uuid` (ovsdb-server(7), 5.2.1), where it can be read. O(log n)
 /// comparisons of names for n members.
 pub fn own_uuid(operation: &Value) -> Option<Uuid>
     ensures { option_map uuid_of result ≡ model.own_uuid (view operation.now) }
@@ -38,7 +38,7 @@ pub fn own_uuid(operation: &Value) -> Option<Uuid>
     }
 }
 
-/// The identifier of an insert: its own, or the first of those that are left.
+/// Returns the identifier of an insert: its own, or the first of those that are left.
 pub fn identifier_of(operation: &Value, fresh: &[Uuid]) -> Uuid
     ensures { uuid_of result ≡ model.identifier_of (view operation.now) (map uuid_of fresh.now) }
 {
@@ -48,7 +48,7 @@ pub fn identifier_of(operation: &Value, fresh: &[Uuid]) -> Uuid
     }
 }
 
-/// The identifiers that are left after the operation.
+/// Returns the identifiers that are left after the operation.
 pub fn remaining_uuids<'a>(operation: &Value, fresh: &'a [Uuid]) -> &'a [Uuid]
     ensures { map uuid_of result.now
         ≡ model.fresh_after (view operation.now) (map uuid_of fresh.now) }

@@ -27,7 +27,7 @@ pub fn set(row: &mut Row, column: ColumnId, value: Value)
     }
 }
 
-/// The defaults of the columns.
+/// Returns the defaults of the columns.
 fn defaults(alloc: Global, columns: &[Column]) -> Result<Vec<Value>, AllocError>
     ensures { IfOk result (λ values. values.items ≡ map (λ c. default_of c.type) columns.now) }
 {
@@ -38,7 +38,7 @@ fn defaults(alloc: Global, columns: &[Column]) -> Result<Vec<Value>, AllocError>
     Ok(values)
 }
 
-/// A row that no commit has written yet.
+/// Returns a row that no commit has written yet.
 fn unwritten(values: Vec<Value>) -> Row
     ensures { result ≡ record { version = zero_uuid; columns = values.items } }
 {
@@ -54,7 +54,7 @@ fn set_all(row: &mut Row, mut given: Vec<(ColumnId, Value)>)
     }
 }
 
-/// The values given, and the default for each other column.
+/// Returns the values given, and the default for each other column.
 #[tactic(auto, using(crate::proofs::Rows::given_row))]
 fn new_row(
     alloc: Global,
@@ -68,14 +68,14 @@ fn new_row(
     Ok(row)
 }
 
-/// Whether the table has a row with the identifier, or had one that was deleted.
+/// Returns whether the table has a row with the identifier, or had one that was deleted.
 fn has_used(draft: &Draft, table: TableId, uuid: Uuid) -> bool
     ensures { result ≡ model.has_used (begun draft.now) table (uuid_of uuid) }
 {
     draft.get(table, uuid).is_some() || draft.was_removed(table, uuid)
 }
 
-/// Whether each column admits its value.
+/// Returns whether each column admits its value.
 fn all_admit(columns: &[Column], values: &[Value]) -> bool
     ensures { result ≡ model.all_admit columns.now values.now }
 {

@@ -17,7 +17,7 @@ use odb_schema::Column;
 use std::alloc::{AllocError, Global};
 use std::marker::Model;
 
-/// The type of a column, and that of identifiers for a column past the table's.
+/// Returns the type of a column, and that of identifiers for a column past the table's.
 pub fn type_at<'a>(columns: &'a [Column], place: usize, uuid: &'a ColType) -> &'a ColType
     requires { type_of uuid.now ≡ scalar uuids }
     ensures { type_of result.now ≡ schema.column_type columns.now place }
@@ -56,14 +56,14 @@ impl<'a> Run<'a> {
         Run { mutations, merged }
     }
 
-    /// The mutations. O(1).
+    /// Returns the mutations. O(1).
     pub fn mutations(&self) -> &[Mutation]
         ensures { result.now ≡ self.now }
     {
         self.mutations
     }
 
-    /// One mutation that may be made in place of all of them, where it has no fault. O(1).
+    /// Returns one mutation that may be made in place of all of them, where it has no fault. O(1).
     pub fn merged(&self, columns: &[Column]) -> Option<&Mutation>
         requires { are_taken columns.now self.now ≡ true }
         ensures { IfSome result (λ m. Replaces columns.now m.now self.now) }
@@ -78,7 +78,7 @@ impl<'a> Run<'a> {
     }
 }
 
-/// Whether the column never has to have more than one element.
+/// Returns whether the column never has to have more than one element.
 fn needs_one_at_most(columns: &[Column], place: usize) -> bool
     ensures { result ≡ merged.needs_one_at_most columns.now place }
 {
@@ -88,7 +88,7 @@ fn needs_one_at_most(columns: &[Column], place: usize) -> bool
     one_at_most
 }
 
-/// The mutations in runs, of which each is as long as can be found by halves: insertions of sets into one
+/// Returns the mutations in runs, of which each is as long as can be found by halves: insertions of sets into one
 /// column are one run, unless they insert more than 65,536 elements.
 ///
 /// O(m log m) for m mutations of which no two that stand next to each other are of one column; where they
@@ -129,7 +129,7 @@ fn add_runs<'a>(
     }
 }
 
-/// The mutations as one run, if they are fewer than two, or one can be made of them.
+/// Returns the mutations as one run, if they are fewer than two, or one can be made of them.
 ///
 /// O(n log^2 n) comparisons of atoms for n elements of the operands of mutations of one column, and the
 /// bytes copied; else O(m) for m mutations.
@@ -151,7 +151,7 @@ pub fn one_run<'a>(
     }
 }
 
-/// The first and the last half, of which neither is empty. O(1).
+/// Returns the first and the last half, of which neither is empty. O(1).
 pub fn halves(mutations: &[Mutation]) -> (&[Mutation], &[Mutation])
     requires { 1 < length mutations.now }
     ensures whole { result.0.now ++ result.1.now ≡ mutations.now }
@@ -161,7 +161,7 @@ pub fn halves(mutations: &[Mutation]) -> (&[Mutation], &[Mutation])
     mutations.split_at(mutations.len() / 2)
 }
 
-/// One mutation that stands for all of these, where they insert sets into one column.
+/// Returns one mutation that stands for all of these, where they insert sets into one column.
 fn merged(
     alloc: Global,
     columns: &[Column],
@@ -185,7 +185,7 @@ fn merged(
     Ok(Some(Mutation::new(place, Mutator::Insert, value)))
 }
 
-/// The column that all of these are of.
+/// Returns the column that all of these are of.
 fn one_column(mutations: &[Mutation]) -> Option<usize>
     ensures { IfSome result (λ place. are_at place mutations.now ≡ true) }
 {
@@ -199,14 +199,14 @@ fn one_column(mutations: &[Mutation]) -> Option<usize>
     Some(place)
 }
 
-/// Whether all are of this column.
+/// Returns whether all are of this column.
 fn are_at(place: usize, mutations: &[Mutation]) -> bool
     ensures { result ≡ are_at place mutations.now }
 {
     mutations.iter().all(|mutation| mutation.column() == place)
 }
 
-/// The kind of the elements of a column that isn't of maps.
+/// Returns the kind of the elements of a column that isn't of maps.
 fn element_kind(columns: &[Column], place: usize) -> Option<Kind>
     ensures set { IfSome result (λ _. (schema.column_type columns.now place).value ≡ None) }
     ensures kind { IfSome result (λ k. (schema.column_type columns.now place).key.kind ≡ kind_in k) }
@@ -221,7 +221,7 @@ fn element_kind(columns: &[Column], place: usize) -> Option<Kind>
     kind
 }
 
-/// The type of the sets of any number of atoms of the kind.
+/// Returns the type of the sets of any number of atoms of the kind.
 fn sets_of(kind: Kind) -> ColType
     ensures { type_of result ≡ merged.sets_of (kind_in kind) }
 {
@@ -233,7 +233,7 @@ fn sets_of(kind: Kind) -> ColType
     }
 }
 
-/// What these mutations insert together, if each inserts elements, and it is at most 65,536 elements.
+/// Returns what these mutations insert together, if each inserts elements, and it is at most 65,536 elements.
 fn inserted(
     alloc: Global,
     sets: &ColType,
@@ -256,7 +256,7 @@ fn inserted(
     united(alloc, sets, &left, right)
 }
 
-/// What the one mutation inserts.
+/// Returns what the one mutation inserts.
 fn inserted_alone(
     alloc: Global,
     sets: &ColType,
@@ -272,7 +272,7 @@ fn inserted_alone(
     operand(alloc, sets, mutation)
 }
 
-/// The elements of the operand, where the mutation inserts them: what it makes of the empty set.
+/// Returns the elements of the operand, where the mutation inserts them: what it makes of the empty set.
 fn operand(alloc: Global, sets: &ColType, mutation: &Mutation) -> Result<Option<Value>, AllocError>
     requires flat { (type_of sets.now).value ≡ None }
     requires taken { takes (type_of sets.now) mutation.now.mutator mutation.now.value ≡ true }
@@ -288,7 +288,7 @@ fn operand(alloc: Global, sets: &ColType, mutation: &Mutation) -> Result<Option<
     Ok(Some(value))
 }
 
-/// The elements of both sets, if they are at most 65,536.
+/// Returns the elements of both sets, if they are at most 65,536.
 fn united(
     alloc: Global,
     sets: &ColType,

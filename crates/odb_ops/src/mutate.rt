@@ -36,7 +36,7 @@ use odb_tables::Draft;
 use std::alloc::{AllocError, Global};
 use uuid::Uuid;
 
-/// The value of a column, and nothing where the column is past the row's.
+/// Returns the value of a column, and nothing where the column is past the row's.
 fn value_at<'a>(row: &'a Row, place: usize, nothing: &'a Value) -> &'a Value
     requires { nothing.now ≡ set_of set.empty }
     ensures { result.now ≡ cell zero_uuid row.now (declared place) }
@@ -47,7 +47,7 @@ fn value_at<'a>(row: &'a Row, place: usize, nothing: &'a Value) -> &'a Value
     }
 }
 
-/// What the mutation makes of its column of the row.
+/// Returns what the mutation makes of its column of the row.
 fn new_value(
     alloc: Global,
     row: &Row,
@@ -196,7 +196,7 @@ fn mutate_run(
     mutate_by_halves(alloc, row, columns, run.mutations())
 }
 
-/// The row with the mutations made in their order, or the fault of the first that has one.
+/// Returns the row with the mutations made in their order, or the fault of the first that has one.
 fn mutated_row(
     alloc: Global,
     row: &Row,
@@ -216,7 +216,7 @@ fn mutated_row(
     Ok(Ok(row))
 }
 
-/// Of two faults the one that the operation has before the other.
+/// Returns of two faults the one that the operation has before the other.
 fn earlier(fault: Option<MutationFault>, other: Option<MutationFault>) -> Option<MutationFault>
     ensures { option_map error_of result
         ≡ first_fault (option_to_list (option_map error_of fault)
@@ -259,7 +259,7 @@ fn mutate_one(
     }
 }
 
-/// The same for each of these rows; the fault that the operation has, if some row has one.
+/// Does the same for each of these rows, and returns the fault that the operation has, if some row has one.
 fn mutate_all(
     target: &Target<'_>,
     draft: &mut Draft,
@@ -285,7 +285,7 @@ fn mutate_all(
     Ok(first)
 }
 
-/// The error that a fault of a mutation is to its operation.
+/// Returns the error that a fault of a mutation is to its operation.
 fn error_in(fault: MutationFault) -> Error
     ensures { error.error_of result ≡ error_of fault }
 {

@@ -32,7 +32,7 @@ fn bind(alloc: Global, names: &mut Names, name: Option<&str>, uuid: Uuid) -> Res
     Ok(())
 }
 
-/// The same for the name of an operation, if it is an insert.
+/// Does the same for the name of an operation, if it is an insert.
 fn bind_insert(
     alloc: Global,
     names: &mut Names,
@@ -50,7 +50,7 @@ fn bind_insert(
     bind(alloc, names, string_member("uuid-name", operation), uuid)
 }
 
-/// What the names of a transaction stand for: each insert takes the next identifier, in whose place
+/// Returns what the names of a transaction stand for: each insert takes the next identifier, in whose place
 /// one has its own, and a name stands for that of the first insert that has it. O(log n) for each of
 /// n names.
 pub fn names_of(alloc: Global, operations: &[Value], fresh: &[Uuid]) -> Result<Names, AllocError>

@@ -34,7 +34,7 @@ use serde_json::Value;
 use std::alloc::Global;
 use uuid::Uuid;
 
-/// The result of an operation that goes on where a test holds.
+/// Returns the result of an operation that goes on where a test holds.
 fn empty_result_if(alloc: Global, holds: bool, stop: Stop) -> Result<Value, Stop>
     ensures { (d : model.Draft) (s : model.Stop) → stop_of stop ≡ Some s
         → Performs (λ v. (d, view v)) result (model.go_on holds d s) }
@@ -46,7 +46,7 @@ fn empty_result_if(alloc: Global, holds: bool, stop: Stop) -> Result<Value, Stop
     }
 }
 
-/// `insert`, whose name is taken first, under its own identifier or the one that is handed in.
+/// Carries out `insert`, whose name is taken first, under its own identifier or the one that is handed in.
 fn insert_named(
     setting: &Setting<'_>,
     draft: &mut Draft,
@@ -79,7 +79,7 @@ fn insert_named(
     insert(&setting.target(table), draft, uuid, row)
 }
 
-/// The result of a `wait` that is met or isn't.
+/// Returns the result of a `wait` that is met or isn't.
 fn wait_or_go_on(
     alloc: Global,
     context: &Context,
@@ -93,7 +93,7 @@ fn wait_or_go_on(
     empty_result_if(alloc, reached, unmet(context, timeout))
 }
 
-/// `wait`, which goes on where the rows are as it wants them.
+/// Carries out `wait`, which goes on where the rows are as it wants them.
 #[tactic(auto, unfolding(crate::specs::Execution::perform))]
 fn wait(setting: &Setting<'_>, draft: &Draft, asked: &Wait) -> Result<Value, Stop>
     requires in_schema { asked.now.table < length setting.now.schema.now.tables }
@@ -110,14 +110,14 @@ fn wait(setting: &Setting<'_>, draft: &Draft, asked: &Wait) -> Result<Value, Sto
     )
 }
 
-/// Whether the name is among them.
+/// Returns whether the name is among them.
 pub(crate) fn is_among(names: &[&str], name: &str) -> bool
     ensures { result ≡ list_any (λ other. same_text name.now other.now) names.now }
 {
     names.iter().any(|other| name == *other)
 }
 
-/// Whether the session owns the lock.
+/// Returns whether the session owns the lock.
 fn owns(context: &Context, lock: &str) -> bool
     ensures { result ≡ (context_of context.entry.now).owns lock.now }
 {

@@ -8,7 +8,7 @@ use crate::fresh::string_member;
 use crate::operation::is_among;
 use serde_json::Value;
 
-/// Whether none of the operations changes a row, whatever becomes of it: each is a `select`, `wait`,
+/// Returns whether none of the operations changes a row, whatever becomes of it: each is a `select`, `wait`,
 /// `commit`, `abort`, `comment` or `assert`. O(operations).
 pub fn only_reads(operations: &[Value]) -> bool
     ensures { result ≡ list_all model.reads_alone (map view operations.now) }

@@ -16,21 +16,21 @@ use serde_json::{Map, Value, json};
 use std::alloc::{AllocError, Global};
 use uuid::Uuid;
 
-/// `{}`, the result of the operations that give none. O(1).
+/// Returns `{}`, the result of the operations that give none. O(1).
 pub fn nothing(alloc: Global) -> Value
     ensures { view result ≡ empty_result }
 {
     Value::from(Map::new(alloc))
 }
 
-/// `{"count": rows}`.
+/// Returns `{"count": rows}`.
 fn counted(alloc: Global, rows: usize) -> Result<Value, AllocError>
     ensures { IfOk result (λ v. view v ≡ object_of ((codes "count", of_integer (pos rows)) ∷ [])) }
 {
     json!(in alloc; {"count": rows})
 }
 
-/// `{"count": n}` for n identifiers, the result of `update`, `mutate` and `delete`.
+/// Returns `{"count": n}` for n identifiers, the result of `update`, `mutate` and `delete`.
 pub fn count(alloc: Global, uuids: &[Uuid]) -> Result<Value, AllocError>
     ensures { IfOk result (λ v. (rows : Table) → map uuid_of uuids.now ≡ finite.keys rows
         → view v ≡ model.count rows) }
@@ -38,7 +38,7 @@ pub fn count(alloc: Global, uuids: &[Uuid]) -> Result<Value, AllocError>
     counted(alloc, uuids.len())
 }
 
-/// `{"uuid": uuid}`, the result of `insert`.
+/// Returns `{"uuid": uuid}`, the result of `insert`.
 pub fn inserted(alloc: Global, uuid: Uuid) -> Result<Value, AllocError>
     ensures { IfOk result (λ v. view v
         ≡ object_of ((codes "uuid", notation.write_uuid (uuid_of uuid)) ∷ [])) }
@@ -47,14 +47,14 @@ pub fn inserted(alloc: Global, uuid: Uuid) -> Result<Value, AllocError>
     json!(in alloc; {"uuid": uuid})
 }
 
-/// `{"rows": rows}`, the result of `select`.
+/// Returns `{"rows": rows}`, the result of `select`.
 pub fn rows(alloc: Global, rows: Value) -> Result<Value, AllocError>
     ensures { IfOk result (λ v. view v ≡ object_of ((codes "rows", view rows) ∷ [])) }
 {
     json!(in alloc; {"rows": rows})
 }
 
-/// `{"error": name}`, the result of an operation that fails.
+/// Returns `{"error": name}`, the result of an operation that fails.
 pub fn failure(alloc: Global, error: Error) -> Result<Value, AllocError>
     ensures { IfOk result (λ v. view v ≡ error_result (error_of error)) }
 {

@@ -21,7 +21,7 @@ use odb_tables::Draft;
 use serde_json::Value;
 use std::alloc::{AllocError, Global};
 
-/// The result of `select`: these columns of the rows that match, each of the rows that come out equal once,
+/// Returns the result of `select`: these columns of the rows that match, each of the rows that come out equal once,
 /// in the order of the least identifier with that content.
 ///
 /// What `Draft::matching` costs, and O(n log n) comparisons of rows for the n that match.
@@ -44,7 +44,7 @@ pub fn select(target: &Target<'_>, draft: &Draft, asked: &Select) -> Result<Valu
     results::rows(target.alloc, rows)
 }
 
-/// The rows as JSON.
+/// Writes the rows as JSON.
 fn write_rows(
     alloc: Global,
     declared: &[Column],
@@ -61,7 +61,7 @@ fn write_rows(
     Ok(Value::from(items))
 }
 
-/// A row as JSON: an object with the value of each column under its name.
+/// Writes a row as JSON: an object with the value of each column under its name.
 fn write_row(
     alloc: Global,
     declared: &[Column],
@@ -97,7 +97,7 @@ fn put_all(
     object.put(name_of(declared, *column), value)
 }
 
-/// The name of a column; of one that isn't there it is empty.
+/// Returns the name of a column; of one that isn't there it is empty.
 fn name_of(declared: &[Column], column: Selector) -> &str
     ensures { result.now ≡ selector_name declared.now (selector_of column) }
 {

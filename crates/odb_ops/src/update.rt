@@ -48,7 +48,7 @@ fn rewrite(
     draft.put(table, uuid, row)
 }
 
-/// The same for each of these rows.
+/// Does the same for each of these rows.
 fn rewrite_all(
     alloc: Global,
     draft: &mut Draft,

@@ -23,7 +23,7 @@ use odb_schema::Column;
 use odb_tables::Draft;
 use std::alloc::{AllocError, Global};
 
-/// Whether these columns of the rows that match are the same set of rows as those given.
+/// Returns whether these columns of the rows that match are the same set of rows as those given.
 ///
 /// What `Draft::matching` costs, and O((m + n) log (m + n)) comparisons of rows for the m that
 /// match and n that are given.
@@ -45,7 +45,7 @@ pub fn has_rows(target: &Target<'_>, draft: &Draft, asked: &Wait) -> Result<bool
     are_same(target.alloc, &found, &expected)
 }
 
-/// Whether it is as `until` wants it.
+/// Returns whether it is as `until` wants it.
 pub fn is_reached(until: Until, same: bool) -> bool
     ensures { result ≡ model.is_reached (until_of until) same }
 {
@@ -55,7 +55,7 @@ pub fn is_reached(until: Until, same: bool) -> bool
     }
 }
 
-/// Whether both are the same set of rows.
+/// Returns whether both are the same set of rows.
 fn are_same(alloc: Global, rows: &[Cells], others: &[Cells]) -> Result<bool, AllocError>
     ensures { IfOk result (λ same. same ≡ model.same_rows rows.now others.now) }
 {
@@ -64,7 +64,7 @@ fn are_same(alloc: Global, rows: &[Cells], others: &[Cells]) -> Result<bool, All
     Ok(there && back)
 }
 
-/// Whether each of the rows is among the others.
+/// Returns whether each of the rows is among the others.
 fn each_in(alloc: Global, rows: &[Cells], others: &[Cells]) -> Result<bool, AllocError>
     ensures { IfOk result (λ all. all ≡ model.each_in rows.now others.now) }
 {
@@ -72,7 +72,7 @@ fn each_in(alloc: Global, rows: &[Cells], others: &[Cells]) -> Result<bool, Allo
     Ok(are_among(rows, &set))
 }
 
-/// The values of the columns of each of the rows that are waited for.
+/// Returns the values of the columns of each of the rows that are waited for.
 fn all_expected(
     alloc: Global,
     declared: &[Column],
@@ -89,7 +89,7 @@ fn all_expected(
     Ok(all)
 }
 
-/// The values of the columns of a row that is waited for, with defaults for those that it doesn't name.
+/// Returns the values of the columns of a row that is waited for, with defaults for those that it doesn't name.
 fn expected(
     alloc: Global,
     declared: &[Column],
@@ -106,7 +106,7 @@ fn expected(
     Ok(Cells::new(values))
 }
 
-/// The value given for the column, or its default.
+/// Returns the value given for the column, or its default.
 fn value_for(
     alloc: Global,
     declared: &[Column],
@@ -122,7 +122,7 @@ fn value_for(
     }
 }
 
-/// The first value given for the column.
+/// Returns the first value given for the column.
 fn given_for(given: &[(Selector, Value)], column: Selector) -> Option<&Value>
     ensures { option_copied result ≡ option_map (λ e. e.1)
         (find (λ e. same_selector e.0 (selector_of column)) (map cell_of given.now)) }
@@ -135,7 +135,7 @@ fn given_for(given: &[(Selector, Value)], column: Selector) -> Option<&Value>
     None
 }
 
-/// The default of the column.
+/// Returns the default of the column.
 fn default_for(alloc: Global, declared: &[Column], column: Selector) -> Result<Value, AllocError>
     ensures { IfOk result (λ value. value
         ≡ column_type.default_of (selector_type declared.now (selector_of column))) }
@@ -149,7 +149,7 @@ fn default_for(alloc: Global, declared: &[Column], column: Selector) -> Result<V
     }
 }
 
-/// The default of `_uuid` and of `_version`.
+/// Returns the default of `_uuid` and of `_version`.
 fn default_of_uuids(alloc: Global) -> Result<Value, AllocError>
     ensures { IfOk result (λ value. value ≡ column_type.default_of (column_type.scalar uuids)) }
 {

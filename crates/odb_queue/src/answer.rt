@@ -29,7 +29,7 @@ use odb_wire::Request;
 use serde_json::Value;
 use std::alloc::{AllocError, Global};
 
-/// The reply to a call that is done at once: `echo`, `list_dbs`, `get_schema`, or a request that is
+/// Returns the reply to a call that is done at once: `echo`, `list_dbs`, `get_schema`, or a request that is
 /// refused before anything is done. `None` where there is no reply, and for any other call. O(n)
 /// for a reply of n bytes.
 pub fn answer_at_once(
@@ -136,7 +136,7 @@ pub fn replied_as(
     })
 }
 
-/// The reply of a failure (RFC 7047, section 4). O(n) for a text of n bytes.
+/// Returns the reply of a failure (RFC 7047, section 4). O(n) for a text of n bytes.
 pub fn failed(alloc: Global, request: &Request, why: Failure) -> Result<Finished, AllocError>
     requires id { has_left_out (id_of (request_data request.now)) ≡ false }
     ensures { IfOk result (λ item. item_of item
@@ -150,7 +150,7 @@ pub fn failed(alloc: Global, request: &Request, why: Failure) -> Result<Finished
     })
 }
 
-/// The notices as they are sent (RFC 7047, sections 4.1.9 and 4.1.10), in their order. O(n) for
+/// Prints the notices as they are sent (RFC 7047, sections 4.1.9 and 4.1.10), in their order. O(n) for
 /// texts of n bytes.
 pub fn notices(alloc: Global, notices: &[Notice]) -> Result<Vec<Post>, AllocError>
     ensures { IfOk result (λ posts. map post_of posts.items ≡ map told_of (notices_of notices.now)) }
@@ -165,7 +165,7 @@ pub fn notices(alloc: Global, notices: &[Notice]) -> Result<Vec<Post>, AllocErro
     Ok(posts)
 }
 
-/// A notice as it is sent. O(n) for a text of n bytes.
+/// Prints a notice as it is sent. O(n) for a text of n bytes.
 fn noticed(alloc: Global, notice: &Notice) -> Result<Finished, AllocError>
     ensures { IfOk result (λ item. item_of item
         ≡ say no_request (world.notice_of (notice_of notice.now))) }

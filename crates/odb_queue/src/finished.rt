@@ -23,7 +23,7 @@ impl Clone for Finished {
 
     ghost is_clone = { λ x y. item_of y ≡ item_of x };
 
-    /// The same text with the same meaning. O(bytes).
+    /// Copies the text with its meaning. O(bytes).
     fn clone(&self) -> Result<Finished, AllocError> {
         let text = self.text.clone()?;
         Ok(Finished {

@@ -42,7 +42,7 @@ impl Model for Meaning {
 unsafe impl Send for Meaning {}
 
 impl Meaning {
-    /// The meaning of what is printed from these.
+    /// Returns the meaning of what is printed from these.
     pub(crate) fn of(_printed: &Printed<'_>) -> Meaning
         ensures { (result.answers ≡ (out_of _printed.now).answers)
             × (result.message ≡ (out_of _printed.now).message) }
@@ -50,7 +50,7 @@ impl Meaning {
         Meaning {}
     }
 
-    /// The same.
+    /// Makes the same.
     pub fn copy(&self) -> Meaning
         ensures { (result.answers ≡ self.now.answers) × (result.message ≡ self.now.message) }
     {

@@ -48,28 +48,28 @@ impl ServedSchema {
         }
     }
 
-    /// The schema. O(1).
+    /// Returns the schema. O(1).
     pub fn schema(&self) -> &Schema
         ensures { result.now ≡ self.now }
     {
         &self.schema
     }
 
-    /// The schema, for whoever keeps it too. O(1).
+    /// Returns the schema, for whoever keeps it too. O(1).
     pub fn shared(&self) -> Result<Arc<Schema>, AllocError>
         ensures { IfOk result (λ shared. arc_value shared ≡ self.now) }
     {
         Ok(self.schema.clone()?)
     }
 
-    /// Its text, as `get_schema` prints it (RFC 7047, section 4.1.2). O(1).
+    /// Returns its text, as `get_schema` prints it (RFC 7047, section 4.1.2). O(1).
     pub fn text(&self) -> &[u8]
         ensures { result.now ≡ compact_text (write_schema self.now) }
     {
         self.text.as_slice()
     }
 
-    /// An equal one, which shares the schema. O(bytes of the schema).
+    /// Makes an equal one, which shares the schema. O(bytes of the schema).
     pub fn try_copy(&self) -> Result<ServedSchema, AllocError>
         ensures { IfOk result (λ copy. copy ≡ self.now) }
     {

@@ -15,14 +15,14 @@ use odb_atoms::{ColType, Kind};
 use odb_cond::Selector;
 use odb_schema::TableSchema;
 
-/// Whether it is the type of a column that the schema hasn't.
+/// Returns whether it is the type of a column that the schema hasn't.
 fn is_missing(column: &ColType) -> bool
     ensures { Decides result (type_of column.now ≡ scalar uuids) }
 {
     same_type(column, &ColType::scalar(Kind::Uuid))
 }
 
-/// Whether the columns at the place have the same type.
+/// Returns whether the columns at the place have the same type.
 fn same_declared(table: &TableSchema, other: &TableSchema, place: usize) -> bool
     ensures { Decides result
         (column_type table.now.columns place ≡ column_type other.now.columns place) }
@@ -35,7 +35,7 @@ fn same_declared(table: &TableSchema, other: &TableSchema, place: usize) -> bool
     }
 }
 
-/// Whether the column has the same type in both tables.
+/// Returns whether the column has the same type in both tables.
 fn same_type_of(table: &TableSchema, other: &TableSchema, column: Selector) -> bool
     ensures { Decides result (selector_type table.now.columns (selector_of column)
         ≡ selector_type other.now.columns (selector_of column)) }
@@ -46,7 +46,7 @@ fn same_type_of(table: &TableSchema, other: &TableSchema, column: Selector) -> b
     }
 }
 
-/// Whether the column has the same name in both tables.
+/// Returns whether the column has the same name in both tables.
 fn same_name_of(table: &TableSchema, other: &TableSchema, column: Selector) -> bool
     ensures { Decides result (selector_name table.now.columns (selector_of column)
         ≡ selector_name other.now.columns (selector_of column)) }
@@ -54,7 +54,7 @@ fn same_name_of(table: &TableSchema, other: &TableSchema, column: Selector) -> b
     name_of(table, column) == name_of(other, column)
 }
 
-/// Whether the column is the same in both tables.
+/// Returns whether the column is the same in both tables.
 fn same_in(table: &TableSchema, other: &TableSchema, column: Selector) -> bool
     ensures { Decides result
         (monitored_as table.now.columns column ≡ monitored_as other.now.columns column) }
@@ -62,7 +62,7 @@ fn same_in(table: &TableSchema, other: &TableSchema, column: Selector) -> bool
     same_name_of(table, other, column) && same_type_of(table, other, column)
 }
 
-/// Whether the two columns are the same.
+/// Returns whether the two columns are the same.
 fn same_column(
     table: &TableSchema,
     column: Selector,
@@ -75,7 +75,7 @@ fn same_column(
     column == other && same_in(table, other_table, column)
 }
 
-/// Whether the two lists have the same columns, one by one.
+/// Returns whether the two lists have the same columns, one by one.
 pub fn same_columns(
     table: &TableSchema,
     columns: &[Selector],

@@ -20,7 +20,7 @@ impl Clone for Change {
 
     ghost is_clone = { λ x y. (y.table ≡ x.table) × (arc_value y.filter ≡ arc_value x.filter) };
 
-    /// The same filter for the same table. O(1). An error says that the filter can't be shared once more.
+    /// Makes the same filter for the same table. O(1). An error says that the filter can't be shared once more.
     fn clone(&self) -> Result<Change, AllocError> {
         Ok(Change {
             table: self.table,

@@ -18,7 +18,7 @@ use odb_schema::{TableSchema, member};
 use serde_json::{Map, Value};
 use std::alloc::{AllocError, Global};
 
-/// The name of a column of the table.
+/// Returns the name of a column of the table.
 pub fn name_of<'a>(table: &'a TableSchema, column: Selector) -> &'a str
     ensures { result.now ≡ selector_name table.now.columns (selector_of column) }
 {
@@ -32,7 +32,7 @@ pub fn name_of<'a>(table: &'a TableSchema, column: Selector) -> &'a str
     }
 }
 
-/// Whether the column's name is before the other's.
+/// Returns whether the column's name is before the other's.
 fn is_before(table: &TableSchema, column: Selector, other: Selector) -> bool
     ensures { result ≡ is_lt (text_cmp (selector_name table.now.columns (selector_of column))
         (selector_name table.now.columns (selector_of other))) }
@@ -40,7 +40,7 @@ fn is_before(table: &TableSchema, column: Selector, other: Selector) -> bool
     name_of(table, column).cmp(name_of(table, other)).is_lt()
 }
 
-/// The place of the first column whose name is after this one's.
+/// Returns the place of the first column whose name is after this one's.
 fn place_of(table: &TableSchema, column: Selector, columns: &[Selector]) -> Option<usize>
     ensures { result ≡ position (λ other.
         is_lt (text_cmp (selector_name table.now.columns (selector_of column))
@@ -62,7 +62,7 @@ fn put(table: &TableSchema, column: Selector, columns: &mut Vec<Selector>) -> Re
     Ok(())
 }
 
-/// The columns in the order of their names.
+/// Returns the columns in the order of their names.
 fn in_order(
     alloc: Global,
     table: &TableSchema,
@@ -80,7 +80,7 @@ fn in_order(
     Ok(sorted)
 }
 
-/// `_version` and each declared column.
+/// Returns `_version` and each declared column.
 fn all_but_uuid(alloc: Global, table: &TableSchema) -> Result<Vec<Selector>, OpFault>
     ensures { Reads (λ v. map selector_of v.items) result (Ok (but_uuid table.now.columns)) }
 {
@@ -92,7 +92,7 @@ fn all_but_uuid(alloc: Global, table: &TableSchema) -> Result<Vec<Selector>, OpF
     Ok(columns)
 }
 
-/// The columns that are asked for, in the order in which they are named.
+/// Returns the columns that are asked for, in the order in which they are named.
 fn asked_columns(
     alloc: Global,
     table: &TableSchema,
@@ -108,7 +108,7 @@ fn asked_columns(
     read_columns(alloc, table, members)
 }
 
-/// The columns that are asked for, in the order of their names.
+/// Reads the columns that are asked for, in the order of their names.
 pub fn read_monitored(
     alloc: Global,
     table: &TableSchema,

@@ -17,14 +17,14 @@ use odb_schema::{TableSchema, member};
 use serde_json::{Map, Value};
 use std::alloc::Global;
 
-/// A condition, as a member of a filter.
+/// Reads a condition, as a member of a filter.
 fn read_condition(alloc: Global, value: &Value, table: &TableSchema) -> Result<Member, OpFault>
     ensures { Reads member_of result (read_condition table.now.columns (view value.now)) }
 {
     Ok(Member::When(read_clause(alloc, value, table, None)?))
 }
 
-/// A member of a filter: a boolean, or else a condition.
+/// Reads a member of a filter: a boolean, or else a condition.
 fn read_member(alloc: Global, value: &Value, table: &TableSchema) -> Result<Member, OpFault>
     ensures { Reads member_of result (model.read_member table.now.columns (view value.now)) }
 {
@@ -34,7 +34,7 @@ fn read_member(alloc: Global, value: &Value, table: &TableSchema) -> Result<Memb
     }
 }
 
-/// The members of an array.
+/// Reads the members of an array.
 fn read_members(alloc: Global, items: &[Value], table: &TableSchema) -> Result<Vec<Member>, OpFault>
     ensures { Reads (λ v. map member_of v.items) result
         (each (model.read_member table.now.columns) (items_list (items_view items.now))) }
@@ -46,7 +46,7 @@ fn read_members(alloc: Global, items: &[Value], table: &TableSchema) -> Result<V
     Ok(read)
 }
 
-/// The member `where`, without which every row is selected.
+/// Reads the member `where`, without which every row is selected.
 pub fn read_filter(
     alloc: Global,
     members: &Map<String, Value>,
@@ -65,7 +65,7 @@ pub fn read_filter(
     }
 }
 
-/// The member `where` of a request, which `monitor` doesn't have.
+/// Reads the member `where` of a request, which `monitor` doesn't have.
 pub fn read_where(
     alloc: Global,
     members: &Map<String, Value>,

@@ -11,7 +11,7 @@ use serde_json::{Map, Value};
 
 pub const SYNTAX: OpFault = OpFault::Failed(Error::SyntaxError);
 
-/// The one member of an array, if it is an object.
+/// Returns the one member of an array, if it is an object.
 fn lone_object(items: &[Value]) -> Result<&Map<String, Value>, OpFault>
     ensures { Gives (λ members. members_view members.now.entries) result
         (lone_object (items_view items.now)) }
@@ -22,7 +22,7 @@ fn lone_object(items: &[Value]) -> Result<&Map<String, Value>, OpFault>
     }
 }
 
-/// The members of an object, or of the one object of an array.
+/// Returns the members of an object, or of the one object of an array.
 pub fn request_object(value: &Value) -> Result<&Map<String, Value>, OpFault>
     ensures { Gives (λ members. members_view members.now.entries) result
         (model.request_object (view value.now)) }

@@ -11,14 +11,14 @@ use crate::request::Request;
 use odb_cond::Selector;
 use odb_schema::TableSchema;
 
-/// Whether none of the columns has the name.
+/// Returns whether none of the columns has the name.
 fn is_apart(name: &str, table: &TableSchema, columns: &[Selector]) -> bool
     ensures { result ≡ is_apart name.now table.now.columns columns.now }
 {
     columns.iter().all(|column| name != name_of(table, *column))
 }
 
-/// Whether no two columns have one name.
+/// Returns whether no two columns have one name.
 fn are_apart(table: &TableSchema, columns: &[Selector]) -> bool
     ensures { result ≡ are_apart table.now.columns columns.now }
 {
@@ -32,21 +32,21 @@ fn are_apart(table: &TableSchema, columns: &[Selector]) -> bool
     true
 }
 
-/// Whether no two columns of the request have one name.
+/// Returns whether no two columns of the request have one name.
 fn has_columns_apart(request: &Request) -> bool
     ensures { result ≡ are_distinct (column_names request.now.shape.columns) }
 {
     are_apart(request.shape().table_schema(), request.columns())
 }
 
-/// Whether no two columns of a request have one name.
+/// Returns whether no two columns of a request have one name.
 fn have_columns_apart(requests: &[Request]) -> bool
     ensures { result ≡ list_all (λ q. are_distinct (column_names q.shape.columns)) requests.now }
 {
     requests.iter().all(|request| has_columns_apart(request))
 }
 
-/// Whether no request is of the table with the name.
+/// Returns whether no request is of the table with the name.
 fn is_free(name: &str, requests: &[Request]) -> bool
     ensures { result ≡ is_free name.now requests.now }
 {
@@ -55,7 +55,7 @@ fn is_free(name: &str, requests: &[Request]) -> bool
         .all(|request| name != request.shape().table_schema().name())
 }
 
-/// Whether no two requests are of one table.
+/// Returns whether no two requests are of one table.
 #[tactic(auto, using(crate::proofs::Apart::tables_named))]
 fn are_tables_apart(requests: &[Request]) -> bool
     ensures { result ≡ are_distinct (map (λ q. q.shape.name) requests.now) }
@@ -70,7 +70,7 @@ fn are_tables_apart(requests: &[Request]) -> bool
     true
 }
 
-/// Whether each table is named once, and in it each column.
+/// Returns whether each table is named once, and in it each column.
 pub fn are_named(requests: &[Request]) -> bool
     ensures { result ≡ are_named requests.now }
 {

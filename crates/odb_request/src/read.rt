@@ -30,7 +30,7 @@ use serde_json::{Map, Value};
 use std::alloc::Global;
 use std::sync::Arc;
 
-/// The table with the name.
+/// Reads the table with the name.
 fn read_table(schema: &Schema, name: &str) -> Result<TableId, OpFault>
     ensures place { Gives (λ table. table) result
         (ok_or (table_place schema.now name.now) unknown_table) }
@@ -54,7 +54,7 @@ fn no_unknown(kind: Kind, members: &Map<String, Value>) -> Result<(), OpFault>
     }
 }
 
-/// What is asked of a table that was found.
+/// Reads what is asked of a table that was found.
 fn read_asked(
     alloc: Global,
     schema: &Arc<Schema>,
@@ -76,7 +76,7 @@ fn read_asked(
     Ok(Request::new(alloc, shape, filter)?)
 }
 
-/// A member of an object of requests.
+/// Reads a member of an object of requests.
 fn read_request(
     alloc: Global,
     name: &str,
@@ -92,7 +92,7 @@ fn read_request(
     read_asked(alloc, schema, id, members, kind)
 }
 
-/// The members of an object of requests, by ascending table name.
+/// Reads the members of an object of requests, by ascending table name.
 fn read_all(
     alloc: Global,
     members: &Map<String, Value>,
@@ -110,7 +110,7 @@ fn read_all(
     Ok(requests)
 }
 
-/// The requests of a monitor, `{table: request}`, by ascending table name, where `kind` says what
+/// Reads the requests of a monitor, `{table: request}`, by ascending table name, where `kind` says what
 /// asks (RFC 7047, section 4.1.5; ovsdb-server(7), 4.1.12).
 ///
 /// The first of these faults is returned: an object, else `syntax error`; then table by table by
@@ -149,7 +149,7 @@ pub fn read_requests(
     Ok(requests)
 }
 
-/// A member of an object of changes.
+/// Reads a member of an object of changes.
 fn read_change(alloc: Global, name: &str, value: &Value, schema: &Schema) -> Result<Change, OpFault>
     ensures { Reads (change_of schema.now) result
         (model.read_change schema.now (name.now, view value.now)) }
@@ -164,7 +164,7 @@ fn read_change(alloc: Global, name: &str, value: &Value, schema: &Schema) -> Res
     })
 }
 
-/// The members of an object of changes, by ascending table name.
+/// Reads the members of an object of changes, by ascending table name.
 fn read_all_changes(
     alloc: Global,
     members: &Map<String, Value>,
@@ -180,7 +180,7 @@ fn read_all_changes(
     Ok(changes)
 }
 
-/// What `monitor_cond_change` asks, `{table: change}`: the new filters, by ascending table name
+/// Reads what `monitor_cond_change` asks, `{table: change}`: the new filters, by ascending table name
 /// (ovsdb-server(7), 4.1.13).
 ///
 /// The first of these faults is returned: an object, else `syntax error`; then table by table by

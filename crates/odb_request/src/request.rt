@@ -36,7 +36,7 @@ impl Model for Request {
 }
 
 impl Request {
-    /// This of a table, under the filter.
+    /// Makes the request for this of a table, under the filter.
     pub(crate) fn new(alloc: Global, shape: Shape, filter: Filter) -> Result<Request, AllocError>
         ensures { IfOk result (λ request. request ≡ filtered shape filter) }
     {
@@ -46,42 +46,42 @@ impl Request {
         })
     }
 
-    /// All but the filter, for whoever keeps it too. O(1).
+    /// Returns all but the filter, for whoever keeps it too. O(1).
     pub fn shape(&self) -> &Arc<Shape>
         ensures { arc_value result.now ≡ asked_by self.now }
     {
         &self.shape
     }
 
-    /// The filter (ovsdb-server(7), 4.1.12, `where`), for whoever keeps it too. O(1).
+    /// Returns the filter (ovsdb-server(7), 4.1.12, `where`), for whoever keeps it too. O(1).
     pub fn filter(&self) -> &Arc<Filter>
         ensures { arc_value result.now ≡ self.now.filter }
     {
         &self.filter
     }
 
-    /// The table's place in the schema. O(1).
+    /// Returns the table's place in the schema. O(1).
     pub fn table(&self) -> TableId
         ensures { result ≡ self.now.place }
     {
         self.shape.table()
     }
 
-    /// The columns, by ascending name, as they stand in the schema. O(1).
+    /// Returns the columns, by ascending name, as they stand in the schema. O(1).
     pub fn columns(&self) -> &[Selector]
         ensures { map selector_of result.now ≡ map (λ c. c.source) self.now.shape.columns }
     {
         self.shape.columns()
     }
 
-    /// The kinds of change that are sent (RFC 7047, section 4.1.5, `<monitor-select>`). O(1).
+    /// Returns the kinds of change that are sent (RFC 7047, section 4.1.5, `<monitor-select>`). O(1).
     pub fn select(&self) -> Select
         ensures { select_of result ≡ self.now.select }
     {
         self.shape.select()
     }
 
-    /// Whether the two ask the same: the same of the same table, and with the same members in their filters
+    /// Returns whether the two ask the same: the same of the same table, and with the same members in their filters
     /// in the same order.
     ///
     /// O(the columns with their constraints, and the filters).
@@ -91,7 +91,7 @@ impl Request {
         self.shape.same(&other.shape) && self.filter.same(&other.filter)
     }
 
-    /// The same under another filter, as `monitor_cond_change` asks for it (ovsdb-server(7), 4.1.13). O(1).
+    /// Returns the same under another filter, as `monitor_cond_change` asks for it (ovsdb-server(7), 4.1.13). O(1).
     /// An error says that it can't be shared once more; the request stays as it is.
     pub fn with_filter(&self, filter: Arc<Filter>) -> Result<Request, AllocError>
         ensures { IfOk result (λ request. request ≡ record self.now { filter = arc_value filter }) }
@@ -110,7 +110,7 @@ impl Request {
         std::mem::replace(&mut self.filter, filter)
     }
 
-    /// An equal request, which shares both halves. O(1). An error says that they can't be shared once more.
+    /// Makes an equal request, which shares both halves. O(1). An error says that they can't be shared once more.
     pub fn try_copy(&self) -> Result<Request, AllocError>
         ensures { IfOk result (λ copy. copy ≡ self.now) }
     {

@@ -25,7 +25,7 @@ pub struct Select {
     pub modify: bool,
 }
 
-/// A switch, which is on where it is left out.
+/// Returns a switch, which is on where it is left out.
 fn switch(key: &str, members: &Map<String, Value>) -> Result<bool, OpFault>
     ensures { Gives (λ on. on) result
         (given_or true model.read_switch (get_member key.now (members_view members.now.entries))) }
@@ -36,7 +36,7 @@ fn switch(key: &str, members: &Map<String, Value>) -> Result<bool, OpFault>
     }
 }
 
-/// The switches of an object.
+/// Reads the switches of an object.
 fn read_switches(value: &Value) -> Result<Select, OpFault>
     ensures { Gives select_of result (model.read_select (Some (view value.now))) }
 {
@@ -54,7 +54,7 @@ fn read_switches(value: &Value) -> Result<Select, OpFault>
     })
 }
 
-/// The member `select` of a request.
+/// Reads the member `select` of a request.
 pub fn read_select(members: &Map<String, Value>) -> Result<Select, OpFault>
     ensures { Gives select_of result
         (model.read_select (get_member (codes "select") (members_view members.now.entries))) }

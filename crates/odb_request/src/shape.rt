@@ -40,7 +40,7 @@ impl Model for Shape {
 }
 
 impl Shape {
-    /// These columns of a table of the schema.
+    /// Makes the shape of these columns of a table of the schema.
     pub(crate) fn new(
         schema: Arc<Schema>,
         table: TableId,
@@ -65,14 +65,14 @@ impl Shape {
         }
     }
 
-    /// The table's place in the schema. O(1).
+    /// Returns the table's place in the schema. O(1).
     pub fn table(&self) -> TableId
         ensures { result ≡ self.now.place }
     {
         self.table
     }
 
-    /// The table in the schema, which has the names and the types. O(1).
+    /// Returns the table in the schema, which has the names and the types. O(1).
     pub fn table_schema(&self) -> &TableSchema
         ensures name { result.now.name ≡ self.now.shape.name }
         ensures columns { self.now.shape.columns
@@ -81,21 +81,21 @@ impl Shape {
         table_at(&self.schema, self.table)
     }
 
-    /// The columns, by ascending name, as they stand in the schema. O(1).
+    /// Returns the columns, by ascending name, as they stand in the schema. O(1).
     pub fn columns(&self) -> &[Selector]
         ensures { map selector_of result.now ≡ map (λ c. c.source) self.now.shape.columns }
     {
         self.columns.as_slice()
     }
 
-    /// The kinds of change that are sent (RFC 7047, section 4.1.5, `<monitor-select>`). O(1).
+    /// Returns the kinds of change that are sent (RFC 7047, section 4.1.5, `<monitor-select>`). O(1).
     pub fn select(&self) -> Select
         ensures { select_of result ≡ self.now.select }
     {
         self.select
     }
 
-    /// Whether the two ask the same of the same table, names and types included.
+    /// Returns whether the two ask the same of the same table, names and types included.
     ///
     /// O(the columns and their constraints).
     pub fn same(&self, other: &Shape) -> bool
@@ -104,28 +104,28 @@ impl Shape {
         self.asks_alike(other) && self.reads_alike(other)
     }
 
-    /// Whether the two have the same place and the same kinds of change.
+    /// Returns whether the two have the same place and the same kinds of change.
     fn asks_alike(&self, other: &Shape) -> bool
         ensures { Decides result ((self.now.place ≡ other.now.place) × (self.now.select ≡ other.now.select)) }
     {
         self.table == other.table && self.select == other.select
     }
 
-    /// Whether the two have the same names and columns.
+    /// Returns whether the two have the same names and columns.
     fn reads_alike(&self, other: &Shape) -> bool
         ensures { Decides result (self.now.shape ≡ other.now.shape) }
     {
         self.names_alike(other) && self.shows_alike(other)
     }
 
-    /// Whether the two have the same table's name.
+    /// Returns whether the two have the same table's name.
     fn names_alike(&self, other: &Shape) -> bool
         ensures { Decides result (self.now.shape.name ≡ other.now.shape.name) }
     {
         self.table_schema().name() == other.table_schema().name()
     }
 
-    /// Whether the two have the same columns.
+    /// Returns whether the two have the same columns.
     fn shows_alike(&self, other: &Shape) -> bool
         ensures { Decides result (self.now.shape.columns ≡ other.now.shape.columns) }
     {
@@ -138,7 +138,7 @@ impl Shape {
     }
 }
 
-/// A table of the schema.
+/// Returns a table of the schema.
 pub fn table_at(schema: &Schema, table: TableId) -> &TableSchema
     requires { table < length schema.now.tables }
     ensures name { result.now.name ≡ table_name schema.now table }

@@ -5,14 +5,14 @@ ghost use Rattle.odb_atoms.specs.Represented.ColType.{base_of, reference_of, typ
 
 use odb_atoms::{Base, ColType, Enumeration, Reference};
 
-/// Whether the two refer to the same table in the same way.
+/// Returns whether the two refer to the same table in the same way.
 fn same_reference(reference: &Reference, other: &Reference) -> bool
     ensures { Decides result (reference_of reference.now ≡ reference_of other.now) }
 {
     reference.weak == other.weak && reference.table.as_str() == other.table.as_str()
 }
 
-/// The same, where there may be none.
+/// Returns the same, where there may be none.
 fn same_references(reference: &Option<Reference>, other: &Option<Reference>) -> bool
     ensures { Decides result
         (option_map reference_of reference.now ≡ option_map reference_of other.now) }
@@ -24,14 +24,14 @@ fn same_references(reference: &Option<Reference>, other: &Option<Reference>) -> 
     }
 }
 
-/// Whether the two allow the same atoms.
+/// Returns whether the two allow the same atoms.
 fn same_enumeration(allowed: &Enumeration, other: &Enumeration) -> bool
     ensures { Decides result (allowed.now ≡ other.now) }
 {
     *allowed.atoms() == *other.atoms()
 }
 
-/// The same, where there may be none.
+/// Returns the same, where there may be none.
 fn same_enumerations(allowed: &Option<Enumeration>, other: &Option<Enumeration>) -> bool
     ensures { Decides result (allowed.now ≡ other.now) }
 {
@@ -42,7 +42,7 @@ fn same_enumerations(allowed: &Option<Enumeration>, other: &Option<Enumeration>)
     }
 }
 
-/// Whether the two bound integers alike.
+/// Returns whether the two bound integers alike.
 fn same_integers(base: &Base, other: &Base) -> bool
     ensures { Decides result ((base.now.min_integer ≡ other.now.min_integer)
         × (base.now.max_integer ≡ other.now.max_integer)) }
@@ -50,7 +50,7 @@ fn same_integers(base: &Base, other: &Base) -> bool
     base.min_integer == other.min_integer && base.max_integer == other.max_integer
 }
 
-/// Whether the two bound lengths alike.
+/// Returns whether the two bound lengths alike.
 fn same_lengths(base: &Base, other: &Base) -> bool
     ensures { Decides result ((base.now.min_length ≡ other.now.min_length)
         × (base.now.max_length ≡ other.now.max_length)) }
@@ -58,7 +58,7 @@ fn same_lengths(base: &Base, other: &Base) -> bool
     base.min_length == other.min_length && base.max_length == other.max_length
 }
 
-/// Whether all but the bounds are the same.
+/// Returns whether all but the bounds are the same.
 fn same_rest(base: &Base, other: &Base) -> bool
     ensures { Decides result ((base.now.kind ≡ other.now.kind)
         × (base.now.allowed ≡ other.now.allowed)
@@ -69,14 +69,14 @@ fn same_rest(base: &Base, other: &Base) -> bool
         && same_references(&base.reference, &other.reference)
 }
 
-/// Whether the two are the same atomic type with the same constraints.
+/// Returns whether the two are the same atomic type with the same constraints.
 fn same_base(base: &Base, other: &Base) -> bool
     ensures { Decides result (base_of base.now ≡ base_of other.now) }
 {
     same_integers(base, other) && same_lengths(base, other) && same_rest(base, other)
 }
 
-/// The same, where there may be none.
+/// Returns the same, where there may be none.
 fn same_bases(base: &Option<Base>, other: &Option<Base>) -> bool
     ensures { Decides result (option_map base_of base.now ≡ option_map base_of other.now) }
 {
@@ -87,14 +87,14 @@ fn same_bases(base: &Option<Base>, other: &Option<Base>) -> bool
     }
 }
 
-/// Whether the two admit as many elements.
+/// Returns whether the two admit as many elements.
 fn same_sizes(column: &ColType, other: &ColType) -> bool
     ensures { Decides result ((column.now.min ≡ other.now.min) × (column.now.max ≡ other.now.max)) }
 {
     column.min == other.min && column.max == other.max
 }
 
-/// Whether the two types are the same, each constraint included.
+/// Returns whether the two types are the same, each constraint included.
 pub(crate) fn same_type(column: &ColType, other: &ColType) -> bool
     ensures { Decides result (type_of column.now ≡ type_of other.now) }
 {

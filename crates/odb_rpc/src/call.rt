@@ -84,7 +84,7 @@ enum Method {
 }
 
 impl CallFault {
-    /// Its number, by which it is reported: 2 to 4, in the order of the variants. 1 is want of
+    /// Returns its number, by which it is reported: 2 to 4, in the order of the variants. 1 is want of
     /// memory, which reading can't meet.
     pub fn number(self) -> u8
         ensures { result ≡ number_of self }
@@ -114,7 +114,7 @@ impl From<CallFault> for Failure {
 }
 
 impl<'a> Call<'a> {
-    /// What the message asks, for the database of the schema. It takes no memory, and goes through
+    /// Reads what the message asks, for the database of the schema. It takes no memory, and goes through
     /// a request once, for numbers that are left out.
     ///
     /// Of a request the faults are tested in this order: a left-out number anywhere (`Syntax`), the
@@ -289,7 +289,7 @@ fn unlock<'a>(params: &'a [Value]) -> Result<Call<'a>, CallFault>
     }
 }
 
-/// The one member of `params`, the name of a lock.
+/// Returns the one member of `params`, the name of a lock.
 fn lock_name(params: &[Value]) -> Result<&str, CallFault>
     ensures { (id : Data) → (call : List ℕ → message.Call)
         → of_name (λ name. name.now) id call result ≡ of_one id (of_lock id call) (map view params.now) }
@@ -300,7 +300,7 @@ fn lock_name(params: &[Value]) -> Result<&str, CallFault>
     }
 }
 
-/// The id that the JSON is (RFC 7047, section 3.1).
+/// Returns the id that the JSON is (RFC 7047, section 3.1).
 fn id_in(name: &Value) -> Result<&str, CallFault>
     ensures { (id : Data) → (call : List ℕ → message.Call)
         → of_name (λ name. name.now) id call result ≡ of_lock id call (view name.now) }
@@ -315,7 +315,7 @@ fn id_in(name: &Value) -> Result<&str, CallFault>
     }
 }
 
-/// Whether the database is that of this name.
+/// Returns whether the database is that of this name.
 pub(crate) fn check_database(name: &Value, database: &str) -> Result<(), CallFault>
     ensures { (id : Data) → (c : message.Call)
         → unless id c result ≡ of_db database.now id (view name.now) c }
@@ -330,7 +330,7 @@ pub(crate) fn check_database(name: &Value, database: &str) -> Result<(), CallFau
     }
 }
 
-/// The operations of a `transact` (RFC 7047, section 4.1.3): the members of `params` after the
+/// Returns the operations of a `transact` (RFC 7047, section 4.1.3): the members of `params` after the
 /// first; none where `params` are no array, or empty. O(1).
 pub fn operations(request: &Request) -> &[Value]
     ensures { map view result.now ≡ operations_of (request_data request.now) }
@@ -365,7 +365,7 @@ pub fn inserts(request: &Request) -> usize
         .count()
 }
 
-/// Whether the message gets a reply: notifications don't. O(1).
+/// Returns whether the message gets a reply: notifications don't. O(1).
 #[tactic(auto, using(crate::proofs::Answered::request_replies))]
 pub fn has_reply(request: &Request) -> bool
     ensures { (db : List ℕ) → (schema : Data) → (serves : List ℕ → Bool)
@@ -374,7 +374,7 @@ pub fn has_reply(request: &Request) -> bool
     !request.is_notification()
 }
 
-/// The id that a reply to the request carries: the request's own, or null where that has a left-out
+/// Returns the id that a reply to the request carries: the request's own, or null where that has a left-out
 /// number. It goes through the id.
 pub fn reply_id<'a>(request: &'a Request) -> Printable<'a>
     ensures { printable_data result ≡ reply_id (id_of (request_data request.now)) }

@@ -53,7 +53,7 @@ pub struct MonitorChange<'a> {
     pub filters: &'a Value,
 }
 
-/// The `params` of `monitor` or `monitor_cond`: the database's name, the monitor's id and its
+/// Reads the `params` of `monitor` or `monitor_cond`: the database's name, the monitor's id and its
 /// requests. O(1).
 ///
 /// The faults in their order: another number of members, or requests that are no object, or a name
@@ -126,7 +126,7 @@ fn number_in(value: &Value) -> Option<u128>
     Some(commit.as_u128())
 }
 
-/// The `params` of `monitor_cond_change`: the monitor's id, its new id and the filters. O(1).
+/// Reads the `params` of `monitor_cond_change`: the monitor's id, its new id and the filters. O(1).
 ///
 /// Another number of members, or filters that are no object, are a fault (`Syntax`).
 pub(crate) fn read_monitor_change<'a>(params: &'a [Value]) -> Result<Call<'a>, CallFault>
@@ -147,7 +147,7 @@ pub(crate) fn read_monitor_change<'a>(params: &'a [Value]) -> Result<Call<'a>, C
     })))
 }
 
-/// The `params` of `monitor_cancel`: the monitor's id. O(1). Another number of members is a fault
+/// Reads the `params` of `monitor_cancel`: the monitor's id. O(1). Another number of members is a fault
 /// (`Syntax`).
 pub(crate) fn read_monitor_cancel<'a>(params: &'a [Value]) -> Result<Call<'a>, CallFault>
     requires { list_any has_left_out (map view params.now) ≡ false }

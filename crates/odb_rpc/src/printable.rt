@@ -19,14 +19,14 @@ pub struct Printable<'a> {
 impl<'a> Printable<'a> {
     ghost use Rattle.odb_rpc.specs.Represented.Printable.{printable_data};
 
-    /// `null`. O(1).
+    /// Returns `null`. O(1).
     pub fn null() -> Printable<'a>
         ensures { printable_data result ≡ null }
     {
         Printable { value: None }
     }
 
-    /// The value, unless it has a left-out number anywhere. It goes through the whole value.
+    /// Returns the value, unless it has a left-out number anywhere. It goes through the whole value.
     pub fn of(value: &'a Value) -> Option<Printable<'a>>
         ensures { option_map printable_data result
             ≡ (if has_left_out (view value.now) then None else Some (view value.now)) }
@@ -37,7 +37,7 @@ impl<'a> Printable<'a> {
         Some(Printable { value: Some(value) })
     }
 
-    /// The value, of which it is known. O(1).
+    /// Returns the value, of which it is known. O(1).
     pub(crate) fn known(value: &'a Value) -> Printable<'a>
         requires { has_left_out (view value.now) ≡ false }
         ensures { printable_data result ≡ view value.now }
@@ -45,7 +45,7 @@ impl<'a> Printable<'a> {
         Printable { value: Some(value) }
     }
 
-    /// The JSON value in the message, or `None` for the `null` of `Printable::null`, which is in no
+    /// Returns the JSON value in the message, or `None` for the `null` of `Printable::null`, which is in no
     /// message. O(1).
     pub fn value(self) -> Option<&'a Value>
         ensures { unwrap_or (option_map (λ v. view v.now) result) null ≡ printable_data self.entry }
@@ -53,7 +53,7 @@ impl<'a> Printable<'a> {
         self.value
     }
 
-    /// Its compact text: no space between tokens, the members of objects by ascending keys. O(n)
+    /// Returns its compact text: no space between tokens, the members of objects by ascending keys. O(n)
     /// for a text of n bytes.
     pub fn to_vec(self, alloc: Global) -> Result<Vec<u8>, AllocError>
         ensures { IfOk result (λ text. text.items ≡ compact_text (printable_data self.entry)) }

@@ -13,7 +13,7 @@ use crate::printable::Printable;
 use odb_request::Kind;
 use std::alloc::{AllocError, Global};
 
-/// What comes before the result in the reply of a success (RFC 7047, section 4):
+/// Returns what comes before the result in the reply of a success (RFC 7047, section 4):
 /// `{"error":null,"id":ID,"result":`. The result's compact text comes next, and then
 /// `after_result`.
 ///
@@ -29,14 +29,14 @@ pub fn before_result(alloc: Global, id: Printable<'_>) -> Result<Vec<u8>, AllocE
     Ok(text)
 }
 
-/// What comes after the result in a reply: `}`. O(1).
+/// Returns what comes after the result in a reply: `}`. O(1).
 pub fn after_result() -> &'static [u8]
     ensures { result.now ≡ after_result }
 {
     b"}"
 }
 
-/// What comes before the table updates in a notification (RFC 7047, section 4.1.6; ovsdb-server(7),
+/// Returns what comes before the table updates in a notification (RFC 7047, section 4.1.6; ovsdb-server(7),
 /// 4.1.14) of the monitor with this id: `{"id":null,"method":METHOD,"params":[ID,`. The updates'
 /// compact text comes next, and then `after_updates`. The method is `update` or, of `monitor_cond`,
 /// `update2`.
@@ -59,7 +59,7 @@ pub fn before_updates(
     Ok(text)
 }
 
-/// What comes after the table updates in a notification: `]}`. O(1).
+/// Returns what comes after the table updates in a notification: `]}`. O(1).
 pub fn after_updates() -> &'static [u8]
     ensures { result.now ≡ after_updates }
 {

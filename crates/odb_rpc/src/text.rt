@@ -16,7 +16,7 @@ use json::Writer;
 use std::alloc::{AllocError, Global};
 use uuid::Uuid;
 
-/// The reply of a success (RFC 7047, section 4): `{"error":null,"id":ID,"result":RESULT}`. O(n) for
+/// Returns the reply of a success (RFC 7047, section 4): `{"error":null,"id":ID,"result":RESULT}`. O(n) for
 /// a text of n bytes.
 pub fn reply(alloc: Global, id: Printable<'_>, value: Printable<'_>) -> Result<Vec<u8>, AllocError>
     ensures { IfOk result (λ text. text.items
@@ -27,7 +27,7 @@ pub fn reply(alloc: Global, id: Printable<'_>, value: Printable<'_>) -> Result<V
     reply_printed(alloc, id_text.as_slice(), printed.as_slice())
 }
 
-/// The same, for an id and a result that are printed already: as compact text. O(n) for a text of n bytes.
+/// Returns the same, for an id and a result that are printed already: as compact text. O(n) for a text of n bytes.
 pub fn reply_printed(alloc: Global, id: &[u8], printed: &[u8]) -> Result<Vec<u8>, AllocError>
     ensures { IfOk result (λ text. (i d : Data) → id.now ≡ compact_text i → printed.now ≡ compact_text d
         → text.items ≡ compact_text (reply i d)) }
@@ -35,7 +35,7 @@ pub fn reply_printed(alloc: Global, id: &[u8], printed: &[u8]) -> Result<Vec<u8>
     response(alloc, b"null", id, printed)
 }
 
-/// The reply of a failure: `{"error":ERROR,"id":ID,"result":null}`. The error is the name alone of
+/// Returns the reply of a failure: `{"error":ERROR,"id":ID,"result":null}`. The error is the name alone of
 /// `unknown method`, `unknown database`, `unknown monitor` and `canceled`, and `{"error":NAME}` of
 /// every other one. O(n) for a text of n bytes.
 pub fn failure(alloc: Global, id: Printable<'_>, why: Failure) -> Result<Vec<u8>, AllocError>
@@ -47,7 +47,7 @@ pub fn failure(alloc: Global, id: Printable<'_>, why: Failure) -> Result<Vec<u8>
     response(alloc, error.as_slice(), id_text.as_slice(), b"null")
 }
 
-/// A notification (RFC 7047, section 4): `{"id":null,"method":METHOD,"params":PARAMS}`, for
+/// Returns a notification (RFC 7047, section 4): `{"id":null,"method":METHOD,"params":PARAMS}`, for
 /// `params` that are printed already: an array, as compact text. O(n) for a text of n bytes.
 pub fn notice(alloc: Global, method: &str, params: &[u8]) -> Result<Vec<u8>, AllocError>
     ensures { IfOk result (λ text. (ds : List Data) → params.now ≡ compact_text (array_of ds)
@@ -61,7 +61,7 @@ pub fn notice(alloc: Global, method: &str, params: &[u8]) -> Result<Vec<u8>, All
     Ok(text)
 }
 
-/// The compact text of the array of one string: the result of `list_dbs` (RFC 7047, section 4.1.1),
+/// Returns the compact text of the array of one string: the result of `list_dbs` (RFC 7047, section 4.1.1),
 /// and the `params` of `locked` and `stolen` (4.1.9, 4.1.10). O(n) for a text of n bytes.
 pub fn array_of_one(alloc: Global, name: &str) -> Result<Vec<u8>, AllocError>
     ensures { IfOk result (λ text. text.items ≡ compact_text (array_of (string name.now ∷ []))) }

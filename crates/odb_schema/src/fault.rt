@@ -33,7 +33,7 @@ pub enum SchemaFault {
 }
 
 impl SchemaFault {
-    /// Its number, by which it is reported: 1 to 7, in the order of the variants.
+    /// Returns its number, by which it is reported: 1 to 7, in the order of the variants.
     pub fn number(self) -> u8
         ensures { result ≡ number_of self }
     {

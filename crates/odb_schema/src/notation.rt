@@ -17,7 +17,7 @@ use serde_json::Value;
 use std::alloc::{AllocError, Global};
 use uuid::Uuid;
 
-/// What stands in `[tag, content]`, the form of `["set", ..]`, `["map", ..]`, `["uuid", ..]` and
+/// Returns what stands in `[tag, content]`, the form of `["set", ..]`, `["map", ..]`, `["uuid", ..]` and
 /// `["named-uuid", ..]`. O(the tag's length).
 pub fn tagged<'a>(tag: &str, value: &'a Value) -> Option<&'a Value>
     ensures { option_map (λ content. view content.now) result
@@ -35,7 +35,7 @@ pub fn tagged<'a>(tag: &str, value: &'a Value) -> Option<&'a Value>
     }
 }
 
-/// The UUID that a text of 36 characters is: 8-4-4-4-12 hexadecimal digits of either case (RFC
+/// Reads the UUID that a text of 36 characters is: 8-4-4-4-12 hexadecimal digits of either case (RFC
 /// 7047, section 5.1, `<uuid>`). O(1).
 pub fn parse_uuid(text: &str) -> Option<Uuid>
     ensures { option_map uuid_of result ≡ uuid_of_text text.now }
@@ -46,7 +46,7 @@ pub fn parse_uuid(text: &str) -> Option<Uuid>
     Uuid::parse_str(text).ok()
 }
 
-/// A JSON string without U+0000 (RFC 7047, section 3.1, `<string>`), and nothing for any other
+/// Returns a JSON string without U+0000 (RFC 7047, section 3.1, `<string>`), and nothing for any other
 /// JSON. O(the string's length).
 pub fn text_in(value: &Value) -> Option<&str>
     ensures { ok_or (option_map (λ text. text.now) result) syntax_error
@@ -63,7 +63,7 @@ fn has_nul(bytes: &[u8]) -> bool
 {
     bytes.iter().any(|byte| *byte == 0)
 }
-/// `[tag, content]`.
+/// Writes `[tag, content]`.
 fn write_tagged(alloc: Global, tag: &str, content: Value) -> Result<Value, AllocError>
     ensures { IfOk result (λ v. view v ≡ array_of (string tag.now ∷ view content ∷ [])) }
 {
@@ -73,7 +73,7 @@ fn write_tagged(alloc: Global, tag: &str, content: Value) -> Result<Value, Alloc
     Ok(Value::from(items))
 }
 
-/// `["uuid", text]`, with the digits in lower case (RFC 7047, section 5.1, `<uuid>`). O(1).
+/// Writes `["uuid", text]`, with the digits in lower case (RFC 7047, section 5.1, `<uuid>`). O(1).
 pub fn write_uuid(alloc: Global, uuid: Uuid) -> Result<Value, AllocError>
     ensures { IfOk result (λ v. view v ≡ notation.write_uuid (uuid_of uuid)) }
 {
@@ -85,7 +85,7 @@ pub fn write_uuid(alloc: Global, uuid: Uuid) -> Result<Value, AllocError>
     write_tagged(alloc, "uuid", content)
 }
 
-/// An atom.
+/// Writes an atom.
 fn write_atom(alloc: Global, atom: &Atom) -> Result<Value, AllocError>
     ensures { IfOk result (λ v. view v ≡ notation.write_atom (atom_of atom.now)) }
 {
@@ -107,7 +107,7 @@ fn write_all(alloc: Global, atoms: &[Atom]) -> Result<Vec<Value>, AllocError>
     Ok(items)
 }
 
-/// The set of the atoms, of which one stands alone.
+/// Writes the set of the atoms, of which one stands alone.
 fn write_atoms(alloc: Global, atoms: &[Atom]) -> Result<Value, AllocError>
     ensures { IfOk result (λ v. view v ≡ notation.write_atoms (map atom_of atoms.now)) }
 {
@@ -136,7 +136,7 @@ fn write_pairs(alloc: Global, pairs: &[(Atom, Atom)]) -> Result<Vec<Value>, Allo
     Ok(items)
 }
 
-/// The notation of a value, with elements and keys ascending: a set of exactly one element as the
+/// Writes the notation of a value, with elements and keys ascending: a set of exactly one element as the
 /// atom, any other as `["set", [atom, ..]]`, and a map as `["map", [[key, value], ..]]` (RFC 7047,
 /// section 5.1). O(the bytes written).
 pub fn write_value(alloc: Global, value: &odb_atoms::Value) -> Result<Value, AllocError>

@@ -117,14 +117,14 @@ impl Model for Schema {
 }
 
 impl TableId {
-    /// The table at a place, from 0. O(1).
+    /// Returns the table at a place, from 0. O(1).
     pub fn at(place: usize) -> TableId
         ensures { result ≡ place }
     {
         TableId { place }
     }
 
-    /// Its place, from 0. O(1).
+    /// Returns its place, from 0. O(1).
     pub fn place(self) -> usize
         ensures { result ≡ self }
     {
@@ -133,14 +133,14 @@ impl TableId {
 }
 
 impl ColumnId {
-    /// The column at a place, from 0. O(1).
+    /// Returns the column at a place, from 0. O(1).
     pub fn at(place: usize) -> ColumnId
         ensures { result ≡ place }
     {
         ColumnId { place }
     }
 
-    /// Its place, from 0. O(1).
+    /// Returns its place, from 0. O(1).
     pub fn place(self) -> usize
         ensures { result ≡ self }
     {
@@ -149,7 +149,7 @@ impl ColumnId {
 }
 
 impl Column {
-    /// A column with these members.
+    /// Makes a column with these members.
     pub(crate) fn new(
         name: String,
         column_type: ColType,
@@ -171,35 +171,35 @@ impl Column {
         }
     }
 
-    /// The name. O(1).
+    /// Returns the name. O(1).
     pub fn name(&self) -> &str
         ensures { result.now ≡ self.now.name }
     {
         self.name.as_str()
     }
 
-    /// The type. O(1).
+    /// Returns the type. O(1).
     pub fn column_type(&self) -> &ColType
         ensures { type_of result.now ≡ self.now.type }
     {
         &self.column_type
     }
 
-    /// Whether `ephemeral` is true. O(1).
+    /// Returns whether `ephemeral` is true. O(1).
     pub fn is_ephemeral(&self) -> bool
         ensures { result ≡ self.now.ephemeral }
     {
         self.is_ephemeral
     }
 
-    /// Whether it can change after `insert` (RFC 7047, section 3.2, `mutable`). O(1).
+    /// Returns whether it can change after `insert` (RFC 7047, section 3.2, `mutable`). O(1).
     pub fn is_mutable(&self) -> bool
         ensures { result ≡ self.now.mutable }
     {
         self.is_mutable
     }
 
-    /// An equal column. O(the bytes copied).
+    /// Makes an equal column. O(the bytes copied).
     pub fn try_copy(&self, alloc: Global) -> Result<Column, AllocError>
         ensures { IfOk result (λ copy. copy ≡ self.now) }
     {
@@ -210,7 +210,7 @@ impl Column {
 }
 
 impl TableSchema {
-    /// A table with these members, its columns by ascending name.
+    /// Makes a table with these members, its columns by ascending name.
     pub(crate) fn new(
         name: String,
         columns: Vec<Column>,
@@ -236,28 +236,28 @@ impl TableSchema {
         }
     }
 
-    /// The name. O(1).
+    /// Returns the name. O(1).
     pub fn name(&self) -> &str
         ensures { result.now ≡ self.now.name }
     {
         self.name.as_str()
     }
 
-    /// The declared columns, by ascending name. O(1).
+    /// Returns the declared columns, by ascending name. O(1).
     pub fn columns(&self) -> &[Column]
         ensures { result.now ≡ self.now.columns }
     {
         self.columns.as_slice()
     }
 
-    /// `maxRows`: the most rows that the table may have. O(1).
+    /// Returns `maxRows`: the most rows that the table may have. O(1).
     pub fn max_rows(&self) -> Option<u64>
         ensures { result ≡ self.now.max_rows }
     {
         self.max_rows
     }
 
-    /// Whether `isRoot` is true. Where no table has it true every table is a root table, so
+    /// Returns whether `isRoot` is true. Where no table has it true every table is a root table, so
     /// `Schema::is_root` answers that question. O(1).
     pub fn is_marked_root(&self) -> bool
         ensures { result ≡ self.now.is_root }
@@ -265,14 +265,14 @@ impl TableSchema {
         self.is_marked_root
     }
 
-    /// The indexes: of each the names of its columns, in the order given. O(1).
+    /// Returns the indexes: of each the names of its columns, in the order given. O(1).
     pub fn indexes(&self) -> &[Vec<String>]
         ensures { map names_of result.now ≡ self.now.indexes }
     {
         self.indexes.as_slice()
     }
 
-    /// The declared column with the name, if there is one. O(log n) comparisons of names.
+    /// Returns the declared column with the name, if there is one. O(log n) comparisons of names.
     pub fn column(&self, name: &str) -> Option<ColumnId>
         ensures { result ≡ model.column_place self.now.columns name.now }
     {
@@ -285,7 +285,7 @@ impl TableSchema {
         }
     }
 
-    /// An equal table. O(the bytes copied).
+    /// Makes an equal table. O(the bytes copied).
     pub fn try_copy(&self, alloc: Global) -> Result<TableSchema, AllocError>
         ensures { IfOk result (λ copy. copy ≡ self.now) }
     {
@@ -297,7 +297,7 @@ impl TableSchema {
 }
 
 impl Schema {
-    /// A schema with these members, its tables by ascending name, that is read as it is printed.
+    /// Makes a schema with these members, its tables by ascending name, that is read as it is printed.
     pub(crate) fn new(
         name: String,
         version: String,
@@ -328,35 +328,35 @@ impl Schema {
         }
     }
 
-    /// What is printed of it is read as the same schema; called for its contract alone. O(1).
+    /// States that what is printed of it is read as the same schema; called for its contract alone. O(1).
     pub(crate) fn reads_back(&self)
         ensures { IsReadBack self.now }
     {
         let _name = &self.name;
     }
 
-    /// The name of the database. O(1).
+    /// Returns the name of the database. O(1).
     pub fn name(&self) -> &str
         ensures { result.now ≡ self.now.name }
     {
         self.name.as_str()
     }
 
-    /// `version`, as it was given. O(1).
+    /// Returns `version`, as it was given. O(1).
     pub fn version(&self) -> &str
         ensures { result.now ≡ self.now.version }
     {
         self.version.as_str()
     }
 
-    /// The tables, by ascending name. O(1).
+    /// Returns the tables, by ascending name. O(1).
     pub fn tables(&self) -> &[TableSchema]
         ensures { result.now ≡ self.now.tables }
     {
         self.tables.as_slice()
     }
 
-    /// The table with the name, if there is one. O(log n) comparisons of names.
+    /// Returns the table with the name, if there is one. O(log n) comparisons of names.
     pub fn table(&self, name: &str) -> Option<TableId>
         ensures { result ≡ model.table_place self.now name.now }
     {
@@ -366,7 +366,7 @@ impl Schema {
         }
     }
 
-    /// `cksum`, as it was given. O(1).
+    /// Returns `cksum`, as it was given. O(1).
     pub fn cksum(&self) -> Option<&str>
         ensures { option_map (λ text. text.now) result ≡ self.now.cksum }
     {
@@ -376,7 +376,7 @@ impl Schema {
         }
     }
 
-    /// The declared column of the table with the name, if there is one. O(log n) comparisons of
+    /// Returns the declared column of the table with the name, if there is one. O(log n) comparisons of
     /// names.
     pub fn column(&self, table: TableId, name: &str) -> Option<ColumnId>
         ensures { result ≡ model.column_place (model.columns_at self.now table) name.now }
@@ -387,7 +387,7 @@ impl Schema {
         }
     }
 
-    /// Whether the table is a root table: where no table is marked as one, every table is. O(1).
+    /// Returns whether the table is a root table: where no table is marked as one, every table is. O(1).
     pub fn is_root(&self, table: TableId) -> bool
         ensures { result ≡ model.is_root_at self.now table }
     {
@@ -398,7 +398,7 @@ impl Schema {
         is_marked || !self.marks_roots
     }
 
-    /// An equal schema. O(the bytes copied).
+    /// Makes an equal schema. O(the bytes copied).
     pub fn try_copy(&self, alloc: Global) -> Result<Schema, AllocError>
         ensures { IfOk result (λ copy. copy ≡ self.now) }
     {
@@ -413,7 +413,7 @@ impl Schema {
     }
 }
 
-/// Whether a table is marked as a root table.
+/// Returns whether a table is marked as a root table.
 fn marks_roots(tables: &[TableSchema]) -> bool
     ensures { result ≡ list_any (λ t. t.is_root) tables.now }
 {

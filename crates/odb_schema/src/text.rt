@@ -10,7 +10,7 @@ ghost use Rattle.odb_schema.specs.Represented.Fault.{Gives};
 use crate::fault::SchemaFault;
 use odb_atoms::Kind;
 
-/// Whether the text is an id (RFC 7047, section 3.1, `<id>`): a letter or `_`, then letters, digits
+/// Returns whether the text is an id (RFC 7047, section 3.1, `<id>`): a letter or `_`, then letters, digits
 /// and `_`. O(n).
 pub fn is_id(text: &str) -> bool
     ensures { result ≡ model_text.is_id text.now }
@@ -40,7 +40,7 @@ fn is_digit(byte: u8) -> bool
     b'0' <= byte && byte <= b'9'
 }
 
-/// Whether the text is a name of a database, a table or a column (RFC 7047, section 3.2): an id
+/// Returns whether the text is a name of a database, a table or a column (RFC 7047, section 3.2): an id
 /// that does not begin with `_`. O(n).
 pub fn is_name(text: &str) -> bool
     ensures { result ≡ model.is_name text.now }
@@ -48,7 +48,7 @@ pub fn is_name(text: &str) -> bool
     is_id(text) && text.as_bytes()[0] != b'_'
 }
 
-/// Whether the text is three decimal numbers joined by dots (RFC 7047, section 3.1, `<version>`).
+/// Returns whether the text is three decimal numbers joined by dots (RFC 7047, section 3.1, `<version>`).
 /// O(n).
 pub(crate) fn is_version(text: &str) -> bool
     ensures { result ≡ model.is_version text.now }
@@ -57,14 +57,14 @@ pub(crate) fn is_version(text: &str) -> bool
     count_of_parts(bytes) == 3 && are_decimal_parts(bytes)
 }
 
-/// How many parts there are between dots.
+/// Returns how many parts there are between dots.
 fn count_of_parts(bytes: &[u8]) -> usize
     ensures { result ≡ length (slice_split (λ c. c == 46) bytes.now) }
 {
     bytes.split(|byte| *byte == b'.').count()
 }
 
-/// Whether each part between dots is a decimal number.
+/// Returns whether each part between dots is a decimal number.
 fn are_decimal_parts(bytes: &[u8]) -> bool
     ensures { result
         ≡ list_all (λ part. nat_lt 0 (length part) && list_all model_text.is_digit part)
@@ -75,7 +75,7 @@ fn are_decimal_parts(bytes: &[u8]) -> bool
         .all(|part| is_decimal(part))
 }
 
-/// One or more digits.
+/// Returns whether it is one or more digits.
 fn is_decimal(part: &[u8]) -> bool
     ensures { result ≡ (nat_lt 0 (length part.now) && list_all model_text.is_digit part.now) }
 {
@@ -88,7 +88,7 @@ fn are_digits(bytes: &[u8]) -> bool
     bytes.iter().all(|byte| is_digit(*byte))
 }
 
-/// The atomic type with the name (RFC 7047, section 3.2, `<atomic-type>`).
+/// Reads the atomic type with the name (RFC 7047, section 3.2, `<atomic-type>`).
 pub(crate) fn read_kind(name: &str) -> Result<Kind, SchemaFault>
     ensures { Gives kind_in result (model.read_kind name.now) }
 {

@@ -67,7 +67,7 @@ impl<'a> Command<'a> {
     }
 }
 
-/// The number that decimal digits are; `None` where it is 2^64 or more.
+/// Returns the number that decimal digits are; `None` where it is 2^64 or more.
 fn number_in(digits: &[u8]) -> Option<u64>
     ensures { result ≡ below (2 ^ 64) (model.number_in 0 digits.now) }
 {
@@ -94,7 +94,7 @@ fn are_digits(bytes: &[u8]) -> bool
     bytes.iter().all(|byte| byte.is_ascii_digit())
 }
 
-/// The bytes before the first space, and those after it. `None` where there is no space.
+/// Returns the bytes before the first space, and those after it. `None` where there is no space.
 fn split_at_space(line: &[u8]) -> Option<(&[u8], &[u8])>
     ensures { MatchOption result ((model.split_at 32 line.now).1 ≡ None)
         (λ parts. model.split_at 32 line.now ≡ (parts.0.now, Some parts.1.now)) }

@@ -47,7 +47,7 @@ pub(crate) fn drain_all(
     Ok(())
 }
 
-/// The numbers of a set, ascending.
+/// Returns the numbers of a set, ascending.
 fn numbers_in(alloc: Global, set: &BTreeSet<SessionId>) -> Result<Vec<SessionId>, AllocError>
     ensures numbers { IfOk result (λ numbers. numbers.items ≡ set.now.keys) }
     ensures rising { IfOk result (λ numbers. IsStrictlySortedBy nat_cmp numbers.items) }

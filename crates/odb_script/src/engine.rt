@@ -61,7 +61,7 @@ impl Engine {
     ghost use Rattle.odb_script.specs.Represented.Command.{command_in};
     ghost use Rattle.odb_script.specs.Represented.Steps.{Performs};
 
-    /// A server of the schema with empty tables and no session.
+    /// Makes a server of the schema with empty tables and no session.
     pub(crate) fn new(
         alloc: Global,
         schema: Schema,
@@ -229,7 +229,7 @@ impl Engine {
         self.end(name, session, fed.fault, text)
     }
 
-    /// A stream that is at a fault ends its session.
+    /// Ends the session of a stream that is at a fault.
     fn end(
         &mut self,
         name: &[u8],
@@ -283,7 +283,7 @@ impl Engine {
         Ok(())
     }
 
-    /// A message goes in, and all sessions are drained.
+    /// Delivers a message, and drains all sessions.
     fn deliver(
         &mut self,
         name: &[u8],
@@ -300,7 +300,7 @@ impl Engine {
         self.drain_all(text)
     }
 
-    /// A request or a notification goes in, or is refused; a response does nothing.
+    /// Submits a request or a notification, which may be refused; a response does nothing.
     fn dispatch(
         &mut self,
         name: &[u8],
@@ -323,8 +323,7 @@ impl Engine {
         }
     }
 
-    /// A request or a notification goes in, with an identifier for each of its inserts, or is
-    /// refused.
+    /// Submits a request or a notification, which may be refused, with an identifier for each of its inserts.
     fn submit(
         &mut self,
         name: &[u8],
@@ -375,7 +374,7 @@ fn tick_core(core: &mut Core, moment: u64) -> Result<(), AllocError>
     core.tick(moment)
 }
 
-/// Where the session of a name stands.
+/// Returns where the session of a name stands.
 fn place_of(name: &[u8], sessions: &[ScriptSession]) -> Option<usize>
     ensures { result ≡ position (λ x. bytes_eq x.name name.now) sessions.now }
 {

@@ -28,7 +28,7 @@ impl<T> FailureLatch<T> {
         }
     }
 
-    /// Whether a call failed since: one that returned an error, or a write that took none of some
+    /// Returns whether a call failed since: one that returned an error, or a write that took none of some
     /// bytes.
     pub fn failed(&self) -> bool
         ensures { result ≡ has_failed self.now }

@@ -66,7 +66,7 @@ fn run_lines<R: Read, W: Write>(
     Err(RunFault::Memory)
 }
 
-/// The next line, with its line feed where it has one; `None` at the end of the input.
+/// Reads the next line, with its line feed where it has one; `None` at the end of the input.
 fn next_line<R: Read>(
     alloc: Global,
     reader: &mut BufReader<FailureLatch<R>>,

@@ -13,7 +13,7 @@ use odb_request::Request;
 use odb_schema::TableId;
 
 impl<'a> Way<'a> {
-    /// Whether it is a first reply with all that the monitor selects.
+    /// Returns whether it is a first reply with all that the monitor selects.
     pub(crate) fn is_first(self) -> bool
         ensures { result ≡ is_first self.entry }
     {
@@ -26,7 +26,7 @@ impl<'a> Way<'a> {
         }
     }
 
-    /// Whether it is a reply, of which something is always sent.
+    /// Returns whether it is a reply, of which something is always sent.
     pub(crate) fn is_reply(self) -> bool
         ensures { result ≡ is_reply self.entry }
     {
@@ -39,7 +39,7 @@ impl<'a> Way<'a> {
         }
     }
 
-    /// How many commits ago the client had what it asks, if that is found.
+    /// Returns how many commits ago the client had what it asks, if that is found.
     pub(crate) fn ago(self) -> Option<usize>
         ensures { result ≡ ago_in self.entry }
     {
@@ -52,7 +52,7 @@ impl<'a> Way<'a> {
         }
     }
 
-    /// The filter that is asked of a table. O(1), and under other filters what one is looked up in.
+    /// Returns the filter that is asked of a table. O(1), and under other filters what one is looked up in.
     pub(crate) fn filter(self, request: &'a Request) -> &'a Filter
         ensures { result.now ≡ filter_in self.entry request.now }
     {
@@ -62,7 +62,7 @@ impl<'a> Way<'a> {
         }
     }
 
-    /// The filter under which the client was told of a table, if it counts. The costs are those of `filter`.
+    /// Returns the filter under which the client was told of a table, if it counts. The costs are those of `filter`.
     fn told(self, table: &'a Watching) -> Option<&'a Filter>
         ensures { option_map (λ f. f.now) result ≡ told_in self.entry table.now }
     {
@@ -75,7 +75,7 @@ impl<'a> Way<'a> {
         }
     }
 
-    /// At which change of which table the client was told, if it counts. O(1).
+    /// Returns at which change of which table the client was told, if it counts. O(1).
     pub(crate) fn place(self, mark: &Mark) -> Option<(TableId, u64)>
         ensures { result ≡ place_in self.entry mark.now }
     {
@@ -89,7 +89,7 @@ impl<'a> Way<'a> {
     }
 }
 
-/// Whether both are the same change of the same table, or none.
+/// Returns whether both are the same change of the same table, or none.
 fn same_place(place: Option<(TableId, u64)>, other: Option<(TableId, u64)>) -> bool
     ensures { Decides result (place ≡ other) }
 {
@@ -100,7 +100,7 @@ fn same_place(place: Option<(TableId, u64)>, other: Option<(TableId, u64)>) -> b
     }
 }
 
-/// Whether both are as many commits ago, or none.
+/// Returns whether both are as many commits ago, or none.
 fn same_ago(ago: Option<usize>, other: Option<usize>) -> bool
     ensures { Decides result (ago ≡ other) }
 {
@@ -111,7 +111,7 @@ fn same_ago(ago: Option<usize>, other: Option<usize>) -> bool
     }
 }
 
-/// Whether both are the same filter, or none.
+/// Returns whether both are the same filter, or none.
 fn same_told(told: Option<&Filter>, other: Option<&Filter>) -> bool
     ensures { Decides result (option_map (λ f. f.now) told.entry ≡ option_map (λ f. f.now) other.entry) }
 {
@@ -122,7 +122,7 @@ fn same_told(told: Option<&Filter>, other: Option<&Filter>) -> bool
     }
 }
 
-/// Whether the same is asked of both.
+/// Returns whether the same is asked of both.
 fn same_asked<'a>(
     request: &'a Request,
     way: Way<'a>,
@@ -134,7 +134,7 @@ fn same_asked<'a>(
     way.filter(request).same(other_way.filter(other)) && request.shape().same(other.shape())
 }
 
-/// Whether both clients stand to the tables in the same way.
+/// Returns whether both clients stand to the tables in the same way.
 fn stand_alike<'a>(
     table: &'a Watching,
     way: Way<'a>,
@@ -148,7 +148,7 @@ fn stand_alike<'a>(
         && same_asked(&table.request, way, &other.request, other_way)
 }
 
-/// Whether both clients stand to each of these tables in the same way.
+/// Returns whether both clients stand to each of these tables in the same way.
 fn all_stand_alike<'a>(
     tables: &'a [Watching],
     way: Way<'a>,
@@ -169,8 +169,8 @@ fn all_stand_alike<'a>(
 }
 
 impl Monitor {
-    /// Whether what is composed for its client in this way is what is composed for the client of the other in the other
-    /// way. O(n) times what comparing two requests costs, for n tables.
+    /// Returns whether what is composed for its client in this way is what is composed for the client of the other in
+    /// the other way. O(n) times what comparing two requests costs, for n tables.
     pub(crate) fn is_like<'a>(
         &'a self,
         way: Way<'a>,
@@ -188,8 +188,8 @@ impl Monitor {
             )
     }
 
-    /// Whether both clients are told in one notation, both for the first time or both later, and both as of one commit or
-    /// neither of one.
+    /// Returns whether both clients are told in one notation, both for the first time or both later, and both as of one
+    /// commit or neither of one.
     fn is_told_like(&self, way: Way<'_>, other: &Monitor, other_way: Way<'_>) -> bool
         ensures { Decides result ((self.now.notation ≡ other.now.notation) × (is_first way.entry ≡ is_first other_way.entry) × (ago_in way.entry ≡ ago_in other_way.entry)) }
     {

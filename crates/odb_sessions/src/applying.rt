@@ -51,7 +51,7 @@ impl Item {
     }
 }
 
-/// The monitor begins, and its client has what its tables are now.
+/// Begins the monitor, whose client has what its tables are now.
 fn begin(monitors: &mut Vec<Monitor>, monitor: Monitor, past: &mut Past)
     requires ready { IsReady past.old (marks_in monitor ++ flat_map marks_in monitors.old.items) }
     requires room { vec_len monitors.old < vec_capacity monitors.old }
@@ -65,7 +65,7 @@ fn begin(monitors: &mut Vec<Monitor>, monitor: Monitor, past: &mut Past)
     monitors.push_reserved(monitor);
 }
 
-/// The client of the first monitor with this id has what its tables are now.
+/// Brings the client of the first monitor with this id to what its tables are now.
 fn sync(monitors: &mut Vec<Monitor>, id: &Id, past: &mut Past)
     requires { IsReady past.old (flat_map marks_in monitors.old.items) }
     ensures monitors { (s : Schema) → map monitor_of monitors.new.items ≡ leaves (served_by s) past.old.db (model.sync id.now) (map monitor_of monitors.old.items) }
@@ -79,7 +79,7 @@ fn sync(monitors: &mut Vec<Monitor>, id: &Id, past: &mut Past)
     past.bring(&mut monitors[place]);
 }
 
-/// The same under new filters.
+/// Does the same under new filters.
 fn shift_to(monitors: &mut Vec<Monitor>, shift: Shift, past: &mut Past)
     requires { IsReady past.old (flat_map marks_in monitors.old.items) }
     ensures monitors { (s : Schema) → map monitor_of monitors.new.items ≡ leaves (served_by s) past.old.db (model.shift (arc_value shift.id) (filters_of shift.changes)) (map monitor_of monitors.old.items) }
@@ -94,7 +94,7 @@ fn shift_to(monitors: &mut Vec<Monitor>, shift: Shift, past: &mut Past)
     past.bring_under(&mut monitors[place], changes);
 }
 
-/// The first monitor with the old id has the new one, and the new filters. It returns the reply.
+/// Gives the first monitor with the old id the new one, and the new filters. It returns the reply.
 fn rename(monitors: &mut Vec<Monitor>, renamed: Renamed) -> Finished
     ensures monitors { (s : Schema) → map monitor_of monitors.new.items
         ≡ at_first (has_id (served_by s) (arc_value renamed.old_id)) (λ m. record m { watch = changed (served_by s) (arc_value renamed.new_id) (filters_of renamed.changes) m.watch }) (map monitor_of monitors.old.items) }
@@ -126,7 +126,7 @@ fn rename_first(monitors: &mut Vec<Monitor>, old: &Id, new: Arc<Id>, changes: Ch
     monitors[place].rename(new, changes);
 }
 
-/// The first monitor with the id goes. It returns the reply.
+/// Ends the first monitor with the id. It returns the reply.
 fn stop(monitors: &mut Vec<Monitor>, stopped: Stopped, past: &mut Past) -> Finished
     requires { IsReady past.old (flat_map marks_in monitors.old.items) }
     ensures monitors { (s : Schema) → map monitor_of monitors.new.items ≡ drop_first (has_id (served_by s) (arc_value stopped.id)) (map monitor_of monitors.old.items) }
@@ -160,7 +160,7 @@ fn place_of(monitors: &[Monitor], id: &Id) -> Option<usize>
     monitors.iter().position(|monitor| id.same(&monitor.id))
 }
 
-/// The clients of this many monitors, from the first on, have what their tables are now.
+/// Brings the clients of this many monitors, from the first on, to what their tables are now.
 pub(crate) fn bring_first(monitors: &mut Vec<Monitor>, count: usize, past: &mut Past)
     requires { IsReady past.old (flat_map marks_in monitors.old.items) }
     ensures monitors { (s : Schema) → map monitor_of monitors.new.items ≡ first_brought (served_by s) past.old.db count (map monitor_of monitors.old.items) }

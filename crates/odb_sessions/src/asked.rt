@@ -15,7 +15,7 @@ use odb_queue::Finished;
 use std::alloc::{AllocError, Global};
 use std::sync::Arc;
 
-/// The ids of these monitors.
+/// Returns the ids of these monitors.
 pub(crate) fn told(alloc: Global, monitors: &[Monitor]) -> Result<Vec<Arc<Id>>, AllocError>
     ensures { IfOk result (λ ids. map arc_value ids.items ≡ map (λ h. h.id) monitors.now) }
 {
@@ -26,7 +26,7 @@ pub(crate) fn told(alloc: Global, monitors: &[Monitor]) -> Result<Vec<Arc<Id>>, 
     Ok(ids)
 }
 
-/// What an item does to the ids as asked. Where memory is refused some of it may be done.
+/// Does to the ids as asked what an item does. Where memory is refused some of it may be done.
 pub(crate) fn ask(ids: &mut Vec<Arc<Id>>, item: &Item) -> Result<(), AllocError>
     ensures { OnOk result (map arc_value ids.new.items ≡ asks_ids (item_seen (queued_of item.now)) (map arc_value ids.old.items)) }
 {
@@ -73,14 +73,14 @@ fn place_of(ids: &[Arc<Id>], id: &Id) -> Option<usize>
     ids.iter().position(|known| id.same(known))
 }
 
-/// Whether the id is one of these.
+/// Returns whether the id is one of these.
 pub(crate) fn has(ids: &[Arc<Id>], id: &Id) -> bool
     ensures { result ≡ list_any (λ x. is_same id.now (arc_value x)) ids.now }
 {
     ids.iter().any(|known| id.same(known))
 }
 
-/// A sync for each of these monitors, and then the reply.
+/// Returns a sync for each of these monitors, and then the reply.
 pub(crate) fn ending(
     alloc: Global,
     ids: Vec<Arc<Id>>,

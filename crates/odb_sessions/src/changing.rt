@@ -43,7 +43,7 @@ impl Model for Changing {
 }
 
 impl Changing {
-    /// The change for which the request asks: of the monitor with the old id, which gets the new one and these
+    /// Makes the change for which the request asks: of the monitor with the old id, which gets the new one and these
     /// filters. O(n) for ids of n bytes.
     pub fn new(
         alloc: Global,
@@ -71,7 +71,7 @@ impl Changing {
         })
     }
 
-    /// The shift to the new filters, and then the reply.
+    /// Returns the shift to the new filters, and then the reply.
     pub(crate) fn items(self, alloc: Global) -> Result<Vec<Item>, AllocError>
         ensures { IfOk result (λ items. map queued_of items.items
             ≡ plain (shift self.old self.filters) ∷ plain (renamed self.request self.old self.new self.filters) ∷ []) }

@@ -14,8 +14,8 @@ use odb_monitor::Part;
 use std::alloc::{AllocError, Global};
 use std::sync::Arc;
 
-/// The parts of these tables; in a first reply the client was told nothing of them. For each the costs are those of
-/// `odb_chain::Chains::since`.
+/// Returns the parts of these tables; in a first reply the client was told nothing of them. For each the costs are
+/// those of `odb_chain::Chains::since`.
 pub(crate) fn parts_of<'a>(
     alloc: Global,
     chains: &'a Chains,

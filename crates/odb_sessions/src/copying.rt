@@ -177,7 +177,7 @@ impl Clone for Changes {
 
     ghost is_clone = { λ x y. filters_of y ≡ filters_of x };
 
-    /// Equal filters.
+    /// Makes equal filters.
     fn clone(&self) -> Result<Changes, AllocError> {
         let changes = self.changes.clone()?;
         let schema = self.schema.clone()?;

@@ -34,7 +34,7 @@ impl<'a> Model for Decision<'a> {
 }
 
 impl<'a> Decision<'a> {
-    /// That it is composed by the job at this place. O(1).
+    /// Decides that it is composed by the job at this place. O(1).
     pub(crate) fn new(monitor: &'a Monitor, way: Way<'a>, place: Option<usize>) -> Decision<'a>
         ensures { result ≡ record { likeness = likeness_in monitor.now way.entry; place = place } }
     {
@@ -45,7 +45,7 @@ impl<'a> Decision<'a> {
         }
     }
 
-    /// Whether the same is composed for the client of this monitor in this way.
+    /// Returns whether the same is composed for the client of this monitor in this way.
     fn serves(&self, monitor: &'a Monitor, way: Way<'a>) -> bool
         ensures { Decides result (self.now.likeness ≡ likeness_in monitor.now way.entry) }
     {
@@ -103,7 +103,7 @@ impl<'a> Bucket<'a> {
         Ok(())
     }
 
-    /// What was decided of what is composed for the client of this monitor in this way.
+    /// Returns what was decided of what is composed for the client of this monitor in this way.
     fn find(&self, monitor: &'a Monitor, way: Way<'a>) -> Option<Option<usize>>
         ensures some { IfSome result (λ place. IsAmong self.now (record { likeness = likeness_in monitor.now way.entry; place = place })) }
         ensures none { is_some result ≡ false → All (Differs (likeness_in monitor.now way.entry)) self.now }
@@ -125,7 +125,7 @@ pub(crate) struct Decided<'a> {
 }
 
 impl<'a> Decided<'a> {
-    /// Nothing. O(1).
+    /// Makes decisions, of which there are none. O(1).
     pub(crate) fn new(alloc: Global) -> Decided<'a>
         ensures { (n : ℕ) → bucket_at result n ≡ [] }
     {
@@ -135,8 +135,8 @@ impl<'a> Decided<'a> {
         }
     }
 
-    /// What was decided of what is composed for the client of this monitor in this way. O(log n) for n decisions, and a
-    /// comparison of monitors for each that has the same digest.
+    /// Returns what was decided of what is composed for the client of this monitor in this way. O(log n) for n
+    /// decisions, and a comparison of monitors for each that has the same digest.
     pub(crate) fn find(&self, monitor: &'a Monitor, way: Way<'a>) -> Option<Option<usize>>
         ensures some { IfSome result (λ place. IsAmong (bucket_at self.now (digest (likeness_in monitor.now way.entry))) (record { likeness = likeness_in monitor.now way.entry; place = place })) }
         ensures none { is_some result ≡ false → All (Differs (likeness_in monitor.now way.entry)) (bucket_at self.now (digest (likeness_in monitor.now way.entry))) }

@@ -11,8 +11,8 @@ use odb_schema::TableId;
 use odb_tables::feed_value;
 use std::hash::{DefaultHasher, Hash, Hasher};
 
-/// The digest of what is composed for the client of a monitor in this way: what is alike has the same, other seldom has.
-/// O(n) for n tables, and the members and atoms of their filters, with their bytes.
+/// Returns the digest of what is composed for the client of a monitor in this way: what is alike has the same, other
+/// seldom has. O(n) for n tables, and the members and atoms of their filters, with their bytes.
 pub(crate) fn digest_of<'a>(monitor: &'a Monitor, way: Way<'a>) -> u64
     ensures { result ≡ spec.digest (likeness_in monitor.now way.entry) }
 {

@@ -15,7 +15,7 @@ use odb_wire::Request;
 use std::alloc::{AllocError, Global};
 use std::sync::Arc;
 
-/// A sync of the monitor with this id, and then the reply to the request for its cancel. O(n) for ids of n
+/// Returns a sync of the monitor with this id, and then the reply to the request for its cancel. O(n) for ids of n
 /// bytes.
 pub(crate) fn stopping(
     alloc: Global,

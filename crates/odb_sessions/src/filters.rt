@@ -27,7 +27,7 @@ impl Changes {
     }
 }
 
-/// Where the filter for the table of this name stands.
+/// Returns where the filter for the table of this name stands.
 fn place_of(schema: &Schema, changes: &[Change], name: &str) -> Option<usize>
     ensures { result ≡ position (λ c. bytes_eq (table_name schema.now c.table) name.now) changes.now }
 {
@@ -36,7 +36,7 @@ fn place_of(schema: &Schema, changes: &[Change], name: &str) -> Option<usize>
         .position(|change| is_of(schema, change, name))
 }
 
-/// Whether the filter is for the table of this name.
+/// Returns whether the filter is for the table of this name.
 fn is_of(schema: &Schema, change: &Change, name: &str) -> bool
     ensures { result ≡ bytes_eq (table_name schema.now change.now.table) name.now }
 {

@@ -41,7 +41,7 @@ impl Model for FirstText {
 }
 
 impl FirstText {
-    /// What the client of this monitor is told first. O(n) for n tables.
+    /// Makes the text of what the client of this monitor is told first. O(n) for n tables.
     pub(crate) fn new(
         alloc: Global,
         monitor: &Monitor,
@@ -57,7 +57,7 @@ impl FirstText {
         })
     }
 
-    /// Whether the client of this monitor is told the same first. `false` says nothing.
+    /// Returns whether the client of this monitor is told the same first. `false` says nothing.
     fn serves(&self, monitor: &Monitor) -> bool
         ensures { OnTrue result (AsksSo self.now monitor.now) }
     {
@@ -71,7 +71,7 @@ impl FirstText {
     }
 }
 
-/// What is asked of these tables.
+/// Returns what is asked of these tables.
 fn requests_of(alloc: Global, tables: &[Watching]) -> Result<Vec<Request>, AllocError>
     ensures { IfOk result (λ requests. requests.items ≡ asked_of tables.now) }
 {
@@ -82,7 +82,7 @@ fn requests_of(alloc: Global, tables: &[Watching]) -> Result<Vec<Request>, Alloc
     Ok(requests)
 }
 
-/// Whether these are asked of the tables. `false` says nothing.
+/// Returns whether these are asked of the tables. `false` says nothing.
 fn ask_so(requests: &[Request], tables: &[Watching]) -> bool
     ensures { OnTrue result (requests.now ≡ asked_of tables.now) }
 {
@@ -116,7 +116,7 @@ impl Model for FirstTexts {
 }
 
 impl FirstTexts {
-    /// None. O(1).
+    /// Makes first texts, of which there are none. O(1).
     pub(crate) fn new(alloc: Global) -> FirstTexts
         ensures { result ≡ [] }
     {
@@ -125,8 +125,8 @@ impl FirstTexts {
         }
     }
 
-    /// The text that the client of this monitor is told first, if it is one of these. At most eight comparisons of
-    /// what is asked.
+    /// Returns the text that the client of this monitor is told first, if it is one of these. At most eight comparisons
+    /// of what is asked.
     pub(crate) fn find(&self, monitor: &Monitor) -> Option<&Arc<Vec<u8>>>
         ensures { IfSome result (λ text. (db : model_db.Db) → AreFirstTexts db self.now → Some (bytes_of text.now) ≡ composition (job_in db monitor.now way.First)) }
     {

@@ -50,7 +50,7 @@ impl<'a> Model for Ahead<'a> {
 }
 
 impl<'a> Ahead<'a> {
-    /// Nothing is foreseen of it.
+    /// Foresees nothing of it.
     fn new(monitor: &'a Monitor) -> Ahead<'a>
         ensures { result ≡ as_told monitor.now }
     {
@@ -60,7 +60,7 @@ impl<'a> Ahead<'a> {
         }
     }
 
-    /// The update that its client is owed under these filters; `None` where it is owed nothing. The costs are
+    /// Returns the update that its client is owed under these filters; `None` where it is owed nothing. The costs are
     /// those of `Monitor::update`.
     fn update(
         &self,
@@ -81,7 +81,7 @@ impl<'a> Ahead<'a> {
         }
     }
 
-    /// It, where its client has what its tables are now under these filters.
+    /// Returns it, where its client has what its tables are now under these filters.
     fn brought(&self, under: Under<'a>) -> Ahead<'a>
         ensures { result ≡ record { held = self.now.held; told = Some (filters_in under.entry) } }
     {
@@ -91,7 +91,7 @@ impl<'a> Ahead<'a> {
         }
     }
 
-    /// Whether the monitor has this id.
+    /// Returns whether the monitor has this id.
     fn is_of(&self, id: &Id) -> bool
         ensures { result ≡ is_same id.now self.now.held.id }
     {
@@ -100,7 +100,7 @@ impl<'a> Ahead<'a> {
     }
 }
 
-/// These monitors, of which nothing is foreseen.
+/// Returns these monitors, of which nothing is foreseen.
 fn all_ahead<'a>(alloc: Global, monitors: &'a [Monitor]) -> Result<Vec<Ahead<'a>>, AllocError>
     ensures { IfOk result (λ ahead. ahead.items ≡ map as_told monitors.now) }
 {
@@ -117,7 +117,8 @@ fn place_of(monitors: &[Ahead<'_>], id: &Id) -> Option<usize>
     monitors.iter().position(|known| known.is_of(id))
 }
 
-/// The first of these that has the id, once it is brought to now under these filters, and what its client is sent.
+/// Returns the first of these that has the id, once it is brought to now under these filters, and what its client is
+/// sent.
 fn pass<'a>(
     wanted: &mut Wanted<'a>,
     monitors: &mut Vec<Ahead<'a>>,
@@ -150,8 +151,8 @@ pub(crate) struct Rest {
     pub(crate) message: Option<Envelope>,
 }
 
-/// What these monitors have due. The costs are those of `Ahead::update` for each monitor up to the first that is
-/// owed something.
+/// Returns what these monitors have due. The costs are those of `Ahead::update` for each monitor up to the first that
+/// is owed something.
 fn rest_due<'a>(wanted: &mut Wanted<'a>, monitors: &[Ahead<'a>]) -> Result<Rest, AllocError>
     requires { AreLive wanted.old.chains (marks_ahead monitors.now) }
     ensures monitors { IfOk result (λ rest. (h : Service)
@@ -200,7 +201,7 @@ impl<'a> Model for Planner<'a> {
 }
 
 impl<'a> Planner<'a> {
-    /// No jobs, and no monitors. O(1).
+    /// Makes a planner of no jobs and no monitors. O(1).
     pub(crate) fn new(
         alloc: Global,
         chains: &'a Chains,
@@ -216,7 +217,7 @@ impl<'a> Planner<'a> {
         }
     }
 
-    /// These monitors in the place of those that it had, with nothing foreseen of them. O(n) for n monitors.
+    /// Takes these monitors in the place of those that it had, with nothing foreseen of them. O(n) for n monitors.
     pub(crate) fn turn_to(&mut self, monitors: &'a [Monitor]) -> Result<(), AllocError>
         requires { AreLive self.old.chains (flat_map marks_in monitors.now) }
         ensures monitors { OnOk result (self.new.monitors ≡ map monitor_of monitors.now) }
@@ -229,8 +230,8 @@ impl<'a> Planner<'a> {
         Ok(())
     }
 
-    /// What the client of the monitor with this id is sent to be brought to now under these filters; `None` where
-    /// that is nothing. From then on it is foreseen so. The costs are those of `Monitor::update`.
+    /// Returns what the client of the monitor with this id is sent to be brought to now under these filters; `None`
+    /// where that is nothing. From then on it is foreseen so. The costs are those of `Monitor::update`.
     pub(crate) fn pass(&mut self, id: &Id, under: Under<'a>) -> Result<Option<Envelope>, AllocError>
         ensures text { IfOk result (λ message. (s : Schema) → Tells self.new.jobs message
             (option_map (due_sending (served_by s) (revision_at self.old.chains self.old.recent)) (due (served_by s) self.old.chains.db (item_in id.now under.entry) self.old.monitors))) }
@@ -243,7 +244,7 @@ impl<'a> Planner<'a> {
         pass(&mut self.wanted, &mut self.monitors, id, under)
     }
 
-    /// What its monitors have due once the queue is empty. The costs are those of `Monitor::update` for each
+    /// Returns what its monitors have due once the queue is empty. The costs are those of `Monitor::update` for each
     /// monitor up to the first that is owed something.
     pub(crate) fn rest(&mut self) -> Result<Rest, AllocError>
         ensures monitors { IfOk result (λ rest. (h : Service)
@@ -257,7 +258,7 @@ impl<'a> Planner<'a> {
         rest_due(&mut self.wanted, self.monitors.as_slice())
     }
 
-    /// The jobs, and what each is composed for.
+    /// Returns the jobs, and what each is composed for.
     pub(crate) fn into_jobs(self) -> Listed<'a>
         ensures jobs { result.jobs.items ≡ self.entry.jobs }
         ensures now { All (IsOfNow self.entry.chains.db) result.jobs.items }

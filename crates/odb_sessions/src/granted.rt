@@ -34,7 +34,7 @@ impl Model for Granted {
 }
 
 impl Granted {
-    /// To this request. O(n) for an id of n bytes.
+    /// Grants this request. O(n) for an id of n bytes.
     pub(crate) fn new(alloc: Global, request: &Request) -> Result<Granted, AllocError>
         requires { has_left_out (id_of (request_data request.now)) ≡ false }
         ensures { IfOk result (λ made. made ≡ request_data request.now) }
@@ -43,7 +43,7 @@ impl Granted {
         Ok(Granted { reply })
     }
 
-    /// The reply, finished. O(1).
+    /// Returns the reply, finished. O(1).
     pub(crate) fn finished(self) -> Finished
         ensures { item_of result ≡ granted self }
     {
@@ -51,7 +51,7 @@ impl Granted {
         reply
     }
 
-    /// An equal one. O(bytes).
+    /// Makes an equal one. O(bytes).
     pub(crate) fn try_copy(&self) -> Result<Granted, AllocError>
         ensures { IfOk result (λ copy. copy ≡ self.now) }
     {

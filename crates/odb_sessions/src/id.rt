@@ -33,7 +33,7 @@ impl Model for Id {
 }
 
 impl Id {
-    /// The id that a request names. O(n) for a text of n bytes.
+    /// Makes the id that a request names. O(n) for a text of n bytes.
     pub fn new(alloc: Global, id: Printable<'_>) -> Result<Id, AllocError>
         ensures { IfOk result (λ made. made ≡ printable_data id.entry) }
     {
@@ -42,14 +42,14 @@ impl Id {
         Ok(Id { value, text })
     }
 
-    /// Whether the two are one id: their compact texts are equal. O(n) for texts of n bytes.
+    /// Returns whether the two are one id: their compact texts are equal. O(n) for texts of n bytes.
     pub fn same(&self, other: &Id) -> bool
         ensures { result ≡ bytes_eq (compact_text self.now) (compact_text other.now) }
     {
         self.text.as_slice() == other.text.as_slice()
     }
 
-    /// It, to be printed. O(n) for a text of n bytes.
+    /// Returns it, to be printed. O(n) for a text of n bytes.
     pub(crate) fn printable(&self) -> Printable<'_>
         ensures { printable_data result ≡ self.now }
     {

@@ -86,7 +86,7 @@ fn add_tables(
     Ok(())
 }
 
-/// Tells whether the filters are just what these monitors ask, in their order.
+/// Returns whether the filters are just what these monitors ask, in their order.
 fn are_asked(filters: &[Asked], monitors: &[Monitor]) -> bool
     ensures { OnTrue result (filters.now ≡ flat_map filters_asked monitors.now) }
 {

@@ -71,7 +71,7 @@ pub(crate) struct Stopped {
 }
 
 impl Item {
-    /// Whether it is a reply to a request.
+    /// Returns whether it is a reply to a request.
     pub(crate) fn is_reply(&self) -> bool
         ensures { result ≡ is_answer (label (item_seen (queued_of self.now))) }
     {

@@ -65,8 +65,8 @@ impl<'a> Model for Job<'a> {
 }
 
 impl<'a> Job<'a> {
-    /// What is composed for the client of this monitor in this way. O(1), and under other filters what these are
-    /// looked up in.
+    /// Makes the job of what is composed for the client of this monitor in this way. O(1), and under other filters what
+    /// these are looked up in.
     pub(crate) fn new(
         alloc: Global,
         chains: &'a Chains,
@@ -86,7 +86,7 @@ impl<'a> Job<'a> {
         })
     }
 
-    /// That of the first reply of this monitor, with its text where that is kept. O(1).
+    /// Makes that of the first reply of this monitor, with its text where that is kept. O(1).
     pub(crate) fn first(
         alloc: Global,
         chains: &'a Chains,
@@ -106,8 +106,8 @@ impl<'a> Job<'a> {
         }
     }
 
-    /// Whether something is sent: a reply always is. The costs are those of `odb_monitor::Job::has_updates` and,
-    /// for each table, of `odb_chain::Chains::since`.
+    /// Returns whether something is sent: a reply always is. The costs are those of `odb_monitor::Job::has_updates`
+    /// and, for each table, of `odb_chain::Chains::since`.
     pub fn has_updates(&self, alloc: Global) -> Result<bool, AllocError>
         ensures { IfOk result (λ has. has ≡ is_some (updates_of self.now)) }
     {
@@ -118,8 +118,9 @@ impl<'a> Job<'a> {
         job.has_updates(alloc)
     }
 
-    /// The text of the table updates, without the monitor's id; `None` where nothing is sent. One that is kept is
-    /// shared; else the costs are those of `odb_monitor::compose` and, for each table, of `odb_chain::Chains::since`.
+    /// Composes the text of the table updates, without the monitor's id; `None` where nothing is sent. One that is kept
+    /// is shared; else the costs are those of `odb_monitor::compose` and, for each table, of
+    /// `odb_chain::Chains::since`.
     pub fn compose(&self, alloc: Global) -> Result<Option<Arc<Vec<u8>>>, AllocError>
         ensures { IfOk result (λ body. bytes_in body ≡ composition self.now) }
     {
@@ -144,8 +145,8 @@ impl<'a> Job<'a> {
         }
     }
 
-    /// What is to be kept of it, of which this was composed: where it is that of a first reply, a long text that isn't
-    /// kept. O(n) for n tables.
+    /// Returns what is to be kept of it, of which this was composed: where it is that of a first reply, a long text
+    /// that isn't kept. O(n) for n tables.
     pub(crate) fn first_text(
         &self,
         alloc: Global,
@@ -166,7 +167,7 @@ impl<'a> Job<'a> {
         self.told_first(alloc, text)
     }
 
-    /// The text, where it is that of a first reply.
+    /// Returns the text, where it is that of a first reply.
     fn told_first(
         &self,
         alloc: Global,
@@ -187,7 +188,7 @@ impl<'a> Job<'a> {
         }
     }
 
-    /// The job, with the tables as they are now and how they changed.
+    /// Returns the job, with the tables as they are now and how they changed.
     fn differences(&self, alloc: Global) -> Result<odb_monitor::Job<'_>, AllocError>
         ensures { IfOk result (λ job. job ≡ self.now) }
     {
@@ -212,7 +213,7 @@ fn rows_of(chains: &Chains, table: &Watching) -> usize {
     }
 }
 
-/// What is asked of the monitor's tables under other filters; nothing where it is told under its own.
+/// Returns what is asked of the monitor's tables under other filters; nothing where it is told under its own.
 fn requests_of(alloc: Global, monitor: &Monitor, way: Way<'_>) -> Result<Vec<Request>, AllocError>
     ensures { IfOk result (λ requests. requests.items ≡ asked_by monitor.now.tables (filters_by way.entry)) }
 {
@@ -232,7 +233,7 @@ impl Monitor {
         rows
     }
 
-    /// The job of its first reply, or of what its client lacks.
+    /// Returns the job of its first reply, or of what its client lacks.
     fn own_job<'a>(
         &'a self,
         alloc: Global,
@@ -247,7 +248,7 @@ impl Monitor {
         Ok(odb_monitor::Job::new(self.kind, first, parts))
     }
 
-    /// The job of what its client lacks, as if these were its requests.
+    /// Returns the job of what its client lacks, as if these were its requests.
     fn changed_job<'a>(
         &'a self,
         alloc: Global,
@@ -263,8 +264,8 @@ impl Monitor {
         Ok(odb_monitor::Job::new(self.kind, false, parts))
     }
 
-    /// The job of what its client lacks, as if these were its requests, where it was told of its tables as they are
-    /// now under these filters.
+    /// Returns the job of what its client lacks, as if these were its requests, where it was told of its tables as they
+    /// are now under these filters.
     fn again_job<'a>(
         &'a self,
         alloc: Global,

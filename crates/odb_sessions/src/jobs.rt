@@ -29,7 +29,7 @@ pub(crate) struct Planned {
 }
 
 impl Planned {
-    /// Of no session that is open nothing comes.
+    /// Plans that nothing comes, since the session isn't open.
     pub(crate) fn none(session: SessionId) -> Planned
         ensures session { result.session ≡ session }
         ensures coming { (js : List model_job.Job) → text_planned js result.taking.coming ≡ no_text }
@@ -158,14 +158,14 @@ impl<'a> Jobs<'a> {
         self.alloc
     }
 
-    /// The jobs, each of which is to be composed. O(1).
+    /// Returns the jobs, each of which is to be composed. O(1).
     pub fn list(&self) -> &[Job<'a>]
         ensures { result.now ≡ self.now.jobs }
     {
         self.jobs.as_slice()
     }
 
-    /// What is composed of each of the jobs, in their order. The costs are those of `Job::compose` for each.
+    /// Returns what is composed of each of the jobs, in their order. The costs are those of `Job::compose` for each.
     pub fn compose(&self) -> Result<Vec<Option<Arc<Vec<u8>>>>, AllocError>
         ensures { IfOk result (λ bodies. map bytes_in bodies.items ≡ map composition self.now.jobs) }
     {
@@ -194,8 +194,8 @@ impl<'a> Jobs<'a> {
         last_first(self.alloc, self.jobs.as_slice(), bodies)
     }
 
-    /// The round, with a body for each job, in their order: what is composed of it. Each message shares the body of
-    /// its job. O(n) for n sessions.
+    /// Finishes the round, with a body for each job, in their order: what is composed of it. Each message shares the
+    /// body of its job. O(n) for n sessions.
     pub fn finish(self, bodies: &[Option<Arc<Vec<u8>>>]) -> Result<Prepared, AllocError>
         requires { map bytes_in bodies.now ≡ map composition self.jobs }
         ensures { IfOk result (λ prepared. prepared ≡ self.entry.takings) }
@@ -212,7 +212,7 @@ impl<'a> Jobs<'a> {
     }
 }
 
-/// The text of the last first reply among these that is to be kept.
+/// Returns the text of the last first reply among these that is to be kept.
 fn last_first(
     alloc: Global,
     jobs: &[Job<'_>],
@@ -233,7 +233,7 @@ fn last_first(
     Ok(None)
 }
 
-/// What is composed of each of these jobs, in their order.
+/// Returns what is composed of each of these jobs, in their order.
 fn compose_all(alloc: Global, jobs: &[Job<'_>]) -> Result<Vec<Option<Arc<Vec<u8>>>>, AllocError>
     ensures { IfOk result (λ bodies. map bytes_in bodies.items ≡ map composition jobs.now) }
 {

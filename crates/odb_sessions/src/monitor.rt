@@ -51,7 +51,7 @@ impl Model for Watching {
 }
 
 impl Watching {
-    /// The name of its table.
+    /// Returns the name of its table.
     pub(crate) fn name(&self) -> &str
         ensures { result.now ≡ self.now.request.shape.name }
     {
@@ -59,7 +59,7 @@ impl Watching {
         shape.table_schema().name()
     }
 
-    /// Whether it is of the table of this name.
+    /// Returns whether it is of the table of this name.
     fn is_of(&self, name: &str) -> bool
         ensures { result ≡ bytes_eq name.now self.now.request.shape.name }
     {
@@ -79,14 +79,14 @@ impl Watching {
         past.release(mark);
     }
 
-    /// Whether this is asked of it. `false` says nothing.
+    /// Returns whether this is asked of it. `false` says nothing.
     pub(crate) fn asks(&self, request: &Request) -> bool
         ensures { OnTrue result (request.now ≡ self.now.request) }
     {
         request.same(&self.request)
     }
 
-    /// Tells whether this is what is asked of its table.
+    /// Returns whether this is what is asked of its table.
     pub(crate) fn is_asked(&self, asked: &Asked) -> bool
         ensures { OnTrue result (asked.now ≡ filter_asked self.now) }
     {
@@ -138,14 +138,14 @@ impl Model for Monitor {
 }
 
 impl Monitor {
-    /// Its id, for whoever keeps it too. O(1).
+    /// Returns its id, for whoever keeps it too. O(1).
     pub(crate) fn id(&self) -> Result<Arc<Id>, AllocError>
         ensures { IfOk result (λ id. arc_value id ≡ self.now.id) }
     {
         Ok(self.id.clone()?)
     }
 
-    /// Whether a table of this name is one of its tables.
+    /// Returns whether a table of this name is one of its tables.
     pub(crate) fn has_table(&self, name: &str) -> bool
         ensures { result ≡ list_any (λ w. bytes_eq name.now w.request.shape.name) self.now.tables }
     {
@@ -166,7 +166,7 @@ impl Monitor {
         release_all(tables, past);
     }
 
-    /// Its client has what its tables are now.
+    /// Brings its client to what its tables are now.
     pub(crate) fn bring(&mut self, chains: &mut Chains)
         requires has { HasAll chains.old (marks_in self.old) }
         requires few { counted_in chains.old.live < 2 ^ 64 - 1 }
@@ -179,7 +179,7 @@ impl Monitor {
         bring_all(&mut self.tables, chains);
     }
 
-    /// Its client has what its tables are now, under these filters.
+    /// Brings its client to what its tables are now, under these filters.
     pub(crate) fn bring_under(&mut self, changes: Changes, chains: &mut Chains)
         requires has { HasAll chains.old (marks_in self.old) }
         requires few { counted_in chains.old.live < 2 ^ 64 - 1 }
@@ -192,7 +192,7 @@ impl Monitor {
         bring_all_under(&mut self.tables, changes, chains);
     }
 
-    /// It has this id and these filters; what its client was told stays.
+    /// Gives it this id and these filters; what its client was told stays.
     pub(crate) fn rename(&mut self, id: Arc<Id>, changes: Changes)
         ensures monitor { (h : Service) → monitor_of self.new ≡ record (monitor_of self.old) { watch = changed h (arc_value id) (filters_of changes) (watch_of self.old) } }
         ensures marks { marks_in self.new ≡ marks_in self.old }

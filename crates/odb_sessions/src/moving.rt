@@ -18,7 +18,7 @@ use odb_cond::Filter;
 use std::sync::Arc;
 
 impl Watching {
-    /// The client has what the table is now, under this filter, or under the one that is asked where there is
+    /// Brings the client to what the table is now, under this filter, or under the one that is asked where there is
     /// none.
     pub(crate) fn bring(&mut self, filter: Option<Arc<Filter>>, chains: &mut Chains)
         requires has { HasAll chains.old (self.old.mark ∷ []) }
@@ -32,7 +32,7 @@ impl Watching {
         self.told = filter;
     }
 
-    /// The client has what the table is now, under the filter that is taken out for it, if there is one.
+    /// Brings the client to what the table is now, under the filter that is taken out for it, if there is one.
     fn bring_under(&mut self, changes: &mut Changes, chains: &mut Chains)
         requires has { HasAll chains.old (self.old.mark ∷ []) }
         requires few { counted_in chains.old.live < 2 ^ 64 - 1 }
@@ -47,7 +47,7 @@ impl Watching {
         self.bring(filter, chains);
     }
 
-    /// The table is asked for under this filter; what the client was told stays.
+    /// Asks for the table under this filter; what the client was told stays.
     fn ask(&mut self, filter: Arc<Filter>)
         ensures { self.new ≡ record { request = record (self.old.request) { filter = arc_value filter }; told = self.old.told; mark = self.old.mark } }
     {
@@ -55,7 +55,7 @@ impl Watching {
         self.told = self.told.take().or(Some(old));
     }
 
-    /// The same under the filter that is taken out for it, if there is one.
+    /// Does the same under the filter that is taken out for it, if there is one.
     fn ask_under(&mut self, changes: &mut Changes)
         ensures table { self.new ≡ asked_under (filters_of changes.old) self.old }
         ensures others { (n : List ℕ) (f : model.Filter) → bytes_eq self.old.request.shape.name n ≡ false
@@ -68,7 +68,7 @@ impl Watching {
     }
 }
 
-/// The client has what these tables are now, under the filters that are asked.
+/// Brings the client to what these tables are now, under the filters that are asked.
 pub(crate) fn bring_all(tables: &mut Vec<Watching>, chains: &mut Chains)
     requires has { HasAll chains.old (map (λ w. w.mark) tables.old.items) }
     requires few { counted_in chains.old.live < 2 ^ 64 - 1 }
@@ -82,7 +82,7 @@ pub(crate) fn bring_all(tables: &mut Vec<Watching>, chains: &mut Chains)
     }
 }
 
-/// The client has what these tables are now, each under the filter that is named for it, or under the one that
+/// Brings the client to what these tables are now, each under the filter that is named for it, or under the one that
 /// is asked where none is.
 pub(crate) fn bring_all_under(tables: &mut Vec<Watching>, changes: Changes, chains: &mut Chains)
     requires apart { AreApart (asked_of tables.old.items) }
@@ -99,7 +99,7 @@ pub(crate) fn bring_all_under(tables: &mut Vec<Watching>, changes: Changes, chai
     }
 }
 
-/// These tables are asked for, each under the filter that is named for it, if one is; what the client was told
+/// Asks for these tables, each under the filter that is named for it, if one is; what the client was told
 /// stays.
 pub(crate) fn ask_all_under(tables: &mut Vec<Watching>, changes: Changes)
     requires { AreApart (asked_of tables.old.items) }

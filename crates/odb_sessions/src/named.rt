@@ -45,7 +45,7 @@ impl<'a> Named<'a> {
         Ok(Named { id, monitor })
     }
 
-    /// It under another id.
+    /// Returns it under another id.
     fn under(&self, id: Arc<Id>) -> Named<'a>
         ensures { result ≡ under_id (arc_value id) self.now }
     {
@@ -55,14 +55,14 @@ impl<'a> Named<'a> {
         }
     }
 
-    /// Whether it has this id.
+    /// Returns whether it has this id.
     fn is_of(&self, id: &Id) -> bool
         ensures { result ≡ is_same id.now self.now.id }
     {
         id.same(&self.id)
     }
 
-    /// Which call asked for it. O(1).
+    /// Returns which call asked for it. O(1).
     pub fn kind(&self) -> Kind
         ensures { notation_of result ≡ self.now.notation }
     {
@@ -70,7 +70,7 @@ impl<'a> Named<'a> {
         monitor.kind
     }
 
-    /// Whether a table of this name is one of its tables. O(n) comparisons of names for n tables.
+    /// Returns whether a table of this name is one of its tables. O(n) comparisons of names for n tables.
     pub fn has_table(&self, name: &str) -> bool
         ensures { result ≡ list_any (λ s. bytes_eq name.now s.name) self.now.shapes }
     {
@@ -78,7 +78,7 @@ impl<'a> Named<'a> {
     }
 }
 
-/// These monitors.
+/// Names these monitors.
 pub(crate) fn all_named<'a>(
     alloc: Global,
     monitors: &'a [Monitor],
@@ -92,7 +92,7 @@ pub(crate) fn all_named<'a>(
     Ok(named)
 }
 
-/// What an item does to the monitors as asked. Where memory is refused some of it may be done.
+/// Does to the monitors as asked what an item does. Where memory is refused some of it may be done.
 pub(crate) fn ask_of<'a>(named: &mut Vec<Named<'a>>, item: &'a Item) -> Result<(), AllocError>
     ensures { OnOk result (named.new.items ≡ asks_named (item_seen (queued_of item.now)) named.old.items) }
 {
@@ -143,7 +143,7 @@ fn place_of(named: &[Named<'_>], id: &Id) -> Option<usize>
     named.iter().position(|known| known.is_of(id))
 }
 
-/// The first of these with the id.
+/// Returns the first of these with the id.
 pub(crate) fn first_of<'a>(named: Vec<Named<'a>>, id: &Id) -> Option<Named<'a>>
     ensures { result ≡ find (λ n. is_same id.now n.id) named.entry.items }
 {

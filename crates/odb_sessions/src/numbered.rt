@@ -47,7 +47,7 @@ impl Model for Numbered {
 }
 
 impl Numbered {
-    /// No session is open.
+    /// Makes sessions, of which none is open.
     pub(crate) fn new(alloc: Global) -> Numbered
         ensures { result ≡ finite.empty }
     {
@@ -57,7 +57,7 @@ impl Numbered {
         }
     }
 
-    /// How many are open.
+    /// Returns how many are open.
     pub(crate) fn len(&self) -> usize
         ensures { result ≡ finite.len self.now }
     {
@@ -88,7 +88,7 @@ impl Numbered {
         self.sessions.try_remove(key)
     }
 
-    /// A session, if it is open.
+    /// Returns a session, if it is open.
     pub(crate) fn get(&self, number: SessionId) -> Option<&Session>
         ensures { option_copied result ≡ finite.get self.now number }
     {
@@ -96,7 +96,7 @@ impl Numbered {
         self.sessions.get(*key)
     }
 
-    /// A session for writing, if it is open.
+    /// Returns a session for writing, if it is open.
     fn get_mut(&mut self, number: SessionId) -> Option<&mut Session>
         ensures* writes_back { sem 𝓛 (lends_session self.entry number result) }
         ensures value { option_copied_mut result ≡ finite.get self.old number }
@@ -107,14 +107,14 @@ impl Numbered {
         }
     }
 
-    /// Whether a session is open.
+    /// Returns whether a session is open.
     pub(crate) fn has(&self, number: SessionId) -> bool
         ensures { result ≡ is_some (finite.get self.now number) }
     {
         self.get(number).is_some()
     }
 
-    /// How many monitors a session has; none where it isn't open.
+    /// Returns how many monitors a session has; none where it isn't open.
     pub(crate) fn monitors(&self, number: SessionId) -> usize {
         match self.get(number) {
             Some(session) => session.monitors.len(),
@@ -122,7 +122,7 @@ impl Numbered {
         }
     }
 
-    /// The first open session from this number on, and how many monitors it has. O(log n).
+    /// Returns the first open session from this number on, and how many monitors it has. O(log n).
     pub(crate) fn first_from(&self, number: SessionId) -> Option<(SessionId, usize)>
         ensures { IfSome result (λ found. number ≤ found.0) }
     {
@@ -205,7 +205,7 @@ impl Numbered {
         to.push(item)
     }
 
-    /// The newest item of each of these sessions' queues goes, that of the last session first.
+    /// Drops the newest item of each of these sessions' queues, that of the last session first.
     pub(crate) fn unpost(&mut self, posted_to: Vec<SessionId>)
         ensures { self.new ≡ kept_unposted posted_to.items self.old }
     {

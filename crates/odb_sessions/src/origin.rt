@@ -37,7 +37,7 @@ impl Model for Origin {
 }
 
 impl Origin {
-    /// The reply to this request. O(n) for an id of n bytes.
+    /// Makes the reply to this request. O(n) for an id of n bytes.
     pub(crate) fn new(alloc: Global, request: &Request) -> Result<Origin, AllocError>
         requires { has_left_out (id_of (request_data request.now)) ≡ false }
         ensures { IfOk result (λ origin. origin ≡ request_data request.now) }
@@ -47,7 +47,7 @@ impl Origin {
         Ok(Origin { before, request })
     }
 
-    /// The reply, with the result that is composed of the job. O(n) for an id of n bytes.
+    /// Returns the reply, with the result that is composed of the job. O(n) for an id of n bytes.
     pub(crate) fn reply(&self, alloc: Global, job: usize) -> Result<Envelope, AllocError>
         ensures { IfOk result (λ message. IsFrame message job (λ d. compact_text (reply (id_of self.now) d))) }
     {
@@ -72,7 +72,7 @@ impl Origin {
         Ok(Envelope { before, job, after })
     }
 
-    /// An equal one. O(bytes).
+    /// Makes an equal one. O(bytes).
     pub(crate) fn try_copy(&self) -> Result<Origin, AllocError>
         ensures { IfOk result (λ copy. copy ≡ self.now) }
     {

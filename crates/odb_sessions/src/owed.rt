@@ -48,8 +48,8 @@ impl<'a> Model for Owed<'a> {
 }
 
 impl<'a> Owed<'a> {
-    /// The part of a job that leads the client to what the table is now; in a first reply it was told nothing. The
-    /// costs are those of `odb_chain::Chains::since`, and O(1) in a first reply.
+    /// Returns the part of a job that leads the client to what the table is now; in a first reply it was told nothing.
+    /// The costs are those of `odb_chain::Chains::since`, and O(1) in a first reply.
     pub(crate) fn part(
         &self,
         alloc: Global,
@@ -68,7 +68,7 @@ impl<'a> Owed<'a> {
     }
 }
 
-/// What the client was told, by the filter.
+/// Returns what the client was told, by the filter.
 fn told_by(filter: Option<&Filter>) -> Told<'_>
     ensures { (q : model_request.Request) (t : model_table.Table)
         → told_in result q t ≡ selected (record q { filter = told_under q (option_map (λ f. f.now) filter.entry) }) t }
@@ -79,7 +79,7 @@ fn told_by(filter: Option<&Filter>) -> Told<'_>
     }
 }
 
-/// How the mark's table changed since the mark was made; `None` where it didn't.
+/// Returns how the mark's table changed since the mark was made; `None` where it didn't.
 fn changes_since(
     alloc: Global,
     chains: &Chains,
@@ -97,7 +97,7 @@ fn changes_since(
 }
 
 impl Watching {
-    /// It, under what is asked of it.
+    /// Returns it, under what is asked of it.
     fn owed(&self) -> Owed<'_>
         ensures { result ≡ self.now }
     {
@@ -108,7 +108,7 @@ impl Watching {
         }
     }
 
-    /// It, as if the request were this one.
+    /// Returns it, as if the request were this one.
     fn owed_as<'a>(&'a self, request: &'a Request) -> Owed<'a>
         ensures { result ≡ asked_as self.now request.now }
     {
@@ -119,7 +119,7 @@ impl Watching {
         }
     }
 
-    /// The filter under which the client was told.
+    /// Returns the filter under which the client was told.
     pub(crate) fn told_filter(&self) -> &Filter
         ensures { result.now ≡ self.now.told }
     {
@@ -129,8 +129,8 @@ impl Watching {
         }
     }
 
-    /// The part of a job that leads the client to what the request selects, where it was told of the table as it
-    /// is now under these filters. O(1), and what a filter is looked up in.
+    /// Returns the part of a job that leads the client to what the request selects, where it was told of the table as
+    /// it is now under these filters. O(1), and what a filter is looked up in.
     fn part_again<'a>(
         &'a self,
         chains: &'a Chains,
@@ -164,7 +164,7 @@ impl Watching {
     }
 }
 
-/// A filter that isn't the request's.
+/// Returns a filter that isn't the request's.
 fn other_filter(told: &Option<Arc<Filter>>) -> Option<&Filter>
     ensures { option_map (λ f. f.now) result ≡ option_map arc_value told.now }
 {
@@ -174,7 +174,7 @@ fn other_filter(told: &Option<Arc<Filter>>) -> Option<&Filter>
     }
 }
 
-/// The tables of a monitor, under what is asked of each. O(n) for n tables.
+/// Returns the tables of a monitor, under what is asked of each. O(n) for n tables.
 pub(crate) fn all_owed<'a>(
     alloc: Global,
     tables: &'a [Watching],
@@ -188,7 +188,7 @@ pub(crate) fn all_owed<'a>(
     Ok(owed)
 }
 
-/// The tables of a monitor, as if these were its requests. O(n) for n tables.
+/// Returns the tables of a monitor, as if these were its requests. O(n) for n tables.
 pub(crate) fn all_owed_as<'a>(
     alloc: Global,
     tables: &'a [Watching],
@@ -204,7 +204,7 @@ pub(crate) fn all_owed_as<'a>(
     Ok(owed)
 }
 
-/// The parts for these tables, which lead the client to what the requests select, where it was told of them as
+/// Returns the parts for these tables, which lead the client to what the requests select, where it was told of them as
 /// they are now under these filters. For n tables O(n).
 pub(crate) fn parts_again<'a>(
     alloc: Global,

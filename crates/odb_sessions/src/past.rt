@@ -48,7 +48,7 @@ impl Model for Past {
 }
 
 impl Past {
-    /// The database, without changes and marks.
+    /// Makes the past of the database, without changes and marks.
     pub(crate) fn new(alloc: Global, db: Db, hashing: RandomState) -> Result<Past, AllocError>
         ensures chains { IfOk result (λ past. past ≡ chains_of db) }
         ensures now { IfOk result (λ past. IsNow past) }
@@ -61,14 +61,14 @@ impl Past {
         })
     }
 
-    /// The database as it is now.
+    /// Returns the database as it is now.
     pub(crate) fn db(&self) -> &Db
         ensures { result.now ≡ self.now.db }
     {
         self.chains.db()
     }
 
-    /// The database with its past. O(1).
+    /// Returns the database with its past. O(1).
     pub(crate) fn chains(&self) -> &Chains
         ensures { result.now ≡ self.now }
     {
@@ -102,7 +102,7 @@ impl Past {
         self.chains.absorb(change)
     }
 
-    /// One mark less.
+    /// Counts one mark less.
     pub(crate) fn release(&mut self, mark: Mark)
         requires { IsLive self.old mark }
         ensures chains { self.new ≡ released mark.table mark.place self.old }
@@ -132,7 +132,7 @@ impl Past {
         Ok(tables)
     }
 
-    /// The client of the monitor has what its tables are now.
+    /// Brings the client of the monitor to what its tables are now.
     pub(crate) fn bring(&mut self, monitor: &mut Monitor)
         requires has { HasAll self.old (marks_in monitor.old) }
         requires now { IsNow self.old }
@@ -143,7 +143,7 @@ impl Past {
         monitor.bring(&mut self.chains);
     }
 
-    /// The same under the filters that are named.
+    /// Does the same under the filters that are named.
     pub(crate) fn bring_under(&mut self, monitor: &mut Monitor, changes: Changes)
         requires has { HasAll self.old (marks_in monitor.old) }
         requires now { IsNow self.old }

@@ -34,7 +34,7 @@ use std::alloc::{AllocError, Global};
 use uuid::Uuid;
 
 impl Monitor {
-    /// Its tables, under what is asked of each. O(n) for n tables.
+    /// Returns its tables, under what is asked of each. O(n) for n tables.
     pub(crate) fn owed<'a>(&'a self, alloc: Global) -> Result<Vec<Owed<'a>>, AllocError>
         ensures tables { IfOk result (λ owed. owed.items ≡ self.now.tables) }
         ensures known { IfOk result (λ owed. (k : model.Chains) → AreLive k (marks_in self.now) → All (IsKnown k) owed.items) }
@@ -42,8 +42,8 @@ impl Monitor {
         all_owed(alloc, self.tables.as_slice())
     }
 
-    /// The update that its client is owed under these filters, where nothing of it was foreseen; `None` where it
-    /// is owed nothing. The costs are those of `Wanted::updates` under what it asks, and else those of
+    /// Returns the update that its client is owed under these filters, where nothing of it was foreseen; `None` where
+    /// it is owed nothing. The costs are those of `Wanted::updates` under what it asks, and else those of
     /// `Wanted::want`.
     pub(crate) fn update<'a>(
         &'a self,
@@ -63,7 +63,7 @@ impl Monitor {
         }
     }
 
-    /// The update that its client is owed.
+    /// Returns the update that its client is owed.
     fn update_asked<'a>(&'a self, wanted: &mut Wanted<'a>) -> Result<Option<Envelope>, AllocError>
         requires { AreLive wanted.old.chains (marks_in self.now) }
         ensures text { IfOk result (λ message. (h : Service) → Tells wanted.new.jobs message
@@ -80,7 +80,7 @@ impl Monitor {
         self.notification(wanted.alloc(), number, place)
     }
 
-    /// The update that its client is owed under these filters.
+    /// Returns the update that its client is owed under these filters.
     fn update_under<'a>(
         &'a self,
         wanted: &mut Wanted<'a>,
@@ -98,7 +98,7 @@ impl Monitor {
         self.notification(wanted.alloc(), number, place)
     }
 
-    /// The update that its client is owed under these filters, where it was told of its tables as they are now
+    /// Returns the update that its client is owed under these filters, where it was told of its tables as they are now
     /// under the filters told. The costs are those of `Wanted::want`.
     pub(crate) fn update_again<'a>(
         &'a self,
@@ -118,8 +118,8 @@ impl Monitor {
         self.notification(wanted.alloc(), number, place)
     }
 
-    /// The notification to its client with what is composed of the job at this place, where this is the number of the
-    /// newest commit; none where there is no place.
+    /// Returns the notification to its client with what is composed of the job at this place, where this is the number
+    /// of the newest commit; none where there is no place.
     fn notification(
         &self,
         alloc: Global,
@@ -136,7 +136,7 @@ impl Monitor {
         Ok(Some(self.around_updates(alloc, number, job)?))
     }
 
-    /// Whether its client was told of its tables as they are now, under what is asked. `false` says nothing.
+    /// Returns whether its client was told of its tables as they are now, under what is asked. `false` says nothing.
     pub(crate) fn is_told(&self, chains: &Chains) -> bool
         requires { AreLive chains.now (marks_in self.now) }
         ensures { result ≡ true → AreNow chains.now.db self.now.tables }
@@ -172,7 +172,7 @@ impl Monitor {
 }
 
 impl Watching {
-    /// Whether the client has what the table is now, under what is asked. `false` says nothing. O(1).
+    /// Returns whether the client has what the table is now, under what is asked. `false` says nothing. O(1).
     fn is_now(&self, chains: &Chains) -> bool
         requires { IsKnown chains.now self.now }
         ensures { result ≡ true → (part_to chains.now.db self.now).told ≡ (part_to chains.now.db self.now).asked }
@@ -184,7 +184,8 @@ impl Watching {
     }
 }
 
-/// Whether the client has what these tables are now, under what is asked. `false` says nothing. O(n) for n tables.
+/// Returns whether the client has what these tables are now, under what is asked. `false` says nothing. O(n) for n
+/// tables.
 pub(crate) fn are_now(tables: &[Watching], chains: &Chains) -> bool
     requires { All (IsKnown chains.now) tables.now }
     ensures { result ≡ true → AreNow chains.now.db tables.now }
@@ -197,7 +198,7 @@ pub(crate) fn are_now(tables: &[Watching], chains: &Chains) -> bool
     true
 }
 
-/// The parts for these tables, as if these were the requests.
+/// Returns the parts for these tables, as if these were the requests.
 pub(crate) fn parts_under<'a>(
     alloc: Global,
     chains: &'a Chains,

@@ -44,7 +44,7 @@ impl Model for Queue {
 }
 
 impl Queue {
-    /// Nothing is queued.
+    /// Makes a queue in which nothing is.
     pub(crate) fn new(alloc: Global) -> Queue
         ensures { result ≡ [] }
     {
@@ -54,14 +54,14 @@ impl Queue {
         }
     }
 
-    /// How many replies are queued. O(1).
+    /// Returns how many replies are queued. O(1).
     pub(crate) fn replies(&self) -> usize
         ensures { result ≡ replies_in (map item_seen self.now) }
     {
         self.replies
     }
 
-    /// Whether nothing is queued. O(1).
+    /// Returns whether nothing is queued. O(1).
     pub(crate) fn is_empty(&self) -> bool
         ensures { result ≡ true → self.now ≡ [] }
     {
@@ -106,7 +106,7 @@ impl Queue {
         Some(item)
     }
 
-    /// What its items do to the ids as asked. Where memory is refused some of it may be done.
+    /// Does to the ids as asked what its items do. Where memory is refused some of it may be done.
     pub(crate) fn ask(&self, ids: &mut Vec<Arc<Id>>) -> Result<(), AllocError>
         ensures { OnOk result (map arc_value ids.new.items ≡ ids_after (map item_seen self.now) (map arc_value ids.old.items)) }
     {
@@ -116,7 +116,7 @@ impl Queue {
         Ok(())
     }
 
-    /// What its items do to the monitors as asked. Where memory is refused some of it may be done.
+    /// Does to the monitors as asked what its items do. Where memory is refused some of it may be done.
     pub(crate) fn ask_of<'a>(&'a self, named: &mut Vec<Named<'a>>) -> Result<(), AllocError>
         ensures { OnOk result (named.new.items ≡ named_after (map item_seen self.now) named.old.items) }
     {

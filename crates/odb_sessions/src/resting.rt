@@ -15,10 +15,10 @@ use odb_chain::Chains;
 use odb_locks::SessionId;
 
 impl Sessions {
-    /// Whether nothing is queued for a session, and the client of each of its monitors was told of its tables as
-    /// they are now, under the filters that are asked; so it is where the session isn't open. A taking gives it
-    /// nothing then, and changes nothing. `false` says nothing. O(log n) for n sessions, and O(1) for each table
-    /// of its monitors.
+    /// Returns whether nothing is queued for a session, and the client of each of its monitors was told of its tables
+    /// as they are now, under the filters that are asked; so it is where the session isn't open. A taking gives it
+    /// nothing then, and changes nothing. `false` says nothing. O(log n) for n sessions, and O(1) for each table of its
+    /// monitors.
     fn rests(&self, session: SessionId) -> bool
         ensures { OnTrue result (IsQuietAt self.now session) }
     {
@@ -47,8 +47,8 @@ impl Sessions {
 }
 
 impl Session {
-    /// Whether nothing is queued, and the clients of its monitors were told of their tables as they are now, under
-    /// the filters that are asked. `false` says nothing.
+    /// Returns whether nothing is queued, and the clients of its monitors were told of their tables as they are now,
+    /// under the filters that are asked. `false` says nothing.
     pub(crate) fn rests(&self, chains: &Chains) -> bool
         requires { AreLive chains.now (marks_of self.now) }
         ensures { result ≡ true → IsQuiet chains.now.db (seen self.now) }
@@ -60,7 +60,7 @@ impl Session {
     }
 }
 
-/// Whether the clients of these monitors were told of their tables as they are now. `false` says nothing.
+/// Returns whether the clients of these monitors were told of their tables as they are now. `false` says nothing.
 fn are_told(monitors: &[Monitor], chains: &Chains) -> bool
     requires { AreLive chains.now (flat_map marks_in monitors.now) }
     ensures { result ≡ true → All (λ m. AreNow chains.now.db m.tables) monitors.now }

@@ -40,7 +40,7 @@ struct Composed {
     first: Option<FirstText>,
 }
 
-/// What a taking of a session uses up, and what comes, if it is open. O(log n) for n sessions, and what
+/// Returns what a taking of a session uses up, and what comes, if it is open. O(log n) for n sessions, and what
 /// `Session::taking` costs.
 fn taking_at<'a>(
     sessions: &'a Numbered,
@@ -68,7 +68,7 @@ fn taking_at<'a>(
     })
 }
 
-/// What is taken for each of these sessions.
+/// Returns what is taken for each of these sessions.
 fn takings_at<'a>(
     alloc: Global,
     sessions: &'a Numbered,
@@ -109,7 +109,7 @@ fn message(
 }
 
 impl Sessions {
-    /// A round of these sessions, as it is planned: nothing is composed, and nothing is taken. No two jobs are alike, those
+    /// Plans a round of these sessions: nothing is composed, and nothing is taken. No two jobs are alike, those
     /// of replies to who resumes among them: what clients of several are owed alike is one.
     pub fn jobs(&self, listed: &[SessionId]) -> Result<Jobs<'_>, AllocError>
         ensures sessions { IfOk result (λ jobs. sessions_in jobs.takings ≡ listed.now) }
@@ -128,7 +128,7 @@ impl Sessions {
         Ok(Jobs::new(self.alloc, planner.into_jobs(), takings))
     }
 
-    /// The same, composed.
+    /// Plans the same, and composes it.
     fn composed(&self, listed: &[SessionId]) -> Result<Composed, AllocError>
         ensures sessions { IfOk result (λ composed. sessions_in composed.prepared ≡ listed.now) }
         ensures ready { IfOk result (λ composed. AreOf self.now composed.prepared) }

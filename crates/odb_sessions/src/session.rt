@@ -57,7 +57,7 @@ impl Model for Session {
 }
 
 impl Session {
-    /// Nothing is queued, and there are no monitors.
+    /// Makes a session for which nothing is queued, and which has no monitors.
     pub(crate) fn new(alloc: Global) -> Session
         ensures { result ≡ nothing_kept }
     {
@@ -67,7 +67,7 @@ impl Session {
         }
     }
 
-    /// Whether the request has a reply while the session is owed as many as it may be; `waiting` of them
+    /// Returns whether the request has a reply while the session is owed as many as it may be; `waiting` of them
     /// are replies of its transactions that wait. O(1).
     pub(crate) fn owes_too_many(&self, request: &Request, waiting: usize) -> bool
         ensures { (schema : Schema) → result ≡ (has_reply (call_at schema (request_data request.now)) && not (nat_lt (replies_in (map item_seen self.now.queue) + waiting) max_owed)) }
@@ -95,7 +95,7 @@ impl Session {
         self.queue.pop_newest()
     }
 
-    /// The ids of its monitors as asked, in the order of their creation.
+    /// Returns the ids of its monitors as asked, in the order of their creation.
     pub(crate) fn asked(&self, alloc: Global) -> Result<Vec<Arc<Id>>, AllocError>
         ensures { IfOk result (λ ids. map arc_value ids.items ≡ ids_asked (seen self.now)) }
     {
@@ -104,7 +104,7 @@ impl Session {
         Ok(ids)
     }
 
-    /// Its monitors as asked, without their filters, in the order of their creation.
+    /// Returns its monitors as asked, without their filters, in the order of their creation.
     pub(crate) fn named(&self, alloc: Global) -> Result<Vec<Named<'_>>, AllocError>
         ensures { IfOk result (λ named. named.items ≡ named_asked (seen self.now)) }
     {
@@ -142,7 +142,7 @@ impl Session {
         text
     }
 
-    /// The clients of this many monitors, from the first on, have what their tables are now.
+    /// Brings the clients of this many monitors, from the first on, to what their tables are now.
     fn bring(&mut self, count: usize, past: &mut Past)
         requires { IsReady past.old (marks_of self.old) }
         ensures session { (s : Schema) → seen self.new ≡ used_by (served_by s) past.old.db 0 count (seen self.old) }

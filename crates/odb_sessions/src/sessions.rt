@@ -81,8 +81,8 @@ impl Model for Sessions {
 }
 
 impl Sessions {
-    /// The database, and no session and no commit, in a run with this word, of which so many contents can be found.
-    /// O(tables), and O(`most`) in memory.
+    /// Makes sessions over the database, of which none is open, with no commit, in a run with this word, of which so
+    /// many contents can be found. O(tables), and O(`most`) in memory.
     pub fn new(
         alloc: Global,
         db: Db,
@@ -103,35 +103,35 @@ impl Sessions {
         })
     }
 
-    /// The database. O(1).
+    /// Returns the database. O(1).
     pub fn db(&self) -> &Db
         ensures { result.now ≡ self.now.db }
     {
         self.past.db()
     }
 
-    /// How many commits there were. O(1).
+    /// Returns how many commits there were. O(1).
     pub fn commits(&self) -> u64
         ensures { result ≡ self.now.commits }
     {
         self.recent.commits()
     }
 
-    /// How many sessions are open. O(1).
+    /// Returns how many sessions are open. O(1).
     pub fn len(&self) -> usize
         ensures { result ≡ finite.len self.now.sessions }
     {
         self.sessions.len()
     }
 
-    /// Whether a session is open. O(log n) for n sessions.
+    /// Returns whether a session is open. O(log n) for n sessions.
     pub fn has(&self, session: SessionId) -> bool
         ensures { result ≡ is_some (finite.get self.now.sessions session) }
     {
         self.sessions.has(session)
     }
 
-    /// Which sessions may be owed something: a taking of any other gives nothing and changes nothing. O(1).
+    /// Returns which sessions may be owed something: a taking of any other gives nothing and changes nothing. O(1).
     pub fn owed(&self) -> &BTreeSet<SessionId>
         ensures { AreOwed result.now self.now }
     {
@@ -147,7 +147,7 @@ impl Sessions {
         self.sessions.insert(session, Session::new(self.alloc))
     }
 
-    /// Says whether to refuse the request as Busy: it has a reply, and the session is owed as many as it may be,
+    /// Returns whether to refuse the request as Busy: it has a reply, and the session is owed as many as it may be,
     /// `waiting` of them by its transactions that wait. `None` where no such session is open. O(log n) for n
     /// sessions.
     pub fn owes_too_many(
@@ -173,7 +173,7 @@ impl Sessions {
         self.sessions.post_all(self.alloc, posts)
     }
 
-    /// The newest item of each of these sessions' queues goes, that of the last session first.
+    /// Drops the newest item of each of these sessions' queues, that of the last session first.
     /// O(log n) for each.
     pub fn take_back(&mut self, posted_to: Vec<SessionId>)
         ensures { self.new ≡ record (self.old) { sessions = unposted posted_to.items self.old.sessions } }
@@ -184,7 +184,7 @@ impl Sessions {
         }
     }
 
-    /// The newest item of a session's queue goes, with what was kept for it.
+    /// Drops the newest item of a session's queue, with what was kept for it.
     fn take_newest_back(&mut self, session: SessionId)
         ensures { self.new ≡ record (self.old) { sessions = at_number without_last self.old.sessions session } }
     {
@@ -217,7 +217,7 @@ impl Sessions {
         }
     }
 
-    /// Whether the id is that of a monitor of the session as asked: of one that there will be once all that is
+    /// Returns whether the id is that of a monitor of the session as asked: of one that there will be once all that is
     /// queued is taken [P 10.2]. No session that isn't open has one. Where memory is refused nothing is said.
     /// O(log n) for n sessions, and O(monitors + items queued), each with its id.
     pub fn asked(&self, session: SessionId, id: &Id) -> Result<bool, AllocError>
@@ -230,7 +230,7 @@ impl Sessions {
         Ok(has(ids.as_slice(), id))
     }
 
-    /// The monitor of the session as asked that has this id, without its filters; `None` where there is none.
+    /// Returns the monitor of the session as asked that has this id, without its filters; `None` where there is none.
     /// Where memory is refused nothing is said. It costs what `asked` does.
     pub fn asked_watch(&self, session: SessionId, id: &Id) -> Result<Option<Named<'_>>, AllocError>
         ensures { IfOk result (λ found. (schema : Schema) → found ≡ option_map named (watched (served_by schema) id.now (asked_of (served_by schema) (finite.get self.now.sessions session)))) }
@@ -391,8 +391,8 @@ impl Sessions {
             .carry_out(session, items, monitors, &mut self.past)
     }
 
-    /// An equal book. O(rows), O(old rows), O(the rows that the last commits replaced), O(bytes queued), O(marks), O(n log n)
-    /// for n sessions, and what `odb_interest::Interest::try_copy` costs.
+    /// Makes an equal book. O(rows), O(old rows), O(the rows that the last commits replaced), O(bytes queued),
+    /// O(marks), O(n log n) for n sessions, and what `odb_interest::Interest::try_copy` costs.
     pub fn try_copy(&self) -> Result<Sessions, AllocError>
         ensures { IfOk result (λ copy. copy ≡ self.now) }
     {

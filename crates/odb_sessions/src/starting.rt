@@ -77,7 +77,7 @@ impl Starting {
         })
     }
 
-    /// The item of its first reply, with a mark for each of its tables. Where memory is refused no mark is made.
+    /// Makes the item of its first reply, with a mark for each of its tables. Where memory is refused no mark is made.
     pub(crate) fn begin(self, alloc: Global, past: &mut Past) -> Result<Start, AllocError>
         requires tables { AreOfTables past.old.db self.watch.requests }
         requires apart { AreApart self.watch.requests }

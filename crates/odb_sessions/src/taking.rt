@@ -51,7 +51,7 @@ pub(crate) struct Taking {
     pub(crate) coming: Option<Coming>,
 }
 
-/// A message comes, if there is one.
+/// Lets a message come, if there is one.
 fn composed(message: Option<Envelope>) -> Option<Coming>
     ensures comes { is_some result ≡ is_some message }
     ensures text { (all : List model_job.Job) (last : Option machine.Item) → coming_sending all result last ≡ option_and_then (sending_under all) message }
@@ -63,7 +63,8 @@ fn composed(message: Option<Envelope>) -> Option<Coming>
 }
 
 impl Start {
-    /// The first reply. The costs are those of `Wanted::first_reply` or `Wanted::resume` and, for an id of n bytes, O(n).
+    /// Returns the first reply. The costs are those of `Wanted::first_reply` or `Wanted::resume` and, for an id of n
+    /// bytes, O(n).
     fn first_reply<'a>(&'a self, wanted: &mut Wanted<'a>) -> Result<Envelope, AllocError>
         requires { AreLive wanted.old.chains (marks_in self.now.monitor) }
         ensures text { IfOk result (λ message. (h : Service) (all : List model_job.Job) → Keeps wanted.new.jobs all
@@ -79,7 +80,7 @@ impl Start {
         }
     }
 
-    /// The first reply, where no commit was named.
+    /// Returns the first reply, where no commit was named.
     fn whole_reply<'a>(&'a self, wanted: &mut Wanted<'a>) -> Result<Envelope, AllocError>
         requires { AreLive wanted.old.chains (marks_in self.now.monitor) }
         ensures text { IfOk result (λ message. (all : List model_job.Job) → Keeps wanted.new.jobs all
@@ -92,7 +93,7 @@ impl Start {
         self.origin.reply(wanted.alloc(), job)
     }
 
-    /// The first reply, where this commit was named.
+    /// Returns the first reply, where this commit was named.
     fn reply_since<'a>(
         &'a self,
         wanted: &mut Wanted<'a>,
@@ -113,7 +114,7 @@ impl Start {
         }
     }
 
-    /// The first reply, where the commit that was named can't be found, and this is the number of the newest.
+    /// Returns the first reply, where the commit that was named can't be found, and this is the number of the newest.
     fn not_found<'a>(
         &'a self,
         wanted: &mut Wanted<'a>,
@@ -131,7 +132,7 @@ impl Start {
             .numbered_reply(wanted.alloc(), false, number, job)
     }
 
-    /// The first reply, where the commit that was named is found so many commits ago.
+    /// Returns the first reply, where the commit that was named is found so many commits ago.
     fn found<'a>(&'a self, wanted: &mut Wanted<'a>, ago: usize) -> Result<Envelope, AllocError>
         requires live { AreLive wanted.old.chains (marks_in self.now.monitor) }
         requires kept { ago ≤ length wanted.old.recent.undos }
@@ -149,7 +150,7 @@ impl Start {
 }
 
 impl Item {
-    /// Whether its text was finished when it was queued.
+    /// Returns whether its text was finished when it was queued.
     fn is_finished(&self) -> bool
         ensures { result ≡ is_some (finished_text (item_seen (queued_of self.now))) }
     {
@@ -165,7 +166,7 @@ impl Item {
 }
 
 impl<'a> Planner<'a> {
-    /// The first reply, which comes.
+    /// Makes the first reply, which comes.
     fn begin(&mut self, start: &'a Start) -> Result<Option<Coming>, AllocError>
         requires { AreLive self.old.chains (marks_in start.now.monitor) }
         ensures comes { IfOk result (λ coming. is_some coming ≡ true) }
@@ -179,7 +180,7 @@ impl<'a> Planner<'a> {
         Ok(composed(Some(message)))
     }
 
-    /// What the client of the monitor with this id lacks under these filters comes, if it lacks something.
+    /// Returns what the client of the monitor with this id lacks under these filters, if it lacks something.
     fn bring(&mut self, id: &Id, under: Under<'a>) -> Result<Option<Coming>, AllocError>
         ensures comes { IfOk result (λ coming. (s : Schema) → is_some coming
             ≡ is_some (due (served_by s) self.old.chains.db (item_in id.now under.entry) self.old.monitors)) }
@@ -195,8 +196,8 @@ impl<'a> Planner<'a> {
         Ok(composed(message))
     }
 
-    /// What the item gives the client. Where that is nothing the monitors are foreseen as they are after it. The
-    /// costs are those of `Planner::pass` and of `Start::first_reply`.
+    /// Returns what the item gives the client. Where that is nothing the monitors are foreseen as they are after it.
+    /// The costs are those of `Planner::pass` and of `Start::first_reply`.
     fn give(&mut self, item: &'a Item) -> Result<Option<Coming>, AllocError>
         requires { AreLive self.old.chains (marks_due (queued_of item.now)) }
         ensures comes { IfOk result (λ coming. (s : Schema) → is_some coming
@@ -220,7 +221,7 @@ impl<'a> Planner<'a> {
     }
 }
 
-/// What a taking of these items uses up, and what comes, where the first was finished when it was queued. O(1).
+/// Returns what a taking of these items uses up, and what comes, where the first was finished when it was queued. O(1).
 fn at_once(items: &VecDeque<Item>) -> Option<Taking>
     ensures items { IfSome result (λ taking. (s : Schema) (db : model_db.Db) (ms : List machine.Monitor) → taking.items
         ≡ (plan_from (served_by s) db (map item_seen (map queued_of items.now.items)) ms).items) }
@@ -241,8 +242,8 @@ fn at_once(items: &VecDeque<Item>) -> Option<Taking>
     })
 }
 
-/// What a taking of these items uses up, and what comes. The costs are those of `Planner::give` for each item up to
-/// the first that gives something and, where none does, of `Planner::rest`.
+/// Returns what a taking of these items uses up, and what comes. The costs are those of `Planner::give` for each item
+/// up to the first that gives something and, where none does, of `Planner::rest`.
 fn taking_of<'a>(items: &'a VecDeque<Item>, planner: &mut Planner<'a>) -> Result<Taking, AllocError>
     requires { AreLive planner.old.chains (flat_map marks_due (map queued_of items.now.items)) }
     ensures items { IfOk result (λ taking. (s : Schema) → taking.items
@@ -275,7 +276,7 @@ fn taking_of<'a>(items: &'a VecDeque<Item>, planner: &mut Planner<'a>) -> Result
 }
 
 impl Session {
-    /// What a taking of the session uses up, and what comes. The costs are those of `Planner::turn_to` and
+    /// Returns what a taking of the session uses up, and what comes. The costs are those of `Planner::turn_to` and
     /// `taking_of`.
     pub(crate) fn taking<'a>(&'a self, planner: &mut Planner<'a>) -> Result<Taking, AllocError>
         requires { AreLive planner.old.chains (marks_of self.now) }
@@ -298,8 +299,8 @@ impl Session {
 }
 
 impl Queue {
-    /// What a taking of a session with this queue uses up, and what comes, where the first item was finished when
-    /// it was queued. O(1).
+    /// Returns what a taking of a session with this queue uses up, and what comes, where the first item was finished
+    /// when it was queued. O(1).
     fn at_once(&self) -> Option<Taking>
         ensures items { IfSome result (λ taking. (s : Schema) (db : model_db.Db) (ms : List machine.Monitor)
             → taking.items ≡ (plan_from (served_by s) db (map item_seen self.now) ms).items) }
@@ -312,7 +313,7 @@ impl Queue {
         at_once(&self.items)
     }
 
-    /// What a taking of a session with this queue uses up, and what comes. The costs are those of `taking_of`.
+    /// Returns what a taking of a session with this queue uses up, and what comes. The costs are those of `taking_of`.
     fn taking<'a>(&'a self, planner: &mut Planner<'a>) -> Result<Taking, AllocError>
         requires { AreLive planner.old.chains (flat_map marks_due self.now) }
         ensures items { IfOk result (λ taking. (s : Schema)

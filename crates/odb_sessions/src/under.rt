@@ -26,7 +26,7 @@ pub(crate) enum Under<'a> {
     Changed(&'a Changes),
 }
 
-/// The name of a table, or nothing where the schema hasn't the table.
+/// Returns the name of a table, or nothing where the schema hasn't the table.
 fn table_name(schema: &Schema, table: TableId) -> &str
     ensures { result.now ≡ table_name schema.now table }
 {
@@ -36,7 +36,7 @@ fn table_name(schema: &Schema, table: TableId) -> &str
     }
 }
 
-/// The first of these filters that is of the table with this name, or else the old one. O(n) comparisons of
+/// Returns the first of these filters that is of the table with this name, or else the old one. O(n) comparisons of
 /// names for n filters.
 fn filter_among<'a>(
     schema: &Schema,
@@ -54,7 +54,7 @@ fn filter_among<'a>(
     old
 }
 
-/// The filter of the request, under these.
+/// Returns the filter of the request, under these.
 pub(crate) fn filter_under<'a>(under: Under<'a>, request: &'a Request) -> &'a Arc<Filter>
     ensures { arc_value result.now ≡ filter_of (filters_in under.entry) request.now.shape.name request.now.filter }
 {
@@ -64,7 +64,7 @@ pub(crate) fn filter_under<'a>(under: Under<'a>, request: &'a Request) -> &'a Ar
     }
 }
 
-/// The filter of the request, under these changes.
+/// Returns the filter of the request, under these changes.
 fn filter_changed<'a>(changes: &'a Changes, request: &'a Request) -> &'a Arc<Filter>
     ensures { arc_value result.now ≡ filter_of (filters_of changes.now) request.now.shape.name request.now.filter }
 {
@@ -78,7 +78,7 @@ fn filter_changed<'a>(changes: &'a Changes, request: &'a Request) -> &'a Arc<Fil
     )
 }
 
-/// What is asked of these tables, under these filters. For n tables O(n) times what a filter is looked up in.
+/// Returns what is asked of these tables, under these filters. For n tables O(n) times what a filter is looked up in.
 pub(crate) fn requests_under(
     alloc: Global,
     tables: &[Watching],
@@ -93,7 +93,7 @@ pub(crate) fn requests_under(
     Ok(requests)
 }
 
-/// What is asked, under these filters.
+/// Returns what is asked, under these filters.
 fn request_under(request: &Request, under: Under<'_>) -> Result<Request, AllocError>
     ensures { IfOk result (λ made. made ≡ asked_under (filters_in under.entry) request.now) }
 {

@@ -53,7 +53,7 @@ pub(crate) struct Listed<'a> {
 }
 
 impl<'a> Listed<'a> {
-    /// No jobs. O(1).
+    /// Lists no jobs. O(1).
     fn new(alloc: Global) -> Listed<'a>
         ensures jobs { result.jobs.items ≡ [] }
         ensures askings { result.askings.items ≡ [] }
@@ -64,7 +64,7 @@ impl<'a> Listed<'a> {
         }
     }
 
-    /// The place of one job more, which is decided.
+    /// Adds a job, which is decided, and returns its place.
     fn add(
         &mut self,
         decided: &mut Decided<'a>,
@@ -116,7 +116,7 @@ impl<'a> Model for Wanted<'a> {
 }
 
 impl<'a> Wanted<'a> {
-    /// No job is needed yet. O(1).
+    /// Wants no job yet. O(1).
     pub(crate) fn new(
         alloc: Global,
         chains: &'a Chains,
@@ -140,28 +140,28 @@ impl<'a> Wanted<'a> {
         self.alloc
     }
 
-    /// The database with its past.
+    /// Returns the database with its past.
     pub(crate) fn chains(&self) -> &'a Chains
         ensures { result.now ≡ self.now.chains }
     {
         self.chains
     }
 
-    /// The last commits.
+    /// Returns the last commits.
     fn recent(&self) -> &'a Recent
         ensures { result.now ≡ self.now.recent }
     {
         self.recent
     }
 
-    /// The number of the newest commit. O(1).
+    /// Returns the number of the newest commit. O(1).
     pub(crate) fn number(&self) -> Uuid
         ensures { uuid_of result ≡ number_of self.now.recent.run self.now.recent.commits }
     {
         self.recent().number()
     }
 
-    /// How many commits ago the one of this number was, if it is found. O(1).
+    /// Returns how many commits ago the one of this number was, if it is found. O(1).
     pub(crate) fn ago(&self, since: Uuid) -> Option<usize>
         ensures found { result ≡ commits_ago self.now.recent.most self.now.recent.run self.now.recent.commits (uuid_of since) }
         ensures kept { IfSome result (λ ago. ago ≤ length self.now.recent.undos) }
@@ -169,7 +169,7 @@ impl<'a> Wanted<'a> {
         self.recent().find(since)
     }
 
-    /// The jobs, and what each is composed for.
+    /// Returns the jobs, and what each is composed for.
     pub(crate) fn into_jobs(self) -> Listed<'a>
         ensures jobs { result.jobs.items ≡ self.entry.jobs }
         ensures now { All (IsOfNow self.entry.chains.db) result.jobs.items }
@@ -186,8 +186,8 @@ impl<'a> Wanted<'a> {
         listed
     }
 
-    /// The place of the job for the client of a monitor, for the table updates that it is owed; `None` where nothing
-    /// is sent. The costs are those of `want`.
+    /// Returns the place of the job for the client of a monitor, for the table updates that it is owed; `None` where
+    /// nothing is sent. The costs are those of `want`.
     pub(crate) fn updates(&mut self, monitor: &'a Monitor) -> Result<Option<usize>, AllocError>
         requires { AreLive self.old.chains (marks_in monitor.now) }
         ensures place { IfOk result (λ place. IsFor self.new.jobs (if_sent (owed_job self.old.chains.db monitor.now)) place) }
@@ -198,8 +198,8 @@ impl<'a> Wanted<'a> {
         self.want(monitor, Way::Asked)
     }
 
-    /// The place of the job for the client of a monitor; `None` where nothing is sent. What was decided of what is alike
-    /// serves again: the costs are those of `Decided::find`, and else those of `Job::has_updates` too.
+    /// Returns the place of the job for the client of a monitor; `None` where nothing is sent. What was decided of what
+    /// is alike serves again: the costs are those of `Decided::find`, and else those of `Job::has_updates` too.
     pub(crate) fn want(
         &mut self,
         monitor: &'a Monitor,
@@ -225,7 +225,7 @@ impl<'a> Wanted<'a> {
         Ok(Some(place))
     }
 
-    /// The job for the client of a monitor, that of a first reply with its text where that is kept.
+    /// Returns the job for the client of a monitor, that of a first reply with its text where that is kept.
     fn job(&self, monitor: &'a Monitor, way: Way<'a>) -> Result<Job<'a>, AllocError>
         requires { AreLive self.now.chains (marks_in monitor.now) }
         ensures { IfOk result (λ job. job ≡ job_in self.now.chains.db monitor.now way.entry) }
@@ -236,7 +236,7 @@ impl<'a> Wanted<'a> {
         Job::new(self.alloc, self.chains, monitor, way)
     }
 
-    /// The job of the first reply of a monitor, with its text where that is kept.
+    /// Returns the job of the first reply of a monitor, with its text where that is kept.
     fn first_job(&self, monitor: &'a Monitor) -> Job<'a>
         requires { AreLive self.now.chains (marks_in monitor.now) }
         ensures { result ≡ job_in self.now.chains.db monitor.now way.First }
@@ -245,7 +245,7 @@ impl<'a> Wanted<'a> {
         Job::first(self.alloc, self.chains, monitor, text)
     }
 
-    /// The place of the job for the client of a monitor: its first reply. The costs are those of `want`.
+    /// Returns the place of the job for the client of a monitor: its first reply. The costs are those of `want`.
     pub(crate) fn first_reply(&mut self, monitor: &'a Monitor) -> Result<usize, AllocError>
         requires { AreLive self.old.chains (marks_in monitor.now) }
         ensures place { IfOk result (λ place. (all : List model_job.Job) → Keeps self.new.jobs all
@@ -261,8 +261,8 @@ impl<'a> Wanted<'a> {
         Ok(place)
     }
 
-    /// The place of the job for the client of a monitor: the reply to it, if it has what the monitor selected so many
-    /// commits ago. The costs are those of `want`.
+    /// Returns the place of the job for the client of a monitor: the reply to it, if it has what the monitor selected
+    /// so many commits ago. The costs are those of `want`.
     pub(crate) fn resume(&mut self, monitor: &'a Monitor, ago: usize) -> Result<usize, AllocError>
         requires live { AreLive self.old.chains (marks_in monitor.now) }
         requires kept { ago ≤ length self.old.recent.undos }

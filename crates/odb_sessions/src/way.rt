@@ -23,7 +23,7 @@ pub(crate) enum Way<'a> {
 }
 
 impl<'a> Way<'a> {
-    /// The filters under which the client is told, where these may not be those that the monitor asks.
+    /// Returns the filters under which the client is told, where these may not be those that the monitor asks.
     pub(crate) fn under(self) -> Option<Under<'a>>
         ensures { option_map filters_in result ≡ filters_by self.entry }
     {

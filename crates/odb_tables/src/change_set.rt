@@ -24,21 +24,21 @@ impl Model for ChangeSet {
 }
 
 impl ChangeSet {
-    /// The changes of these tables. O(1).
+    /// Makes the changes of these tables. O(1).
     pub(crate) fn new(tables: Vec<TableChange>) -> ChangeSet
         ensures { result ≡ tables.items }
     {
         ChangeSet { tables }
     }
 
-    /// The change of each table, in the tables' order. O(1).
+    /// Returns the change of each table, in the tables' order. O(1).
     pub fn tables(&self) -> &[TableChange]
         ensures { result.now ≡ self.now }
     {
         self.tables.as_slice()
     }
 
-    /// The same, by value. O(1).
+    /// Returns the same, by value. O(1).
     pub(crate) fn into_tables(self) -> Vec<TableChange>
         ensures { result.items ≡ self }
     {

@@ -47,7 +47,7 @@ impl Model for Db {
 }
 
 impl Db {
-    /// A database of so many tables, all of them without rows.
+    /// Makes a database of so many tables, all of them without rows.
     pub fn new(alloc: Global, tables: usize, hashing: RandomState) -> Result<Db, AllocError>
         ensures { IfOk result (λ db. db ≡ replicate tables finite.empty) }
     {
@@ -58,7 +58,7 @@ impl Db {
         })
     }
 
-    /// A database of the schema's tables, all of them without rows, in which a table's rows are kept by each of
+    /// Makes a database of the schema's tables, all of them without rows, in which a table's rows are kept by each of
     /// its `indexes` and by each column that refers to rows (RFC 7047, section 3.2), so that `Draft::has_twin`,
     /// `Draft::referrers` and `Draft::matching` needn't walk over them. O(the schema).
     pub fn for_schema(
@@ -75,21 +75,21 @@ impl Db {
         })
     }
 
-    /// Its tables, in the order of the schema's. O(1).
+    /// Returns its tables, in the order of the schema's. O(1).
     pub fn tables(&self) -> &[Table]
         ensures { result.now ≡ self.now }
     {
         self.tables.as_slice()
     }
 
-    /// A table, if the database has it. O(1).
+    /// Returns a table, if the database has it. O(1).
     pub fn table(&self, table: TableId) -> Option<&Table>
         ensures { option_copied result ≡ slice_get self.now table }
     {
         self.tables.get(table.place())
     }
 
-    /// The row of an identifier, if the table has one. O(1).
+    /// Returns the row of an identifier, if the table has one. O(1).
     pub fn get(&self, table: TableId, uuid: Uuid) -> Option<&Row>
         ensures { option_copied result ≡ finite.get (table_at self.now table) (uuid_of uuid) }
     {
@@ -99,7 +99,7 @@ impl Db {
         }
     }
 
-    /// The keys of the table's rows that may pass the test, each of them once, if something is kept that tells
+    /// Returns the keys of the table's rows that may pass the test, each of them once, if something is kept that tells
     /// them. O(what is kept), O(log n) for the n rows of the table, and O(the keys).
     pub(crate) fn candidates<T: Test>(
         &self,
@@ -121,12 +121,12 @@ impl Db {
         Ok(None)
     }
 
-    /// By what its tables hash. O(1).
+    /// Returns by what its tables hash. O(1).
     pub(crate) fn hashing(&self) -> RandomState {
         self.hashing
     }
 
-    /// How many tables it has. O(1).
+    /// Returns how many tables it has. O(1).
     pub fn len(&self) -> usize
         ensures { result ≡ length self.now }
     {
@@ -157,7 +157,7 @@ impl Db {
         Ok(())
     }
 
-    /// An equal database, which keeps the same beside its rows. These are shared with this one. O(rows, and
+    /// Makes an equal database, which keeps the same beside its rows. These are shared with this one. O(rows, and
     /// the pairs that are kept).
     pub fn try_copy(&self, alloc: Global) -> Result<Db, AllocError>
         ensures { IfOk result (λ copy. copy ≡ self.now) }
@@ -174,7 +174,7 @@ impl Db {
     }
 }
 
-/// So many tables, all of them without rows.
+/// Makes so many tables, all of them without rows.
 fn without_rows(
     alloc: Global,
     tables: usize,
@@ -213,7 +213,7 @@ fn note_one(kept: &mut Kept, changes: &[TableChange]) -> Result<(), AllocError>
     }
 }
 
-/// The change of the table at the place, if there is one.
+/// Returns the change of the table at the place, if there is one.
 fn change_of(changes: &[TableChange], table: usize) -> Option<&TableChange>
     ensures { option_copied result ≡ slice_get changes.now table }
 {

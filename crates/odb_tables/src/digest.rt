@@ -15,7 +15,7 @@ use odb_atoms::{Atom, Entries, Row, Value};
 use odb_cond::Where;
 use std::hash::{BuildHasher, DefaultHasher, Hash, Hasher, RandomState};
 
-/// The digest of what the row has in the columns at the places. Rows with the same values there have
+/// Returns the digest of what the row has in the columns at the places. Rows with the same values there have
 /// the same; others seldom have. O(the bytes of the values).
 pub(crate) fn of_row(hashing: RandomState, places: &[usize], row: &Row) -> Key
     ensures { result ≡ spec.digest hashing (cells_at places.now row.now) }
@@ -27,7 +27,7 @@ pub(crate) fn of_row(hashing: RandomState, places: &[usize], row: &Row) -> Key
     Key::of_hash(state.finish())
 }
 
-/// The digest of what each row that matches has in the columns at the places, where the conditions ask
+/// Returns the digest of what each row that matches has in the columns at the places, where the conditions ask
 /// a value of each of these columns by `==`. O(the conditions) for each place, and the bytes of the values.
 pub(crate) fn of_matches(hashing: RandomState, places: &[usize], conditions: &Where) -> Option<Key>
     ensures { IfSome result (λ key. (u : model_uuid.Uuid) (r : model_row.Row)

@@ -66,7 +66,7 @@ impl<'a> Model for Draft<'a> {
 }
 
 impl<'a> Draft<'a> {
-    /// A draft of the database, in which nothing is changed yet. O(tables).
+    /// Makes a draft of the database, in which nothing is changed yet. O(tables).
     pub fn new(alloc: Global, base: &'a Db) -> Result<Draft<'a>, AllocError>
         ensures { IfOk result (λ draft. draft ≡ draft_of base.now) }
     {
@@ -81,7 +81,7 @@ impl<'a> Draft<'a> {
         })
     }
 
-    /// How many tables it has, now as before. O(1).
+    /// Returns how many tables it has, now as before. O(1).
     pub fn len(&self) -> usize
         ensures now { result ≡ length self.now.now }
         ensures old { result ≡ length self.now.old }
@@ -89,7 +89,7 @@ impl<'a> Draft<'a> {
         self.base.len()
     }
 
-    /// The row of an identifier as it is now, if the table has one. O(1).
+    /// Returns the row of an identifier as it is now, if the table has one. O(1).
     pub fn get(&self, table: TableId, uuid: Uuid) -> Option<&Row>
         ensures row { option_copied result ≡ finite.get (table_at self.now.now table) (uuid_of uuid) }
         ensures not_removed { IfSome result (λ _. set.contains (removed_at self.now table) (uuid_of uuid) ≡ false) }
@@ -100,14 +100,14 @@ impl<'a> Draft<'a> {
         }
     }
 
-    /// The row of an identifier as it was when the draft was made, if the table had one. O(1).
+    /// Returns the row of an identifier as it was when the draft was made, if the table had one. O(1).
     pub fn before(&self, table: TableId, uuid: Uuid) -> Option<&Row>
         ensures { option_copied result ≡ finite.get (table_at self.now.old table) (uuid_of uuid) }
     {
         self.base.get(table, uuid)
     }
 
-    /// How many rows the table has now. O(rows of it that were touched).
+    /// Returns how many rows the table has now. O(rows of it that were touched).
     pub fn row_count(&self, table: TableId) -> usize
         ensures { result ≡ finite.len (table_at self.now.now table) }
     {
@@ -118,7 +118,7 @@ impl<'a> Draft<'a> {
         overlay.count(base)
     }
 
-    /// Whether a row of this identifier was taken out of the table. O(1).
+    /// Returns whether a row of this identifier was taken out of the table. O(1).
     pub fn was_removed(&self, table: TableId, uuid: Uuid) -> bool
         ensures { result ≡ set.contains (removed_at self.now table) (uuid_of uuid) }
     {
@@ -128,7 +128,7 @@ impl<'a> Draft<'a> {
         }
     }
 
-    /// Whether it is certain that the table is as it was: no row of it was touched since the draft
+    /// Returns whether it is certain that the table is as it was: no row of it was touched since the draft
     /// was made. O(1).
     pub fn is_untouched(&self, table: TableId) -> bool
         ensures { IsTrue result → table_at self.now.now table ≡ table_at self.now.old table }
@@ -139,7 +139,7 @@ impl<'a> Draft<'a> {
         }
     }
 
-    /// The identifiers of the rows that were touched since the draft was made, each of them once,
+    /// Returns the identifiers of the rows that were touched since the draft was made, each of them once,
     /// in no order that is told. A row that isn't among them is as it was; one among them may be as
     /// it was, too, or may never have been there. O(rows touched).
     pub fn touched(&self, alloc: Global, table: TableId) -> Result<Vec<Uuid>, AllocError>
@@ -174,7 +174,7 @@ impl<'a> Draft<'a> {
         self.overlays[table.place()].put(uuid, None)
     }
 
-    /// The identifiers of the table's rows as they are now, ascending. O(n log n) for n rows.
+    /// Returns the identifiers of the table's rows as they are now, ascending. O(n log n) for n rows.
     pub fn uuids(&self, table: TableId) -> Result<Vec<Uuid>, AllocError>
         ensures { IfOk result (λ uuids. map uuid_of uuids.items ≡ finite.keys (table_at self.now.now table)) }
     {
@@ -182,7 +182,7 @@ impl<'a> Draft<'a> {
         self.scan(table, &everything)
     }
 
-    /// The identifiers of the rows, as they are now, of which all conditions hold, ascending (RFC 7047,
+    /// Returns the identifiers of the rows, as they are now, of which all conditions hold, ascending (RFC 7047,
     /// section 5.2, `where`).
     ///
     /// Where the conditions pin `_uuid` it looks that row up: O(the conditions). Where they ask by `==` a value
@@ -200,7 +200,7 @@ impl<'a> Draft<'a> {
         }
     }
 
-    /// What `matching` returns where no row under another identifier can match.
+    /// Returns what `matching` returns where no row under another identifier can match.
     fn look_up(
         &self,
         table: TableId,
@@ -220,7 +220,7 @@ impl<'a> Draft<'a> {
         Ok(found)
     }
 
-    /// Whether the table has a row under the identifier of which the conditions hold.
+    /// Returns whether the table has a row under the identifier of which the conditions hold.
     fn has_match(&self, table: TableId, uuid: Uuid, conditions: &Where) -> bool
         ensures { result ≡ passes_now (holds_all conditions.now) (uuid_of uuid) (finite.get (table_at self.now.now table) (uuid_of uuid)) }
     {
@@ -230,7 +230,7 @@ impl<'a> Draft<'a> {
         }
     }
 
-    /// What `matching` returns, by a test of each row.
+    /// Returns what `matching` returns, by a test of each row.
     fn scan(&self, table: TableId, conditions: &Where) -> Result<Vec<Uuid>, AllocError>
         ensures { IfOk result (λ uuids. map uuid_of uuids.items
             ≡ finite.keys (matching conditions.now (table_at self.now.now table))) }
@@ -240,7 +240,7 @@ impl<'a> Draft<'a> {
         Ok(found)
     }
 
-    /// The identifiers of the table's rows, as they are now, that pass the test, each of them once.
+    /// Returns the identifiers of the table's rows, as they are now, that pass the test, each of them once.
     fn find<T: Test>(&self, table: TableId, test: &T) -> Result<Vec<Uuid>, AllocError>
         ensures { IfOk result (λ uuids. Lists (map uuid_of uuids.items)
             (passing (T.passes test.now) (table_at self.now.now table))) }
@@ -253,7 +253,7 @@ impl<'a> Draft<'a> {
         found_in(self.alloc, base, among, overlay, test)
     }
 
-    /// Whether the table has the row now, and another one with the same values in the columns at these
+    /// Returns whether the table has the row now, and another one with the same values in the columns at these
     /// places (RFC 7047, section 3.2, `indexes`).
     ///
     /// Where the database keeps the rows by these columns (`Db::for_schema`): O(what is kept), O(log n) for the
@@ -269,7 +269,7 @@ impl<'a> Draft<'a> {
         Ok(!twins.is_empty())
     }
 
-    /// The identifiers of the table's rows, as they are now, whose value in the column at the place
+    /// Returns the identifiers of the table's rows, as they are now, whose value in the column at the place
     /// mentions this identifier, each of them once, in no order that is told.
     ///
     /// Where the database keeps the rows by this column (`Db::for_schema`): O(what is kept), O(log n) for the n
@@ -289,7 +289,7 @@ impl<'a> Draft<'a> {
         self.find(table, &Referrers { place, uuid })
     }
 
-    /// What leads from the database as it was to the one as it is now. O(rows touched) and
+    /// Returns what leads from the database as it was to the one as it is now. O(rows touched) and
     /// O(tables).
     pub fn changes(self) -> Result<ChangeSet, AllocError>
         ensures changes { IfOk result (λ changes. changes ≡ change_between self.entry.old self.entry.now) }
@@ -304,7 +304,7 @@ impl<'a> Draft<'a> {
         Ok(ChangeSet::new(tables))
     }
 
-    /// What leads from the database as it was to the one as it is now, in which each row that is
+    /// Returns what leads from the database as it was to the one as it is now, in which each row that is
     /// new, or has another value in a column, has this `_version` (RFC 7047, section 3.2). O(rows
     /// touched) and O(tables).
     pub fn commit(self, version: Uuid) -> Result<ChangeSet, AllocError>
@@ -328,7 +328,7 @@ impl<'a> Draft<'a> {
     }
 }
 
-/// What the row of an identifier is now, if it was touched: `Some(None)` where it was taken out.
+/// Returns what the row of an identifier is now, if it was touched: `Some(None)` where it was taken out.
 fn touched(overlays: &[Overlay], table: TableId, uuid: Uuid) -> Option<Option<&Row>>
     ensures { option_map option_copied result ≡ finite.get (touched_at overlays.now table) (uuid_of uuid) }
 {
@@ -338,7 +338,7 @@ fn touched(overlays: &[Overlay], table: TableId, uuid: Uuid) -> Option<Option<&R
     }
 }
 
-/// The identifiers of the rows that pass the test, each of them once. The untouched ones are looked for among
+/// Returns the identifiers of the rows that pass the test, each of them once. The untouched ones are looked for among
 /// these, where there are any, and else among all.
 fn found_in<T: Test>(
     alloc: Global,

@@ -32,7 +32,7 @@ pub(crate) enum Facet {
 impl Clone for Facet {
     ghost is_clone = { λ x y. (tag : model_uuid.Uuid) (r : model_row.Row) → is_tag y tag r ≡ is_tag x tag r };
 
-    /// One that gives each row the same tags. O(places).
+    /// Makes one that gives each row the same tags. O(places).
     fn clone(&self) -> Result<Facet, AllocError> {
         match self {
             Facet::Values(hashing, places) => Ok(Facet::Values(*hashing, places.clone()?)),
@@ -42,7 +42,7 @@ impl Clone for Facet {
 }
 
 impl Facet {
-    /// Whether the tag is one of the row's. O(the bytes of the values), or a search in the value.
+    /// Returns whether the tag is one of the row's. O(the bytes of the values), or a search in the value.
     pub(crate) fn has_tag(&self, tag: Key, row: &Row) -> bool
         ensures { result ≡ is_tag self.now tag row.now }
     {
@@ -54,7 +54,7 @@ impl Facet {
         }
     }
 
-    /// Whether there is a row, and the tag is one of its.
+    /// Returns whether there is a row, and the tag is one of its.
     fn has_tag_now(&self, tag: Key, row: Option<&Row>) -> bool
         ensures { result ≡ is_tag_now self.now tag (option_copied row.entry) }
     {
@@ -64,7 +64,7 @@ impl Facet {
         }
     }
 
-    /// Whether it is certain that the rows have the same tags, since both are there and have the same
+    /// Returns whether it is certain that the rows have the same tags, since both are there and have the same
     /// values. O(the values compared).
     pub(crate) fn is_same(&self, one: Option<&Row>, other: &Row) -> bool
         ensures { IsTrue result → (tag : model_uuid.Uuid)
@@ -252,7 +252,7 @@ fn add_atom(pairs: &mut BTreeSet<(Key, Key)>, atom: &Atom, key: Key) -> Result<(
     }
 }
 
-/// The identifier that the atom is, if it is one.
+/// Returns the identifier that the atom is, if it is one.
 pub(crate) fn identifier(atom: &Atom) -> Option<Uuid>
     ensures { option_map uuid_of result ≡ identifier_in (atom_of atom.now) }
 {

@@ -41,7 +41,7 @@ pub(crate) struct Kept {
 impl Clone for Kept {
     ghost is_clone = { λ x y. (db : model.Db) → IsKept db x → IsKept db y };
 
-    /// The same of the same table. O(pairs).
+    /// Makes the same of the same table. O(pairs).
     fn clone(&self) -> Result<Kept, AllocError> {
         Ok(Kept {
             table: self.table,
@@ -52,7 +52,7 @@ impl Clone for Kept {
 }
 
 impl Kept {
-    /// For a table without rows. O(1).
+    /// Makes one for a table without rows. O(1).
     pub(crate) fn new(alloc: Global, table: usize, facet: Facet) -> Kept
         ensures { LacksNothing result finite.empty }
     {
@@ -82,7 +82,7 @@ impl Kept {
         cut(&self.facet, &mut self.pairs, change, side);
     }
 
-    /// The keys of the rows that may pass the test, each of them once, if the facet tells them. O(log n) for n
+    /// Returns the keys of the rows that may pass the test, each of them once, if the facet tells them. O(log n) for n
     /// pairs, and O(the keys).
     pub(crate) fn candidates<T: Test>(
         &self,
@@ -151,7 +151,7 @@ fn cut_row(facet: &Facet, pairs: &mut BTreeSet<(Key, Key)>, change: &RowChange, 
     facet.cut(pairs, Key::of(change.uuid()), row, now);
 }
 
-/// The side that goes.
+/// Returns the side that goes.
 fn gone(change: &RowChange, side: Side) -> Option<&Row>
     ensures { option_copied result ≡ spec.gone side change.now.1 }
 {
@@ -161,7 +161,7 @@ fn gone(change: &RowChange, side: Side) -> Option<&Row>
     }
 }
 
-/// The side that stays.
+/// Returns the side that stays.
 fn stays(change: &RowChange, side: Side) -> Option<&Row>
     ensures { option_copied result ≡ spec.stays side change.now.1 }
 {

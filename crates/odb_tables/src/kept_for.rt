@@ -9,7 +9,7 @@ use odb_schema::{Schema, TableSchema};
 use std::alloc::{AllocError, Global};
 use std::hash::RandomState;
 
-/// For each table its `indexes`, and the columns that refer to rows (RFC 7047, section 3.2). O(the schema).
+/// Returns for each table its `indexes`, and the columns that refer to rows (RFC 7047, section 3.2). O(the schema).
 pub(crate) fn kept_for(
     alloc: Global,
     schema: &Schema,
@@ -69,7 +69,7 @@ fn keep(alloc: Global, kept: &mut Vec<Kept>, table: usize, facet: Facet) -> Resu
     }
 }
 
-/// The places of the columns of these names, as far as the table has them.
+/// Returns the places of the columns of these names, as far as the table has them.
 fn places_of(
     alloc: Global,
     table: &TableSchema,
@@ -84,7 +84,7 @@ fn places_of(
     Ok(places)
 }
 
-/// Whether an element, a key or a value of the column's values refers to a row.
+/// Returns whether an element, a key or a value of the column's values refers to a row.
 fn refers(column: &ColType) -> bool {
     if is_reference(&column.key) {
         return true;

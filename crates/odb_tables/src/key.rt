@@ -38,7 +38,7 @@ impl Model for Key {
 }
 
 impl Key {
-    /// The identifier as a key. O(1).
+    /// Returns the identifier as a key. O(1).
     pub fn of(uuid: Uuid) -> Key
         ensures { result ≡ uuid_of uuid }
     {
@@ -47,28 +47,28 @@ impl Key {
         }
     }
 
-    /// The identifier. O(1).
+    /// Returns the identifier. O(1).
     pub fn uuid(self) -> Uuid
         ensures { uuid_of result ≡ self }
     {
         Uuid::from_u128(self.number)
     }
 
-    /// The least key. O(1).
+    /// Returns the least key. O(1).
     pub(crate) fn least() -> Key
         ensures { (u : model_uuid.Uuid) → is_le (uuid_cmp result u) ≡ true }
     {
         Key { number: 0 }
     }
 
-    /// The greatest key. O(1).
+    /// Returns the greatest key. O(1).
     pub(crate) fn greatest() -> Key
         ensures { (u : model_uuid.Uuid) → is_lt (uuid_cmp result u) ≡ false }
     {
         Key { number: u128::MAX }
     }
 
-    /// The key of a hash. O(1).
+    /// Returns the key of a hash. O(1).
     pub(crate) fn of_hash(hash: u64) -> Key
         ensures { result ≡ uuid_from hash }
     {

@@ -48,7 +48,7 @@ impl Model for Overlay {
 }
 
 impl Overlay {
-    /// No row is touched. O(1).
+    /// Makes an overlay in which no row is touched. O(1).
     pub(crate) fn new(alloc: Global, hashing: RandomState) -> Overlay
         ensures { result ≡ finite.empty }
     {
@@ -57,7 +57,7 @@ impl Overlay {
         }
     }
 
-    /// What the row of an identifier is now, if it was touched: `Some(None)` where it was taken
+    /// Returns what the row of an identifier is now, if it was touched: `Some(None)` where it was taken
     /// out. O(1).
     pub(crate) fn get(&self, uuid: Uuid) -> Option<Option<&Row>>
         ensures { option_map option_copied result ≡ finite.get self.now (uuid_of uuid) }
@@ -81,7 +81,7 @@ impl Overlay {
         }
     }
 
-    /// Whether the row of an identifier was taken out. O(1).
+    /// Returns whether the row of an identifier was taken out. O(1).
     pub(crate) fn is_removed(&self, uuid: Uuid) -> bool
         ensures { result ≡ set.contains (taken_out self.now) (uuid_of uuid) }
     {
@@ -92,14 +92,14 @@ impl Overlay {
         }
     }
 
-    /// Whether no row was touched. O(1).
+    /// Returns whether no row was touched. O(1).
     pub(crate) fn is_empty(&self) -> bool
         ensures { IsTrue result → self.now ≡ finite.empty }
     {
         self.rows.is_empty()
     }
 
-    /// How many rows the table has under it. O(rows touched).
+    /// Returns how many rows the table has under it. O(rows touched).
     pub(crate) fn count(&self, base: &Table) -> usize
         ensures { result ≡ finite.len (overlaid base.now self.now) }
     {
@@ -112,7 +112,7 @@ impl Overlay {
         base.len() + gained - lost
     }
 
-    /// Whether the row of a key was touched. O(1).
+    /// Returns whether the row of a key was touched. O(1).
     pub(crate) fn touches(&self, key: Key) -> bool
         ensures { result ≡ finite.contains_key self.now key }
     {
@@ -132,7 +132,7 @@ impl Overlay {
         Ok(())
     }
 
-    /// The identifiers of the rows that were touched, each of them once. O(rows touched).
+    /// Returns the identifiers of the rows that were touched, each of them once. O(rows touched).
     pub(crate) fn list(&self, alloc: Global) -> Result<Vec<Uuid>, AllocError>
         ensures touched { IfOk result (λ uuids. (u : model_uuid.Uuid) → list_any (eq_by_cmp uuid_cmp u) (map uuid_of uuids.items) ≡ finite.contains_key self.now u) }
         ensures distinct { IfOk result (λ uuids. IsDistinct (eq_by_cmp uuid_cmp) (map uuid_of uuids.items)) }
@@ -144,7 +144,7 @@ impl Overlay {
         Ok(uuids)
     }
 
-    /// What leads from the rows of the table to those that are over it. O(rows touched).
+    /// Returns what leads from the rows of the table to those that are over it. O(rows touched).
     pub(crate) fn changes(&self, alloc: Global, base: &Table) -> Result<TableChange, AllocError>
         ensures { IfOk result (λ changes. changes ≡ change base.now (overlaid base.now self.now)) }
     {
@@ -156,7 +156,7 @@ impl Overlay {
         Ok(TableChange::new(rows))
     }
 
-    /// The same, where each row that is new, or has another value in a column, has this version.
+    /// Returns the same, where each row that is new, or has another value in a column, has this version.
     /// O(rows touched).
     pub(crate) fn commit(
         self,
@@ -175,7 +175,7 @@ impl Overlay {
     }
 }
 
-/// Whether the row is there and passes the test.
+/// Returns whether the row is there and passes the test.
 fn is_found<T: Test>(key: Key, now: Option<&Arc<Row>>, test: &T) -> bool
     ensures { result ≡ passes_now (T.passes test.now) key (row_of (option_copied now.entry)) }
 {
@@ -185,7 +185,7 @@ fn is_found<T: Test>(key: Key, now: Option<&Arc<Row>>, test: &T) -> bool
     }
 }
 
-/// 1 where the row is there and the table has none of its key, else 0.
+/// Returns 1 where the row is there and the table has none of its key, else 0.
 fn gain(base: &Table, key: Key, now: Option<&Arc<Row>>) -> usize
     ensures { result ≡ counted.gain base.now (key, row_of (option_copied now.entry)) }
 {
@@ -196,7 +196,7 @@ fn gain(base: &Table, key: Key, now: Option<&Arc<Row>>) -> usize
     }
 }
 
-/// 1 where the row was taken out and the table has one of its key, else 0.
+/// Returns 1 where the row was taken out and the table has one of its key, else 0.
 fn loss(base: &Table, key: Key, now: Option<&Arc<Row>>) -> usize
     ensures { result ≡ counted.loss base.now (key, row_of (option_copied now.entry)) }
 {

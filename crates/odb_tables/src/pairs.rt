@@ -29,7 +29,7 @@ pub(crate) fn remove(pairs: &mut BTreeSet<(Key, Key)>, tag: Key, key: Key)
     pairs.remove(&(tag, key));
 }
 
-/// The keys that stand under the tag, each of them once. O(log n) for n pairs, and O(the keys).
+/// Returns the keys that stand under the tag, each of them once. O(log n) for n pairs, and O(the keys).
 pub(crate) fn under(
     alloc: Global,
     pairs: &BTreeSet<(Key, Key)>,

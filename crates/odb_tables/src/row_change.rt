@@ -42,7 +42,7 @@ impl Model for RowChange {
 }
 
 impl RowChange {
-    /// What leads from the old row of the key to the new one; `None` where there is none on both sides, or
+    /// Returns what leads from the old row of the key to the new one; `None` where there is none on both sides, or
     /// they are the same, `_version` included (RFC 7047, section 3.2). The rows are shared, and not copied.
     ///
     /// O(the values compared).
@@ -61,7 +61,7 @@ impl RowChange {
         Ok(Some(RowChange { key, old, new }))
     }
 
-    /// What leads from the old row to the new one with this version; `None` where there is no row,
+    /// Returns what leads from the old row to the new one with this version; `None` where there is no row,
     /// or one with the same columns.
     pub(crate) fn stamped(
         alloc: Global,
@@ -81,14 +81,14 @@ impl RowChange {
         Ok(Some(RowChange { key, old, new }))
     }
 
-    /// The row's identifier. O(1).
+    /// Returns the row's identifier. O(1).
     pub fn uuid(&self) -> Uuid
         ensures { uuid_of result ≡ self.now.0 }
     {
         self.key.uuid()
     }
 
-    /// The row before the change, if there was one. O(1).
+    /// Returns the row before the change, if there was one. O(1).
     pub fn old(&self) -> Option<&Row>
         ensures { option_copied result ≡ self.now.1.0 }
     {
@@ -98,7 +98,7 @@ impl RowChange {
         }
     }
 
-    /// The row's key, and the row before and after.
+    /// Returns the row's key, and the row before and after.
     pub(crate) fn into_parts(self) -> (Key, Option<Arc<Row>>, Option<Arc<Row>>)
         ensures { (result.0, (row_of result.1, row_of result.2)) ≡ self }
     {
@@ -106,14 +106,14 @@ impl RowChange {
         (key, old, new)
     }
 
-    /// Whether there was no row, and is one.
+    /// Returns whether there was no row, and is one.
     pub(crate) fn is_new(&self) -> bool
         ensures { result ≡ is_some (new_row self.now.1) }
     {
         self.old.is_none() && self.new.is_some()
     }
 
-    /// The row before the change, if there was one, to be shared: its clone is the same row, and costs a
+    /// Returns the row before the change, if there was one, to be shared: its clone is the same row, and costs a
     /// count. It stays as it is when the table changes. O(1).
     pub fn share_old(&self) -> Option<&Arc<Row>>
         ensures { row_of (option_copied result) ≡ self.now.1.0 }
@@ -121,14 +121,14 @@ impl RowChange {
         self.old.as_ref()
     }
 
-    /// The row after the change once more, if there is one.
+    /// Returns the row after the change once more, if there is one.
     pub(crate) fn share_new(&self) -> Result<Option<Arc<Row>>, AllocError>
         ensures { IfOk result (λ shared. row_of shared ≡ self.now.1.1) }
     {
         share(self.new.as_ref())
     }
 
-    /// The row after the change, if there is one. O(1).
+    /// Returns the row after the change, if there is one. O(1).
     pub fn new(&self) -> Option<&Row>
         ensures { option_copied result ≡ self.now.1.1 }
     {
@@ -139,7 +139,7 @@ impl RowChange {
     }
 }
 
-/// The same row once more.
+/// Returns the same row once more.
 fn share(row: Option<&Arc<Row>>) -> Result<Option<Arc<Row>>, AllocError>
     ensures { IfOk result (λ shared. row_of shared ≡ row_of (option_copied row.entry)) }
 {
@@ -149,7 +149,7 @@ fn share(row: Option<&Arc<Row>>) -> Result<Option<Arc<Row>>, AllocError>
     }
 }
 
-/// The row with another version.
+/// Returns the row with another version.
 fn with_version(
     alloc: Global,
     row: Option<Arc<Row>>,
@@ -165,7 +165,7 @@ fn with_version(
     Ok(Some(Arc::new(alloc, row)?))
 }
 
-/// The row itself where nobody else has it, and else a copy.
+/// Returns the row itself where nobody else has it, and else a copy.
 fn taken_out(alloc: Global, row: Arc<Row>) -> Result<Row, AllocError>
     ensures { IfOk result (λ own. own ≡ arc_value row) }
 {
@@ -175,7 +175,7 @@ fn taken_out(alloc: Global, row: Arc<Row>) -> Result<Row, AllocError>
     }
 }
 
-/// Whether there is no row, or one with the same columns as before.
+/// Returns whether there is no row, or one with the same columns as before.
 fn have_same_columns(old: Option<&Arc<Row>>, new: Option<&Arc<Row>>) -> bool
     ensures { (number : model_uuid.Uuid) → let old_row = row_of (option_copied old.entry) in
         result ≡ not (is_some (changed_row old_row (option_map (stamped_row number old_row) (row_of (option_copied new.entry))))) }
@@ -187,7 +187,7 @@ fn have_same_columns(old: Option<&Arc<Row>>, new: Option<&Arc<Row>>) -> bool
     }
 }
 
-/// Whether nothing changed.
+/// Returns whether nothing changed.
 fn are_same(old: Option<&Arc<Row>>, new: Option<&Arc<Row>>) -> bool
     ensures { result ≡ not (is_some (changed_row (row_of (option_copied old.entry)) (row_of (option_copied new.entry)))) }
 {
@@ -198,14 +198,14 @@ fn are_same(old: Option<&Arc<Row>>, new: Option<&Arc<Row>>) -> bool
     }
 }
 
-/// Whether two rows are the same.
+/// Returns whether two rows are the same.
 fn is_same(old: &Row, new: &Row) -> bool
     ensures { result ≡ (same_uuid old.now.version new.now.version && same_values old.now.columns new.now.columns) }
 {
     Key::of(old.version()) == Key::of(new.version()) && are_equal(old.columns(), new.columns())
 }
 
-/// Whether the values are the same, one by one.
+/// Returns whether the values are the same, one by one.
 fn are_equal(old: &[Value], new: &[Value]) -> bool
     ensures { result ≡ same_values old.now new.now }
 {

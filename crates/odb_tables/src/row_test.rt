@@ -26,11 +26,11 @@ use uuid::Uuid;
 pub(crate) trait Test {
     ghost passes: { Self → model_uuid.Uuid → model_row.Row → Bool };
 
-    /// Whether the row is one of them. O(the values compared).
+    /// Returns whether the row is one of them. O(the values compared).
     fn passes(&self, uuid: Uuid, row: &Row) -> bool
         ensures { result ≡ passes self.now (uuid_of uuid) row.now };
 
-    /// A tag that each row that passes has by the facet, if there is one.
+    /// Returns a tag that each row that passes has by the facet, if there is one.
     fn tag(&self, facet: &Facet) -> Option<Key>
         ensures { IfSome result (λ tag. (v : model_uuid.Uuid) (s : model_row.Row)
             → passes self.now v s ≡ true → is_tag facet.now tag s ≡ true) };
@@ -109,14 +109,14 @@ impl Test for Referrers {
     }
 }
 
-/// Whether the rows have the same values in the columns at the places.
+/// Returns whether the rows have the same values in the columns at the places.
 pub(crate) fn have_same(places: &[usize], left: &Row, right: &Row) -> bool
     ensures { result ≡ list_all (same_at left.now right.now) places.now }
 {
     places.iter().all(|place| have_same_at(*place, left, right))
 }
 
-/// Whether the rows have the same value in the column at the place.
+/// Returns whether the rows have the same value in the column at the place.
 pub(crate) fn have_same_at(place: usize, left: &Row, right: &Row) -> bool
     ensures { result ≡ same_at left.now right.now place }
 {
@@ -128,14 +128,14 @@ pub(crate) fn have_same_at(place: usize, left: &Row, right: &Row) -> bool
     }
 }
 
-/// Whether it is the set without elements.
+/// Returns whether it is the set without elements.
 fn is_nothing(value: &Value) -> bool
     ensures { result ≡ same_value value.now (set_of set.empty) }
 {
     value.is_empty() && !value.is_map()
 }
 
-/// Whether what the row has in the column at the place mentions the identifier.
+/// Returns whether what the row has in the column at the place mentions the identifier.
 pub(crate) fn refers(row: &Row, place: usize, uuid: Uuid) -> bool
     ensures { result ≡ kept.mentions (uuid_of uuid) (cell zero_uuid row.now (declared place)) }
 {
@@ -145,7 +145,7 @@ pub(crate) fn refers(row: &Row, place: usize, uuid: Uuid) -> bool
     }
 }
 
-/// Whether the identifier is an element of the set, or a key or a value of the map. O(log n) for n elements,
+/// Returns whether the identifier is an element of the set, or a key or a value of the map. O(log n) for n elements,
 /// and O(n) for n pairs.
 fn mentions(value: &Value, uuid: Uuid) -> bool
     ensures { result ≡ kept.mentions (uuid_of uuid) value.now }
@@ -157,14 +157,14 @@ fn mentions(value: &Value, uuid: Uuid) -> bool
     }
 }
 
-/// Whether the atom is a key or a value of one of the pairs.
+/// Returns whether the atom is a key or a value of one of the pairs.
 fn is_in_pairs(pairs: &[(Atom, Atom)], atom: &Atom) -> bool
     ensures { result ≡ list_any (λ pair. is_in (atom_of atom.now) (pair_of pair)) pairs.now }
 {
     pairs.iter().any(|pair| pair.0 == *atom || pair.1 == *atom)
 }
 
-/// An identifier that each row that matches mentions in the column at the place, where the conditions ask a
+/// Returns an identifier that each row that matches mentions in the column at the place, where the conditions ask a
 /// set of identifiers there by `==`.
 fn mentioned_by(conditions: &Where, place: usize) -> Option<Key>
     ensures { IfSome result (λ tag. (u : model_uuid.Uuid) (r : model_row.Row)
@@ -176,7 +176,7 @@ fn mentioned_by(conditions: &Where, place: usize) -> Option<Key>
     }
 }
 
-/// The first element of the set, if it is an identifier.
+/// Returns the first element of the set, if it is an identifier.
 fn first_mentioned(value: &Value) -> Option<Key>
     ensures { IfSome result (λ tag. kept.mentions tag value.now ≡ true) }
 {
@@ -189,7 +189,7 @@ fn first_mentioned(value: &Value) -> Option<Key>
     }
 }
 
-/// The key that the atom is, if it is an identifier.
+/// Returns the key that the atom is, if it is an identifier.
 fn key_of(atom: &Atom) -> Option<Key>
     ensures { result ≡ identifier_in (atom_of atom.now) }
 {

@@ -45,7 +45,7 @@ impl Model for Table {
 }
 
 impl Table {
-    /// A table without rows. O(1).
+    /// Makes a table without rows. O(1).
     pub fn new(alloc: Global, hashing: RandomState) -> Table
         ensures { result ≡ finite.empty }
     {
@@ -54,7 +54,7 @@ impl Table {
         }
     }
 
-    /// How many rows it has. O(1).
+    /// Returns how many rows it has. O(1).
     pub fn len(&self) -> usize
         ensures rows { result ≡ finite.len self.now }
         ensures small { result < 2 ^ 63 }
@@ -62,7 +62,7 @@ impl Table {
         self.rows.len()
     }
 
-    /// The row of an identifier, if it has one. O(1).
+    /// Returns the row of an identifier, if it has one. O(1).
     pub fn get(&self, uuid: Uuid) -> Option<&Row>
         ensures { option_copied result ≡ finite.get self.now (uuid_of uuid) }
     {
@@ -70,7 +70,7 @@ impl Table {
         Some(&**row)
     }
 
-    /// Whether it has a row of the key. O(1).
+    /// Returns whether it has a row of the key. O(1).
     pub(crate) fn contains(&self, key: Key) -> bool
         ensures { result ≡ finite.contains_key self.now key }
     {
@@ -98,7 +98,7 @@ impl Table {
         self.rows.swap_remove(&Key::of(uuid))
     }
 
-    /// The row of a key, if the table has one, to be shared: its clone is the same row, and costs a
+    /// Returns the row of a key, if the table has one, to be shared: its clone is the same row, and costs a
     /// count. It stays as it is when the table changes. O(1).
     pub fn share(&self, key: Key) -> Option<&Arc<Row>>
         ensures { row_of (option_copied result) ≡ finite.get self.now key }
@@ -106,7 +106,7 @@ impl Table {
         self.rows.get(&key)
     }
 
-    /// Each of its rows once, with its identifier, in no order that is told. O(rows).
+    /// Returns each of its rows once, with its identifier, in no order that is told. O(rows).
     pub fn list(&self, alloc: Global) -> Result<Vec<(Uuid, &Row)>, AllocError>
         ensures rows { IfOk result (λ rows. finite.from_entries (map listed rows.items) ≡ self.now) }
         ensures distinct { IfOk result (λ rows. IsDistinct (eq_by_cmp uuid_cmp) (keys_of (map listed rows.items))) }
@@ -120,7 +120,7 @@ impl Table {
         Ok(rows)
     }
 
-    /// An equal table, whose rows are shared with this one. O(rows).
+    /// Makes an equal table, whose rows are shared with this one. O(rows).
     pub(crate) fn try_copy(&self, alloc: Global, hashing: RandomState) -> Result<Table, AllocError>
         ensures { IfOk result (λ copy. copy ≡ self.now) }
     {
@@ -247,7 +247,7 @@ impl Table {
     }
 }
 
-/// Whether the table has the row, it passes the test, and wasn't touched.
+/// Returns whether the table has the row, it passes the test, and wasn't touched.
 fn has_untouched<T: Test>(table: &Table, key: Key, overlay: &Overlay, test: &T) -> bool
     ensures { result ≡ is_there (T.passes test.now) overlay.now table.now key }
 {
@@ -257,7 +257,7 @@ fn has_untouched<T: Test>(table: &Table, key: Key, overlay: &Overlay, test: &T) 
     }
 }
 
-/// Whether the row passes the test, and wasn't touched.
+/// Returns whether the row passes the test, and wasn't touched.
 fn is_found<T: Test>(key: Key, row: &Row, overlay: &Overlay, test: &T) -> bool
     ensures { result ≡ (T.passes test.now key row.now && not (finite.contains_key overlay.now key)) }
 {

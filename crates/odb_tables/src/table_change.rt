@@ -27,7 +27,7 @@ impl Model for TableChange {
 }
 
 impl TableChange {
-    /// The change of a table by these changes of its rows, which have to be of different rows.
+    /// Makes the change of a table by these changes of its rows, which have to be of different rows.
     /// O(1).
     pub fn new(rows: Vec<RowChange>) -> TableChange
         requires { AreDistinct rows.items }
@@ -36,7 +36,7 @@ impl TableChange {
         TableChange { rows }
     }
 
-    /// The changes of its rows, in no order that is told. O(1).
+    /// Returns the changes of its rows, in no order that is told. O(1).
     pub fn rows(&self) -> &[RowChange]
         ensures changes { finite.from_entries result.now ≡ self.now }
         ensures distinct { AreDistinct result.now }
@@ -52,7 +52,7 @@ impl TableChange {
         self.rows.is_empty()
     }
 
-    /// The same, by value. O(1).
+    /// Returns the same, by value. O(1).
     pub(crate) fn into_rows(self) -> Vec<RowChange>
         ensures changes { finite.from_entries result.items ≡ self }
         ensures distinct { AreDistinct result.items }

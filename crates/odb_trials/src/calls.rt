@@ -23,7 +23,7 @@ fn schema(alloc: Global) -> Result<Schema, AllocError> {
     }
 }
 
-/// The type of the schema's sets.
+/// Returns the type of the schema's sets.
 fn type_of_sets(schema: &Schema) -> Result<&ColType, AllocError> {
     match schema.tables() {
         [table] => match table.columns() {
@@ -45,14 +45,14 @@ fn set(alloc: Global, numbers: &[i64]) -> Result<Value, AllocError> {
     }
 }
 
-/// A copy of a schema prints what it was read from.
+/// Tries that a copy of a schema prints what it was read from.
 fn copies_and_writes_a_schema(alloc: Global) -> Result<bool, AllocError> {
     let copy = schema(alloc)?.try_copy(alloc)?;
     let text = copy.to_json(alloc)?;
     Ok(text.as_slice() == PRINTED.as_bytes())
 }
 
-/// What leads from {1, 2} to {2, 3} is {1, 3}, and leads there.
+/// Tries that what leads from {1, 2} to {2, 3} is {1, 3}, and leads there.
 fn applies_a_difference(alloc: Global) -> Result<bool, AllocError> {
     let schema = schema(alloc)?;
     let kind = type_of_sets(&schema)?;
@@ -60,7 +60,7 @@ fn applies_a_difference(alloc: Global) -> Result<bool, AllocError> {
     Ok(new == set(alloc, &[2, 3])?)
 }
 
-/// A set is refused for the number of its elements, before one of them is for its size.
+/// Tries that a set is refused for the number of its elements, before one of them is for its size.
 fn admits_for_its_number_first(alloc: Global) -> Result<bool, AllocError> {
     let schema = schema(alloc)?;
     let kind = type_of_sets(&schema)?;
@@ -71,7 +71,7 @@ fn admits_for_its_number_first(alloc: Global) -> Result<bool, AllocError> {
     )
 }
 
-/// A thief that ends gives the lock back.
+/// Tries that a thief that ends gives the lock back.
 fn locks_steals_and_drops(alloc: Global) -> Result<bool, LockFault> {
     let mut locks = Locks::new(alloc);
     let owner = locks.lock(1, "L")?;
@@ -81,7 +81,7 @@ fn locks_steals_and_drops(alloc: Global) -> Result<bool, LockFault> {
     Ok(owner.owns && thief.owns && is_robbed && told.len() == 1 && locks.owns(1, "L"))
 }
 
-/// A message that comes in two pieces, and a fault after it.
+/// Tries a message that comes in two pieces, and a fault after it.
 fn reads_pieces(alloc: Global) -> Result<bool, AllocError> {
     let fed = read_pieces(alloc, &[b"{\"result\"".as_slice(), b":1}]".as_slice()])?;
     Ok(fed.messages.len() == 1 && fed.fault.is_some())
@@ -96,7 +96,7 @@ fn copies_a_filter(alloc: Global) -> Result<bool, AllocError> {
     Ok(filter.try_copy(alloc)?.same(&filter))
 }
 
-/// What a draft changed is installed.
+/// Tries that what a draft changed is installed.
 fn changes_a_database(alloc: Global, hashing: RandomState) -> Result<bool, AllocError> {
     let mut db = Db::new(alloc, 1, hashing)?;
     let table = TableId::at(0);

@@ -37,7 +37,7 @@ fn add_name(text: &mut Vec<u8>, number: usize) -> Result<(), AllocError> {
     Ok(())
 }
 
-/// The text of a request for a monitor of the rows of this name.
+/// Returns the text of a request for a monitor of the rows of this name.
 fn watch(alloc: Global, number: usize) -> Result<Vec<u8>, AllocError> {
     let mut text = Vec::new(alloc);
     text.extend_from_slice(
@@ -87,7 +87,7 @@ fn take_all(core: &mut Core, listed: &[SessionId]) -> Result<(), AllocError> {
     Ok(())
 }
 
-/// Whether the sessions 1 and 2 and this one may be owed something, and no other.
+/// Returns whether the sessions 1 and 2 and this one may be owed something, and no other.
 fn are_concerned(core: &Core, writer: SessionId) -> bool {
     let owed = core.owed();
     owed.len() == 3 && owed.contains(&1) && owed.contains(&2) && owed.contains(&writer)

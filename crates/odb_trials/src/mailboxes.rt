@@ -45,7 +45,7 @@ struct SessionsFound {
     other: Vec<u8>,
 }
 
-/// A bell that calls nobody who hears.
+/// Makes a bell that calls nobody who hears.
 pub(crate) fn bell(alloc: Global) -> Result<Bell, AllocError> {
     Ok(Bell::new(Arc::new(alloc, Calls::new(alloc)?)?, 0))
 }
@@ -82,7 +82,7 @@ pub(crate) fn submit<L: Ledger, R: Wait + Clock>(
     }
 }
 
-/// How many echoes the hub takes before it is Busy. Their ids are 1, 2, 3 and so on.
+/// Returns how many echoes the hub takes before it is Busy. Their ids are 1, 2, 3 and so on.
 fn taken<L: Ledger, R: Wait + Clock>(
     rt: &R,
     alloc: Global,
@@ -99,7 +99,8 @@ fn taken<L: Ledger, R: Wait + Clock>(
     Ok(MOST)
 }
 
-/// How many replies the mailbox gives, to echoes of these ids in order, before it gives nothing, or something else.
+/// Returns how many replies the mailbox gives, to echoes of these ids in order, before it gives nothing, or something
+/// else.
 fn replies(alloc: Global, mailbox: &mut Mailbox, first: usize) -> Result<usize, AllocError> {
     for count in 0..MOST {
         let id = first.saturating_add(count);
@@ -141,7 +142,7 @@ fn run_rounds<L: Ledger, R: Threads + Wait + Clock + Sync>(
     Ok(())
 }
 
-/// The session ends. Where memory is refused it is tried again.
+/// Ends the session. Where memory is refused it is tried again.
 pub(crate) fn part<L: Ledger, R: Wait>(rt: &R, hub: &Hub<L>, seat: Seat<L>) {
     let mut seat = seat;
     for _ in rt.forever() {
@@ -154,7 +155,7 @@ pub(crate) fn part<L: Ledger, R: Wait>(rt: &R, hub: &Hub<L>, seat: Seat<L>) {
     unreachable!()
 }
 
-/// What another session is sent.
+/// Returns what another session is sent.
 fn other<L: Ledger, R: Threads + Wait + Clock + Sync>(
     rt: &R,
     alloc: Global,
@@ -184,7 +185,8 @@ fn ask_all<L: Ledger, R: Threads + Wait + Clock + Sync>(
     Ok(())
 }
 
-/// What is counted of a session that takes nothing until it is Busy, and then, where it is asked, what its ring has.
+/// Returns what is counted of a session that takes nothing until it is Busy, and then, where it is asked, what its ring
+/// has.
 fn find<L: Ledger, R: Threads + Wait + Clock + Sync>(
     rt: &R,
     alloc: Global,
@@ -214,8 +216,8 @@ fn find<L: Ledger, R: Threads + Wait + Clock + Sync>(
     })
 }
 
-/// What is found, and how many events two new journals ended with at once after that, and one after another session came
-/// and went.
+/// Returns what is found, and how many events two new journals ended with at once after that, and one after another
+/// session came and went.
 fn trial<L: Ledger, R: Threads + Wait + Clock + Sync>(
     rt: &R,
     alloc: Global,
@@ -236,7 +238,7 @@ fn trial<L: Ledger, R: Threads + Wait + Clock + Sync>(
     Ok((found, [first, second, third]))
 }
 
-/// A session opens, asks for an echo, and ends.
+/// Has a session open, ask for an echo, and end.
 fn come_and_go<L: Ledger, R: Wait + Clock>(
     rt: &R,
     alloc: Global,
@@ -250,7 +252,7 @@ fn come_and_go<L: Ledger, R: Wait + Clock>(
     Ok(())
 }
 
-/// What another session is sent that is alone.
+/// Returns what another session is sent that is alone.
 fn alone<L: Ledger, R: Threads + Wait + Clock + Sync>(
     rt: &R,
     alloc: Global,

@@ -58,8 +58,8 @@ fn play<R: Threads + Wait + Clock + Sync>(
     }
 }
 
-/// The number of the first request for memory that makes a difference where it is refused, if one does; 0 where memory is refused
-/// though nobody refuses any.
+/// Returns the number of the first request for memory that makes a difference where it is refused, if one does; 0 where
+/// memory is refused though nobody refuses any.
 fn first_wrong<R: Threads + Wait + Clock + Sync>(
     rt: &R,
     alloc: Global,
@@ -91,8 +91,8 @@ fn is_sent(sent: &Result<Sent, AllocError>, wanted: &Sent) -> bool {
     }
 }
 
-/// The number of the first request for memory whose refusal lets `run_script` print anything but a beginning of what it prints
-/// without, or end otherwise than in the fault `Memory` or with all of it, if there is one.
+/// Returns the number of the first request for memory whose refusal lets `run_script` print anything but a beginning of
+/// what it prints without, or end otherwise than in the fault `Memory` or with all of it, if there is one.
 fn first_wrong_run(
     alloc: Global,
     hashing: RandomState,
@@ -120,7 +120,7 @@ fn first_wrong_run(
     Ok(Some(MOST))
 }
 
-/// Whether a core sends just what the script prints.
+/// Returns whether a core sends just what the script prints.
 fn are_sent(alloc: Global, hashing: RandomState, script: &[&str]) -> Result<bool, AllocError> {
     let sent = play_to_core(alloc, core(alloc, hashing)?, script, PlayTarget::Core)?;
     let input = input(alloc, script)?;

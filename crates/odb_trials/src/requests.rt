@@ -15,7 +15,7 @@ use uuid::Uuid;
 pub(crate) const NET: &[u8] =
     b"{\"name\":\"net\",\"version\":\"1.0.0\",\"tables\":{\"T\":{\"isRoot\":true,\"columns\":{\"k\":{\"type\":\"integer\"}}}}}";
 
-/// A core of the schema, without sessions.
+/// Returns a core of the schema, without sessions.
 pub(crate) fn core(alloc: Global, hashing: RandomState, schema: &[u8]) -> Result<Core, AllocError>
     ensures { IfOk result (λ core. (core.world.sessions ≡ empty) × (core.opened ≡ 0)) }
 {
@@ -28,7 +28,7 @@ pub(crate) fn core(alloc: Global, hashing: RandomState, schema: &[u8]) -> Result
     }
 }
 
-/// The request of this text.
+/// Returns the request of this text.
 pub(crate) fn request(alloc: Global, text: &[u8]) -> Result<Submission, AllocError> {
     let mut framer = Framer::new(alloc);
     let fed = framer.feed(text)?;

@@ -21,7 +21,7 @@ const INSERT: &[u8] =
 /// How many clients subscribe.
 const CLIENTS: usize = 64;
 
-/// A session that submits the request of this text.
+/// Returns a session that submits the request of this text.
 pub(crate) fn submitter(
     alloc: Global,
     core: &mut Core,
@@ -86,7 +86,7 @@ fn text_of(alloc: Global, out: &Out) -> Result<Vec<u8>, AllocError> {
     Ok(text)
 }
 
-/// How many of the messages have the text of the first.
+/// Returns how many of the messages have the text of the first.
 fn like_first(alloc: Global, outs: &[Out]) -> Result<usize, AllocError> {
     let Some(first) = outs.first() else {
         return Ok(0);
@@ -101,7 +101,7 @@ fn like_first(alloc: Global, outs: &[Out]) -> Result<usize, AllocError> {
     Ok(count)
 }
 
-/// What a round is made of that tells all clients of one update, where so many of them asked without a filter.
+/// Returns what a round is made of that tells all clients of one update, where so many of them asked without a filter.
 fn round_of_all(
     alloc: Global,
     hashing: RandomState,
@@ -116,7 +116,7 @@ fn round_of_all(
     Ok(Made { jobs, alike })
 }
 
-/// How many of the messages have a body that so many messages share.
+/// Returns how many of the messages have a body that so many messages share.
 fn sharing(outs: &[Out], messages: usize) -> usize {
     let mut count: usize = 0;
     for out in outs {
@@ -134,7 +134,7 @@ fn is_shared_by(out: &Out, messages: usize) -> bool {
     }
 }
 
-/// How many clients are sent the text of one update that all of them share.
+/// Returns how many clients are sent the text of one update that all of them share.
 fn trial(alloc: Global, hashing: RandomState) -> Result<usize, AllocError> {
     let mut core = core(alloc, hashing, NET)?;
     let sessions = subscribers(alloc, &mut core, CLIENTS)?;

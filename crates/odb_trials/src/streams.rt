@@ -51,7 +51,7 @@ pub(crate) struct Taken {
 }
 
 impl Taken {
-    /// Nothing was written yet.
+    /// Makes one to which nothing was written yet.
     pub(crate) fn new(alloc: Global) -> Taken {
         Taken {
             text: Vec::new(alloc),
@@ -123,7 +123,7 @@ struct Whole {
     ends: Vec<usize>,
 }
 
-/// How a run ended, and what was taken.
+/// Returns how a run ended, and what was taken.
 fn run(
     alloc: Global,
     hashing: RandomState,
@@ -173,7 +173,7 @@ impl Whole {
         })
     }
 
-    /// Whether the whole input's run ends so, where the streams fail so.
+    /// Returns whether the whole input's run ends so, where the streams fail so.
     fn goes(&self, limits: Limits, end: End) -> Result<bool, AllocError> {
         let (ended, taken) = run(self.alloc, self.hashing, INPUT.as_bytes(), limits)?;
         Ok(
@@ -183,7 +183,7 @@ impl Whole {
         )
     }
 
-    /// How much so many lines print.
+    /// Returns how much so many lines print.
     fn printed_by(&self, lines: usize) -> usize {
         match lines.checked_sub(1) {
             Some(place) => self.ends.get(place).copied().unwrap_or(0),
@@ -191,7 +191,7 @@ impl Whole {
         }
     }
 
-    /// Where the call of the reader fails: what the lines before it print was written and flushed, and no other line is
+    /// Tries a reader whose call fails: what the lines before it print was written and flushed, and no other line is
     /// carried out.
     fn read_goes(&self, call: usize) -> Result<bool, AllocError> {
         let before = INPUT.as_bytes().iter().take(call.saturating_sub(1));
@@ -205,7 +205,7 @@ impl Whole {
         self.goes(limits, end)
     }
 
-    /// Where the writer takes so many bytes: just those were written, also where it takes no more without an error.
+    /// Tries a writer that takes so many bytes: just those were written, also where it takes no more without an error.
     fn write_goes(&self, most: usize, fails: bool) -> Result<bool, AllocError> {
         let limits = Limits {
             most,
@@ -220,7 +220,7 @@ impl Whole {
         self.goes(limits, end)
     }
 
-    /// Where the flush fails: the run ends at its line.
+    /// Tries a flush that fails: the run ends at its line.
     fn flush_goes(&self, flush: usize) -> Result<bool, AllocError> {
         let limits = Limits { flush, ..WELL };
         let end = End {

@@ -58,7 +58,7 @@ impl<'a, R: Clock> Meeting<'a, R> {
         self.missed.store(1, Ordering::SeqCst);
     }
 
-    /// Says whether both jobs began, and neither waited in vain.
+    /// Returns whether both jobs began, and neither waited in vain.
     fn has_met(&self) -> bool {
         self.first.load(Ordering::SeqCst) != 0
             && self.second.load(Ordering::SeqCst) != 0
@@ -121,7 +121,7 @@ fn sent<R: Threads + Sync, G: Gate + Sync>(
     Ok(text)
 }
 
-/// Says whether the workers compose what one composes.
+/// Returns whether the workers compose what one composes.
 fn compose_alike<R: Threads + Sync, G: Gate + Sync>(
     rt: &R,
     alloc: Global,

@@ -64,7 +64,7 @@ struct WriterStop {
 }
 
 impl WriterStop {
-    /// What a writer that stops so says of a text, if it isn't written whole.
+    /// Returns what a writer that stops so says of a text, if it isn't written whole.
     fn fault_in(self, whole: &[u8]) -> Option<ErrorKind> {
         if self.most >= whole.len() {
             return None;
@@ -75,15 +75,15 @@ impl WriterStop {
         Some(ErrorKind::WriteZero)
     }
 
-    /// Whether a message is in the midst then, which isn't ready whole.
+    /// Returns whether a message is in the midst then, which isn't ready whole.
     fn is_midway(self, whole: &[u8]) -> bool {
         self.most < PIECE && PIECE < whole.len()
     }
 }
 
 impl<'a, L: Ledger, R: Wait + Clock> WrittenSession<'a, L, R> {
-    /// Whether a writer that stops so was written just what comes before, whether the peer may be asked then, and whether a
-    /// good writer is written the rest, each byte once.
+    /// Returns whether a writer that stops so was written just what comes before, whether the peer may be asked then,
+    /// and whether a good writer is written the rest, each byte once.
     fn writes(
         &mut self,
         seat: &mut Seat<L>,
@@ -128,7 +128,7 @@ fn write_on(outbox: &mut Outbox, taken: &mut Taken, stop: WriterStop) -> Option<
     None
 }
 
-/// Whether this is the whole, and the request after it where the peer was asked.
+/// Returns whether this is the whole, and the request after it where the peer was asked.
 fn is_all(text: &Vec<u8>, whole: &[u8], asks: bool) -> bool {
     let behind = if asks { PROBE } else { "" };
     text.get(..whole.len()) == Some(whole) && text.get(whole.len()..) == Some(behind.as_bytes())
@@ -164,7 +164,7 @@ fn insert<L: Ledger, R: Wait + Clock>(
     Ok(())
 }
 
-/// What the mailbox gives, one message after another.
+/// Returns what the mailbox gives, one message after another.
 fn take(alloc: Global, mailbox: &mut Mailbox) -> Result<Vec<u8>, AllocError> {
     let mut text = Vec::new(alloc);
     for _ in ASKED {
@@ -193,7 +193,8 @@ fn whole<L: Ledger, R: Wait + Clock>(
     take(alloc, &mut mailbox)
 }
 
-/// The number of bytes at which a writer that stops isn't written just these, and then the rest, if there is one.
+/// Returns the number of bytes at which a writer that stops isn't written just these, and then the rest, if there is
+/// one.
 fn first_wrong<L: Ledger, R: Wait + Clock>(
     session: &mut WrittenSession<'_, L, R>,
     seat: &mut Seat<L>,

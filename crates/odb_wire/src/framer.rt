@@ -44,7 +44,7 @@ pub struct Fed {
 }
 
 impl Framer {
-    /// A framer that has taken in nothing.
+    /// Makes a framer that has taken in nothing.
     pub fn new(alloc: Global) -> Framer
         ensures { result ≡ [] }
     {
@@ -85,8 +85,8 @@ impl Framer {
     }
 }
 
-/// The messages of a stream that comes in these pieces, and the fault that it stands at after them. They are those of
-/// the pieces joined together: two ways to cut one stream give the same.
+/// Reads the messages of a stream that comes in these pieces, and the fault that it stands at after them. They are
+/// those of the pieces joined together: two ways to cut one stream give the same.
 pub fn read_pieces(alloc: Global, pieces: &[&[u8]]) -> Result<Fed, AllocError>
     ensures messages { IfOk result (λ read. map message_data read.messages.items
         ≡ (messages (flat_map (λ piece. piece.now) pieces.now)).0) }

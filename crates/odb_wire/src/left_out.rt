@@ -5,7 +5,7 @@ ghost use Rattle.odb_wire.specs.Message.{has_left_out, items_left_out, members_l
 
 use serde_json::{Map, Value};
 
-/// Whether a number that is no integer from -(2^63) to 2^63-1 stands anywhere in the value. It goes
+/// Returns whether a number that is no integer from -(2^63) to 2^63-1 stands anywhere in the value. It goes
 /// through the whole value.
 #[cycle(left_out)]
 pub fn has_left_out_number(value: &Value) -> bool

@@ -36,35 +36,35 @@ pub enum Message {
 impl Request {
     ghost use Rattle.odb_wire.specs.Shown.{request_data};
 
-    /// The whole message.
+    /// Returns the whole message.
     pub fn message(&self) -> &Value
         ensures { view result.now ≡ request_data self.now }
     {
         &self.message
     }
 
-    /// The member `method`.
+    /// Returns the member `method`.
     pub fn method(&self) -> &str
         ensures { Some result.now ≡ method_of (request_data self.now) }
     {
         self.message.get("method").and_then(Value::as_str).unwrap()
     }
 
-    /// The member `params`, if there is one.
+    /// Returns the member `params`, if there is one.
     pub fn params(&self) -> Option<&Value>
         ensures { option_map (λ v. view v.now) result ≡ get (codes "params") (request_data self.now) }
     {
         self.message.get("params")
     }
 
-    /// The member `id`, if there is one.
+    /// Returns the member `id`, if there is one.
     pub fn id(&self) -> Option<&Value>
         ensures { option_map (λ v. view v.now) result ≡ get (codes "id") (request_data self.now) }
     {
         self.message.get("id")
     }
 
-    /// Whether `id` is absent or null: then there is no reply.
+    /// Returns whether `id` is absent or null: then there is no reply.
     pub fn is_notification(&self) -> bool
         ensures { result ≡ is_notification (request_data self.now) }
     {
@@ -74,7 +74,7 @@ impl Request {
         }
     }
 
-    /// Whether a number that is no integer from -(2^63) to 2^63-1 stands anywhere in the message.
+    /// Returns whether a number that is no integer from -(2^63) to 2^63-1 stands anywhere in the message.
     /// Each call goes through the whole message.
     pub fn has_left_out_number(&self) -> bool
         ensures { result ≡ has_left_out (request_data self.now) }
@@ -86,7 +86,7 @@ impl Request {
 impl Response {
     ghost use Rattle.odb_wire.specs.Shown.{response_data};
 
-    /// The whole message.
+    /// Returns the whole message.
     pub fn message(&self) -> &Value
         ensures { view result.now ≡ response_data self.now }
     {
@@ -97,7 +97,7 @@ impl Response {
 impl Message {
     ghost use Rattle.odb_wire.specs.Shown.{message_data, IsOfItsKind};
 
-    /// The message that an object's text is, if it is one.
+    /// Reads the message that an object's text is, if it is one.
     pub(crate) fn read(alloc: Global, text: &[u8]) -> Result<Option<Message>, AllocError>
         ensures data { IfOk result (λ found. option_map message_data found ≡ message_of text.now) }
         ensures kind { IfOk result (λ found. IfSome found IsOfItsKind) }

@@ -21,7 +21,7 @@ pub(crate) struct Scan {
 }
 
 impl Scan {
-    /// After the brace that opens the object.
+    /// Begins after the brace that opens the object.
     pub(crate) fn begun() -> Scan
         ensures place { place_of result.place ≡ outside }
         ensures depth { result.depth ≡ 1 }
@@ -32,7 +32,7 @@ impl Scan {
         }
     }
 
-    /// How many of the bytes belong to the object, where it ends in them. Each byte is looked at once.
+    /// Returns how many of the bytes belong to the object, where it ends in them. Each byte is looked at once.
     pub(crate) fn end_in(&mut self, bytes: &[u8]) -> Option<usize>
         requires { self.old.depth + length bytes.now < 2 ^ 64 }
         ensures end { IfSome result (IsEnd (place_of self.old.place) self.old.depth bytes.now) }
@@ -57,7 +57,7 @@ impl Scan {
     }
 }
 
-/// The place and the open braces after a byte.
+/// Returns the place and the open braces after a byte.
 #[inline(always)]
 fn after(place: Place, depth: usize, byte: u8) -> (Place, usize)
     requires within { 0 < depth }

@@ -63,7 +63,7 @@ impl Step {
 }
 
 impl StreamState {
-    /// Before the first byte, or between two messages.
+    /// Makes the state before the first byte, or between two messages.
     pub(crate) fn between(alloc: Global) -> StreamState
         ensures stands { IsStanding result }
         ensures fresh { (more : List ℕ) → messages_after result more ≡ messages more }
@@ -74,7 +74,7 @@ impl StreamState {
         })
     }
 
-    /// The fault that the stream stands at.
+    /// Returns the fault that the stream stands at.
     pub(crate) fn fault(&self) -> Option<WireFault>
         requires { IsStanding self.now }
         ensures { result ≡ fault_of (messages_after self.now []).1 }
@@ -143,7 +143,7 @@ impl Unfinished {
     }
 }
 
-/// The unfinished message with its last bytes, and the messages after it.
+/// Completes the unfinished message with its last bytes, and splits the messages after it.
 fn complete(
     alloc: Global,
     text: &mut Vec<u8>,
@@ -167,7 +167,8 @@ fn complete(
     }
 }
 
-/// The messages given, with those at the front of the bytes, and how these stand after them.
+/// Splits off the messages at the front of the bytes, adds them to those given, and returns how the bytes stand after
+/// them.
 fn split(alloc: Global, mut messages: Vec<Message>, bytes: &[u8]) -> Result<Step, AllocError>
     ensures ok { IfOk result (λ step. ReadsOn (map message_data messages.items) bytes.now
         (map message_data step.messages.items) step.state) }
@@ -199,7 +200,7 @@ fn split(alloc: Global, mut messages: Vec<Message>, bytes: &[u8]) -> Result<Step
     })
 }
 
-/// The bytes from the first one on that is no blank.
+/// Returns the bytes from the first one on that is no blank.
 fn skip_blanks(bytes: &[u8]) -> &[u8]
     ensures rest { result.now ≡ skip_blanks bytes.now }
     ensures no_more { skip_blanks result.now ≡ result.now }

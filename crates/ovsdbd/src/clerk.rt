@@ -155,7 +155,8 @@ impl<'a, L: Ledger, R: Wait + Clock> Clerk<'a, L, R> {
         Ok(())
     }
 
-    /// The place that is the last of those that are vacant, of which there is one then. There is room in the queue for all.
+    /// Returns the place that is the last of those that are vacant, of which there is one then. There is room in the
+    /// queue for all.
     fn vacate(&mut self) -> io::Result<usize> {
         if let Some(place) = self.vacant.last() {
             return Ok(*place);
@@ -230,17 +231,17 @@ impl<'a, L: Ledger, R: Wait + Clock> Clerk<'a, L, R> {
         self.enqueue(place);
     }
 
-    /// Whether it has no connection, and none will come.
+    /// Returns whether it has no connection, and none will come.
     fn is_over(&self) -> bool {
         self.is_closed && self.vacant.len() == self.connections.len()
     }
 
-    /// Whether some have a turn next.
+    /// Returns whether some have a turn next.
     fn has_next(&self) -> bool {
         !self.asking.is_empty() || !self.queue.is_empty()
     }
 
-    /// For how long to wait for events: not at all where some have a turn next.
+    /// Returns for how long to wait for events: not at all where some have a turn next.
     fn wait_for(&mut self) -> Option<Duration> {
         if self.has_next() || self.is_over() || !self.desk.lies_down() {
             return Some(Duration::ZERO);
@@ -262,7 +263,7 @@ impl<'a, L: Ledger, R: Wait + Clock> Clerk<'a, L, R> {
         }
     }
 
-    /// How often to look whether the daemon's patience is at its end; not at all where it has none.
+    /// Returns how often to look whether the daemon's patience is at its end; not at all where it has none.
     fn interval(&self) -> Option<Duration> {
         let patience = &self.tools.daemon.patience;
         let shortest = match (patience.probe, patience.stall) {
@@ -342,7 +343,7 @@ impl<'a, L: Ledger, R: Threads + Wait + Clock + Sync> Clerk<'a, L, R> {
     }
 }
 
-/// The connection at a place, if there is one.
+/// Returns the connection at a place, if there is one.
 fn at<L: Ledger>(
     connections: &mut [Option<Connection<L>>],
     place: usize,

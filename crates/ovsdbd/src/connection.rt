@@ -193,18 +193,18 @@ impl<L: Ledger> Connection<L> {
         Ok(self.next(tools, written))
     }
 
-    /// Whether a request may be submitted: none waits since it met Busy, and no message is held back, since then the client
-    /// doesn't read what it was given.
+    /// Returns whether a request may be submitted: none waits since it met Busy, and no message is held back, since
+    /// then the client doesn't read what it was given.
     fn may_submit(&self) -> bool {
         !self.is_busy && !self.outbox.bell().is_held_back()
     }
 
-    /// Whether more may be read: all that was read was submitted.
+    /// Returns whether more may be read: all that was read was submitted.
     fn may_read(&self) -> bool {
         self.reads && self.submissions.is_empty() && self.may_submit()
     }
 
-    /// Says whether there are requests to submit, or bytes to read.
+    /// Returns whether there are requests to submit, or bytes to read.
     pub(crate) fn has_requests(&self) -> bool {
         !self.submissions.is_empty() || self.reads && self.is_readable
     }
@@ -215,7 +215,7 @@ impl<L: Ledger> Connection<L> {
         self.was_asked = false;
     }
 
-    /// What comes next, after so much was written.
+    /// Returns what comes next, after so much was written.
     fn next<R: Wait + Clock>(&mut self, tools: &Tools<'_, L, R>, written: Written) -> Next {
         if !self.reads && self.submissions.is_empty() {
             return self.end(tools, written);
@@ -226,8 +226,8 @@ impl<L: Ledger> Connection<L> {
         Next::Rests
     }
 
-    /// What comes next of a connection of which nothing more is read: what the session is given is written, then the session
-    /// ends, and what it was given by then is written.
+    /// Returns what comes next of a connection of which nothing more is read: what the session is given is written,
+    /// then the session ends, and what it was given by then is written.
     fn end<R: Wait + Clock>(&mut self, tools: &Tools<'_, L, R>, written: Written) -> Next {
         match written {
             Written::All if !self.outbox.bell().is_held_back() => {}
@@ -334,8 +334,8 @@ impl<L: Ledger> Connection<L> {
         }
     }
 
-    /// Says whether the daemon's patience with the peer is at its end at this moment. Before that the peer is asked whether it
-    /// is there, which is to be written. A peer that isn't read isn't silent.
+    /// Returns whether the daemon's patience with the peer is at its end at this moment. Before that the peer is asked
+    /// whether it is there, which is to be written. A peer that isn't read isn't silent.
     pub(crate) fn has_expired(&mut self, patience: Patience, moment: u64) -> bool {
         let Patience { probe, stall } = patience;
         if !self.may_read() {
@@ -353,7 +353,7 @@ impl<L: Ledger> Connection<L> {
         is_silent || is_stalled
     }
 
-    /// Says whether a peer counts as gone that said nothing for so long; it is asked after half of that time.
+    /// Returns whether a peer counts as gone that said nothing for so long; it is asked after half of that time.
     fn is_silent(&mut self, silent: u64, probe: u64) -> bool {
         if !self.was_asked && silent >= probe {
             self.was_asked = true;
@@ -402,7 +402,7 @@ fn part_at_last<L: Ledger, R: Wait + Clock>(rt: &R, daemon: &Daemon<L>, seat: Se
     unreachable!()
 }
 
-/// The requests among the messages, the first of them last.
+/// Returns the requests among the messages, the first of them last.
 fn submissions_of(
     alloc: Global,
     messages: Vec<Message>,

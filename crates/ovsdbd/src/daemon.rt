@@ -37,7 +37,7 @@ pub(crate) struct Patience {
 }
 
 impl Patience {
-    /// Says whether the daemon bears each peer for ever.
+    /// Returns whether the daemon bears each peer for ever.
     pub(crate) fn is_endless(&self) -> bool {
         self.probe.is_none() && self.stall.is_none()
     }
@@ -59,7 +59,7 @@ impl<L: Ledger> Daemon<L> {
     ghost use Rattle.std.specs.Prelude.{◌≡◌, ◌+◌};
     ghost use Rattle.odb_atoms.specs.FinMap.{empty};
 
-    /// A daemon over a core without sessions.
+    /// Makes a daemon over a core without sessions.
     pub(crate) fn new(
         begun: Begun,
         blank: Blank,
@@ -84,7 +84,7 @@ impl<L: Ledger> Daemon<L> {
         }
     }
 
-    /// The milliseconds since the start.
+    /// Returns the milliseconds since the start.
     pub(crate) fn now<R: Clock>(&self, rt: &R) -> u64 {
         match self.start.elapsed(rt) {
             Ok(elapsed) => u64::try_from(elapsed.as_millis()).unwrap_or(u64::MAX),
@@ -92,7 +92,7 @@ impl<L: Ledger> Daemon<L> {
         }
     }
 
-    /// The pump ends.
+    /// Ends the pump.
     pub(crate) fn end(&self) {
         self.ended.store(1, Ordering::SeqCst);
         self.pace.wake();
@@ -172,7 +172,7 @@ impl<L: Ledger> Daemon<L> {
         self.pace.tell(requests);
     }
 
-    /// What the pump does until the daemon ends.
+    /// Pumps until the daemon ends.
     pub(crate) fn pump<R: Threads + Wait + Clock + Sync>(&self, rt: &R) {
         let mut turns: u64 = 0;
         for _ in rt.forever() {
@@ -202,15 +202,15 @@ impl<L: Ledger> Daemon<L> {
         }
     }
 
-    /// How long it is until a moment, and a millisecond where that is over: a tick for which memory was refused is made
-    /// again.
+    /// Returns how long it is until a moment, and a millisecond where that is over: a tick for which memory was refused
+    /// is made again.
     fn left<R: Clock>(&self, rt: &R, moment: Option<u64>) -> Option<Duration> {
         let left = moment?.saturating_sub(self.now(rt));
         Some(Duration::from_millis(left.max(1)))
     }
 }
 
-/// Whether nothing was refused, and no session is owed anything.
+/// Returns whether nothing was refused, and no session is owed anything.
 fn is_quiet(owes: &Result<bool, Refused>) -> bool {
     matches!(owes, Ok(false))
 }

@@ -53,7 +53,7 @@ impl Desk {
         })
     }
 
-    /// How many connections the thread has.
+    /// Returns how many connections the thread has.
     pub(crate) fn count(&self) -> u64 {
         self.count.load(Ordering::SeqCst)
     }

@@ -80,12 +80,12 @@ fn main(rt: HostRuntime) -> io::Result<ExitCode> {
     }
 }
 
-/// The value of a word that may be absent.
+/// Returns the value of a word that may be absent.
 fn word<'a>(words: &ArgMatches<'a>, name: &str, absent: &'a str) -> &'a str {
     words.get_str(name).unwrap_or(absent)
 }
 
-/// The file that a script is to run on.
+/// Returns the file that a script is to run on.
 fn script_file<'a>(matches: &ArgMatches<'a>) -> &'a str {
     match matches.subcommand_matches("script") {
         Some(words) => word(words, "schema", ""),
@@ -152,7 +152,7 @@ Example:
   $ ovsdbd serve --schema net.json --listen 127.0.0.1:0 --sessions 1
   listening 127.0.0.1:40123";
 
-/// The words that are understood.
+/// Makes the words that are understood.
 fn command<'a>(alloc: Global) -> Result<Command<'a>, Error> {
     let command = Command::new(alloc, "ovsdbd")
         .about("An OVSDB server (RFC 7047) that begins with empty tables.")
@@ -164,7 +164,7 @@ fn command<'a>(alloc: Global) -> Result<Command<'a>, Error> {
     Ok(command)
 }
 
-/// `script` and its words.
+/// Makes `script` and its words.
 fn script_command<'a>(alloc: Global) -> Result<Command<'a>, Error> {
     let script = Command::new(alloc, "script")
         .about("Runs a script from standard input on a server of the schema")
@@ -173,7 +173,7 @@ fn script_command<'a>(alloc: Global) -> Result<Command<'a>, Error> {
     Ok(script)
 }
 
-/// `serve` and its words.
+/// Makes `serve` and its words.
 fn serve_command<'a>(alloc: Global) -> Result<Command<'a>, Error> {
     let serve = Command::new(alloc, "serve")
         .about("Serves the schema over TCP")
@@ -321,7 +321,7 @@ fn run_word<R: RandomSource>(rt: &R) -> Result<u64, ProgramFault> {
     Ok(rng.next_u64())
 }
 
-/// Whom the daemon is to serve.
+/// Returns whom the daemon is to serve.
 fn terms<R: Threads>(rt: &R, words: &ArgMatches<'_>) -> Terms {
     Terms {
         sessions: words.get_one("sessions"),
@@ -334,7 +334,7 @@ fn terms<R: Threads>(rt: &R, words: &ArgMatches<'_>) -> Terms {
     }
 }
 
-/// How many threads a word asks for: as many as there are processors where it is absent, at most 64.
+/// Returns how many threads a word asks for: as many as there are processors where it is absent, at most 64.
 fn threads<R: Threads>(rt: &R, words: &ArgMatches<'_>, name: &str) -> usize {
     let most = MOST_THREADS as usize;
     let asked: Option<u64> = words.get_one(name);
@@ -352,7 +352,7 @@ fn processors<R: Threads>(rt: &R) -> usize {
     }
 }
 
-/// So many milliseconds; none where the word is absent or 0.
+/// Returns so many milliseconds; none where the word is absent or 0.
 fn milliseconds(words: &ArgMatches<'_>, name: &str) -> Option<u64> {
     let count: u64 = words.get_one(name)?;
     if count == 0 {
@@ -361,7 +361,7 @@ fn milliseconds(words: &ArgMatches<'_>, name: &str) -> Option<u64> {
     Some(count)
 }
 
-/// The schema in a file.
+/// Reads the schema in a file.
 fn read_schema(rt: &HostRuntime, file: &str) -> Result<Schema, ProgramFault> {
     let text = fs::read(rt, file).map_err(|_| ProgramFault::SchemaUnread)?;
     Schema::read(rt.alloc(), text.as_slice()).map_err(|fault| ProgramFault::Schema(fault.number()))

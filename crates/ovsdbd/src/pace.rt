@@ -61,7 +61,7 @@ impl Pace {
         }
     }
 
-    /// Says whether the pump sleeps, and a round of all is brief: then another thread may as well run it.
+    /// Returns whether the pump sleeps, and a round of all is brief: then another thread may as well run it.
     pub(crate) fn lets_others(&self) -> bool {
         self.sleeps() && self.took.load(Ordering::SeqCst) < BRIEF
     }
@@ -147,14 +147,14 @@ impl Pace {
     }
 }
 
-/// How much of what a round took counts.
+/// Returns how much of what a round took counts.
 fn rest_of(round: Round) -> Duration {
     let given = u64::try_from(round.given).unwrap_or(u64::MAX);
     let most = Duration::from_micros(given.saturating_mul(EACH));
     round.took.min(most).min(Duration::from_millis(LONG))
 }
 
-/// What is left of it once this is over.
+/// Returns what is left of it once this is over.
 fn after(left: Option<Duration>, over: Duration) -> Option<Duration> {
     Some(left?.saturating_sub(over))
 }

@@ -52,7 +52,7 @@ pub(crate) struct Memory {
     pub(crate) kept: usize,
 }
 
-/// A core for the schema, with empty tables. Moments are counted from now.
+/// Makes a core for the schema, with empty tables. Moments are counted from now.
 pub(crate) fn begin<R: Clock>(
     rt: &R,
     alloc: Global,

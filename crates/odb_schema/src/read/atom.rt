@@ -12,7 +12,7 @@ use serde_json::Value;
 use std::alloc::Global;
 use uuid::Uuid;
 
-/// `["uuid", text]`.
+/// Reads `["uuid", text]`.
 fn read_uuid(value: &Value) -> Result<Uuid, SchemaFault>
     ensures { Gives uuid_of result (parts.uuid_in (view value.now)) }
 {
@@ -25,14 +25,14 @@ fn read_uuid(value: &Value) -> Result<Uuid, SchemaFault>
     parse_uuid(text).ok_or(SchemaFault::BadType)
 }
 
-/// A string without U+0000.
+/// Reads a string without U+0000.
 fn read_text(value: &Value) -> Result<&str, SchemaFault>
     ensures { Gives (λ text. text.now) result (parts.text_in (view value.now)) }
 {
     text_in(value).ok_or(SchemaFault::BadType)
 }
 
-/// An atom of the kind.
+/// Reads an atom of the kind.
 pub fn read_atom(alloc: Global, kind: Kind, value: &Value) -> Result<Atom, SchemaFault>
     ensures { Reads atom_of result (parts.atom_in (kind_in kind) (view value.now)) }
 {

@@ -20,7 +20,7 @@ use odb_atoms::{Base, Enumeration, Kind};
 use serde_json::{Map, Value};
 use std::alloc::Global;
 
-/// `type` of a base type that is an object.
+/// Reads `type` of a base type that is an object.
 fn read_base_kind(members: &Map<String, Value>) -> Result<Kind, SchemaFault>
     ensures { Gives kind_in result (parts.kind_of (members_view members.now.entries)) }
 {
@@ -28,7 +28,7 @@ fn read_base_kind(members: &Map<String, Value>) -> Result<Kind, SchemaFault>
     read_kind(name)
 }
 
-/// `enum`, where it is given.
+/// Reads `enum`, where it is given.
 fn read_allowed(
     alloc: Global,
     kind: Kind,
@@ -44,7 +44,7 @@ fn read_allowed(
 }
 
 impl Reader<'_> {
-    /// An atomic type with its constraints.
+    /// Reads an atomic type with its constraints.
     fn read_constraints(&self, members: &Map<String, Value>) -> Result<Base, SchemaFault>
         ensures { Reads base_of result
             (parts.base_in (known_to self.entry.now) (members_view members.now.entries)) }
@@ -65,7 +65,7 @@ impl Reader<'_> {
         })
     }
 
-    /// A base type: the name of an atomic type, or an object.
+    /// Reads a base type: the name of an atomic type, or an object.
     pub fn read_base(&self, value: &Value) -> Result<Base, SchemaFault>
         ensures { Reads base_of result
             (model.read_base (known_to self.entry.now) (view value.now)) }

@@ -19,7 +19,7 @@ use odb_atoms::ColType;
 use serde_json::{Map, Value};
 
 impl Reader<'_> {
-    /// `type` of a column.
+    /// Reads `type` of a column.
     fn read_column_type(&self, members: &Map<String, Value>) -> Result<ColType, SchemaFault>
         ensures { Reads type_of result
             (parts.column_type_of (known_to self.entry.now) (members_view members.now.entries)) }
@@ -27,7 +27,7 @@ impl Reader<'_> {
         self.read_type(needed("type", members)?)
     }
 
-    /// The column with the name, of the members of its object.
+    /// Returns the column with the name, of the members of its object.
     fn column_of(&self, name: &str, members: &Map<String, Value>) -> Result<Column, SchemaFault>
         ensures { Reads (λ column. column) result
             (parts.column_in (known_to self.entry.now) name.now (members_view members.now.entries)) }
@@ -39,7 +39,7 @@ impl Reader<'_> {
         Ok(Column::new(name, column_type, is_ephemeral, is_mutable))
     }
 
-    /// The column with the name.
+    /// Reads the column with the name.
     fn read_column(&self, name: &str, value: &Value) -> Result<Column, SchemaFault>
         ensures { Reads (λ column. column) result
             (model.read_column (known_to self.entry.now) (name.now, view value.now)) }
@@ -50,7 +50,7 @@ impl Reader<'_> {
         self.column_of(name, read_object(value)?)
     }
 
-    /// The columns of a table, by ascending name.
+    /// Reads the columns of a table, by ascending name.
     pub fn read_columns(&self, columns: &Map<String, Value>) -> Result<Vec<Column>, SchemaFault>
         ensures exact { Reads (λ v. v.items) result
             (parts.columns_in (known_to self.entry.now) (members_view columns.now.entries)) }

@@ -18,7 +18,7 @@ use odb_atoms::{Base, ColType, Kind};
 use serde_json::{Map, Value};
 
 impl Reader<'_> {
-    /// `key` of a type that is an object.
+    /// Reads `key` of a type that is an object.
     fn read_key(&self, members: &Map<String, Value>) -> Result<Base, SchemaFault>
         ensures { Reads base_of result
             (parts.key_of (known_to self.entry.now) (members_view members.now.entries)) }
@@ -26,7 +26,7 @@ impl Reader<'_> {
         self.read_base(needed("key", members)?)
     }
 
-    /// `value`, where it is given.
+    /// Reads `value`, where it is given.
     fn read_value(&self, members: &Map<String, Value>) -> Result<Option<Base>, SchemaFault>
         ensures { Reads (option_map base_of) result
             (parts.value_of (known_to self.entry.now) (members_view members.now.entries)) }
@@ -37,7 +37,7 @@ impl Reader<'_> {
         }
     }
 
-    /// A type that is an object.
+    /// Reads a type that is an object.
     fn read_type_members(&self, members: &Map<String, Value>) -> Result<ColType, SchemaFault>
         ensures { Reads type_of result
             (parts.type_in (known_to self.entry.now) (members_view members.now.entries)) }
@@ -54,7 +54,7 @@ impl Reader<'_> {
         })
     }
 
-    /// A type: the name of an atomic type for a scalar, or an object.
+    /// Reads a type: the name of an atomic type for a scalar, or an object.
     pub fn read_type(&self, value: &Value) -> Result<ColType, SchemaFault>
         ensures { Reads type_of result
             (model.read_type (known_to self.entry.now) (view value.now)) }

@@ -21,7 +21,7 @@ use std::alloc::Global;
 /// The most bytes of a schema's text.
 const MAX_FILE: usize = 16_777_216;
 
-/// `name` of a schema.
+/// Reads `name` of a schema.
 fn read_name(members: &Map<String, Value>) -> Result<&str, SchemaFault>
     ensures { Gives (λ name. name.now) result (parts.name_of (members_view members.now.entries)) }
 {
@@ -32,7 +32,7 @@ fn read_name(members: &Map<String, Value>) -> Result<&str, SchemaFault>
     Ok(name)
 }
 
-/// `version` of a schema.
+/// Reads `version` of a schema.
 fn read_version(members: &Map<String, Value>) -> Result<&str, SchemaFault>
     ensures { Gives (λ version. version.now) result
         (parts.version_of (members_view members.now.entries)) }
@@ -44,7 +44,7 @@ fn read_version(members: &Map<String, Value>) -> Result<&str, SchemaFault>
     Ok(version)
 }
 
-/// `cksum`, where it is given.
+/// Reads `cksum`, where it is given.
 fn read_cksum(members: &Map<String, Value>) -> Result<Option<&str>, SchemaFault>
     ensures { Gives (option_map (λ cksum. cksum.now)) result
         (parts.cksum_of (members_view members.now.entries)) }
@@ -55,7 +55,7 @@ fn read_cksum(members: &Map<String, Value>) -> Result<Option<&str>, SchemaFault>
     }
 }
 
-/// `tables` of a schema, by ascending name.
+/// Reads `tables` of a schema, by ascending name.
 fn read_schema_tables(
     alloc: Global,
     members: &Map<String, Value>,
@@ -68,7 +68,7 @@ fn read_schema_tables(
     reader.read_tables()
 }
 
-/// A schema, of the members of its object.
+/// Reads a schema, of the members of its object.
 fn read_members(alloc: Global, members: &Map<String, Value>) -> Result<Schema, SchemaFault>
     requires sound { HasSound (members_view members.now.entries) }
     requires small { model.is_too_large (object (members_view members.now.entries)) ≡ false }
@@ -87,7 +87,7 @@ fn read_members(alloc: Global, members: &Map<String, Value>) -> Result<Schema, S
     Ok(Schema::new(name, version, cksum, tables))
 }
 
-/// The schema that JSON is, if it is one.
+/// Reads the schema that JSON is, if it is one.
 fn read_schema(alloc: Global, value: &Value) -> Result<Schema, SchemaFault>
     requires { IsSound (view value.now) }
     ensures { Reads (λ schema. schema) result (model.read_schema (view value.now)) }
@@ -98,7 +98,7 @@ fn read_schema(alloc: Global, value: &Value) -> Result<Schema, SchemaFault>
     read_members(alloc, read_object(value)?)
 }
 
-/// The JSON that a text is, if it is some.
+/// Reads the JSON that a text is, if it is some.
 fn read_json(alloc: Global, text: &[u8]) -> Result<Value, SchemaFault>
     ensures exact { Reads view result (parts.json_of text.now) }
     ensures sound { IfOk result (λ value. IsSound (view value)) }
@@ -114,7 +114,7 @@ fn read_json(alloc: Global, text: &[u8]) -> Result<Value, SchemaFault>
 }
 
 impl Schema {
-    /// The schema that a file's text is (RFC 7047, section 3.2): JSON in UTF-8 of at most 16,777,216
+    /// Reads the schema that a file's text is (RFC 7047, section 3.2): JSON in UTF-8 of at most 16,777,216
     /// bytes. Members that a schema does not have are passed over, and of a repeated member the
     /// last counts.
     ///

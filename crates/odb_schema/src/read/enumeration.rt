@@ -14,7 +14,7 @@ use odb_atoms::{Atom, Enumeration, Kind};
 use serde_json::Value;
 use std::alloc::Global;
 
-/// The atoms of an array, in its order.
+/// Reads the atoms of an array, in its order.
 fn read_atoms(alloc: Global, kind: Kind, items: &[Value]) -> Result<Vec<Atom>, SchemaFault>
     ensures { Reads (λ v. map atom_of v.items) result
         (parts.atoms_in (kind_in kind) (items_view items.now)) }
@@ -26,7 +26,7 @@ fn read_atoms(alloc: Global, kind: Kind, items: &[Value]) -> Result<Vec<Atom>, S
     Ok(atoms)
 }
 
-/// The set of an array's atoms, of which none may stand twice.
+/// Reads the set of an array's atoms, of which none may stand twice.
 fn read_elements(
     alloc: Global,
     kind: Kind,
@@ -42,7 +42,7 @@ fn read_elements(
     }
 }
 
-/// A set, or an atom alone for one element.
+/// Reads a set, or an atom alone for one element.
 fn read_set(alloc: Global, kind: Kind, value: &Value) -> Result<odb_atoms::Value, SchemaFault>
     ensures { Reads (λ v. v) result
         (parts.as_value (parts.set_in (kind_in kind) (view value.now))) }
@@ -56,7 +56,7 @@ fn read_set(alloc: Global, kind: Kind, value: &Value) -> Result<odb_atoms::Value
     }
 }
 
-/// The JSON kinds that a value has: all but null, an object, and a number that is no integer.
+/// Returns the JSON kinds that a value has: all but null, an object, and a number that is no integer.
 fn is_value_json(value: &Value) -> bool
     ensures { result ≡ model.is_value_json (view value.now) }
 {
@@ -67,7 +67,7 @@ fn is_value_json(value: &Value) -> bool
     }
 }
 
-/// `enum`: at least one atom of the kind.
+/// Reads `enum`: at least one atom of the kind.
 pub fn read_enum(alloc: Global, kind: Kind, value: &Value) -> Result<Enumeration, SchemaFault>
     ensures { Reads (λ allowed. allowed) result (model.read_enum (kind_in kind) (view value.now)) }
 {

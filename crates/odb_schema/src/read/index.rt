@@ -15,7 +15,7 @@ use crate::schema::Column;
 use serde_json::{Map, Value};
 use std::alloc::Global;
 
-/// Whether the columns have one with the name that isn't ephemeral.
+/// Returns whether the columns have one with the name that isn't ephemeral.
 fn is_indexable(columns: &[Column], name: &str) -> bool
     ensures { result ≡ model.is_indexable columns.now name.now }
 {
@@ -24,14 +24,14 @@ fn is_indexable(columns: &[Column], name: &str) -> bool
         .any(|column| column.name() == name && !column.is_ephemeral())
 }
 
-/// Whether the name is among the names.
+/// Returns whether the name is among the names.
 fn has_name(names: &[String], name: &str) -> bool
     ensures { result ≡ list_any (λ other. same_text name.now (string_bytes other)) names.now }
 {
     names.iter().any(|other| name == other.as_str())
 }
 
-/// Whether the name may stand in an index after the names.
+/// Returns whether the name may stand in an index after the names.
 fn may_follow(columns: &[Column], names: &[String], name: &str) -> bool
     ensures { result ≡ (model.is_indexable columns.now name.now
         && not (list_any (λ other. same_text name.now (string_bytes other)) names.now)) }
@@ -39,7 +39,7 @@ fn may_follow(columns: &[Column], names: &[String], name: &str) -> bool
     is_indexable(columns, name) && !has_name(names, name)
 }
 
-/// The names of an index, in their order.
+/// Reads the names of an index, in their order.
 fn read_names(
     alloc: Global,
     columns: &[Column],
@@ -58,7 +58,7 @@ fn read_names(
     Ok(names)
 }
 
-/// An index: one or more names of columns, of which none is ephemeral and none stands twice.
+/// Reads an index: one or more names of columns, of which none is ephemeral and none stands twice.
 fn read_index(alloc: Global, columns: &[Column], value: &Value) -> Result<Vec<String>, SchemaFault>
     ensures { Reads names_of result (model.read_index columns.now (view value.now)) }
 {
@@ -84,7 +84,7 @@ fn read_all(
     Ok(indexes)
 }
 
-/// `indexes` of a table with the columns: none where it is not given.
+/// Reads `indexes` of a table with the columns: none where it is not given.
 pub fn read_indexes(
     alloc: Global,
     columns: &[Column],

@@ -11,7 +11,7 @@ use super::leaf::{member, read_between, read_bool, read_integer};
 use crate::fault::SchemaFault;
 use serde_json::{Map, Value};
 
-/// `min` of a type: 0 or 1.
+/// Reads `min` of a type: 0 or 1.
 pub fn read_min(members: &Map<String, Value>) -> Result<u32, SchemaFault>
     ensures { Gives (λ min. min) result (parts.min_of (members_view members.now.entries)) }
 {
@@ -21,7 +21,7 @@ pub fn read_min(members: &Map<String, Value>) -> Result<u32, SchemaFault>
     }
 }
 
-/// `max` of a type: from 1 to 4,294,967,295, or `None` where it is "unlimited".
+/// Reads `max` of a type: from 1 to 4,294,967,295, or `None` where it is "unlimited".
 pub fn read_max(members: &Map<String, Value>) -> Result<Option<u32>, SchemaFault>
     ensures { Gives (λ max. max) result (parts.max_of (members_view members.now.entries)) }
 {
@@ -31,7 +31,7 @@ pub fn read_max(members: &Map<String, Value>) -> Result<Option<u32>, SchemaFault
     }
 }
 
-/// `maxRows` of a table: at least 1, or `None` where it is not given.
+/// Reads `maxRows` of a table: at least 1, or `None` where it is not given.
 pub fn read_max_rows(members: &Map<String, Value>) -> Result<Option<u64>, SchemaFault>
     ensures { Gives (λ max. max) result (parts.max_rows_of (members_view members.now.entries)) }
 {
@@ -51,7 +51,7 @@ fn max_in(value: &Value) -> Result<Option<u32>, SchemaFault>
     }
 }
 
-/// A boolean member with a default.
+/// Reads a boolean member with a default.
 pub fn read_flag(
     key: &str,
     default: bool,
@@ -66,7 +66,7 @@ pub fn read_flag(
     }
 }
 
-/// An optional integer, which stands with one atomic type alone.
+/// Reads an optional integer, which stands with one atomic type alone.
 fn read_bound(
     key: &str,
     stands: bool,
@@ -92,7 +92,7 @@ fn bound_in(stands: bool, value: &Value) -> Result<i64, SchemaFault>
     Ok(bound)
 }
 
-/// The lower and the upper bound at two keys, which stand with one atomic type alone.
+/// Reads the lower and the upper bound at two keys, which stand with one atomic type alone.
 pub fn read_bounds(
     low: &str,
     high: &str,

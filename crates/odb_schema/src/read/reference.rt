@@ -19,7 +19,7 @@ use odb_atoms::{Kind, Reference};
 use serde_json::{Map, Value};
 use std::alloc::Global;
 
-/// Whether there is a member with the name.
+/// Returns whether there is a member with the name.
 pub fn has_member(name: &str, members: &Map<String, Value>) -> bool
     ensures { result ≡ list_any (same_text name.now) (names_in (members_view members.now.entries)) }
 {
@@ -92,7 +92,7 @@ fn read_weak(stands: bool, members: &Map<String, Value>) -> Result<bool, SchemaF
     }
 }
 
-/// The reference of a base type, if it has one.
+/// Reads the reference of a base type, if it has one.
 pub fn read_reference(
     alloc: Global,
     tables: &Map<String, Value>,

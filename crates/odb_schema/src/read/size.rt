@@ -15,7 +15,7 @@ const MAX_TABLES: usize = 256;
 /// The most columns of a table.
 const MAX_COLUMNS: usize = 256;
 
-/// The members of the object at a key, if there is one.
+/// Returns the members of the object at a key, if there is one.
 fn members_at<'a>(key: &str, value: &'a Value) -> Option<&'a Map<String, Value>>
     ensures { unwrap_or (option_map (λ m. members_list (members_view m.now.entries)) result) []
         ≡ model.members_at key.now (view value.now) }
@@ -23,7 +23,7 @@ fn members_at<'a>(key: &str, value: &'a Value) -> Option<&'a Map<String, Value>>
     member(key, value.as_object()?)?.as_object()
 }
 
-/// Whether it is a table with more than 256 columns.
+/// Returns whether it is a table with more than 256 columns.
 fn is_too_wide(table: &Value) -> bool
     ensures { result ≡ parts.is_too_wide (view table.now) }
 {
@@ -44,7 +44,7 @@ fn has_too_wide(tables: &Map<String, Value>) -> bool
     false
 }
 
-/// Whether there are more than 256 tables, or more than 256 columns in one. What is not of the JSON
+/// Returns whether there are more than 256 tables, or more than 256 columns in one. What is not of the JSON
 /// kind that a schema needs there is not counted.
 pub fn is_too_large(schema: &Value) -> bool
     ensures { result ≡ model.is_too_large (view schema.now) }

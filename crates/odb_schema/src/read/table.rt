@@ -18,7 +18,7 @@ use crate::text::is_name;
 use serde_json::{Map, Value};
 
 impl Reader<'_> {
-    /// `columns` of a table, by ascending name.
+    /// Reads `columns` of a table, by ascending name.
     fn read_table_columns(&self, members: &Map<String, Value>) -> Result<Vec<Column>, SchemaFault>
         ensures exact { Reads (λ v. v.items) result
             (parts.columns_of (known_to self.entry.now) (members_view members.now.entries)) }
@@ -28,7 +28,7 @@ impl Reader<'_> {
         self.read_columns(columns)
     }
 
-    /// The table with the name, of the members of its object.
+    /// Returns the table with the name, of the members of its object.
     fn table_of(&self, name: &str, members: &Map<String, Value>) -> Result<TableSchema, SchemaFault>
         ensures { Reads (λ table. table) result
             (parts.table_in (known_to self.entry.now) name.now (members_view members.now.entries)) }
@@ -41,7 +41,7 @@ impl Reader<'_> {
         Ok(TableSchema::new(name, columns, max_rows, is_root, indexes))
     }
 
-    /// The table with the name.
+    /// Reads the table with the name.
     fn read_table(&self, name: &str, value: &Value) -> Result<TableSchema, SchemaFault>
         ensures { Reads (λ table. table) result
             (model.read_table (known_to self.entry.now) (name.now, view value.now)) }
@@ -52,7 +52,7 @@ impl Reader<'_> {
         self.table_of(name, read_object(value)?)
     }
 
-    /// The tables, by ascending name.
+    /// Reads the tables, by ascending name.
     pub fn read_tables(&self) -> Result<Vec<TableSchema>, SchemaFault>
         ensures exact { Reads (λ v. v.items) result
             (parts.tables_in (members_view self.entry.now.tables.now.entries)) }

@@ -15,7 +15,7 @@ use odb_atoms::{Base, ColType, Enumeration, Kind, Reference};
 use serde_json::Value;
 use std::alloc::{AllocError, Global};
 
-/// The name of an atomic type.
+/// Returns the name of an atomic type.
 fn kind_name(kind: Kind) -> &'static str
     ensures { result.now ≡ model.kind_name (kind_in kind) }
 {
@@ -27,7 +27,7 @@ fn kind_name(kind: Kind) -> &'static str
     }
 }
 
-/// Whether there are no constraints.
+/// Returns whether there are no constraints.
 fn is_plain(base: &Base) -> bool
     ensures { result ≡ model.is_plain (base_of base.now) }
 {
@@ -96,7 +96,7 @@ impl Object {
     }
 }
 
-/// A base type as an object.
+/// Writes a base type as an object.
 fn write_constraints(alloc: Global, base: &Base) -> Result<Value, AllocError>
     ensures { IfOk result (λ v. view v ≡ written.base_object (base_of base.now)) }
 {
@@ -108,7 +108,7 @@ fn write_constraints(alloc: Global, base: &Base) -> Result<Value, AllocError>
     Ok(object.into_value())
 }
 
-/// A base type: its name, if it has no constraints, else an object.
+/// Writes a base type: its name, if it has no constraints, else an object.
 fn write_base(alloc: Global, base: &Base) -> Result<Value, AllocError>
     ensures { IfOk result (λ v. view v ≡ model.write_base (base_of base.now)) }
 {
@@ -118,14 +118,14 @@ fn write_base(alloc: Global, base: &Base) -> Result<Value, AllocError>
     write_constraints(alloc, base)
 }
 
-/// Whether it has exactly one element, which is no pair.
+/// Returns whether it has exactly one element, which is no pair.
 fn is_scalar(column_type: &ColType) -> bool
     ensures { result ≡ model_type.is_scalar (type_of column_type.now) }
 {
     column_type.is_single() && column_type.min == 1 && column_type.value.is_none()
 }
 
-/// A type as an object.
+/// Writes a type as an object.
 fn write_members(alloc: Global, column_type: &ColType) -> Result<Value, AllocError>
     ensures { IfOk result (λ v. view v ≡ written.type_object (type_of column_type.now)) }
 {
@@ -138,7 +138,7 @@ fn write_members(alloc: Global, column_type: &ColType) -> Result<Value, AllocErr
     Ok(object.into_value())
 }
 
-/// A type: the name of an atomic type for a scalar without constraints, else an object.
+/// Writes a type: the name of an atomic type for a scalar without constraints, else an object.
 pub fn write_type(alloc: Global, column_type: &ColType) -> Result<Value, AllocError>
     ensures { IfOk result (λ v. view v ≡ model.write_type (type_of column_type.now)) }
 {

@@ -22,7 +22,7 @@ fn write_column(alloc: Global, column: &Column) -> Result<Value, AllocError>
     Ok(object.into_value())
 }
 
-/// The columns of a table.
+/// Writes the columns of a table.
 pub fn write_columns(alloc: Global, columns: &[Column]) -> Result<Value, AllocError>
     ensures { IfOk result (λ v. view v ≡ written.columns_object columns.now) }
 {

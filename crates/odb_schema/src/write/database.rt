@@ -27,7 +27,7 @@ impl Object {
 }
 
 impl Schema {
-    /// The schema as JSON (RFC 7047, section 3.2). Members that equal their defaults are left out,
+    /// Returns the schema as JSON (RFC 7047, section 3.2). Members that equal their defaults are left out,
     /// and so are those that were passed over when it was read. It is the JSON of the same schema.
     /// O(n log n) for the n bytes of its text.
     pub fn to_value(&self, alloc: Global) -> Result<Value, AllocError>
@@ -44,7 +44,7 @@ impl Schema {
         Ok(object.into_value())
     }
 
-    /// The schema's text: its JSON in UTF-8, with no space between tokens and the keys of objects
+    /// Returns the schema's text: its JSON in UTF-8, with no space between tokens and the keys of objects
     /// in ascending order. Where it has at most 16,777,216 bytes, `Schema::read` makes the same
     /// schema of it. O(n log n) for n bytes.
     pub fn to_json(&self, alloc: Global) -> Result<Vec<u8>, AllocError>

@@ -31,7 +31,7 @@ impl Model for Object {
 }
 
 impl Object {
-    /// An object without members. O(1).
+    /// Makes an object without members. O(1).
     pub fn new(alloc: Global) -> Object
         ensures { result ≡ no_members }
     {
@@ -41,7 +41,7 @@ impl Object {
         }
     }
 
-    /// The allocator that its members are of. O(1).
+    /// Returns the allocator that its members are of. O(1).
     pub(crate) fn alloc(&self) -> Global {
         self.alloc
     }
@@ -100,7 +100,7 @@ impl Object {
         self.put(key, Value::from(number))
     }
 
-    /// It as a value. O(1).
+    /// Returns it as a value. O(1).
     pub fn into_value(self) -> Value
         ensures { view result ≡ object self }
     {

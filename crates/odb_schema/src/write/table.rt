@@ -74,7 +74,7 @@ fn write_table(alloc: Global, table: &TableSchema) -> Result<Value, AllocError>
     Ok(object.into_value())
 }
 
-/// The tables of a schema.
+/// Writes the tables of a schema.
 pub fn write_tables(alloc: Global, tables: &[TableSchema]) -> Result<Value, AllocError>
     ensures { IfOk result (λ v. view v ≡ written.tables_object tables.now) }
 {

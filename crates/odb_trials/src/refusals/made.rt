@@ -12,7 +12,7 @@ use std::alloc::{AllocError, Global};
 use std::hash::RandomState;
 use uuid::Uuid;
 
-/// The schema.
+/// Returns the schema.
 pub(crate) fn schema(alloc: Global) -> Result<Schema, AllocError> {
     match read_schema(alloc) {
         Ok(schema) => Ok(schema),
@@ -27,7 +27,7 @@ fn read_schema(alloc: Global) -> Result<Schema, AllocError> {
     }
 }
 
-/// A core of the schema without sessions. Where memory is refused it is made of what came back.
+/// Returns a core of the schema without sessions. Where memory is refused it is made of what came back.
 pub(crate) fn core(alloc: Global, hashing: RandomState) -> Result<Core, AllocError>
     ensures { IfOk result (λ core. (core.world.sessions ≡ empty) × (core.opened ≡ 0)) }
 {
@@ -41,7 +41,7 @@ pub(crate) fn core(alloc: Global, hashing: RandomState) -> Result<Core, AllocErr
     }
 }
 
-/// The request of a text, before whose inserts there were so many. Their identifiers are those of a script.
+/// Returns the request of a text, before whose inserts there were so many. Their identifiers are those of a script.
 pub(crate) fn submission(
     alloc: Global,
     text: &[u8],
@@ -77,7 +77,7 @@ fn with_identifiers(
     Ok(Submission::new(request, fresh))
 }
 
-/// The identifier of an insert, before which there were so many.
+/// Returns the identifier of an insert, before which there were so many.
 fn identifier(before: usize) -> Uuid {
     Uuid::from_u128(0x4000_8000_0000_0000_0001 + before as u128)
 }

@@ -157,7 +157,7 @@ fn round_by_jobs(core: &mut Core, ready: &[SessionId]) -> Result<Vec<Out>, Alloc
 /// More rounds than any script takes.
 const MOST: usize = 1_000;
 
-/// What is sent for a script, and when the first session closes after it, and the second.
+/// Returns what is sent for a script, and when the first session closes after it, and the second.
 pub(crate) fn play_to_core(
     alloc: Global,
     core: Core,

@@ -169,7 +169,7 @@ impl<'a, L: Ledger, R: Threads + Wait + Clock + Sync> Stage<'a, L, R> {
         }
     }
 
-    /// The first ends, and then the second, with what it was given when the first ended.
+    /// Returns the first ends, and then the second, with what it was given when the first ended.
     fn close(&self, players: Players<L>) -> Result<Sent, AllocError> {
         let Players {
             first,
@@ -215,7 +215,7 @@ fn take(mailbox: &mut Mailbox, text: &mut Vec<u8>) -> Result<usize, AllocError> 
     Err(AllocError)
 }
 
-/// What is sent for a script.
+/// Returns what is sent for a script.
 pub(crate) fn play_to_hub<L: Ledger, R: Threads + Wait + Clock + Sync>(
     rt: &R,
     alloc: Global,

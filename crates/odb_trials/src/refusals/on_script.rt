@@ -7,7 +7,7 @@ use std::alloc::{AllocError, Global};
 use std::hash::RandomState;
 use std::io::BufReader;
 
-/// What a run prints, and how it ends. Memory may be refused in it, and not in what is made for it.
+/// Returns what a run prints, and how it ends. Memory may be refused in it, and not in what is made for it.
 pub(crate) fn play_to_script(
     alloc: Global,
     hashing: RandomState,
@@ -28,7 +28,7 @@ pub(crate) fn play_to_script(
     Ok((printed, ended))
 }
 
-/// The text of a script: its lines between those that open and close two sessions.
+/// Returns the text of a script: its lines between those that open and close two sessions.
 pub(crate) fn input(alloc: Global, script: &[&str]) -> Result<Vec<u8>, AllocError> {
     let mut input = Vec::from_slice(alloc, b"!open A\n!open B\n")?;
     for line in script {
@@ -39,7 +39,7 @@ pub(crate) fn input(alloc: Global, script: &[&str]) -> Result<Vec<u8>, AllocErro
     Ok(input)
 }
 
-/// What a run prints for the session of this name, message after message.
+/// Returns what a run prints for the session of this name, message after message.
 pub(crate) fn lines_of(alloc: Global, printed: &[u8], name: u8) -> Result<Vec<u8>, AllocError> {
     let mut lines = text(alloc)?;
     for line in printed.split(|byte| *byte == b'\n') {

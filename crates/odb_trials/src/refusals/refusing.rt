@@ -14,7 +14,7 @@ pub(crate) fn refuse(alloc: Global, number: usize) -> Result<(), AllocError> {
     Ok(())
 }
 
-/// Whether one was refused. From here on none is.
+/// Returns whether one was refused. From here on none is.
 pub(crate) fn was_refused(alloc: Global) -> bool {
     let asked: Result<Vec<u8>, AllocError> = Vec::with_capacity(alloc, ASKED);
     asked.is_err()

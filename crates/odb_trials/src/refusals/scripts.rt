@@ -93,7 +93,8 @@ const AFTER_THE_FLOOD: [&str; 3] = [
     "!take A",
 ];
 
-/// More replies than a ring has room for, while nobody takes them: the 65th is held back, and what comes then has to wait.
+/// Returns more replies than a ring has room for, while nobody takes them: the 65th is held back, and what comes then
+/// has to wait.
 pub(crate) fn flood(alloc: Global) -> Result<Vec<&'static str>, AllocError> {
     let mut script = Vec::from_slice(alloc, &BEFORE_THE_FLOOD)?;
     for _ in 0..70 {

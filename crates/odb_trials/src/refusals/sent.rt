@@ -20,13 +20,13 @@ impl Sent {
         })
     }
 
-    /// Whether the same was sent.
+    /// Returns whether the same was sent.
     pub(crate) fn is_as(&self, other: &Sent) -> bool {
         self.first == other.first && self.second == other.second
     }
 }
 
-/// An empty text with room. Where memory is refused it is tried once more.
+/// Returns an empty text with room. Where memory is refused it is tried once more.
 pub(crate) fn text(alloc: Global) -> Result<Vec<u8>, AllocError> {
     match Vec::with_capacity(alloc, ROOM) {
         Ok(text) => Ok(text),

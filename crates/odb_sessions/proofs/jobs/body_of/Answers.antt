@@ -19,6 +19,6 @@ returns-in-Some-Composed c =
     IfOk-weaker c.body_at.result (λ body. bytes_in body ≡ option_and_then bytes_in (slice_get bodies m.job))
     (λ body. (js : List Job) → map bytes_in bodies ≡ map composition js → text_coming c.args.coming.now (bytes_in body) ≡ text_planned js c.args.coming.now)
     (λ body found js same.
-        subst (λ (coming : Option Coming). text_coming coming (bytes_in body) ≡ text_planned js coming) (sym is)
-        (ap (λ b. text_around m.before.items b m.after.items) (found ∙ body_composed bytes_in bodies js m.job same)))
+    subst (λ (coming : Option Coming). text_coming coming (bytes_in body) ≡ text_planned js coming) (sym is)
+    (ap (λ b. text_around m.before.items b m.after.items) (found ∙ body_composed bytes_in bodies js m.job same)))
     c.body_at.ensures
