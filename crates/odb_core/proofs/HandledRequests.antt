@@ -101,25 +101,25 @@ module _ (h : Service) where
   behind ps o = ps ++ option_to_list o
 
   -- one that ends leaves those that wait, and one that doesn't stands after them
-  pub behind_ended : (p : Waiting) (w v : World) → attempt h p w ≡ (v, None) → with_waiting h (λ ps o. ps ++ option_to_list o) w.waiting (attempt h p w) ≡ v
-  behind_ended p w v e =
+  pub after_ended : (p : Waiting) (w v : World) → attempt h p w ≡ (v, None) → with_waiting h (λ ps o. ps ++ option_to_list o) w.waiting (attempt h p w) ≡ v
+  after_ended p w v e =
       ap (λ (t : Tried). record (t.0) { waiting = w.waiting ++ option_to_list t.1 }) e
       ∙ ap (λ ps. record v { waiting = ps }) (append-nil w.waiting ∙ sym (attempt_waiting p w v None e))
 
-  pub behind_waits : (p q : Waiting) (w v : World) → attempt h p w ≡ (v, Some q) → with_waiting h (λ ps o. ps ++ option_to_list o) w.waiting (attempt h p w) ≡ record v { waiting = v.waiting ++ q ∷ [] }
-  behind_waits p q w v e =
+  pub after_waits : (p q : Waiting) (w v : World) → attempt h p w ≡ (v, Some q) → with_waiting h (λ ps o. ps ++ option_to_list o) w.waiting (attempt h p w) ≡ record v { waiting = v.waiting ++ q ∷ [] }
+  after_waits p q w v e =
       ap (λ (t : Tried). record (t.0) { waiting = w.waiting ++ option_to_list t.1 }) e
       ∙ ap (λ ps. record v { waiting = ps ++ q ∷ [] }) (sym (attempt_waiting p w v (Some q) e))
 
   -- a new one is followed by what it lets go on
   pub runs_ended : (p : Waiting) (w v : World) → attempt h p w ≡ (v, None) → run_transaction h p w ≡ retry_all h v
-  runs_ended p w v e = ap (retry_all h) (behind_ended p w v e)
+  runs_ended p w v e = ap (retry_all h) (after_ended p w v e)
 
   pub runs_alone : (p : Waiting) (w v : World) → attempt h p w ≡ (v, None) → untried h v ≡ None → run_transaction h p w ≡ v
   runs_alone p w v e none = runs_ended p w v e ∙ retried_none h v none
 
   pub runs_waiting : (p q : Waiting) (w : World) → attempt h p w ≡ (w, Some q) → untried h (record w { waiting = w.waiting ++ q ∷ [] }) ≡ None → run_transaction h p w ≡ record w { waiting = w.waiting ++ q ∷ [] }
-  runs_waiting p q w e none = ap (retry_all h) (behind_waits p q w w e) ∙ retried_none h (record w { waiting = w.waiting ++ q ∷ [] }) none
+  runs_waiting p q w e none = ap (retry_all h) (after_waits p q w w e) ∙ retried_none h (record w { waiting = w.waiting ++ q ∷ [] }) none
 
   -- ---- a try at a place
 

@@ -10,7 +10,7 @@ use Rattle.odb_service.specs.Server.{Server, served_by}
 use Rattle.odb_service.specs.Service.{Outcome, Service, ended, waiting}
 use Rattle.odb_service.specs.World.{Waiting, World, attempt, is_untried, on_outcome, retry_all, split_first, try_one, untried}
 use Rattle.odb_core.specs.Represented.Retrying.{IsRetrying}
-use Rattle.odb_core.specs.Represented.Steps.{by_service, let_wait, try_behind}
+use Rattle.odb_core.specs.Represented.Steps.{by_service, let_wait, try_again}
 use Rattle.odb_core.proofs.ClosedSessions.{none_pushed}
 use Rattle.odb_core.proofs.HandledRequests.{attempt_waiting, tries_beside}
 use Rattle.odb_core.proofs.RetriedOnce.{first_of, none_untried}
@@ -98,7 +98,7 @@ module _ (old now : Server) (n : ℕ) (p : Waiting) (rest : List Waiting) (h : I
         }
 
     -- one that is tried, whatever it comes to
-    pub tried_in_turn : IsRetrying old (by_service (try_behind p) now) n rest
+    pub tried_in_turn : IsRetrying old (by_service (try_again p) now) n rest
     tried_in_turn = by (attempt k p w) refl
       where
         by : (r : Tried) → attempt k p w ≡ r → IsRetrying old (placed now (record (r.0) { waiting = w.waiting ++ option_to_list r.1 })) n rest

@@ -111,6 +111,13 @@ impl Core {
         Ok(self.state.open()?)
     }
 
+    /// Returns the number of the next session that opens. O(1).
+    pub fn next_session(&self) -> SessionId
+        ensures { result ≡ self.now.opened }
+    {
+        self.state.opened
+    }
+
     /// Ends a session: its claims are released, with the notices to those that own now, its transactions
     /// that wait and its queue are dropped. It is refused with `Gone` where no such session is open, and
     /// with `Memory`. O(log n + w + its claims).

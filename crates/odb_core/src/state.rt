@@ -43,7 +43,7 @@ pub(crate) const MAX_ROWS: usize = 1_000_000;
 pub(crate) struct State {
     pub(crate) alloc: Global,
     pub(crate) served: ServedSchema,
-    opened: usize,
+    pub(crate) opened: usize,
     pub(crate) now: u64,
     pub(crate) waiting: WaitingList,
     pub(crate) locks: Locks,
@@ -77,7 +77,7 @@ impl State {
     ghost use Rattle.odb_core.specs.Represented.Core.{AreUnused, new_server, with_session};
     ghost use Rattle.odb_core.specs.Represented.Retrying.{IsRetrying};
     ghost use Rattle.odb_core.specs.Represented.Rounds.{IsRoundOf};
-    ghost use Rattle.odb_core.specs.Represented.Steps.{AreTried, OnlySessions, attempted, by_service, in_world, let_wait, try_behind};
+    ghost use Rattle.odb_core.specs.Represented.Steps.{AreTried, OnlySessions, attempted, by_service, in_world, let_wait, try_again};
     ghost use Rattle.odb_core.specs.Represented.Waiting.{IsDone, IsOutcome, ends, runs};
 
     /// Makes empty tables that keep what the schema asks for, at moment 0, with no commit and no session, in a run with
@@ -283,7 +283,7 @@ impl State {
 
     /// Tries one that waited. It goes after those that wait, unless it ends.
     fn retry(&mut self, waiting: Waiting) -> Result<(), AllocError>
-        ensures { OnOk result (by_service (try_behind waiting) self.old ≡ self.new) }
+        ensures { OnOk result (by_service (try_again waiting) self.old ≡ self.new) }
     {
         if let Some(waiting) = self.retried(waiting)? {
             self.keep(waiting)?;

@@ -52,9 +52,9 @@ pub longer : (s t : List ℕ) → s ≢ [] → (s ++ t) ≢ []
 longer [] t some = absurd (some refl)
 longer (x ∷ xs) t some = λ e. absurd (let f : suc (length (xs ++ t)) ≡ 0 = ap length e in omega (arith, f))
 
-pub longer_behind : (s t : List ℕ) → t ≢ [] → (s ++ t) ≢ []
-longer_behind [] t some = some
-longer_behind (x ∷ xs) t some = λ e. absurd (let f : suc (length (xs ++ t)) ≡ 0 = ap length e in omega (arith, f))
+pub longer_after : (s t : List ℕ) → t ≢ [] → (s ++ t) ≢ []
+longer_after [] t some = some
+longer_after (x ∷ xs) t some = λ e. absurd (let f : suc (length (xs ++ t)) ≡ 0 = ap length e in omega (arith, f))
 
 pub some_left : (xs : List ℕ) (n : ℕ) → n < length xs → drop n xs ≢ []
 some_left xs n less = λ e. absurd (let f : length (drop n xs) ≡ 0 = ap length e in let len = length-drop n xs in omega (arith, f, len, less))

@@ -12,12 +12,12 @@ use Rattle.odb_schema.specs.Json.{Data, array, as_array, as_str, boolean, item, 
 use Rattle.odb_schema.specs.Notation.{Names, named_uuid, pair_of, read_uuid, tagged}
 use Rattle.odb_schema.proofs.Uuids.{array_of}
 use Rattle.odb_json.specs.Operation.{read_own_uuid}
-use Rattle.odb_json.specs.Represented.Parts.{behind_name, behind_uuid}
+use Rattle.odb_json.specs.Represented.Parts.{name_content, uuid_content}
 
 module _ (names : Option Names) where
   abbrev by_tags : Option Data → Option Data → Result Uuid Error
-  by_tags (Some d) o = behind_uuid d
-  by_tags None (Some d) = behind_name names d
+  by_tags (Some d) o = uuid_content d
+  by_tags None (Some d) = name_content names d
   by_tags None None = Err syntax_error
 
   text : (b c : Bool) (s : List ℕ) → cond b (ok_or (uuid_of_text s) syntax_error) (cond c (named_uuid names s) (Err syntax_error)) ≡ by_tags (cond b (Some (string s)) None) (cond c (Some (string s)) None)
@@ -25,7 +25,7 @@ module _ (names : Option Names) where
   text false true s = refl
   text false false s = refl
 
-  no_text : (b c : Bool) (d : Data) → behind_uuid d ≡ Err syntax_error → behind_name names d ≡ Err syntax_error → Err syntax_error ≡ by_tags (cond b (Some d) None) (cond c (Some d) None)
+  no_text : (b c : Bool) (d : Data) → uuid_content d ≡ Err syntax_error → name_content names d ≡ Err syntax_error → Err syntax_error ≡ by_tags (cond b (Some d) None) (cond c (Some d) None)
   no_text true c d u n = sym u
   no_text false true d u n = sym n
   no_text false false d u n = refl
@@ -40,10 +40,10 @@ module _ (names : Option Names) where
   tags (array (item (string tag) (item (object ms) no_items))) = no_text (same_text tag (codes "uuid")) (same_text tag (codes "named-uuid")) (object ms) refl refl
   tags d = refl
 
-  pub uuid_tagged : (d content : Data) → Some content ≡ tagged (codes "uuid") d → behind_uuid content ≡ read_uuid names d
+  pub uuid_tagged : (d content : Data) → Some content ≡ tagged (codes "uuid") d → uuid_content content ≡ read_uuid names d
   uuid_tagged d content is = ap (λ o. by_tags o (tagged (codes "named-uuid") d)) is ∙ sym (tags d)
 
-  pub name_tagged : (d content : Data) → None ≡ tagged (codes "uuid") d → Some content ≡ tagged (codes "named-uuid") d → behind_name names content ≡ read_uuid names d
+  pub name_tagged : (d content : Data) → None ≡ tagged (codes "uuid") d → Some content ≡ tagged (codes "named-uuid") d → name_content names content ≡ read_uuid names d
   name_tagged d content none is = (λ i. by_tags (none i) (is i)) ∙ sym (tags d)
 
 -- ---- identifiers of inserts

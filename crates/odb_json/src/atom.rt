@@ -6,7 +6,7 @@ ghost use Rattle.odb_atoms.specs.Represented.Atom.{atom_of, kind_in, uuid_of};
 ghost use Rattle.odb_schema.specs.Notation as notation;
 ghost use Rattle.odb_json.specs.Operation.{read_own_uuid};
 ghost use Rattle.odb_json.specs.Represented.Fault.{Gives, Reads};
-ghost use Rattle.odb_json.specs.Represented.Parts.{behind_name, behind_uuid};
+ghost use Rattle.odb_json.specs.Represented.Parts.{name_content, uuid_content};
 
 use crate::fault::OpFault;
 use crate::names::Names;
@@ -20,8 +20,8 @@ use uuid::Uuid;
 pub const SYNTAX: OpFault = OpFault::Failed(Error::SyntaxError);
 
 /// Returns the UUID that stands after "uuid".
-fn uuid_behind(content: &Value) -> Result<Uuid, OpFault>
-    ensures { Gives uuid_of result (behind_uuid (view content.now)) }
+fn read_uuid_content(content: &Value) -> Result<Uuid, OpFault>
+    ensures { Gives uuid_of result (uuid_content (view content.now)) }
 {
     let Some(text) = content.as_str() else {
         return Err(SYNTAX);
@@ -30,9 +30,9 @@ fn uuid_behind(content: &Value) -> Result<Uuid, OpFault>
 }
 
 /// Returns the UUID of the name that stands after "named-uuid".
-fn named_behind(content: &Value, names: Option<&Names>) -> Result<Uuid, OpFault>
+fn read_name_content(content: &Value, names: Option<&Names>) -> Result<Uuid, OpFault>
     ensures { Gives uuid_of result
-        (behind_name (option_map (λ n. n.now) names.entry) (view content.now)) }
+        (name_content (option_map (λ n. n.now) names.entry) (view content.now)) }
 {
     let Some(name) = content.as_str() else {
         return Err(SYNTAX);
@@ -54,10 +54,10 @@ fn read_uuid(value: &Value, names: Option<&Names>) -> Result<Uuid, OpFault>
         (notation.read_uuid (option_map (λ n. n.now) names.entry) (view value.now)) }
 {
     if let Some(content) = tagged("uuid", value) {
-        return uuid_behind(content);
+        return read_uuid_content(content);
     }
     match tagged("named-uuid", value) {
-        Some(content) => named_behind(content, names),
+        Some(content) => read_name_content(content, names),
         None => Err(SYNTAX),
     }
 }

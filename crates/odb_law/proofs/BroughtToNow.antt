@@ -160,24 +160,24 @@ module _ (h : Service) where
             (s.0, ap (λ b. cond b (Some m) (find (has_id h i) (brought_by db f i ms))) isnt ∙ s.1, s.2)
       ] refl e
 
-  pub behind_sync : (db : Db) (p : Item) (i : Data) (ms : List Monitor) → IsSyncOf i p → is_some (watched h i (map (λ m. m.watch) (leaves h db p ms))) ≡ true → Sure db as_they_are i (leaves h db p ms)
-  behind_sync db (say a m) i ms s there = absurd s
-  behind_sync db (start r k) i ms s there = absurd s
-  behind_sync db (sync j) i ms s there =
+  pub after_sync : (db : Db) (p : Item) (i : Data) (ms : List Monitor) → IsSyncOf i p → is_some (watched h i (map (λ m. m.watch) (leaves h db p ms))) ≡ true → Sure db as_they_are i (leaves h db p ms)
+  after_sync db (say a m) i ms s there = absurd s
+  after_sync db (start r k) i ms s there = absurd s
+  after_sync db (sync j) i ms s there =
       subst (λ k. is_some (watched h k (map (λ m. m.watch) (leaves h db (sync j) ms))) ≡ true → Sure db as_they_are k (leaves h db (sync j) ms)) s (brought_sure db as_they_are j ms) there
-  behind_sync db (shift j fs) i ms s there = absurd s
-  behind_sync db (renamed r old new fs) i ms s there = absurd s
-  behind_sync db (stopped r j) i ms s there = absurd s
+  after_sync db (shift j fs) i ms s there = absurd s
+  after_sync db (renamed r old new fs) i ms s there = absurd s
+  after_sync db (stopped r j) i ms s there = absurd s
 
-  pub behind_shift : (db : Db) (p : Item) (i : Data) (fs : List (List ℕ × Filter)) (ms : List Monitor) → IsShiftOf i fs p → is_some (watched h i (map (λ m. m.watch) (leaves h db p ms))) ≡ true → Sure db (refilter fs) i (leaves h db p ms)
-  behind_shift db (say a m) i fs ms s there = absurd s
-  behind_shift db (start r k) i fs ms s there = absurd s
-  behind_shift db (sync j) i fs ms s there = absurd s
-  behind_shift db (shift j gs) i fs ms s there =
+  pub after_shift : (db : Db) (p : Item) (i : Data) (fs : List (List ℕ × Filter)) (ms : List Monitor) → IsShiftOf i fs p → is_some (watched h i (map (λ m. m.watch) (leaves h db p ms))) ≡ true → Sure db (refilter fs) i (leaves h db p ms)
+  after_shift db (say a m) i fs ms s there = absurd s
+  after_shift db (start r k) i fs ms s there = absurd s
+  after_shift db (sync j) i fs ms s there = absurd s
+  after_shift db (shift j gs) i fs ms s there =
       subst (λ k. is_some (watched h k (map (λ m. m.watch) (leaves h db (shift j gs) ms))) ≡ true → Sure db (refilter fs) k (leaves h db (shift j gs) ms)) s.0
       (subst (λ ks. is_some (watched h j (map (λ m. m.watch) (leaves h db (shift j gs) ms))) ≡ true → Sure db (refilter ks) j (leaves h db (shift j gs) ms)) s.1 (brought_sure db (refilter gs) j ms)) there
-  behind_shift db (renamed r old new gs) i fs ms s there = absurd s
-  behind_shift db (stopped r j) i fs ms s there = absurd s
+  after_shift db (renamed r old new gs) i fs ms s there = absurd s
+  after_shift db (stopped r j) i fs ms s there = absurd s
 
   abbrev pub Never : Data → Type 0
   Never i = ⊥
@@ -189,8 +189,8 @@ module _ (h : Service) where
   next_ready db p (start d w ∷ is) ms g k = tt
   next_ready db p (sync j ∷ is) ms g k = tt
   next_ready db p (shift j fs ∷ is) ms g k = tt
-  next_ready db p (renamed d old new fs ∷ is) ms g k = inl (behind_shift db p old fs ms g.0 k.distinct.1)
-  next_ready db p (stopped d i ∷ is) ms g k = inl (behind_sync db p i ms g.0 k.distinct.1)
+  next_ready db p (renamed d old new fs ∷ is) ms g k = inl (after_shift db p old fs ms g.0 k.distinct.1)
+  next_ready db p (stopped d i ∷ is) ms g k = inl (after_sync db p i ms g.0 k.distinct.1)
 
   -- ---- the item that a message answers with
 

@@ -8,7 +8,7 @@ use Rattle.odb_atoms.specs.Error.{Error, syntax_error}
 use Rattle.odb_atoms.specs.FinMap.{get}
 use Rattle.odb_atoms.specs.Uuid.{Uuid}
 use Rattle.odb_cond.specs.Filter.{Filter}
-use Rattle.odb_law.proofs.BroughtToNow.{Changed, Dropped, Never, ReadyFor, behind_shift, behind_sync, item_changed, item_dropped}
+use Rattle.odb_law.proofs.BroughtToNow.{Changed, Dropped, Never, ReadyFor, after_shift, after_sync, item_changed, item_dropped}
 use Rattle.odb_law.proofs.EventSteps.{Stepped, next_is, next_reached}
 use Rattle.odb_law.proofs.HeadlineRuns.{reached_good}
 use Rattle.odb_law.proofs.PictureLookups.{client_item}
@@ -153,8 +153,8 @@ module _ (h : Service) where
   ready : (db : Db) (d : Data) (e : Ending) (ms : List Monitor) → IsWell h (record { queue = replying d e ∷ []; monitors = left h db (lead e) ms }) → ReadyFor h db (Never h) (replying d e) (left h db (lead e) ms)
   ready db d (says m) ms k = tt
   ready db d (starts w) ms k = tt
-  ready db d (changes_filters old new fs) ms k = inl (behind_shift h db (shift old fs) old fs ms (refl, refl) k.distinct.1)
-  ready db d (stops i) ms k = inl (behind_sync h db (sync i) i ms refl k.distinct.1)
+  ready db d (changes_filters old new fs) ms k = inl (after_shift h db (shift old fs) old fs ms (refl, refl) k.distinct.1)
+  ready db d (stops i) ms k = inl (after_sync h db (sync i) i ms refl k.distinct.1)
 
   dropped_now : (db : Db) (os : List Out) (i : Data) → Dropped h db (Never h) os i → HasNow h db i os
   dropped_now db os i (p, found, inl now) = (p, found, now)

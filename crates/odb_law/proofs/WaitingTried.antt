@@ -21,7 +21,7 @@ use Rattle.odb_rpc.specs.Message.{Call, call_of, failure, reply}
 use Rattle.odb_tables.specs.Database.{Db}
 use Rattle.odb_atoms.specs.Uuid.{Uuid}
 use Rattle.odb_rpc.specs.Message.{Failure, failed, unknown_monitor, canceled}
-use Rattle.odb_service.proofs.Each.{Each, each_append, each_before, each_behind, each_filter, no_split, none_passes}
+use Rattle.odb_service.proofs.Each.{Each, each_append, each_before, each_after, each_filter, no_split, none_passes}
 use Rattle.odb_service.proofs.OnlyPosts.{grown, Rest, answers, cancels, changes, fails, locks, monitors, notes, posts, rest, takes_each}
 use Rattle.odb_service.proofs.SessionMaps.{apart_keys, eq_turned}
 
@@ -85,7 +85,7 @@ module _ (h : Service) where
       let P : Waiting → Type 0 = SoFar w.db w.commits w.now (opens w) in
       let Q : Waiting → Type 0 = SoFar r.0.db r.0.commits r.0.now (opens r.0) in
       let all : Each P (t.0 ++ t.1 ∷ t.2) = subst (Each P) is k in
-      let behind : Each P (t.1 ∷ t.2) = each_behind P t.0 (t.1 ∷ t.2) all in
+      let behind : Each P (t.1 ∷ t.2) = each_after P t.0 (t.1 ∷ t.2) all in
       let a : Tries t.0 r = attempts t.1 w t.0 behind.0.0 (each_before P t.0 (t.1 ∷ t.2) all) in
       let b : Tries t.2 r = attempts t.1 w t.2 behind.0.0 behind.1 in
       each_append Q (t.0 ++ option_to_list r.1) t.2 (each_append Q t.0 (option_to_list r.1) a.0 a.1) b.0
@@ -138,8 +138,8 @@ module _ (h : Service) where
       let all : Each P (t.0 ++ t.1 ∷ t.2) = subst (Each P) is k.0 in
       let none : Each Q (t.0 ++ t.1 ∷ t.2) = subst (Each Q) is (none_passes (is_untried w.commits) w.waiting k.1) in
       subst Settled (sym (fails h s t.1.request canceled (record w { waiting = t.0 ++ t.2 }))) (
-        each_append P t.0 t.2 (each_before P t.0 (t.1 ∷ t.2) all) (each_behind P t.0 (t.1 ∷ t.2) all).1,
-        no_split (is_untried w.commits) (t.0 ++ t.2) (each_append Q t.0 t.2 (each_before Q t.0 (t.1 ∷ t.2) none) (each_behind Q t.0 (t.1 ∷ t.2) none).1),
+        each_append P t.0 t.2 (each_before P t.0 (t.1 ∷ t.2) all) (each_after P t.0 (t.1 ∷ t.2) all).1,
+        no_split (is_untried w.commits) (t.0 ++ t.2) (each_append Q t.0 t.2 (each_before Q t.0 (t.1 ∷ t.2) none) (each_after Q t.0 (t.1 ∷ t.2) none).1),
       )
 
   handles : (s : ℕ) (d : Data) (fresh : List Uuid) (c : Call) (w : World) → opens w s ≡ true → Settled (rest w) → Settled (rest (handle h s d fresh c w))

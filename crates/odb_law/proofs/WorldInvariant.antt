@@ -28,7 +28,7 @@ use Rattle.odb_service.specs.World.{lock_error}
 use Rattle.odb_atoms.specs.Uuid.{Uuid}
 use Rattle.odb_atoms.specs.Error.{Error, syntax_error}
 use Rattle.odb_rpc.specs.Message.{Failure, failed, unknown_monitor, canceled}
-use Rattle.odb_service.proofs.Each.{Each, each_append, each_before, each_behind, each_filter}
+use Rattle.odb_service.proofs.Each.{Each, each_append, each_before, each_after, each_filter}
 
 module _ (h : Service) where
   -- where the reply to a change or a cancel is next, the message before it was the monitor's update
@@ -230,7 +230,7 @@ module _ (h : Service) where
   try_one_keeps : (t : Split Waiting) (w : World) → w.waiting ≡ t.0 ++ t.1 ∷ t.2 → Keeps w (try_one h t w)
   try_one_keeps t w is f k =
       let all : Each WaitsPlainly (t.0 ++ t.1 ∷ t.2) = subst (Each WaitsPlainly) is k.1 in
-      let rest : Each WaitsPlainly (t.1 ∷ t.2) = each_behind WaitsPlainly t.0 (t.1 ∷ t.2) all in
+      let rest : Each WaitsPlainly (t.1 ∷ t.2) = each_after WaitsPlainly t.0 (t.1 ∷ t.2) all in
       let a : Keeps w (attempt h t.1 w).0 × Each WaitsPlainly (option_to_list (attempt h t.1 w).1) = attempt_keeps t.1 w rest.0 in (
         (a.0 f k).0,
         each_append WaitsPlainly (t.0 ++ option_to_list (attempt h t.1 w).1) t.2 (each_append WaitsPlainly t.0 (option_to_list (attempt h t.1 w).1) (each_before WaitsPlainly t.0 (t.1 ∷ t.2) all) a.1) rest.1,
@@ -274,7 +274,7 @@ module _ (h : Service) where
   cancel_keeps s id None w e f k = k
   cancel_keeps s id (Some t) w e f k =
       let all : Each WaitsPlainly (t.0 ++ t.1 ∷ t.2) = subst (Each WaitsPlainly) (split_parts (is_of h s id) w.waiting t e).0 k.1 in
-      let rest : Each WaitsPlainly (t.1 ∷ t.2) = each_behind WaitsPlainly t.0 (t.1 ∷ t.2) all in
+      let rest : Each WaitsPlainly (t.1 ∷ t.2) = each_after WaitsPlainly t.0 (t.1 ∷ t.2) all in
       fail_keeps s t.1.request canceled (record w { waiting = t.0 ++ t.2 }) rest.0.1 f (k.0, each_append WaitsPlainly t.0 t.2 (each_before WaitsPlainly t.0 (t.1 ∷ t.2) all) rest.1)
 
   -- ---- monitors

@@ -9,7 +9,7 @@ use Rattle.odb_atoms.specs.Uuid.{Uuid, uuid_cmp}
 use Rattle.odb_monitor.specs.View.{Cells, Contents, Change}
 use Rattle.odb_request.specs.Request.{Notation, column_names}
 use Rattle.odb_monitor.specs.Update.{row_update, row_updates}
-use Rattle.odb_monitor.specs.Fold.{pairs, put, is_behind, fold_rows}
+use Rattle.odb_monitor.specs.Fold.{pairs, put, is_after, fold_rows}
 use Rattle.odb_monitor.specs.Names.{AreDistinct}
 use Rattle.odb_monitor.proofs.Maps.{get-insert, get-remove, same_key, key-itself, first_of_both, second_of_both}
 use Rattle.odb_atoms.proofs.Equal.{find-below}
@@ -32,7 +32,7 @@ AreOf first cs es t = (u : Uuid) (c : Change) → find uuid_cmp u es ≡ Some c 
 -- the name in front of the list is below its first
 abbrev pub Follows : Option Uuid → List (Uuid × Change) → Type 0
 Follows last [] = Unit {0}
-Follows last (e ∷ es) = is_behind last e.0 ≡ true
+Follows last (e ∷ es) = is_after last e.0 ≡ true
 
 -- the table after the list's changes
 abbrev pub Folds : Notation → Bool → List Column → Option Uuid → List (Uuid × Change) → Contents → Type 0
@@ -57,12 +57,12 @@ of_rest first cs e es s t of u c found =
           (h.0, get-put t e.0 (after e.1) u ∙ ap (λ b. cond b (after e.1) (get t u)) apart ∙ h.1)
     ] refl
 
-first_row : (n : Notation) (first : Bool) (cs : List Column) → AreDistinct (column_names cs) → (last : Option Uuid) (e : Uuid × Change) (es : List (Uuid × Change)) (t : Contents) → AreOf first cs (e ∷ es) t → is_behind last e.0 ≡ true
+first_row : (n : Notation) (first : Bool) (cs : List Column) → AreDistinct (column_names cs) → (last : Option Uuid) (e : Uuid × Change) (es : List (Uuid × Change)) (t : Contents) → AreOf first cs (e ∷ es) t → is_after last e.0 ≡ true
     → fold_rows n first cs last t (pairs (row_updates n first cs (e ∷ es))) ≡ fold_rows n first cs (Some e.0) (put t e.0 (after e.1)) (pairs (row_updates n first cs es))
 first_row n first cs a last e es t of behind =
     let here : IsFit first cs e.1 × (get t e.0 ≡ before e.1) = of e.0 e.1 (ap (λ b. cond b (Some e.1) (find uuid_cmp e.0 es)) (key-itself e.0)) in
     let go : Option (Option Cells) → Option Contents = option_and_then (λ c. fold_rows n first cs (Some e.0) (put t e.0 c) (pairs (row_updates n first cs es))) in
-    ap (option_and_then (λ u. cond (is_behind last u) (option_and_then (λ c. fold_rows n first cs (Some u) (put t u c) (pairs (row_updates n first cs es))) (read_row n first cs (get t u) (row_update n first cs e.1))) None)) (uuid_read-uuid_text e.0)
+    ap (option_and_then (λ u. cond (is_after last u) (option_and_then (λ c. fold_rows n first cs (Some u) (put t u c) (pairs (row_updates n first cs es))) (read_row n first cs (get t u) (row_update n first cs e.1))) None)) (uuid_read-uuid_text e.0)
     ∙ ap (λ b. cond b (go (read_row n first cs (get t e.0) (row_update n first cs e.1))) None) behind
     ∙ ap (λ held. go (read_row n first cs held (row_update n first cs e.1))) here.1
     ∙ ap go (read_row-row_update cs a n first e.1 here.0)

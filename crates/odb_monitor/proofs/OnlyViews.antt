@@ -19,7 +19,7 @@ use Rattle.odb_monitor.proofs.OnlyRows.{and_then_is, map_is, then_is, pairs-same
 use Rattle.odb_monitor.proofs.ReadBack.{uuid_text-uuid_read}
 use Rattle.odb_monitor.proofs.Rows.{read_row}
 use Rattle.odb_monitor.proofs.Views.{IsRowOf, IsTableOf, IsViewOf, no_change_is}
-use Rattle.odb_monitor.specs.Fold.{as_object, pairs, put, is_behind, fold_rows, fold_named, fold_table, fold_tables, fold, named}
+use Rattle.odb_monitor.specs.Fold.{as_object, pairs, put, is_after, fold_rows, fold_named, fold_table, fold_tables, fold, named}
 use Rattle.odb_monitor.specs.Reading.{uuid_read}
 use Rattle.odb_monitor.specs.Update.{members, row_updates, table_update, table_parts, table_updates}
 use Rattle.odb_monitor.specs.View.{Cells, Contents, View, Change, differs, change, delta}
@@ -71,10 +71,10 @@ Rows n first cs last t es w = (cs' : List (Uuid × Change)) × (es ≡ pairs (ro
 put_fits : (cs : List Column) (t : Contents) (u : Uuid) (c : Option Cells) → IsTableOf cs t → IsRowOf cs c → IsTableOf cs (put t u c)
 put_fits cs t u c l m q = subst (IsRowOf cs) (sym (get-put t u c q)) (elim (eq_by_cmp uuid_cmp q u) as (λ b. IsRowOf cs (cond b c (get t q))) [ true ↦ m | false ↦ l q ])
 
-behind_all : (last : Option Uuid) (u : Uuid) (c : Change) (cs' : List (Uuid × Change)) → is_behind last u ≡ true → T (below_all uuid_cmp u cs') → AreBehind last ((u, c) ∷ cs')
+after_all : (last : Option Uuid) (u : Uuid) (c : Change) (cs' : List (Uuid × Change)) → is_after last u ≡ true → T (below_all uuid_cmp u cs') → AreBehind last ((u, c) ∷ cs')
 unfolding AreBehind
-behind_all None u c cs' e h = tt
-behind_all (Some v) u c cs' e h = pair_T (is_lt (uuid_cmp v u)) (below_all uuid_cmp v cs') (is_T (is_lt (uuid_cmp v u)) e) (below_through v u cs' e h)
+after_all None u c cs' e h = tt
+after_all (Some v) u c cs' e h = pair_T (is_lt (uuid_cmp v u)) (below_all uuid_cmp v cs') (is_T (is_lt (uuid_cmp v u)) e) (below_through v u cs' e h)
 
 at_key : (t w : Contents) (u : Uuid) (c : Change) (cs' : List (Uuid × Change)) (new : Option Cells) (q : Uuid) (b : Bool) → eq_by_cmp uuid_cmp q u ≡ b
     → find uuid_cmp q cs' ≡ change (get (put t u new) q) (get w q) → get w u ≡ new → change (get t u) new ≡ Some c → find uuid_cmp q ((u, c) ∷ cs') ≡ change (get t q) (get w q)
@@ -89,9 +89,9 @@ unfolding Rows AreChanges AreBehind
 fold_rows-only n first cs last t [] w l e =
     subst (λ w. Rows n first cs last t [] w) (same_Some t w e) ([], refl, tt, (elim last as (λ o. AreBehind o []) [ None ↦ tt | Some u ↦ tt ]), (λ q. sym (change-itself (get t q))), l)
 fold_rows-only n first cs last t (x ∷ es) w l e =
-    let a = and_then_is (λ u. cond (is_behind last u) (option_and_then (λ c. fold_rows n first cs (Some u) (put t u c) es) (read_row n first cs (get t u) x.1)) None) (uuid_read x.0) w e in
+    let a = and_then_is (λ u. cond (is_after last u) (option_and_then (λ c. fold_rows n first cs (Some u) (put t u c) es) (read_row n first cs (get t u) x.1)) None) (uuid_read x.0) w e in
     let u : Uuid = a.0 in
-    let b = then_is (is_behind last u) (option_and_then (λ c. fold_rows n first cs (Some u) (put t u c) es) (read_row n first cs (get t u) x.1)) w a.2 in
+    let b = then_is (is_after last u) (option_and_then (λ c. fold_rows n first cs (Some u) (put t u c) es) (read_row n first cs (get t u) x.1)) w a.2 in
     let r = and_then_is (λ c. fold_rows n first cs (Some u) (put t u c) es) (read_row n first cs (get t u) x.1) w b.1 in
     let only : IsOnly n first cs (get t u) x.1 r.0 = read_row-only n first cs (get t u) x.1 r.0 (l u) r.1 in
     let rest : Rows n first cs (Some u) (put t u r.0) es w = fold_rows-only n first cs (Some u) (put t u r.0) es w (put_fits cs t u r.0 l only.3) r.2 in
@@ -101,7 +101,7 @@ fold_rows-only n first cs last t (x ∷ es) w l e =
       (u, only.0) ∷ rest.0,
       (λ i. let p : List ℕ × Data = (name i, only.2 i) in p ∷ rest.1 i),
       pair_T (below_all uuid_cmp u rest.0) (is_sorted uuid_cmp rest.0) rest.3 rest.2,
-      behind_all last u only.0 rest.0 b.0 rest.3,
+      after_all last u only.0 rest.0 b.0 rest.3,
       (λ q. at_key t w u only.0 rest.0 r.0 q (eq_by_cmp uuid_cmp q u) refl (rest.4 q) now only.1),
       rest.5,
     )

@@ -140,16 +140,16 @@ step_row n first cs held (e ∷ f ∷ []) = if bytes_eq e.0 (codes "new") && byt
 step_row n first cs held (e ∷ f ∷ g ∷ es) = None
 
 -- a row's name stands after the one in front of it
-abbrev pub is_behind : Option Uuid → Uuid → Bool
-is_behind None u = true
-is_behind (Some last) u = is_lt (uuid_cmp last u)
+abbrev pub is_after : Option Uuid → Uuid → Bool
+is_after None u = true
+is_after (Some last) u = is_lt (uuid_cmp last u)
 
 -- the rows by ascending name; `last` is the name in front of them
 abbrev pub fold_rows : Notation → Bool → List Column → Option Uuid → Contents → List (List ℕ × Data) → Option Contents
 fold_rows n first cs last t [] = Some t
 fold_rows n first cs last t (e ∷ es) =
     option_and_then (λ u.
-    if is_behind last u
+    if is_after last u
     then option_and_then (λ c. fold_rows n first cs (Some u) (put t u c) es) (option_and_then (λ ms. step_row n first cs (get t u) (pairs ms)) (as_object e.1))
     else None)
     (uuid_read e.0)

@@ -336,12 +336,12 @@ pub fn operations(request: &Request) -> &[Value]
     ensures { map view result.now ≡ operations_of (request_data request.now) }
 {
     match request.params().and_then(Value::as_array) {
-        Some(params) => behind_first(params.as_slice()),
+        Some(params) => after_first(params.as_slice()),
         None => &[],
     }
 }
 
-fn behind_first(params: &[Value]) -> &[Value]
+fn after_first(params: &[Value]) -> &[Value]
     ensures { map view result.now ≡ drop 1 (map view params.now) }
 {
     match params {

@@ -20,9 +20,9 @@ pub each_before : {A : Type 0} (P : A → Type 0) (xs ys : List A) → Each P (x
 each_before P [] ys k = tt
 each_before P (x ∷ xs) ys k = (k.0, each_before P xs ys k.1)
 
-pub each_behind : {A : Type 0} (P : A → Type 0) (xs ys : List A) → Each P (xs ++ ys) → Each P ys
-each_behind P [] ys k = k
-each_behind P (x ∷ xs) ys k = each_behind P xs ys k.1
+pub each_after : {A : Type 0} (P : A → Type 0) (xs ys : List A) → Each P (xs ++ ys) → Each P ys
+each_after P [] ys k = k
+each_after P (x ∷ xs) ys k = each_after P xs ys k.1
 
 -- ---- no element that passes
 

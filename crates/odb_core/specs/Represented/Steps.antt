@@ -21,8 +21,8 @@ abbrev pub attempted : Waiting → Server → Server × Option Waiting
 attempted p v = (record v { world = (attempt (served_by v.schema) p v.world).0 }, (attempt (served_by v.schema) p v.world).1)
 
 -- how a service tries one that waited, which goes after the others unless it ends
-abbrev pub try_behind : Waiting → Service → World → World
-try_behind p h w = with_waiting h (λ ps o. ps ++ option_to_list o) w.waiting (attempt h p w)
+abbrev pub try_again : Waiting → Service → World → World
+try_again p h w = with_waiting h (λ ps o. ps ++ option_to_list o) w.waiting (attempt h p w)
 
 -- nothing but sessions changed
 abbrev pub OnlySessions : Server → Server → Type 0

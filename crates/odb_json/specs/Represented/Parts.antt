@@ -14,13 +14,13 @@ use Rattle.odb_schema.specs.Notation.{Names, named_uuid, pair_of, read_atom}
 -- ---- identifiers
 
 -- the identifier that stands after "uuid", and after "named-uuid"
-abbrev pub behind_uuid : Data → Result Uuid Error
-behind_uuid (string s) = ok_or (uuid_of_text s) syntax_error
-behind_uuid d = Err syntax_error
+abbrev pub uuid_content : Data → Result Uuid Error
+uuid_content (string s) = ok_or (uuid_of_text s) syntax_error
+uuid_content d = Err syntax_error
 
-abbrev pub behind_name : Option Names → Data → Result Uuid Error
-behind_name names (string s) = named_uuid names s
-behind_name names d = Err syntax_error
+abbrev pub name_content : Option Names → Data → Result Uuid Error
+name_content names (string s) = named_uuid names s
+name_content names d = Err syntax_error
 
 -- ---- arrays
 

@@ -11,6 +11,6 @@ returns-in-Some c =
     let xs = c.in-Some.params.now.items in
     let params = params_of (request_data c.args.request.now) in
     let listed : Some (items_view xs) ≡ as_array params = search rules in
-    c.behind_first.ensures
+    c.after_first.ensures
     ∙ ap (λ vs. drop 1 (map view vs)) c.as_slice.ensures.value
     ∙ operations_by (as_array params) xs listed

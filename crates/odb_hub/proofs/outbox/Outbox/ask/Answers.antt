@@ -3,13 +3,13 @@ use Rattle.std.specs.Prelude.{◌≢◌}
 use Rattle.odb_sessions.specs.Represented.Out.{text_of_out}
 use Rattle.odb_hub.specs.Outbox.{bytes_of}
 use Rattle.odb_hub.specs.Represented.Mailbox.{name_of, taken}
-use Rattle.odb_hub.proofs.Writing.{asked, longer_behind, nothing, probe_bytes, something}
+use Rattle.odb_hub.proofs.Writing.{asked, longer_after, nothing, probe_bytes, something}
 use Rattle.odb_hub.proofs.outbox.Outbox.ask.Goals as goal
 
 pub returns-then-not-is_whole-clause-ok : goal.returns-then-not-is_whole-clause-ok
 returns-then-not-is_whole-clause-ok c =
     let some : (length (bytes_of c.self.inside.rest) == 0) ≡ false = search rules in
-    (subst (λ o. o.left ≢ []) c.self.view_is (longer_behind c.self.inside.buffer (bytes_of c.self.inside.rest) (something (bytes_of c.self.inside.rest) some)), refl)
+    (subst (λ o. o.left ≢ []) c.self.view_is (longer_after c.self.inside.buffer (bytes_of c.self.inside.rest) (something (bytes_of c.self.inside.rest) some)), refl)
 
 pub returns-clause-ok : goal.returns-clause-ok
 returns-clause-ok c =

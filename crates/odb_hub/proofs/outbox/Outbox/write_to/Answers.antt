@@ -1,6 +1,6 @@
 use Rattle.std.proofs.Common.{rules, ◌≡◌, true, ◌++◌}
 use Rattle.odb_hub.specs.Outbox.{MovesSome}
-use Rattle.odb_hub.proofs.Writing.{longer_behind, moves_more, writes_more}
+use Rattle.odb_hub.proofs.Writing.{longer_after, moves_more, writes_more}
 use Rattle.odb_hub.proofs.outbox.Outbox.write_to.Goals as goal
 
 pub returns-in_err-write_piece-clause-moves : goal.returns-in_err-write_piece-clause-moves
@@ -18,4 +18,4 @@ loop-preserved g c =
     let d = g.W.Write.contents c.write_piece.new.writer in
     let wrote : c.in_ok-write_piece.field-0 ≡ true = search rules in
     let some : MovesSome c.loop.self c.write_piece.new.self b d = c.in_ok-write_piece.ensures.some wrote in
-    (c.loop.invariant.0 ++ some.0, writes_more c.loop.invariant.0 some.0 c.args.self.now c.loop.self c.write_piece.new.self a b d c.loop.invariant.1 some.2, λ _. longer_behind c.loop.invariant.0 some.0 some.1)
+    (c.loop.invariant.0 ++ some.0, writes_more c.loop.invariant.0 some.0 c.args.self.now c.loop.self c.write_piece.new.self a b d c.loop.invariant.1 some.2, λ _. longer_after c.loop.invariant.0 some.0 some.1)
