@@ -19,7 +19,7 @@ use Rattle.odb_commit.specs.Sound.{IsSound}
 use Rattle.odb_wire.specs.Message.{id_of}
 use Rattle.odb_wire.specs.Shown.{request_data}
 use Rattle.odb_service.specs.Server.{served_by}
-use Rattle.odb_service.specs.Service.{Service, outcome_of}
+use Rattle.odb_service.specs.Service.{outcome_of}
 use Rattle.odb_service.specs.Session.{Item, Session, say, sync, to, with_content}
 use Rattle.odb_service.specs.World.{Waiting, World, asked_of, attempt, end_transaction, on_outcome, post, post_to, push}
 use Rattle.odb_core.specs.declared.submitted.Submitted.{Submitted}

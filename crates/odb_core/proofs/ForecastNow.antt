@@ -13,7 +13,7 @@ use Rattle.odb_schema.specs.Json.{Data, array_of}
 use Rattle.odb_schema.specs.Schema.{Schema}
 use Rattle.odb_service.specs.Service.{Outcome, ended, outcome_of, waiting}
 use Rattle.odb_service.specs.World.{World}
-use Rattle.odb_tables.specs.Change.{Changes, change_between}
+use Rattle.odb_tables.specs.Change.{Changes}
 use Rattle.odb_core.specs.declared.foreseen.Forecast.TheVariants as forecast
 use Rattle.odb_core.specs.declared.submitted.Submitted.{Submitted}
 use Rattle.odb_core.specs.Represented.Foreseen.{Tells}

@@ -1,6 +1,6 @@
 //! How many transactions of each session wait. [P 10.5, 12.1]
 
-ghost use Rattle.std.specs.Prelude.{◌≡◌, ◌<◌, ◌+◌, ℕ, IfOk, OnErr, OnOk};
+ghost use Rattle.std.specs.Prelude.{◌≡◌, ◌<◌, ℕ, IfOk, OnErr, OnOk};
 
 use odb_locks::SessionId;
 use std::alloc::{AllocError, Global};

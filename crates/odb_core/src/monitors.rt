@@ -18,7 +18,6 @@ ghost use Rattle.odb_rpc.specs.Represented.Monitor.{monitor_called};
 ghost use Rattle.odb_rpc.specs.Represented.Printable.{printable_data};
 ghost use Rattle.odb_schema.specs.Schema as model;
 ghost use Rattle.odb_service.specs.Server.{served_by};
-ghost use Rattle.odb_service.specs.Service.{Service};
 ghost use Rattle.odb_service.specs.Session.{start};
 ghost use Rattle.odb_service.specs.World.{asked_of, change_of, fail, handle};
 ghost use Rattle.odb_service.specs.World.{on_cancel_monitor, on_monitor, post, watched};

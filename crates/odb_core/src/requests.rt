@@ -1,7 +1,7 @@
 //! What the service does with a request, and with a session that closes (RFC 7047, section 4.1).
 //! [P 8.1, 8.3, 10.5, 11.2, 12.3, 12.4, 13.2]
 
-ghost use Rattle.std.specs.Prelude.{◌≡◌, ◌==◌, ◌&&◌, [], count_by, false, List, max, map, nat_lt, not, None, Option};
+ghost use Rattle.std.specs.Prelude.{◌≡◌, ◌==◌, ◌&&◌, count_by, false, List, max, map, nat_lt, not, None, Option};
 ghost use Rattle.std.specs.Prelude.{option_map, option_to_list, ◌↔◌, IfErr, IfOk, IsOk, IsSome, OnErr, OnOk, Some, true};
 ghost use Rattle.std.specs.List.{list_any, position};
 ghost use Rattle.serde_json.specs.Data.{Data};

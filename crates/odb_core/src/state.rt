@@ -1,6 +1,6 @@
 //! The state of the service: what it does with requests, moments and sessions that close. [P 6.3, 12.1, 12.2, 12.3, 14]
 
-ghost use Rattle.std.specs.Prelude.{◌≡◌, ◌↔◌, IsOk, ◌+◌, ◌++◌, ◌==◌, [], ◌∷◌, false, flat_map, length, map, max, nat_lt, replicate, IfErr, IfOk, IfSome, None, Option, Some, OnErr, OnOk};
+ghost use Rattle.std.specs.Prelude.{◌≡◌, ◌↔◌, IsOk, ◌+◌, ◌++◌, ◌==◌, [], ◌∷◌, false, flat_map, length, map, nat_lt, IfErr, IfOk, IfSome, None, Option, Some, OnErr, OnOk};
 ghost use Rattle.std.specs.List.{list_any};
 ghost use Rattle.serde_json.specs.Written.{has_float};
 ghost use Rattle.odb_atoms.specs.FinMap as finite;
@@ -68,7 +68,7 @@ impl Model for State {
 }
 
 impl State {
-    ghost use Rattle.std.specs.Prelude.{ℕ, List, ◌≤◌, ◌&&◌, if◌then◌else◌, option_to_list};
+    ghost use Rattle.std.specs.Prelude.{ℕ, List, ◌≤◌, ◌&&◌, if◌then◌else◌};
     ghost use Rattle.odb_service.specs.World as model;
     ghost use Rattle.odb_service.specs.Server.{Server};
     ghost use Rattle.odb_service.specs.World.{is_untried, post, retry_all, try_due};

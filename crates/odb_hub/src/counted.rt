@@ -2,7 +2,7 @@
 ghost use Rattle.std.specs.Prelude.{◌≡◌, ◌+◌, ◌-◌, ◌⊎◌, ℕ, [], length, true, false, IfErr, IfOk, OnErr, OnOk};
 ghost use Rattle.odb_core.specs.declared.refused.Refused.TheVariants as refused;
 ghost use Rattle.odb_hub.specs.Batch as batch;
-ghost use Rattle.odb_service.specs.Run.{closed, opened, ticked};
+ghost use Rattle.odb_service.specs.Run.{opened, ticked};
 
 use crate::bell::Bell;
 use crate::mailbox::Mailbox;

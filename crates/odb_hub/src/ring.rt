@@ -1,6 +1,5 @@
 //! The ring of a session.
-ghost use Rattle.std.specs.Prelude.{◌≡◌, [], ◌++◌, ◌∷◌, Some, None, IfErr, IfOk, OnErr, OnOk, is_some, option_to_list};
-ghost use Rattle.rtrb.specs.Ring.{IsPair};
+ghost use Rattle.std.specs.Prelude.{◌≡◌, [], Some, None, IfErr, IfOk, OnErr, OnOk, is_some};
 ghost use Rattle.odb_sessions.specs.Represented.Out.{text_of_out};
 ghost use Rattle.odb_hub.specs.Room as room;
 

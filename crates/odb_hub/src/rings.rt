@@ -1,5 +1,5 @@
 //! The rings of all sessions.
-ghost use Rattle.std.specs.Prelude.{◌≡◌, ◌==◌, ℕ, false, [], ◌∷◌, Some, None, OnErr, OnOk, IfOk, IfErr, filter, map};
+ghost use Rattle.std.specs.Prelude.{◌≡◌, ◌==◌, ℕ, false, [], ◌∷◌, Some, None, OnErr, IfOk, filter, map};
 ghost use Rattle.std.specs.BTreeSet.{contains};
 ghost use Rattle.std.specs.Ordering.{nat_cmp};
 ghost use Rattle.odb_sessions.specs.Represented.Out.{sent_in, text_of_out};

@@ -1,7 +1,6 @@
 //! What the lock guards.
-ghost use Rattle.std.specs.Prelude.{◌≡◌, ◌≤◌, ◌⊎◌, ℕ, true, false, [], map, length, IfErr, IfOk, Ok, OnErr, OnOk};
+ghost use Rattle.std.specs.Prelude.{◌≡◌, ◌⊎◌, ℕ, true, false, [], map, length, IfErr, IfOk, Ok, OnErr, OnOk};
 ghost use Rattle.odb_atoms.specs.Represented.Atom.{uuid_of};
-ghost use Rattle.odb_rpc.specs.Message.{inserts_of};
 ghost use Rattle.odb_wire.specs.Shown.{request_data};
 ghost use Rattle.odb_core.specs.declared.refused.Refused.TheVariants as refused;
 ghost use Rattle.odb_service.specs.Run.{closed, opened, round, submitted, ticked};
@@ -37,7 +36,6 @@ pub struct HubState {
     core: Core,
     journal: Journal,
     since_base: u64,
-    opened: usize,
     rings: Rings,
 }
 
@@ -52,7 +50,7 @@ impl Model for HubState {
     ghost view = { λ s. record { server = s.core; base = s.journal.base; events = s.journal.events; rings = s.rings } };
 
     ghost invariant = { λ s. IsKept (record { server = s.core; base = s.journal.base; events = s.journal.events; rings = s.rings })
-        × (s.opened ≡ s.core.opened) × AreUnused s.rings s.opened × (s.since_base ≡ counted s.journal.events) };
+        × AreUnused s.rings s.core.opened × (s.since_base ≡ counted s.journal.events) };
 }
 
 impl HubState {
@@ -74,7 +72,6 @@ impl HubState {
         HubState {
             journal: Journal::begin(&core),
             since_base: 0,
-            opened: 0,
             rings: Rings::new(alloc),
             core,
         }
@@ -100,16 +97,12 @@ impl HubState {
         ensures why { IfErr result (λ why. (why ≡ refused.Memory) ⊎ IsReason why (serve (opened self.old.server.opened) self.old.server)) }
         ensures err { OnErr result (self.new ≡ self.old) }
     {
-        let number = self.opened;
-        if number == usize::MAX {
-            return Err(Refused::Memory);
-        }
+        let number = self.core.next_session();
         let mailbox = self.rings.add(number, bell)?;
         match self.core.open() {
             Ok(session) => {
                 self.journal = self.journal.with(Happened::Opened(session));
                 self.since_base = self.since_base.saturating_add(1);
-                self.opened = number + 1;
                 Ok((session, mailbox))
             }
             Err(why) => {
@@ -338,7 +331,6 @@ impl Drop for HubState {
             core: _,
             journal: _,
             since_base: _,
-            opened: _,
             rings: _,
         } = self;
     }

@@ -28,7 +28,7 @@ use Rattle.odb_service.proofs.SessionMaps.{get-insert, key-itself}
 use Rattle.odb_service.proofs.WhatIsOwed.{change_to, message_of}
 use Rattle.odb_service.specs.Run.{Sent, State, after, submitted}
 use Rattle.odb_service.specs.Service.{Service}
-use Rattle.odb_service.specs.Session.{Answers, Item, Monitor, Out, Revision, Session, Watch, first_out, gives, label, leaves, no_request, no_result, owed, owed_from, renamed, same_id, say, shift, start, stopped, sync, to, update_to}
+use Rattle.odb_service.specs.Session.{Item, Monitor, Out, Revision, Session, Watch, first_out, gives, leaves, no_result, owed_from, renamed, same_id, say, shift, start, stopped, sync, to, update_to}
 use Rattle.odb_service.specs.Session as session
 use Rattle.odb_service.specs.World.{World, answer, are_monitored, asked_of, at_moment, change_of, fail, handle, lock_error, locked, on_cancel_monitor, on_lock, post, post_notices, post_to, push, revision_of, shift_with, start_with, watched}
 use Rattle.odb_tables.specs.Database.{Db}

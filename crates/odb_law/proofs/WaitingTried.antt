@@ -17,10 +17,10 @@ use Rattle.odb_service.specs.Session.{no_result, with_content}
 use Rattle.odb_wire.specs.Message.{id_of}
 use Rattle.odb_service.specs.World.{Waiting, World, asked_of, at_moment, attempt, cancel_one, close, end_transaction, handle, is_due, is_of, is_untried, locked, on_outcome, retry, retry_all, split_first, tick, try_due, try_one, untried, watched, with_waiting}
 use Rattle.odb_locks.specs.Locks.{drop_session, lock, owns, steal, unlock}
-use Rattle.odb_rpc.specs.Message.{Call, call_of, failure, reply}
+use Rattle.odb_rpc.specs.Message.{Call, call_of, reply}
 use Rattle.odb_tables.specs.Database.{Db}
 use Rattle.odb_atoms.specs.Uuid.{Uuid}
-use Rattle.odb_rpc.specs.Message.{Failure, failed, unknown_monitor, canceled}
+use Rattle.odb_rpc.specs.Message.{canceled}
 use Rattle.odb_service.proofs.Each.{Each, each_append, each_before, each_after, each_filter, no_split, none_passes}
 use Rattle.odb_service.proofs.OnlyPosts.{grown, Rest, answers, cancels, changes, fails, locks, monitors, notes, posts, rest, takes_each}
 use Rattle.odb_service.proofs.SessionMaps.{apart_keys, eq_turned}

@@ -8,7 +8,7 @@ use Rattle.std.specs.Ordering.{is_lt, nat_cmp}
 use borrow.Author.Tests.{eqb-true}
 use Rattle.odb_atoms.proofs.Rising.{both, first, is_less, second}
 use Rattle.odb_script.specs.Script.{ScriptSession}
-use Rattle.odb_script.specs.Represented.Names.{AreInOrder, by_number}
+use Rattle.odb_script.specs.Represented.Names.{AreInOrder, AreOpened, by_number}
 
 abbrev pub AreBelow : ℕ → List ScriptSession → Type 0
 AreBelow next xs = AllByRecursion (λ x. nat_cmp x.session next ≡ Less) xs
@@ -45,6 +45,13 @@ up_to m n h a low = by (m == n) refl
 pub below_later : (m n : ℕ) → m ≤ n → (xs : List ScriptSession) → AreBelow m xs → AreBelow n xs
 below_later m n h [] low = tt
 below_later m n h (x ∷ xs) low = (up_to m n h x.session low.0, below_later m n h xs low.1)
+
+-- where as many sessions were opened, and where one more was
+pub as_opened : (m n : ℕ) (xs : List ScriptSession) → n ≡ m → AreOpened m xs → AreOpened n xs
+as_opened m n xs same = subst (λ k. AreOpened k xs) (sym same)
+
+pub later_opened : (m n : ℕ) (xs : List ScriptSession) → n ≡ m + 1 → AreOpened m xs → AreOpened n xs
+later_opened m n xs is opened = (opened.0, (opened.1.0, below_later m n (omega (arith, is)) xs opened.1.1))
 
 -- ---- some of them
 

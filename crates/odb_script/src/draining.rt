@@ -20,7 +20,8 @@ pub(crate) fn drain(
     name: &[u8],
     text: &mut Vec<u8>,
 ) -> Result<(), AllocError>
-    ensures { OnOk result (drained_session name.now session (core.old, text.old.items) ≡ (core.new, text.new.items)) }
+    ensures done { OnOk result (drained_session name.now session (core.old, text.old.items) ≡ (core.new, text.new.items)) }
+    ensures opened { core.new.opened ≡ core.old.opened }
 {
     let ready = [session];
     while let Some(out) = core.round(&ready)?.pop() {
@@ -38,7 +39,8 @@ pub(crate) fn drain_all(
     text: &mut Vec<u8>,
 ) -> Result<(), AllocError>
     requires { AreInOrder sessions.now }
-    ensures { OnOk result (all_drained sessions.now (core.old, text.old.items) ≡ (core.new, text.new.items)) }
+    ensures done { OnOk result (all_drained sessions.now (core.old, text.old.items) ≡ (core.new, text.new.items)) }
+    ensures opened { core.new.opened ≡ core.old.opened }
 {
     let owed = numbers_in(alloc, core.owed())?;
     for number in &owed {
@@ -67,7 +69,8 @@ fn drain_numbered(
     text: &mut Vec<u8>,
 ) -> Result<(), AllocError>
     requires { AreInOrder sessions.now }
-    ensures { OnOk result (numbered_drained (numbered number sessions.now) (core.old, text.old.items) ≡ (core.new, text.new.items)) }
+    ensures done { OnOk result (numbered_drained (numbered number sessions.now) (core.old, text.old.items) ≡ (core.new, text.new.items)) }
+    ensures opened { core.new.opened ≡ core.old.opened }
 {
     match sessions.binary_search_by(|named| named.session.cmp(&number)) {
         Ok(place) => drain_unless_held(core, &sessions[place], text),
@@ -80,7 +83,8 @@ fn drain_unless_held(
     named: &ScriptSession,
     text: &mut Vec<u8>,
 ) -> Result<(), AllocError>
-    ensures { OnOk result (drain_session named.now (core.old, text.old.items) ≡ (core.new, text.new.items)) }
+    ensures done { OnOk result (drain_session named.now (core.old, text.old.items) ≡ (core.new, text.new.items)) }
+    ensures opened { core.new.opened ≡ core.old.opened }
 {
     if named.held {
         return Ok(());

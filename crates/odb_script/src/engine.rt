@@ -26,7 +26,6 @@ pub(crate) struct Engine {
     alloc: Global,
     core: Core,
     sessions: Vec<ScriptSession>,
-    next: SessionId,
     inserts: u64,
     moment: u64,
 }
@@ -50,14 +49,14 @@ impl Model for Engine {
       };
     } };
 
-    ghost invariant = { λ e. AreOpened e.next e.sessions.items };
+    ghost invariant = { λ e. AreOpened e.core.opened e.sessions.items };
 }
 
 impl Engine {
-    ghost use Rattle.odb_script.specs.Script.{at_ending, at_moment, close_named, close_session, drain_all};
-    ghost use Rattle.odb_script.specs.Script.{fresh_script, deliver_all, dispatch, hold, hold_named};
-    ghost use Rattle.odb_script.specs.Script.{open_named, open_session, perform, piece, shut, shut_with};
-    ghost use Rattle.odb_script.specs.Script.{submit_as, drain, take_named, tick_to};
+    ghost use Rattle.odb_script.specs.Script.{at_ending, at_moment, close_named, drain_all};
+    ghost use Rattle.odb_script.specs.Script.{fresh_script, deliver_all, dispatch, hold_named};
+    ghost use Rattle.odb_script.specs.Script.{open_named, perform, piece, shut, shut_with};
+    ghost use Rattle.odb_script.specs.Script.{submit_as, drain, take_named};
     ghost use Rattle.odb_script.specs.Represented.Command.{command_in};
     ghost use Rattle.odb_script.specs.Represented.Steps.{Performs};
 
@@ -75,7 +74,6 @@ impl Engine {
                 alloc,
                 core,
                 sessions: Vec::new(alloc),
-                next: 0,
                 inserts: 0,
                 moment: 0,
             }),
@@ -136,10 +134,6 @@ impl Engine {
         }
         match self.core.open() {
             Ok(session) => {
-                if session < self.next {
-                    return Err(AllocError);
-                }
-                let next = session.checked_add(1).ok_or(AllocError)?;
                 let name = Vec::from_slice(self.alloc, name)?;
                 let framer = Framer::new(self.alloc);
                 self.sessions.push(ScriptSession {
@@ -148,7 +142,6 @@ impl Engine {
                     framer,
                     held: false,
                 })?;
-                self.next = next;
                 Ok(())
             }
             Err(Refused::TooMany) => print_line(text, name, "!toomany"),
@@ -356,7 +349,7 @@ fn close_if_open(core: &mut Core, session: SessionId) -> Result<(), AllocError>
         → in_world (served_by core.old.schema) (world_after (served_by core.old.schema) (closed session) p) p
         ≡ record p { world = core.new.world }) }
     ensures schema { OnOk result (core.new.schema ≡ core.old.schema) }
-    ensures opened { OnOk result (core.new.opened ≡ core.old.opened) }
+    ensures opened { core.new.opened ≡ core.old.opened }
 {
     match core.close(session) {
         Ok(()) => Ok(()),
@@ -369,7 +362,7 @@ fn tick_core(core: &mut Core, moment: u64) -> Result<(), AllocError>
     ensures world { OnOk result ((p : Script) → p.world ≡ core.old.world
         → world_after (served_by core.old.schema) (ticked moment) p ≡ Ok core.new.world) }
     ensures schema { OnOk result (core.new.schema ≡ core.old.schema) }
-    ensures opened { OnOk result (core.new.opened ≡ core.old.opened) }
+    ensures opened { core.new.opened ≡ core.old.opened }
 {
     core.tick(moment)
 }
@@ -390,7 +383,6 @@ impl Drop for Engine {
             alloc: _,
             core: _,
             sessions: _,
-            next: _,
             inserts: _,
             moment: _,
         } = self;

@@ -1,6 +1,6 @@
 //! Readers and writers that keep whether a call of theirs failed.
-ghost use Rattle.std.specs.Prelude.{◌≡◌, Bool, true, false, ◌||◌, List, length, IfSome, IfOk, ◌==◌, ◌&&◌, not, is_err, OnErr, OnOk};
-ghost use Rattle.std.specs.Io.{ReadsAtMost, WritesAtMost, StartsWith};
+ghost use Rattle.std.specs.Prelude.{◌≡◌, true, false, ◌||◌, is_err, OnErr, OnOk};
+ghost use Rattle.std.specs.Io.{ReadsAtMost, WritesAtMost};
 ghost use Rattle.std.specs.Io.KnownBytes.{Appends, Keeps, ReadConsumes, WriteAppends};
 ghost use Rattle.odb_script.specs.Represented.Latch.{has_failed, inner_of, took_none};
 ghost use Rattle.odb_script.specs.Represented.Run.{AppendsFront};

@@ -1,5 +1,5 @@
 //! Scripts are run: lines are read, carried out, and what they print is written, one by one. [P 15.1]
-ghost use Rattle.std.specs.Prelude.{◌≡◌, [], ◌∷◌, List, ℕ, None, Some, IfOk, IfErr, IfSome, OnOk, OnErr, MatchOption, IsErrOf, true};
+ghost use Rattle.std.specs.Prelude.{◌≡◌, [], ◌∷◌, List, ℕ, None, Some, IfOk, IfErr, IfSome, OnOk, MatchOption, IsErrOf, true};
 ghost use Rattle.std.specs.Io.Buffered.{reader_inner, reader_remaining};
 ghost use Rattle.std.specs.Io.BufRead.{strip_last};
 ghost use Rattle.std.specs.Io.KnownBytes.{Appends};

@@ -9,8 +9,8 @@ use Rattle.odb_script.specs.Represented.Draining.{found_drained}
 use Rattle.odb_script.proofs.OwedDrains.{drained_by_number}
 use Rattle.odb_script.proofs.draining.drain_all.Goals as goal
 
-pub returns : goal.returns
-returns c =
+pub returns-clause-done : goal.returns-clause-done
+returns-clause-done c =
     let xs : List ScriptSession = c.args.sessions.now in
     let set : BTreeSet ℕ = c.owed.result.now in
     let p : Server × List ℕ = (c.args.core.now, c.args.text.now.items) in
@@ -21,5 +21,5 @@ returns c =
     let none : drop c.loop-number.number-index c.deref-number-items.result.now ≡ [] = drop_all c.loop-number.number-index c.deref-number-items.result.now c.loop-number-test.false in
     drained_by_number set xs p c.owed.ensures c.requires (subst (IsStrictlySortedBy nat_cmp) numbers rising)
     ∙ ap (λ ks. found_drained ks xs p) (sym (listed ∙ numbers))
-    ∙ c.loop-number.invariant
+    ∙ c.loop-number.invariant.0
     ∙ ap (λ ks. found_drained ks xs q) none

@@ -1,8 +1,7 @@
 use Rattle.std.proofs.Common.{map, subst, sym, ap, ◌∙◌}
 use Rattle.std.specs.Prelude.{flat_map}
 use Rattle.odb_service.specs.Run.{round}
-use Rattle.odb_service.specs.Server.{Server, serve, served_by}
-use Rattle.odb_service.specs.World.{World, untried}
+use Rattle.odb_service.specs.Server.{Server, serve}
 use Rattle.odb_sessions.proofs.Plans.{once_once}
 use Rattle.odb_sessions.specs.Planned.{AreOnce}
 use Rattle.odb_sessions.specs.Represented.Out.{sent_in}

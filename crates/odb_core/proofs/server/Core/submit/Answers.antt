@@ -1,4 +1,4 @@
-use Rattle.std.proofs.Common.{rules, ◌≡◌, ℕ, Bool, true, false, not, nat_lt, ◌&&◌, List, [], map, Some, None, Result, Ok, IfErr, OnOk, is_ok, sym, ap, subst, ◌∙◌}
+use Rattle.std.proofs.Common.{rules, ◌≡◌, Bool, true, false, not, nat_lt, ◌&&◌, [], map, Some, None, Ok, IfErr, OnOk, is_ok, sym, ap, subst, ◌∙◌}
 use Rattle.odb_atoms.specs.FinMap.{get}
 use Rattle.odb_atoms.specs.Represented.Atom.{uuid_of}
 use Rattle.odb_rpc.specs.Message.{has_reply}

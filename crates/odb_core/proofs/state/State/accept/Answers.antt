@@ -1,4 +1,4 @@
-use Rattle.std.proofs.Common.{◌≡◌, map, refl, subst, sym, ap, ◌∙◌}
+use Rattle.std.proofs.Common.{map, refl, subst, sym, ap, ◌∙◌}
 use Rattle.std.specs.Prelude.{flat_map}
 use Rattle.odb_service.specs.Run.{take_each}
 use Rattle.odb_service.specs.Server.{Server, printed, served_by}

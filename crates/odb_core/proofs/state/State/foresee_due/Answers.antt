@@ -2,7 +2,7 @@ use Rattle.std.proofs.Common.{rules, ◌≡◌, ◌<◌, ◌≤◌, ◌+◌, tru
 use Rattle.std.proofs.lemmas.List.{drop_all, drop_more}
 use Rattle.odb_queue.specs.Represented.Post.{post_of}
 use Rattle.odb_service.specs.Server.{served_by}
-use Rattle.odb_service.specs.World.{Waiting, World, is_untried}
+use Rattle.odb_service.specs.World.{Waiting, World}
 use Rattle.odb_core.specs.Represented.Due.{AreDue}
 use Rattle.odb_core.proofs.DueInTurn.{begins_due, ends_due}
 use Rattle.odb_core.proofs.state.State.foresee_due.Goals as goal

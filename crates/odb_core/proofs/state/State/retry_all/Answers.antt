@@ -1,4 +1,4 @@
-use Rattle.std.proofs.Common.{rules, ◌≡◌, ◌+◌, ◌<◌, ◌≤◌, true, false, cond, length, refl, sym, ap, ◌∙◌, true≢false, arith}
+use Rattle.std.proofs.Common.{rules, ◌≡◌, ◌+◌, ◌≤◌, true, false, length, refl, ap, ◌∙◌, true≢false, arith}
 use Rattle.odb_service.proofs.Retried.{retried_none}
 use Rattle.odb_core.proofs.RetriedInTurn.{one_if}
 use Rattle.odb_service.specs.Server.{Server, served_by}

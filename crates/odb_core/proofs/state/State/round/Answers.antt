@@ -1,4 +1,4 @@
-use Rattle.std.proofs.Common.{rules, ◌≡◌, map, refl, sym, ap, ◌∙◌, subst}
+use Rattle.std.proofs.Common.{map, refl, sym, ap, ◌∙◌, subst}
 use Rattle.std.proofs.lemmas.Result.{IfOk-weaker}
 use Rattle.odb_service.specs.Run.{take_each}
 use Rattle.odb_service.specs.Server.{Server, printed, served_by}

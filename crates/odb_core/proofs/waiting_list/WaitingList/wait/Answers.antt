@@ -1,4 +1,4 @@
-use Rattle.std.proofs.Common.{rules, ◌≡◌, ◌++◌, ◌∷◌, [], List, ap, sym, subst, ◌∙◌}
+use Rattle.std.proofs.Common.{rules, ◌≡◌, ◌++◌, ◌∷◌, [], ap, sym, subst, ◌∙◌}
 use Rattle.odb_service.specs.World.{Waiting}
 use Rattle.odb_core.specs.Deadlines.{earlier, earliest}
 use Rattle.odb_core.specs.Represented.Counts.{AreCounted, HasOneMore, count_of}

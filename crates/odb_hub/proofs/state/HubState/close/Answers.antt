@@ -21,7 +21,6 @@ invariant_of-self-2 c =
     let gone : rings ≡ remove i.rings s = search rules in
     let takes : Takes e k n [] = (went, events, base) in (
       closed_kept k n c.self.invariant.0 s takes gone,
-      c.self.invariant.1 ∙ sym (same_opened e i.core c.close.new.self [] went),
-      subst (λ (m : Rings). AreUnused m i.opened) (sym gone) (unused_closed i.rings s i.opened c.self.invariant.2),
-      c.saturating_add-self-inside.ensures ∙ counted_more i.since_base k.events n.events e c.self.invariant.3 events,
+      subst (AreUnused rings) (sym (same_opened e i.core c.close.new.self [] went)) (subst (λ (m : Rings). AreUnused m i.core.opened) (sym gone) (unused_closed i.rings s i.core.opened c.self.invariant.1)),
+      c.saturating_add-self-inside.ensures ∙ counted_more i.since_base k.events n.events e c.self.invariant.2 events,
     )

@@ -14,7 +14,6 @@ invariant_of-result c =
     let none : c.new.result ≡ empty = search rules in
     let first : AreUnused empty 0 = λ q above. get-empty q in (
       subst IsKept (λ j. let n : Kept = record { server = core; base = sym base j; events = sym events j; rings = sym none j } in n) (begins core c.requires.0),
-      sym c.requires.1,
-      subst (λ (m : Rings). AreUnused m 0) (sym none) first,
+      subst (λ n. AreUnused c.new.result n) (sym c.requires.1) (subst (λ (m : Rings). AreUnused m 0) (sym none) first),
       ap counted (sym events),
     )

@@ -21,13 +21,11 @@ invariant_of-self-in-Ok c =
     let number : s ≡ i.core.opened = search rules in
     let events : n.events ≡ k.events ++ e ∷ [] = search rules in
     let base : n.base ≡ k.base = search rules in
-    let added : rings ≡ insert i.rings i.opened ring = search rules in
-    let same : i.opened ≡ s = c.self.invariant.1 ∙ sym number in
+    let added : rings ≡ insert i.rings i.core.opened ring = search rules in
     let takes : Takes e k n [] = (went, events, base) in (
-      opened_kept k n c.self.invariant.0 s ring takes (added ∙ ap (λ m. insert i.rings m ring) same),
-      ap (λ m. m + 1) c.self.invariant.1 ∙ sym (same_opened e i.core c.open.new.self [] went),
-      subst (λ (m : Rings). AreUnused m (i.opened + 1)) (sym added) (unused_opened i.rings i.opened ring c.self.invariant.2),
-      c.saturating_add-self-inside.ensures ∙ counted_more i.since_base k.events n.events e c.self.invariant.3 events,
+      opened_kept k n c.self.invariant.0 s ring takes (added ∙ ap (λ m. insert i.rings m ring) (sym number)),
+      subst (AreUnused rings) (sym (same_opened e i.core c.open.new.self [] went)) (subst (λ (m : Rings). AreUnused m (i.core.opened + 1)) (sym added) (unused_opened i.rings i.core.opened ring c.self.invariant.1)),
+      c.saturating_add-self-inside.ensures ∙ counted_more i.since_base k.events n.events e c.self.invariant.2 events,
     )
 
 pub invariant_of-self-in-Err-1 : goal.invariant_of-self-in-Err-1
@@ -35,13 +33,12 @@ invariant_of-self-in-Err-1 c =
     let i = c.self.inside in
     let ring : Ring = fresh_ring (name_of c.in_ok-mailbox.mailbox) in
     let same : c.open.new.self ≡ i.core = search rules in
-    let added : c.add.new.self ≡ insert i.rings i.opened ring = search rules in
-    let gone : c.remove.new.self ≡ remove c.add.new.self i.opened = search rules in
-    let back : c.remove.new.self ≡ i.rings = gone ∙ ap (λ m. remove m i.opened) added ∙ taken_out i.rings i.opened ring (c.self.invariant.2 i.opened (omega arith)) in (
+    let added : c.add.new.self ≡ insert i.rings i.core.opened ring = search rules in
+    let gone : c.remove.new.self ≡ remove c.add.new.self i.core.opened = search rules in
+    let back : c.remove.new.self ≡ i.rings = gone ∙ ap (λ m. remove m i.core.opened) added ∙ taken_out i.rings i.core.opened ring (c.self.invariant.1 i.core.opened (omega arith)) in (
       subst IsKept (λ j. let n : Kept = record { server = sym same j; base = i.journal.base; events = i.journal.events; rings = sym back j } in n) c.self.invariant.0,
-      c.self.invariant.1 ∙ sym (ap (λ (t : Server). t.opened) same),
-      subst (λ (m : Rings). AreUnused m i.opened) (sym back) c.self.invariant.2,
-      c.self.invariant.3,
+      subst (λ (n : ℕ). AreUnused c.remove.new.self n) (sym (ap (λ (t : Server). t.opened) same)) (subst (λ (m : Rings). AreUnused m i.core.opened) (sym back) c.self.invariant.1),
+      c.self.invariant.2,
     )
 
 pub returns-in-Err-clause-err : goal.returns-in-Err-clause-err
@@ -49,7 +46,7 @@ returns-in-Err-clause-err c =
     let i = c.self.inside in
     let ring : Ring = fresh_ring (name_of c.in_ok-mailbox.mailbox) in
     let same : c.open.new.self ≡ i.core = search rules in
-    let added : c.add.new.self ≡ insert i.rings i.opened ring = search rules in
-    let gone : c.remove.new.self ≡ remove c.add.new.self i.opened = search rules in
-    let back : c.remove.new.self ≡ i.rings = gone ∙ ap (λ m. remove m i.opened) added ∙ taken_out i.rings i.opened ring (c.self.invariant.2 i.opened (omega arith)) in
+    let added : c.add.new.self ≡ insert i.rings i.core.opened ring = search rules in
+    let gone : c.remove.new.self ≡ remove c.add.new.self i.core.opened = search rules in
+    let back : c.remove.new.self ≡ i.rings = gone ∙ ap (λ m. remove m i.core.opened) added ∙ taken_out i.rings i.core.opened ring (c.self.invariant.1 i.core.opened (omega arith)) in
     (λ j. let n : Kept = record { server = same j; base = i.journal.base; events = i.journal.events; rings = back j } in n) ∙ c.self.view_is

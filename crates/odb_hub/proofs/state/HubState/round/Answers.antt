@@ -6,7 +6,7 @@ use Rattle.odb_sessions.specs.Represented.Out.{sent_in}
 use Rattle.odb_core.proofs.QuietRounds.{round_among}
 use Rattle.odb_service.specs.Run.{round}
 use Rattle.odb_service.specs.Server.{serve}
-use Rattle.odb_hub.specs.Kept.{Kept, Takes, TakesRound}
+use Rattle.odb_hub.specs.Kept.{AreUnused, Kept, Takes, TakesRound}
 use Rattle.odb_hub.specs.Rings.{Rings, Text, free_of}
 use Rattle.odb_hub.proofs.Keeping.{counted_more, rooms, round_taken, same_opened, takes_round_kept, unused_round}
 use Rattle.odb_hub.proofs.state.HubState.round.Goals as goal
@@ -35,9 +35,8 @@ invariant_of-self-2 g c =
     let takes : Takes (round (free_of m)) k n outs = (went_free, events_free, base) in
     let t : TakesRound (length outs) k n = round_taken k n m outs c.ready.ensures.flushed takes c.hand_over.ensures in (
       takes_round_kept k n c.self.invariant.0 (length outs) t,
-      c.self.invariant.1 ∙ sym (same_opened (round (free_of m)) i.core c.round_by.new.core outs went_free),
-      unused_round k n i.opened (length outs) t c.self.invariant.2,
-      c.saturating_add-self-inside.ensures ∙ counted_more i.since_base k.events n.events (round (free_of m)) c.self.invariant.3 events_free,
+      subst (AreUnused n.rings) (sym (same_opened (round (free_of m)) i.core c.round_by.new.core outs went_free)) (unused_round k n i.core.opened (length outs) t c.self.invariant.1),
+      c.saturating_add-self-inside.ensures ∙ counted_more i.since_base k.events n.events (round (free_of m)) c.self.invariant.2 events_free,
     )
 
 pub returns-clause-ok : goal.returns-clause-ok

@@ -4,7 +4,7 @@ use Rattle.odb_atoms.specs.FinMap.{get}
 use Rattle.odb_sessions.specs.Represented.Out.{sent_in}
 use Rattle.odb_service.specs.Run.{Event, round}
 use Rattle.odb_service.specs.Server.{serve}
-use Rattle.odb_hub.specs.Kept.{Kept, Takes}
+use Rattle.odb_hub.specs.Kept.{AreUnused, Kept, Takes}
 use Rattle.odb_hub.specs.Own.{FlushesOwn, TakesOwnRound}
 use Rattle.odb_hub.specs.Rings.{Rings, Text, is_free_at, texts_to}
 use Rattle.odb_hub.proofs.Keeping.{counted_more, same_opened, unused_grown}
@@ -36,9 +36,8 @@ invariant_of-self-2 c =
     let takes : Takes e k n outs = (went, events, base) in
     let t : TakesOwnRound s (length outs) k n = own_round s k n m outs c.ready_for.ensures.flushed c.ready_for.ensures.others free takes c.hand_over.ensures in (
       own_kept s (length outs) k n c.self.invariant.0 t,
-      c.self.invariant.1 ∙ sym (same_opened e i.core c.round.new.self outs went),
-      unused_grown i.rings c.hand_over.new.self i.opened (λ q. texts_to q t.1) (own_grown s (length outs) k n t) c.self.invariant.2,
-      c.saturating_add-self-inside.ensures ∙ counted_more i.since_base k.events n.events e c.self.invariant.3 events,
+      subst (AreUnused n.rings) (sym (same_opened e i.core c.round.new.self outs went)) (unused_grown i.rings c.hand_over.new.self i.core.opened (λ q. texts_to q t.1) (own_grown s (length outs) k n t) c.self.invariant.1),
+      c.saturating_add-self-inside.ensures ∙ counted_more i.since_base k.events n.events e c.self.invariant.2 events,
     )
 
 pub returns-clause-ok : goal.returns-clause-ok

@@ -11,6 +11,5 @@ invariant_of-self c =
     let e = sym c.begin-self-inside.ensures.1 in (
       subst IsKept (λ j. let n : Kept = record { server = i.core; base = b j; events = e j; rings = i.rings } in n) (settles k c.self.invariant.0),
       c.self.invariant.1,
-      c.self.invariant.2,
       ap counted e,
     )

@@ -1,11 +1,11 @@
-use Rattle.std.proofs.Common.{rules, ◌≡◌, List, [], ◌∷◌, ◌++◌, map, Ok, refl, sym, ◌∙◌}
+use Rattle.std.proofs.Common.{rules, ◌≡◌, List, [], ◌∷◌, ◌++◌, map, Ok, refl, subst, sym, ◌∙◌}
 use Rattle.odb_atoms.specs.Represented.Atom.{uuid_of}
 use Rattle.odb_atoms.specs.Uuid.{Uuid}
 use Rattle.odb_schema.specs.Json.{Data}
 use Rattle.odb_wire.specs.Shown.{request_data}
 use Rattle.odb_service.specs.Run.{Event, submitted}
 use Rattle.odb_service.specs.Server.{serve}
-use Rattle.odb_hub.specs.Kept.{Kept, Takes}
+use Rattle.odb_hub.specs.Kept.{AreUnused, Kept, Takes}
 use Rattle.odb_hub.proofs.Keeping.{counted_more, same_opened, submitted_kept}
 use Rattle.odb_hub.proofs.state.HubState.submit.Goals as goal
 
@@ -22,7 +22,6 @@ invariant_of-self c =
     let base : n.base ≡ k.base = search rules in
     let takes : Takes e k n [] = (went, events, base) in (
       submitted_kept k n c.self.invariant.0 c.args.session d fresh c.args.now takes refl,
-      c.self.invariant.1 ∙ sym (same_opened e i.core c.submit.new.self [] went),
-      c.self.invariant.2,
-      c.saturating_add-self-inside.ensures ∙ counted_more i.since_base k.events n.events e c.self.invariant.3 events,
+      subst (AreUnused i.rings) (sym (same_opened e i.core c.submit.new.self [] went)) c.self.invariant.1,
+      c.saturating_add-self-inside.ensures ∙ counted_more i.since_base k.events n.events e c.self.invariant.2 events,
     )

@@ -1,7 +1,7 @@
-use Rattle.std.proofs.Common.{rules, ◌≡◌, [], ◌∷◌, ◌++◌, Ok, refl, sym, ◌∙◌}
+use Rattle.std.proofs.Common.{rules, ◌≡◌, [], ◌∷◌, ◌++◌, Ok, refl, subst, sym, ◌∙◌}
 use Rattle.odb_service.specs.Run.{Event, ticked}
 use Rattle.odb_service.specs.Server.{serve}
-use Rattle.odb_hub.specs.Kept.{Kept, Takes}
+use Rattle.odb_hub.specs.Kept.{AreUnused, Kept, Takes}
 use Rattle.odb_hub.proofs.Keeping.{counted_more, same_opened, ticked_kept}
 use Rattle.odb_hub.proofs.state.HubState.tick.Goals as goal
 
@@ -16,7 +16,6 @@ invariant_of-self-2 c =
     let base : n.base ≡ k.base = search rules in
     let takes : Takes e k n [] = (went, events, base) in (
       ticked_kept k n c.self.invariant.0 c.args.now takes refl,
-      c.self.invariant.1 ∙ sym (same_opened e i.core c.tick.new.self [] went),
-      c.self.invariant.2,
-      c.saturating_add-self-inside.ensures ∙ counted_more i.since_base k.events n.events e c.self.invariant.3 events,
+      subst (AreUnused i.rings) (sym (same_opened e i.core c.tick.new.self [] went)) c.self.invariant.1,
+      c.saturating_add-self-inside.ensures ∙ counted_more i.since_base k.events n.events e c.self.invariant.2 events,
     )

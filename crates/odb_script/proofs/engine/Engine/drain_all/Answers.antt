@@ -4,8 +4,14 @@ use Rattle.odb_script.specs.Running.{Running}
 use Rattle.odb_script.specs.Script.{Script, drain_all}
 use Rattle.odb_script.specs.Represented.Draining.{all_drained}
 use Rattle.odb_script.proofs.DrainAll.{dry_all_is}
+use Rattle.odb_script.proofs.NumberedSessions.{as_opened}
 use Rattle.std.proofs.lemmas.Result.{on_ok_weaker}
 use Rattle.odb_script.proofs.engine.Engine.drain_all.Goals as goal
+
+pub invariant_of-self : goal.invariant_of-self
+invariant_of-self c =
+    let same : c.drain_all.new.core.opened ≡ c.self.inside.core.opened = search rules in
+    as_opened c.self.inside.core.opened c.drain_all.new.core.opened c.self.inside.sessions.items same c.self.invariant
 
 pub returns-clause-done : goal.returns-clause-done
 returns-clause-done c =

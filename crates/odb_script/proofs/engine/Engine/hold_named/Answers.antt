@@ -31,7 +31,7 @@ invariant_of-self c =
     let k = c.in-Some.place in
     let x = c.index_mut.result.now in
     let y = c.set_held.new.self in
-    (apart_set xs k x y there (ap (λ (y : ScriptSession). y.name) held) c.self.invariant.0, (order_set xs k x y there (ap (λ (y : ScriptSession). y.session) held) c.self.invariant.1.0, below_set c.self.inside.next xs k x y there (ap (λ (y : ScriptSession). y.session) held) c.self.invariant.1.1))
+    (apart_set xs k x y there (ap (λ (y : ScriptSession). y.name) held) c.self.invariant.0, (order_set xs k x y there (ap (λ (y : ScriptSession). y.session) held) c.self.invariant.1.0, below_set c.self.inside.core.opened xs k x y there (ap (λ (y : ScriptSession). y.session) held) c.self.invariant.1.1))
 
 pub returns-clause-done : goal.returns-clause-done
 returns-clause-done c =

@@ -1,4 +1,4 @@
-use Rattle.std.proofs.Common.{rules, arith, ◌≡◌, ◌≤◌, ◌+◌, ◌++◌, ◌∷◌, [], OnOk, Ok, true, false, codes, sym, subst, is_some}
+use Rattle.std.proofs.Common.{rules, arith, ◌≡◌, ◌≤◌, ◌+◌, ◌++◌, ◌∷◌, [], OnOk, Ok, true, false, codes, ap, sym, subst, ◌∙◌, is_some}
 use Rattle.odb_atoms.specs.FinMap.{len}
 use Rattle.odb_service.specs.Run.{max_sessions, opened}
 use Rattle.odb_service.specs.Server.{serve, served_by}
@@ -8,7 +8,8 @@ use Rattle.odb_script.specs.Represented.Names.{AreOpened}
 use Rattle.odb_script.specs.Represented.Steps.{Does}
 use Rattle.odb_script.proofs.OpenedSessions.{IsPlaceOf, absent, opens_full, opens_new, opens_there, script_of}
 use Rattle.odb_script.proofs.NamePlaces.{apart_end}
-use Rattle.odb_script.proofs.NumberedSessions.{AreBelow, below_end, below_later, next_number, order_end}
+use Rattle.odb_script.proofs.NumberedSessions.{AreBelow, below_end, below_later, later_opened, next_number, order_end}
+use Rattle.odb_script.proofs.ServerInScript.{took}
 use Rattle.std.proofs.lemmas.Result.{on_ok_weaker}
 use Rattle.odb_script.proofs.engine.Engine.open_named.Goals as goal
 
@@ -22,6 +23,22 @@ returns-then-is_some-clause-done c =
     subst (λ (v : Running). OnOk c.print_line.result (Does (open_named (served_by v.schema) c.args.name.now) v.script c.args.text.now.items v.script c.print_line.new.text.items)) c.self.view_is
     (on_ok_weaker c.print_line.result (λ e. opens_there (served_by old.core.schema) c.args.name.now p c.place_of.result _ _ there some e) text)
 
+pub invariant_of-self : goal.invariant_of-self
+invariant_of-self c =
+    let old = c.self.inside in
+    let s = c.in-Ok.session in
+    let served : serve (opened s) old.core ≡ Ok (c.open.new.self, []) = search rules in
+    later_opened old.core.opened c.open.new.self.opened old.sessions.items (took (opened s) old.core c.open.new.self [] served).opened c.self.invariant
+
+pub invariant_of-self-in_err-push-in-Ok : goal.invariant_of-self-in_err-push-in-Ok
+invariant_of-self-in_err-push-in-Ok c =
+    let old = c.self.inside in
+    let s = c.in-Ok.session in
+    let served : serve (opened s) old.core ≡ Ok (c.open.new.self, []) = search rules in
+    let kept : c.push.new.self.items ≡ old.sessions.items = search rules in
+    later_opened old.core.opened c.open.new.self.opened c.push.new.self.items (took (opened s) old.core c.open.new.self [] served).opened
+    (subst (AreOpened old.core.opened) (sym kept) c.self.invariant)
+
 pub invariant_of-self-in-Ok : goal.invariant_of-self-in-Ok
 invariant_of-self-in-Ok c =
     let old = c.self.inside in
@@ -31,10 +48,11 @@ invariant_of-self-in-Ok c =
     let grown : c.push.new.self.items ≡ old.sessions.items ++ x ∷ [] = search rules in
     let xs = old.sessions.items in
     let s = c.in-Ok.session in
-    let up : old.next ≤ s = search rules in
-    let below : AreBelow s xs = below_later old.next s up xs c.self.invariant.1.1 in
-    let next = c.in_ok-next-in-Ok.next in
-    let is : next ≡ s + 1 = search rules in
+    let number : s ≡ old.core.opened = search rules in
+    let served : serve (opened s) old.core ≡ Ok (c.open.new.self, []) = search rules in
+    let next = c.open.new.self.opened in
+    let is : next ≡ s + 1 = (took (opened s) old.core c.open.new.self [] served).opened ∙ ap (λ n. n + 1) (sym number) in
+    let below : AreBelow s xs = subst (λ n. AreBelow n xs) (sym number) c.self.invariant.1.1 in
     subst (AreOpened next) (sym grown)
     (apart_end xs x (absent c.args.name.now xs c.place_of.result there none) c.self.invariant.0, (order_end xs x c.self.invariant.1.0 below, below_end next xs x (below_later s next (omega (arith, is)) xs below) (next_number s next is)))
 

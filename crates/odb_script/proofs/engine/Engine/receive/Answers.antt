@@ -32,7 +32,7 @@ invariant_of-self c =
     let k = c.in-Some.place in
     let x = c.index_mut.result.now in
     let y = c.feed.new.self in
-    (apart_set xs k x y there name c.self.invariant.0, (order_set xs k x y there number c.self.invariant.1.0, below_set c.self.inside.next xs k x y there number c.self.invariant.1.1))
+    (apart_set xs k x y there name c.self.invariant.0, (order_set xs k x y there number c.self.invariant.1.0, below_set c.self.inside.core.opened xs k x y there number c.self.invariant.1.1))
 
 pub invariant_of-self-2 : goal.invariant_of-self-2
 invariant_of-self-2 c =
@@ -45,7 +45,7 @@ invariant_of-self-2 c =
     let k = c.in-Some.place in
     let x = c.index_mut.result.now in
     let y = c.feed.new.self in
-    (apart_set xs k x y there name c.self.invariant.0, (order_set xs k x y there number c.self.invariant.1.0, below_set c.self.inside.next xs k x y there number c.self.invariant.1.1))
+    (apart_set xs k x y there name c.self.invariant.0, (order_set xs k x y there number c.self.invariant.1.0, below_set c.self.inside.core.opened xs k x y there number c.self.invariant.1.1))
 
 pub returns-clause-done : goal.returns-clause-done
 returns-clause-done c =

@@ -4,8 +4,19 @@ use Rattle.odb_service.specs.Server.{served_by}
 use Rattle.odb_service.specs.World.{World}
 use Rattle.odb_script.specs.Running.{Running}
 use Rattle.odb_script.specs.Script.{Script, at_moment, in_world, world_after}
+use Rattle.odb_script.proofs.NumberedSessions.{as_opened}
 use Rattle.odb_script.proofs.OpenedSessions.{script_of}
 use Rattle.odb_script.proofs.engine.Engine.set_moment.Goals as goal
+
+pub invariant_of-self : goal.invariant_of-self
+invariant_of-self c =
+    let same : c.tick_core.new.core.opened ≡ c.self.inside.core.opened = search rules in
+    as_opened c.self.inside.core.opened c.tick_core.new.core.opened c.self.inside.sessions.items same c.self.invariant
+
+pub invariant_of-self-2 : goal.invariant_of-self-2
+invariant_of-self-2 c =
+    let same : c.tick_core.new.core.opened ≡ c.self.inside.core.opened = search rules in
+    as_opened c.self.inside.core.opened c.tick_core.new.core.opened c.self.inside.sessions.items same c.self.invariant
 
 pub returns-clause-done : goal.returns-clause-done
 returns-clause-done c =

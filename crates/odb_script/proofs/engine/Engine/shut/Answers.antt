@@ -5,18 +5,25 @@ use Rattle.odb_service.specs.Server.{served_by}
 use Rattle.odb_script.specs.Running.{Running}
 use Rattle.odb_script.specs.Script.{ScriptSession, Script, in_world, shut, world_after}
 use Rattle.odb_script.specs.Represented.Names.{AreOpened}
-use Rattle.odb_script.proofs.NumberedSessions.{below_filter, order_filter}
+use Rattle.odb_script.proofs.NumberedSessions.{as_opened, below_filter, order_filter}
 use Rattle.odb_script.proofs.OpenedSessions.{script_of}
 use Rattle.odb_script.proofs.NamePlaces.{apart_filter}
 use Rattle.odb_script.proofs.engine.Engine.shut.Goals as goal
 
+pub invariant_of-self : goal.invariant_of-self
+invariant_of-self c =
+    let same : c.close_if_open.new.core.opened ≡ c.self.inside.core.opened = search rules in
+    as_opened c.self.inside.core.opened c.close_if_open.new.core.opened c.self.inside.sessions.items same c.self.invariant
+
 pub invariant_of-self-2 : goal.invariant_of-self-2
 invariant_of-self-2 c =
+    let same : c.close_if_open.new.core.opened ≡ c.self.inside.core.opened = search rules in
     let left : c.retain.new.self.items ≡ filter (λ (y : ScriptSession). not (bytes_eq y.name c.args.name.now)) c.self.inside.sessions.items = filter_same _ _ _ (λ x b f' k. search rules) _ _ c.retain.ensures.filtered in
     let others : ScriptSession → Bool = λ y. not (bytes_eq y.name c.args.name.now) in
     let xs : List ScriptSession = c.self.inside.sessions.items in
-    let n = c.self.inside.next in
-    subst (AreOpened n) (sym left) (apart_filter others xs c.self.invariant.0, (order_filter others xs c.self.invariant.1.0, below_filter n others xs c.self.invariant.1.1))
+    let n = c.self.inside.core.opened in
+    as_opened n c.close_if_open.new.core.opened c.retain.new.self.items same
+    (subst (AreOpened n) (sym left) (apart_filter others xs c.self.invariant.0, (order_filter others xs c.self.invariant.1.0, below_filter n others xs c.self.invariant.1.1)))
 
 pub returns-clause-done : goal.returns-clause-done
 returns-clause-done c =

@@ -9,7 +9,7 @@ use Rattle.odb_script.specs.Represented.Steps.{Does}
 use Rattle.odb_script.proofs.HeldSessions.{takes, takes_none}
 use Rattle.odb_script.proofs.OpenedSessions.{IsPlaceOf, script_of, standing}
 use Rattle.odb_script.proofs.NamePlaces.{apart_set}
-use Rattle.odb_script.proofs.NumberedSessions.{below_set, order_set}
+use Rattle.odb_script.proofs.NumberedSessions.{as_opened, below_set, order_set}
 use Rattle.odb_script.proofs.engine.Engine.take_named.Goals as goal
 
 pub returns-in_default-clause-done : goal.returns-in_default-clause-done
@@ -23,6 +23,11 @@ returns-in_default-clause-done c =
     let text : OnOk c.print_line.result (u ≡ t ++ line_of n (codes "!gone")) = search rules in
     on_ok_weaker c.print_line.result (λ e. takes_none h n p t u none e) text
 
+pub invariant_of-self : goal.invariant_of-self
+invariant_of-self c =
+    let same : c.drain.new.core.opened ≡ c.self.inside.core.opened = search rules in
+    as_opened c.self.inside.core.opened c.drain.new.core.opened c.self.inside.sessions.items same c.self.invariant
+
 pub invariant_of-self-2 : goal.invariant_of-self-2
 invariant_of-self-2 c =
     let xs : List ScriptSession = c.self.inside.sessions.items in
@@ -33,7 +38,9 @@ invariant_of-self-2 c =
     let k = c.in-Some.place in
     let x = c.index_mut.result.now in
     let y = c.set_held.new.self in
-    (apart_set xs k x y there (ap (λ (y : ScriptSession). y.name) held) c.self.invariant.0, (order_set xs k x y there (ap (λ (y : ScriptSession). y.session) held) c.self.invariant.1.0, below_set c.self.inside.next xs k x y there (ap (λ (y : ScriptSession). y.session) held) c.self.invariant.1.1))
+    let same : c.drain.new.core.opened ≡ c.self.inside.core.opened = search rules in
+    as_opened c.self.inside.core.opened c.drain.new.core.opened (slice_set xs k y) same
+    (apart_set xs k x y there (ap (λ (y : ScriptSession). y.name) held) c.self.invariant.0, (order_set xs k x y there (ap (λ (y : ScriptSession). y.session) held) c.self.invariant.1.0, below_set c.self.inside.core.opened xs k x y there (ap (λ (y : ScriptSession). y.session) held) c.self.invariant.1.1))
 
 pub returns-clause-done : goal.returns-clause-done
 returns-clause-done c =
