@@ -1,33 +1,28 @@
 -- Tables of which some rows were changed: two rows agree in the columns of an index, where no two did before, only if one that was changed agrees with another.
-use Rattle.std.specs.Prelude.{◌≡◌, ◌⊎◌, ℕ, ◌+◌, ◌<◌, Bool, true, false, cond, not, ◌&&◌, ◌||◌, ◌==◌, T, List, [], ◌∷◌, length, map as map_list, is_some, slice_get, unwrap_or, Option, Some, None, option_map}
-use Rattle.std.specs.List.{list_all, list_any}
+use Rattle.std.specs.Prelude.{◌≡◌, ◌⊎◌, ℕ, Bool, true, false, cond, not, ◌&&◌, ◌||◌, ◌==◌, T, List, [], ◌∷◌, map as map_list, is_some, unwrap_or, Option, Some, None, option_map}
+use Rattle.std.specs.List.{list_any}
 use Rattle.std.specs.Ordering.{eq_by_cmp, is_eq}
 use Rattle.std.specs.Cmp.{tied_itself, unsigned_tied}
 use Rattle.std.specs.FinMap.Entries.{find, is_sorted}
-use mathlib.Core.Path.{refl, sym, ap, subst, ◌∙◌}
+use mathlib.Core.Path.{refl, sym, ap, ◌∙◌}
 use mathlib.Core.Logic.{inl, inr}
 use mathlib.Core.Bool.{true≢false}
-use Rattle.std.proofs.Common.{arith, get_or, take}
+use Rattle.std.proofs.Common.{arith, Result, Ok, Err, IfOk}
 use Rattle.std.proofs.lemmas.Bool.Decides.{nat_tests}
-use Rattle.std.proofs.lemmas.List.Folds.{list_any_more}
 use Rattle.std.proofs.lemmas.Option.{same_Some}
-use Rattle.odb_atoms.specs.Represented.Atom.{uuid_of}
 use Rattle.odb_atoms.proofs.Atoms.{uuid_cmp-IsAntisymmetric}
 use Rattle.odb_atoms.proofs.Equal.{same_value-itself, same_values-equal}
 use Rattle.odb_atoms.proofs.FinMaps.{get-entries, same_key}
 use Rattle.odb_atoms.proofs.Lists.{Member, any-map, any_gives, both, either, gives_any, or_right}
 use Rattle.odb_atoms.proofs.Rising.{first, second}
-use Rattle.odb_atoms.proofs.Values.{same_value-equal}
 use Rattle.odb_atoms.specs.FinMap as map
-use Rattle.odb_atoms.specs.FinSet as set
 use Rattle.odb_atoms.specs.Row.{Row}
 use Rattle.odb_atoms.specs.Uuid.{Uuid, same_uuid, uuid_cmp}
-use Rattle.odb_atoms.specs.Value.{Value, same_values, set_of}
+use Rattle.odb_atoms.specs.Value.{Value, same_values}
 use Rattle.odb_tables.specs.Database.{Table}
-use Rattle.odb_tables.specs.Kept.{cells_at, has_twin, is_twin}
+use Rattle.odb_tables.specs.Kept.{AlikeAt, HasTwins, StaysApart, cells_at, has_twin, is_twin}
 use Rattle.odb_tables.specs.Represented.Key.{uuid_cmp_total}
 use Rattle.odb_integrity.specs.Settlement.{has_twins}
-use Rattle.odb_integrity.specs.Touched.{AlikeAt, StaysApart, same_at, same_if_any}
 use Rattle.odb_integrity.proofs.Listings.{before_later, entry_found}
 
 -- ---- two rows that agree
@@ -135,39 +130,9 @@ module _ (places : List ℕ) where
       by true e = let w = two_found (cells_at places) now.entries now.sorted e in cases w (apart w.0.0) (apart w.1.0)
       by false e = refl
 
--- ---- rows with the same values
-
-if_same : (v w : Option Value) → same_if_any v w ≡ true → w ≡ v
-if_same None None e = refl
-if_same None (Some w) e = absurd (true≢false (sym e))
-if_same (Some v) None e = absurd (true≢false (sym e))
-if_same (Some v) (Some w) e = ap Some (sym (same_value-equal v w e))
-
-same_cells : (old r : Row) (places : List ℕ) → list_all (same_at old r) places ≡ true → cells_at places r ≡ cells_at places old
-same_cells old r [] e = refl
-same_cells old r (i ∷ is) e =
-    let h = both (same_at old r i) (list_all (same_at old r) is) e in
-    λ j. unwrap_or (if_same (slice_get old.columns i) (slice_get r.columns i) h.0 j) (set_of set.empty) ∷ same_cells old r is h.1 j
-
-pub alike_row : (places : List ℕ) (old now : Table) (u : Uuid) (q r : Row) → map.get old u ≡ Some q → map.get now u ≡ Some r → list_all (same_at q r) places ≡ true → AlikeAt (cells_at places) old now u
-alike_row places old now u q r was is same p there = (q, was, ap (cells_at places) (same_Some p r (sym there ∙ is)) ∙ same_cells q r places same)
-
-pub alike_gone : (f : Row → List Value) (old now : Table) (u : Uuid) → map.get now u ≡ None → AlikeAt f old now u
-alike_gone f old now u gone r there = absurd (true≢false (sym (ap is_some (sym gone ∙ there))))
-
--- a row that wasn't touched
-pub alike_untouched : (f : Row → List Value) (old now : Table) (u : Uuid) → map.get now u ≡ map.get old u → AlikeAt f old now u
-alike_untouched f old now u same r there = (r, sym same ∙ there, refl)
-
--- what holds of each entry that is listed, and of each that isn't
-pub where_listed : (P : Uuid → Type 0) (u : Uuid) (b : Bool) → (b ≡ true → P u) → (b ≡ false → P u) → P u
-where_listed P u true h k = h refl
-where_listed P u false h k = k refl
-
--- one entry more
-pub listed_more : (P : Uuid → Type 0) (us : List (List ℕ)) (i : ℕ) (x : List ℕ) → i < length us → x ≡ get_or us i x → ((u : Uuid) → list_any (eq_by_cmp uuid_cmp u) (map_list uuid_of (take i us)) ≡ true → P u) → P (uuid_of x) → (u : Uuid) → list_any (eq_by_cmp uuid_cmp u) (map_list uuid_of (take (i + 1) us)) ≡ true → P u
-listed_more P us i x inside is before here u listed = by (either (list_any (λ v. eq_by_cmp uuid_cmp u (uuid_of v)) (take i us)) (eq_by_cmp uuid_cmp u (uuid_of (get_or us i x))) (sym (any-map (eq_by_cmp uuid_cmp u) uuid_of (take (i + 1) us) ∙ list_any_more (λ v. eq_by_cmp uuid_cmp u (uuid_of v)) us i x inside) ∙ listed))
-  where
-    by : (list_any (λ v. eq_by_cmp uuid_cmp u (uuid_of v)) (take i us) ≡ true) ⊎ (eq_by_cmp uuid_cmp u (uuid_of (get_or us i x)) ≡ true) → P u
-    by (inl e) = before u (any-map (eq_by_cmp uuid_cmp u) uuid_of (take i us) ∙ e)
-    by (inr e) = subst P (sym (same_key uuid_cmp-IsAntisymmetric u (uuid_of x) (ap (λ y. eq_by_cmp uuid_cmp u (uuid_of y)) is ∙ e))) here
+-- what was found among the rows that are new or have another value tells of all
+pub found_among : {E : Type 0} (r : Result Bool E) (places : List ℕ) (old now : Table) → IfOk r (λ twins. twins ≡ true → HasTwins places now) → IfOk r (λ twins. twins ≡ false → (u : Uuid) → StaysApart places old now u)
+    → has_twins same_values (map_list (cells_at places) (map.values old)) ≡ false → IfOk r (λ twins. twins ≡ has_twins same_values (map_list (cells_at places) (map.values now)))
+found_among (Ok true) places old now two apart none = let w = two refl in sym (twin_makes places now w.0 w.1)
+found_among (Ok false) places old now two apart none = sym (none_now places old now (apart refl) none)
+found_among (Err e) places old now two apart none = tt

@@ -39,8 +39,8 @@ use std::alloc::{AllocError, Global};
 /// It costs what the transaction touched: O(rows touched, and the atoms in them, before and now), O(tables)
 /// and O(columns of the schema). Beyond that it looks at these rows, and at no others:
 ///
-/// - for each index, the touched rows of its table that are new or have another value in its columns, at
-///   what `Draft::has_twin` costs;
+/// - for each index, the touched rows of its table, and of the others those that may have the same values in its
+///   columns as one that is new or has another value there, at what `Draft::has_new_twins` costs;
 /// - where a touched row isn't there any more, the rows that refer to it, as `Draft::referrers` lists them
 ///   for each column that refers to its table;
 /// - of tables that aren't root, the new rows, and those to which a touched row had a strong reference

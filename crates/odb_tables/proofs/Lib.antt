@@ -16,5 +16,6 @@ mod Steps
 mod SameValues
 mod Stamps
 mod TableChanges
+mod Touching
 mod Twins
 pub mod TypedDatabases

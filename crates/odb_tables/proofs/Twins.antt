@@ -45,10 +45,10 @@ none_any p (x ∷ xs) h = λ i. h x (inl refl) i || none_any p xs (λ y m. h y (
 -- ---- whether a row was found
 
 module _ (p : Uuid → Row → Bool) (t : Table) where
-  abbrev of_entry : Uuid × Row → Bool
+  abbrev pub of_entry : Uuid × Row → Bool
   of_entry e = p e.0 e.1
 
-  there : (q : Uuid) (o : Option Row) → finite.get t q ≡ o → passes_now p q o ≡ true → list_any of_entry (finite.entries_of t) ≡ true
+  pub there : (q : Uuid) (o : Option Row) → finite.get t q ≡ o → passes_now p q o ≡ true → list_any of_entry (finite.entries_of t) ≡ true
   there q None at e = absurd (true≢false (sym e))
   there q (Some r) at e = gives_any of_entry (finite.entries_of t) (q, r) (found_in q (finite.entries_of t) r (sym (get-entries t q) ∙ at)) e
 

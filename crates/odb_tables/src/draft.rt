@@ -27,12 +27,13 @@ use crate::change_set::ChangeSet;
 use crate::database::Db;
 use crate::key::Key;
 use crate::overlay::Overlay;
-use crate::row_test::{Referrers, Test, Twins};
+use crate::row_test::{Referrers, Test};
 use crate::table::Table;
 use odb_atoms::Row;
 use odb_cond::Where;
 use odb_schema::TableId;
 use std::alloc::{AllocError, Global};
+use std::hash::RandomState;
 use std::marker::Model;
 use std::sync::Arc;
 use uuid::Uuid;
@@ -79,6 +80,16 @@ impl<'a> Draft<'a> {
             base,
             overlays,
         })
+    }
+
+    /// Returns where it takes memory from. O(1).
+    pub(crate) fn alloc(&self) -> Global {
+        self.alloc
+    }
+
+    /// Returns by what the tables of the database hash. O(1).
+    pub(crate) fn hashing(&self) -> RandomState {
+        self.base.hashing()
     }
 
     /// Returns how many tables it has, now as before. O(1).
@@ -187,7 +198,7 @@ impl<'a> Draft<'a> {
     ///
     /// Where the conditions pin `_uuid` it looks that row up: O(the conditions). Where they ask by `==` a value
     /// of each column of an index that the database keeps, or of a column of references that names a row,
-    /// it tests the rows that are kept under it, and those that were touched (as `has_twin` and `referrers`).
+    /// it tests the rows that are kept under it, and those that were touched (as `referrers` does).
     /// Else it tests each row of the table once: O(rows of the table). It orders the m that it found: O(m
     /// log m).
     pub fn matching(&self, table: TableId, conditions: &Where) -> Result<Vec<Uuid>, AllocError>
@@ -240,8 +251,19 @@ impl<'a> Draft<'a> {
         Ok(found)
     }
 
+    /// Returns the keys of the rows that the table had before and that may pass the test, as `Db::candidates` does.
+    pub(crate) fn candidates<T: Test>(
+        &self,
+        table: TableId,
+        test: &T,
+    ) -> Result<Option<Vec<Key>>, AllocError>
+        ensures { IfOk result (λ found. IfSome found (λ keys. Suffices keys.items (T.passes test.now) (table_at self.now.old table))) }
+    {
+        self.base.candidates(self.alloc, table, test)
+    }
+
     /// Returns the identifiers of the table's rows, as they are now, that pass the test, each of them once.
-    fn find<T: Test>(&self, table: TableId, test: &T) -> Result<Vec<Uuid>, AllocError>
+    pub(crate) fn find<T: Test>(&self, table: TableId, test: &T) -> Result<Vec<Uuid>, AllocError>
         ensures { IfOk result (λ uuids. Lists (map uuid_of uuids.items)
             (passing (T.passes test.now) (table_at self.now.now table))) }
     {
@@ -251,22 +273,6 @@ impl<'a> Draft<'a> {
         let among = self.base.candidates(self.alloc, table, test)?;
         let base = &self.base.tables()[table.place()];
         found_in(self.alloc, base, among, overlay, test)
-    }
-
-    /// Returns whether the table has the row now, and another one with the same values in the columns at these
-    /// places (RFC 7047, section 3.2, `indexes`).
-    ///
-    /// Where the database keeps the rows by these columns (`Db::for_schema`): O(what is kept), O(log n) for the
-    /// n rows of the table, O(rows of it that were touched), and O(rows with the same values). Else O(rows
-    /// of the table), times the values compared.
-    pub fn has_twin(&self, table: TableId, places: &[usize], uuid: Uuid) -> Result<bool, AllocError>
-        ensures { IfOk result (λ twin. twin ≡ kept.has_twin places.now (table_at self.now.now table) (uuid_of uuid)) }
-    {
-        let Some(row) = self.get(table, uuid) else {
-            return Ok(false);
-        };
-        let twins = self.find(table, &Twins { places, uuid, row })?;
-        Ok(!twins.is_empty())
     }
 
     /// Returns the identifiers of the table's rows, as they are now, whose value in the column at the place

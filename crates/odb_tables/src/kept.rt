@@ -1,9 +1,9 @@
 //! What is kept beside the rows of a table, so that some of them are found without a walk.
-ghost use Rattle.std.specs.Prelude.{◌≡◌, IfOk, IfSome, OnOk};
+ghost use Rattle.std.specs.Prelude.{◌≡◌, IfOk, IfSome, OnOk, Some};
 ghost use Rattle.std.specs.Option.{option_copied};
 ghost use Rattle.odb_atoms.specs.FinMap as finite;
 ghost use Rattle.odb_tables.specs.Database as model;
-ghost use Rattle.odb_tables.specs.Represented.Facet.{Cuts};
+ghost use Rattle.odb_tables.specs.Represented.Facet.{Cuts, HasTagsNow};
 ghost use Rattle.odb_tables.specs.Represented.Keeping as spec;
 ghost use Rattle.odb_tables.specs.Represented.Keeping.{CutsAll, IsKept, IsOfSame, LacksNothing, Notes, NotesRow, Suffices};
 ghost use Rattle.odb_tables.specs.Represented.Pairs.{Grows};
@@ -71,6 +71,16 @@ impl Kept {
         ensures ok { OnOk result (Notes self.old.facet self.old.pairs self.new.pairs change.now) }
     {
         note(&self.facet, &mut self.pairs, change)
+    }
+
+    /// Keeps the row under each of its tags. Where memory is refused it is under some of them. O(log n) for each
+    /// tag and n pairs.
+    pub(crate) fn add(&mut self, key: Key, row: &Row) -> Result<(), AllocError>
+        ensures same { IsOfSame self.old self.new }
+        ensures grows { Grows self.old.pairs self.new.pairs }
+        ensures ok { OnOk result (HasTagsNow self.old.facet self.new.pairs key (Some row.now)) }
+    {
+        self.facet.add(&mut self.pairs, key, row)
     }
 
     /// Takes out the pairs of the side that goes, but for those of the other side. O(log n) for each tag of a

@@ -12,6 +12,7 @@ mod facet;
 mod kept;
 mod kept_for;
 mod key;
+mod new_twins;
 mod overlay;
 mod pairs;
 mod row_change;

@@ -1,5 +1,5 @@
 -- What is kept beside the rows of tables: that no pair is lacking, and what a change makes of that.
-use Rattle.std.specs.Prelude.{◌≡◌, ℕ, Bool, true, List, Option, Some, slice_get, unwrap_or}
+use Rattle.std.specs.Prelude.{◌≡◌, ◌⊎◌, ℕ, Bool, true, List, Option, Some, slice_get, unwrap_or}
 use Rattle.std.specs.List.{AllByRecursion, IsDistinct, list_any}
 use Rattle.std.specs.Ordering.{eq_by_cmp}
 use Rattle.odb_atoms.specs.FinMap as map
@@ -55,6 +55,16 @@ CutsAll f old new side c = (tag v : Uuid) → has old tag v ≡ true → ((d : O
 -- each row of the table that passes is among them, and none twice
 abbrev pub Suffices : List Uuid → (Uuid → Row → Bool) → Table → Type 0
 Suffices keys p t = IsDistinct (eq_by_cmp uuid_cmp) keys × ((u : Uuid) → passes_now p u (map.get t u) ≡ true → list_any (eq_by_cmp uuid_cmp u) keys ≡ true)
+
+-- ---- the rows that a draft touched
+
+-- the rows of these identifiers that the table has are kept under each of their tags
+abbrev pub KeepsListed : List Uuid → Kept → Table → Type 0
+KeepsListed us k now = (u : Uuid) → list_any (eq_by_cmp uuid_cmp u) us ≡ true → HasTagsNow k.facet k.pairs u (map.get now u)
+
+-- each row of a table is kept under each of its tags, and every other row is as it was
+abbrev pub KeepsChanged : Kept → Table → Table → Type 0
+KeepsChanged k old now = (t : Table) × LacksNothing k t × ((u : Uuid) → (map.get now u ≡ map.get t u) ⊎ (map.get now u ≡ map.get old u))
 
 -- ---- a database
 

@@ -1,11 +1,8 @@
 use Rattle.std.proofs.Common.{rules, ◌≡◌, ◌<◌, ◌+◌, ◌||◌, List, ℕ, Bool, true, false, length, map, slice_index_or, take, String, Vec, refl, sym, ap, ◌∙◌}
 use Rattle.std.specs.declared.alloc.Global.{Global}
 use Rattle.std.specs.List.{list_any}
-use Rattle.std.specs.Ordering.{eq_by_cmp}
 use Rattle.std.proofs.lemmas.List.Folds.{list_any_at, list_any_more}
 use Rattle.odb_atoms.proofs.Lists.{any-map}
-use Rattle.odb_atoms.specs.Represented.Atom.{uuid_of}
-use Rattle.odb_atoms.specs.Uuid.{uuid_cmp}
 use Rattle.odb_atoms.specs.Value.{same_values}
 use Rattle.odb_integrity.specs.Settlement.{has_duplicates, has_twins, index_cells, rows_of}
 use Rattle.odb_tables.specs.Kept.{cells_at}
@@ -39,21 +36,21 @@ unfolding twice
 returns-then-branch c =
     let cs = c.args.table.now.columns in
     let t = table_at c.args.draft.now.now c.args.id in
-    let indexes = c.indexes-indexes.result.now in
+    let indexes = c.indexes-index-items.result.now in
     let i = c.loop-index.index-index in
     let x = c.index-item.result in
     let inside : i < length indexes = search rules in
     let is : x ≡ slice_index_or indexes i x = search rules in
     let places = c.deref.ensures.value ∙ c.in_ok-places.ensures in
     let answer : c.in_ok-has_twins_at.field-0 ≡ twice cs t (names_of x) = c.in_ok-has_twins_at.ensures ∙ ap (λ ps. has_twins same_values (map (cells_at ps) (rows_of t))) places in
-    sym (ap (list_any (twice cs t)) (sym c.indexes-indexes.ensures) ∙ one_twice cs t indexes i x inside is (sym answer ∙ c.if-branch.true))
+    sym (ap (list_any (twice cs t)) (sym c.indexes-index-items.ensures) ∙ one_twice cs t indexes i x inside is (sym answer ∙ c.if-branch.true))
 
 pub loop-index-preserved : goal.loop-index-preserved
 unfolding twice
 loop-index-preserved c =
     let cs = c.args.table.now.columns in
     let t = table_at c.args.draft.now.now c.args.id in
-    let indexes = c.indexes-indexes.result.now in
+    let indexes = c.indexes-index-items.result.now in
     let i = c.loop-index.index-index in
     let x = c.index-item.result in
     let inside : i < length indexes = search rules in
@@ -65,18 +62,15 @@ loop-index-preserved c =
 pub returns-then-is_untouched : goal.returns-then-is_untouched
 returns-then-is_untouched c = sym (ap (λ t. has_duplicates (c.args.table.now, t)) (c.is_untouched.ensures c.if-is_untouched.true) ∙ c.requires)
 
-pub has_twins_at-requires-clause-none : goal.has_twins_at-requires-clause-none
+pub has_twins_at-requires : goal.has_twins_at-requires
 unfolding twice
-has_twins_at-requires-clause-none c =
+has_twins_at-requires c =
     let cs = c.args.table.now.columns in
     let t = table_at c.args.draft.now.old c.args.id in
-    let indexes = c.indexes-indexes.result.now in
+    let indexes = c.indexes-index-items.result.now in
     let i = c.loop-index.index-index in
     let x = c.index-item.result in
     let inside : i < length indexes = search rules in
     let is : x ≡ slice_index_or indexes i x = search rules in
     let places = c.deref.ensures.value ∙ c.in_ok-places.ensures in
-    ap (λ ps. has_twins same_values (map (cells_at ps) (rows_of t))) places ∙ not_twice cs t indexes i x inside is (ap (list_any (twice cs t)) c.indexes-indexes.ensures ∙ c.requires)
-
-pub has_twins_at-requires-clause-touched : goal.has_twins_at-requires-clause-touched
-has_twins_at-requires-clause-touched c u absent = c.in_ok-touched.ensures.as_it_was u (ap (λ us. list_any (eq_by_cmp uuid_cmp u) (map uuid_of us)) (sym c.deref-in-loop-index.ensures.value) ∙ absent)
+    ap (λ ps. has_twins same_values (map (cells_at ps) (rows_of t))) places ∙ not_twice cs t indexes i x inside is (ap (list_any (twice cs t)) c.indexes-index-items.ensures ∙ c.requires)

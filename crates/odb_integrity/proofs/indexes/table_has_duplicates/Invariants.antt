@@ -7,4 +7,4 @@ use Rattle.odb_tables.specs.Database.{table_at}
 use Rattle.odb_integrity.proofs.indexes.table_has_duplicates.Given as goal
 
 abbrev pub invariant-loop-index : goal.invariant-loop-index
-invariant-loop-index l = list_any (λ index. has_twins same_values (map (index_cells l.table.columns index) (rows_of (table_at l.draft.now l.fn.id)))) (map names_of (take l.index-index l.indexes)) ≡ false
+invariant-loop-index l = list_any (λ index. has_twins same_values (map (index_cells l.table.columns index) (rows_of (table_at l.draft.now l.fn.id)))) (map names_of (take l.index-index l.index-items)) ≡ false

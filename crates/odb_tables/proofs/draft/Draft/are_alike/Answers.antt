@@ -1,0 +1,31 @@
+use Rattle.std.proofs.Common.{rules, ◌≡◌, ◌<◌, length, map, slice_index_or, sym, ap, ◌∙◌}
+use Rattle.std.proofs.lemmas.List.{take_all}
+use Rattle.std.specs.List.{list_any}
+use Rattle.std.specs.Ordering.{eq_by_cmp}
+use mathlib.Core.Bool.{true≢false}
+use Rattle.odb_atoms.specs.Represented.Atom.{uuid_of}
+use Rattle.odb_atoms.specs.Uuid.{uuid_cmp}
+use Rattle.odb_tables.specs.Database.{table_at}
+use Rattle.odb_tables.specs.Kept.{AlikeAt, cells_at}
+use Rattle.odb_tables.proofs.Touching.{listed_more}
+use Rattle.odb_tables.proofs.draft.Draft.are_alike.Goals as goal
+
+pub loop-uuid-init : goal.loop-uuid-init
+loop-uuid-init c u listed = absurd (true≢false (sym listed))
+
+pub loop-uuid-preserved : goal.loop-uuid-preserved
+loop-uuid-preserved c =
+    let old = table_at c.args.self.now.old c.args.table in
+    let now = table_at c.args.self.now.now c.args.table in
+    let us = c.args.uuids.now in
+    let i = c.loop-uuid.uuid-index in
+    let x = c.uuid-item.result in
+    let inside : i < length us = search rules in
+    let is : x ≡ slice_index_or us i x = search rules in
+    listed_more (AlikeAt (cells_at c.args.places.now) old now) us i x inside is c.loop-uuid.invariant (c.is_alike.ensures c.if-not-is_alike.false)
+
+pub returns : goal.returns
+returns c e u listed =
+    let us = c.args.uuids.now in
+    let all = take_all c.loop-uuid.uuid-index us (search rules) in
+    c.loop-uuid.invariant u (ap (λ xs. list_any (eq_by_cmp uuid_cmp u) (map uuid_of xs)) all ∙ listed)
