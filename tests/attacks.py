@@ -13,18 +13,19 @@ import re
 import resource
 import signal
 import socket
-import struct
 import subprocess
 import sys
 import tempfile
 import threading
+import time
 from concurrent.futures import ThreadPoolExecutor
 
 import daemon
 from daemon import PATIENCE, Wrong, until
 
 INTEGER = {"columns": {"n": {"type": "integer"}}}
-SCHEMA = {"name": "hst", "version": "1.0.0", "tables": {name: INTEGER for name in ("Counters", "Quiet", "Witnesses")}}
+LARGE = {"columns": {"n": {"type": "integer"}, "s": {"type": {"key": "string", "min": 0, "max": "unlimited"}}}}
+SCHEMA = {"name": "hst", "version": "1.0.0", "tables": {"Large": LARGE, **{name: INTEGER for name in ("Counters", "Quiet", "Witnesses")}}}
 UUID = re.compile(rb"[0-9a-f]{8}(-[0-9a-f]{4}){3}-[0-9a-f]{12}")
 
 
@@ -51,9 +52,7 @@ class Peer(daemon.Client):
         with contextlib.suppress(OSError):
             self.socket.shutdown(socket.SHUT_WR)
 
-    def reset(self):
-        """Ends the connection at once, as when the process of a client is killed."""
-        self.socket.setsockopt(socket.SOL_SOCKET, socket.SO_LINGER, struct.pack("ii", 1, 0))
+    def close(self):
         self.socket.close()
 
 
@@ -93,12 +92,12 @@ class Witnesses:
 
 
 @contextlib.contextmanager
-def serving(command):
-    """A daemon with its witnesses. In the end it still runs, and nothing is left of the attackers."""
+def serving(command, words=()):
+    """A daemon, with these words too, and its witnesses. In the end it still runs, and nothing is left of the attackers."""
     with tempfile.NamedTemporaryFile("w", suffix=".json") as file:
         json.dump(SCHEMA, file)
         file.flush()
-        with daemon.Daemon(command, file.name) as served:
+        with daemon.Daemon(command, file.name, words=words) as served:
             pid = served.process.pid
             with Peer(served.port) as first:
                 first.ask("echo", 0)
@@ -216,6 +215,29 @@ def mangled(draw, request):
     return with_other_bytes(draw, text) if 0.4 <= way < 0.55 else text
 
 
+def messages_of_the_limit(command):
+    """A message of as many bytes as --max-message says is taken, however it is cut, and one more byte ends the connection, and no other;
+    64 MiB are taken where that is said, and not else."""
+
+    def message(length):
+        return b'{"method":"echo","params":["' + b"a" * (length - 41) + b'"],"id":1234}'
+
+    for words, limit, tried in ((("--max-message", "1000"), 1_000, (1_000, 1_001)), (("--max-message", "67108864"), 1 << 26, (1 << 26,)), ((), 1 << 24, (1 << 24, (1 << 24) + 1, 1 << 26))):
+        with serving(command, words) as (served, witnesses), attended(witnesses):
+            for length in tried:
+                with Peer(served.port) as peer, Peer(served.port) as other:
+                    text = message(length)
+                    peer.say(text[:700])
+                    peer.say(text[700:])
+                    peer.half_close()
+                    came = peer.rest()
+                    if len(came) != (length - 41 + len('{"error":null,"id":1234,"result":[""]}') if length <= limit else 0):
+                        raise Wrong(f"with a limit of {limit} a message of {length} bytes gives {len(came)} bytes")
+                    other.ask("echo", 1)
+            if tried[-1] > limit and f"longer than {limit} bytes" not in served.process.stderr.readline():
+                raise Wrong("standard error says nothing")
+
+
 def attack(number):
     """What a peer sends: mangled requests, or any bytes. No line feed, which would end a script's line."""
     draw = random.Random(number)
@@ -319,6 +341,22 @@ def all_seats(command):
             until(lambda: is_taken_in(served.port), "a session for one that has gone")
 
 
+def too_many_sessions(command):
+    """A connection beyond 4,096 is closed at once, and standard error says so, with the address."""
+    more_files()
+    with serving(command) as (served, witnesses), contextlib.ExitStack() as crowd:
+        peers = [crowd.enter_context(Peer(served.port)) for _ in range(4_094)]
+        if peers[-1].ask("echo") != []:
+            raise Wrong("another reply")
+        late = crowd.enter_context(Peer(served.port))
+        with daemon.bounded(served.process):
+            said, name = served.process.stderr.readline(), late.socket.getsockname()
+        if late.rest() or said != f"ovsdbd: closed {name[0]}:{name[1]} (and 0 more): 4096 sessions are open\n":
+            raise Wrong(f"a session beyond 4,096: {said!r}")
+        peers.pop().reset()
+        until(lambda: is_taken_in(served.port), "a session for one that has gone")
+
+
 def is_taken_in(port):
     with Peer(port) as peer, contextlib.suppress(Wrong, OSError):
         return peer.ask("list_dbs") == ["hst"]
@@ -326,11 +364,18 @@ def is_taken_in(port):
 
 
 def peers_that_come_and_go(command, count=2_000):
-    """Peers come and go at once, some in mid-message, some with a lock, some after a reply."""
+    """Peers come and go at once, some in mid-message, some with a lock, some in the midst of a reply, or after it."""
+    large = json.dumps({"method": "echo", "params": ["a" * 300_000], "id": 1}).encode()
 
     def visit(number):
         with Peer(served.port) as peer:
-            if number % 5 == 1:
+            if number % 10 == 0:
+                peer.say(large)
+                peer.socket.recv(100)
+            elif number % 10 == 5:
+                for byte in insert(number)[:40]:
+                    peer.say(bytes([byte]))
+            elif number % 5 == 1:
                 peer.reset()
             elif number % 5 == 2:
                 peer.say(insert(number)[: number % 80])
@@ -357,6 +402,131 @@ def is_free(port, lock):
 def peers_20000_that_come_and_go(command):
     """The same with 20,000."""
     peers_that_come_and_go(command, 20_000)
+
+
+def waiting(number):
+    """A transaction that waits for ever."""
+    wait = {"op": "wait", "table": "Quiet", "where": [], "columns": ["n"], "until": "==", "rows": [{"n": number}]}
+    return json.dumps({"method": "transact", "params": ["hst", wait], "id": number}).encode()
+
+
+def peers_that_go_at_busy(command):
+    """A peer with a lock has 254 to 600 transactions wait, of which those after the 256th meet Busy, and goes. The next in line has its lock
+    within a second, however it went, and whatever patience the daemon has."""
+    for words in ((), ("--probe", "2000", "--stall", "3000")):
+        with serving(command, words) as (served, witnesses), attended(witnesses):
+            for count in (254, 256, 257, 258, 600):
+                for leave in (Peer.close, Peer.reset, Peer.half_close):
+                    gone_with_lock(served.port, count, leave)
+
+
+def gone_with_lock(port, count, leave):
+    """A peer takes a lock, has so many transactions wait, and goes."""
+    with Peer(port) as holder, Peer(port) as heir:
+        if holder.ask("lock", "L") != {"locked": True} or heir.ask("lock", "L") != {"locked": False}:
+            raise Wrong("another owner")
+        holder.say(b"".join(map(waiting, range(count))))
+        time.sleep(0.1)
+        leave(holder)
+        heir.socket.settimeout(1)
+        if heir.notification() != {"id": None, "method": "locked", "params": ["L"]}:
+            raise Wrong("told something else")
+        heir.ask("unlock", "L")
+
+
+def half_closed_at_busy(command):
+    """A peer has 255 transactions wait and asks 400 more times, which meets Busy again and again, and then ends its side: each is answered
+    that can be."""
+    echo = b"".join(b'{"method":"echo","params":[],"id":%d}' % number for number in range(400))
+    with serving(command) as (served, witnesses), attended(witnesses), Peer(served.port) as peer:
+        peer.say(b"".join(map(waiting, range(255))) + echo)
+        peer.half_close()
+        if peer.rest() != b"".join(b'{"error":null,"id":%d,"result":[]}' % number for number in range(400)):
+            raise Wrong("other replies")
+
+
+def probed_at_busy(command):
+    """With --probe a peer at Busy that answers is kept, and one that says nothing is cut off, so that the next has its lock."""
+    with serving(command, ("--probe", "500")) as (served, witnesses), attended(witnesses), contextlib.ExitStack() as crowd:
+        alive, still, heir = (crowd.enter_context(Peer(served.port)) for _ in range(3))
+        for peer, lock in ((alive, "A"), (still, "S")):
+            peer.ask("lock", lock)
+            heir.ask("lock", lock)
+            peer.say(b"".join(map(waiting, range(300))))
+        answering = threading.Thread(target=until_its_end, args=(alive,))
+        answering.start()
+        for _ in range(40):
+            time.sleep(0.1)
+            heir.ask("echo")
+        if heir.notified != [{"id": None, "method": "locked", "params": ["S"]}]:
+            raise Wrong(f"after 4 s the next in line was told {heir.notified}")
+        heir.notified.clear()
+        alive.half_close()
+        answering.join()
+        if heir.notification() != {"id": None, "method": "locked", "params": ["A"]}:
+            raise Wrong("told something else")
+
+
+def until_its_end(peer):
+    """Answers what the daemon asks, until it ends the stream."""
+    with contextlib.suppress(Wrong, OSError):
+        peer.message()
+
+
+def half_closed_under_load(command, count=500):
+    """Peers that watch a row of 13,000 elements, which five others change, end their side and read nothing for a while. Each is sent a
+    beginning of whole messages, and its stream ends; those that are killed meanwhile are gone at once."""
+    more_files()
+    row = {"op": "insert", "table": "Large", "row": {"s": ["set", [f"{number:05}" for number in range(13_000)]]}}
+    with serving(command, ("--threads", "4")) as (served, witnesses):
+        with Peer(served.port) as first, contextlib.ExitStack() as crowd:
+            first.ask("transact", "hst", row)
+            crowd.enter_context(changing(served.port))
+            peers = [crowd.enter_context(Peer(served.port)) for _ in range(count)]
+            for peer in peers:
+                peer.say(b'{"method":"monitor","params":["hst",null,{"Large":{}}],"id":1}')
+                peer.half_close()
+            for peer in peers[::3]:
+                peer.reset()
+            with ThreadPoolExecutor(8) as pool:
+                left = [peer for at, peer in enumerate(peers) if at % 3]
+                if not all(pool.map(ends_whole, left)):
+                    raise Wrong("a stream ended in the midst of a message, or not at all")
+        witnesses.step()
+
+
+@contextlib.contextmanager
+def changing(port, count=5):
+    """So many others change the rows of a table all the while."""
+    done = threading.Event()
+    change = {"op": "mutate", "table": "Large", "where": [], "mutations": [["n", "+=", 1]]}
+
+    def change_all():
+        with Peer(port) as peer, contextlib.suppress(Wrong, OSError):
+            while not done.is_set():
+                peer.ask("transact", "hst", change)
+
+    threads = [threading.Thread(target=change_all) for _ in range(count)]
+    for thread in threads:
+        thread.start()
+    try:
+        yield
+    finally:
+        done.set()
+        for thread in threads:
+            thread.join()
+
+
+def ends_whole(peer):
+    """Whether the stream ends after a message that is whole."""
+    last = b""
+    with contextlib.suppress(ConnectionResetError, socket.timeout):
+        while True:
+            came = peer.socket.recv(1 << 20)
+            if not came:
+                return last.endswith(b"}")
+            last = came
+    return False
 
 
 HOLDER = """
@@ -462,6 +632,26 @@ def too_little_address_space(command):
                 raise Wrong("memory isn't there again")
 
 
+def too_little_for_a_reply(command):
+    """The daemon has no memory for a first reply of 13 MB. Its session ends within seconds, and the others go on all the while."""
+    rows = [{"op": "insert", "table": "Large", "row": {"s": ["set", [f"{number:0100}" for number in range(1_300)]]}}] * 10
+    monitor = b'{"method":"monitor","params":["hst","m",{"Large":{}}],"id":1}'
+    with serving([*ONE_ARENA, *command]) as (served, witnesses):
+        with Peer(served.port) as first:
+            for _ in range(10):
+                first.ask("transact", "hst", *rows)
+        with attended(witnesses), limited(served, resource.RLIMIT_AS, size(served.process.pid) + (4 << 20)), Peer(served.port) as peer:
+            peer.socket.settimeout(5)
+            peer.say(monitor)
+            if peer.rest():
+                raise Wrong("a reply of 13 MB was made with 4 MB")
+        with Peer(served.port) as peer:
+            peer.say(monitor)
+            peer.half_close()
+            if len(peer.rest()) < 13_000_000:
+                raise Wrong("memory isn't there again")
+
+
 def costly(draw):
     """A request that takes much memory, or little."""
     insert_row = {"op": "insert", "table": "Counters", "row": {"n": 1}}
@@ -541,7 +731,8 @@ def no_standard_output(command):
 
 
 CHECKS = [
-    random_and_mangled_bytes, a_message_cut_at_every_byte, peers_that_say_nothing, peers_that_come_and_go, killed_holders_of_locks,
-    too_few_file_descriptors, too_little_address_space, memory_that_comes_and_goes, standard_output_closed, no_standard_output,
+    random_and_mangled_bytes, messages_of_the_limit, a_message_cut_at_every_byte, peers_that_say_nothing, too_many_sessions, peers_that_come_and_go,
+    peers_that_go_at_busy, half_closed_at_busy, probed_at_busy, half_closed_under_load, killed_holders_of_locks,
+    too_few_file_descriptors, too_little_address_space, too_little_for_a_reply, memory_that_comes_and_goes, standard_output_closed, no_standard_output,
 ]
 LONG = [all_seats, peers_20000_that_come_and_go, memory_that_comes_and_goes_for_long]

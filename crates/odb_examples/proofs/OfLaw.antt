@@ -22,11 +22,11 @@ use Rattle.odb_monitor.specs.View.{View, delta, is_none, query, shown}
 use Rattle.odb_request.specs.Request.{Request}
 use Rattle.odb_schema.specs.SchemaText.{schema_of_text}
 use Rattle.odb_tables.specs.Database.{Db}
-use Rattle.odb_wire.specs.Stream.{messages}
+use Rattle.odb_wire.specs.Stream.{max_message, messages}
 use Rattle.odb_script.specs.Script.{fresh_from}
 
 abbrev first_message : List ℕ → Data
-first_message t = elim ((messages t).0) [ [] ↦ null | d ∷ ds ↦ d ]
+first_message t = elim ((messages max_message t).0) [ [] ↦ null | d ∷ ds ↦ d ]
 
 -- a message of a session, with one identifier at hand, at a moment
 abbrev at : ℕ → ℕ → ℕ → List ℕ → Event

@@ -11,11 +11,11 @@ use Rattle.odb_service.specs.Service.{service}
 use Rattle.odb_service.specs.World.{owed_replies}
 use Rattle.odb_rpc.specs.Message.{call_of, has_reply}
 use Rattle.odb_schema.specs.SchemaText.{schema_of_text}
-use Rattle.odb_wire.specs.Stream.{messages}
+use Rattle.odb_wire.specs.Stream.{max_message, messages}
 use Rattle.odb_script.specs.Script.{fresh_from}
 
 abbrev first_message : List ℕ → Data
-first_message t = elim ((messages t).0) [ [] ↦ null | d ∷ ds ↦ d ]
+first_message t = elim ((messages max_message t).0) [ [] ↦ null | d ∷ ds ↦ d ]
 
 -- replies that session 0 is owed after these events
 abbrev owes : List Event → Option ℕ

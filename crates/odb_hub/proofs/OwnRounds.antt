@@ -5,7 +5,7 @@ use borrow.Author.Tests.{eqb-true}
 use Rattle.odb_atoms.specs.FinMap.{get}
 use Rattle.odb_hub.specs.Counted.{submits}
 use Rattle.odb_hub.specs.Kept.{IsKept, Kept, Takes}
-use Rattle.odb_hub.specs.Own.{FlushesOwn, GivesOwn, TakesIf, TakesOwnRound, TakesOwnRounds}
+use Rattle.odb_hub.specs.Own.{FlushesOwn, GivesOwn, GivesTo, TakesIf, TakesOwnRound, TakesOwnRounds}
 use Rattle.odb_hub.specs.Rings.{HandsOver, HasRoom, IsFlushedAt, Ring, Rings, Text, is_free_at, room_of, texts, texts_to}
 use Rattle.odb_hub.proofs.Counting.{same_count, same_events}
 use Rattle.odb_hub.proofs.HandingOver.{flushed_itself, nothing_more, served}
@@ -113,3 +113,7 @@ rounds_counted s (n ∷ ns) old new total settled count t = one_counted t.2.0 s 
 
 pub own_counted : (s : ℕ) (old new : Kept) (total settled : ℕ) → total ≡ settled + submits old.events → GivesOwn s old new → total ≡ settled + submits new.events
 own_counted s old new total settled count g = same_events g.1 new total settled (rounds_counted s g.0 old g.1 total settled count g.2) g.3.2
+
+pub next_counted : (o : Option ℕ) (old new : Kept) (total settled : ℕ) → total ≡ settled + submits old.events → GivesTo o old new → total ≡ settled + submits new.events
+next_counted (Some s) old new total settled count g = own_counted s old new total settled count g
+next_counted None old new total settled count g = subst (λ (k : Kept). total ≡ settled + submits k.events) (sym g) count

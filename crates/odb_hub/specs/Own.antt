@@ -1,5 +1,5 @@
 -- Rounds of one session alone.
-use Rattle.std.specs.Prelude.{◌≡◌, ℕ, ◌==◌, length, Bool, true, false, List, [], ◌∷◌, Some}
+use Rattle.std.specs.Prelude.{◌≡◌, ℕ, ◌==◌, length, Bool, true, false, List, [], ◌∷◌, Option, None, Some}
 use Rattle.odb_atoms.specs.FinMap.{get}
 use Rattle.odb_service.specs.Run.{Event, round}
 use Rattle.odb_service.specs.Server.{Server, served_by}
@@ -35,6 +35,11 @@ FlushesOwn s old new = (new.server ≡ old.server) × (new.base ≡ old.base) ×
 -- rounds of this session alone; where memory was refused to one more, what was held back for it may have been sent
 abbrev pub GivesOwn : ℕ → Kept → Kept → Type 0
 GivesOwn s old new = (counts : List ℕ) × (last : Kept) × TakesOwnRounds s counts old last × FlushesOwn s last new
+
+-- the same of a session, if there is one; else nothing changes
+abbrev pub GivesTo : Option ℕ → Kept → Kept → Type 0
+GivesTo (Some s) old new = GivesOwn s old new
+GivesTo None old new = new ≡ old
 
 -- further takings give the session nothing
 abbrev pub IsOwedNothing : ℕ → Server → Type 0

@@ -12,10 +12,20 @@ pub struct Bell {
     place: usize,
     holds: AtomicU64,
     told: AtomicU64,
+    /// How often memory was refused for what the session is owed since it was given something, and when first.
+    refusals: AtomicU64,
+    refused: AtomicU64,
+    given_up: AtomicU64,
 }
 
 /// After how many milliseconds a session that was given something has rested.
 const REST: u64 = 2;
+
+/// After how many refusals of memory in a row a session is given up.
+const REFUSALS: u64 = 16;
+
+/// After how many milliseconds of them, at the earliest.
+const PATIENCE: u64 = 1_000;
 
 impl Bell {
     /// Makes the bell of a session that has this place among those of a thread.
@@ -25,6 +35,9 @@ impl Bell {
             place,
             holds: AtomicU64::new(0),
             told: AtomicU64::new(0),
+            refusals: AtomicU64::new(0),
+            refused: AtomicU64::new(0),
+            given_up: AtomicU64::new(0),
         }
     }
 
@@ -34,9 +47,36 @@ impl Bell {
         self.calls.call(self.place);
     }
 
+    /// Returns whether the thread that serves the session was called since it last heard that.
+    pub fn is_called(&self) -> bool {
+        self.calls.is_called(self.place)
+    }
+
     /// Remembers the moment, in milliseconds, at which the session is given something.
     pub(crate) fn note(&self, moment: u64) {
         self.told.store(moment, Ordering::SeqCst);
+        if self.refusals.load(Ordering::SeqCst) != 0 {
+            self.refusals.store(0, Ordering::SeqCst);
+        }
+    }
+
+    /// Remembers that memory was refused at this moment, in milliseconds, for what the session is owed. Where that goes on
+    /// for a second the session is given up, and the thread that serves it is called.
+    pub(crate) fn note_refusal(&self, moment: u64) {
+        let before = self.refusals.fetch_add(1, Ordering::SeqCst);
+        if before == 0 {
+            self.refused.store(moment, Ordering::SeqCst);
+        }
+        let long = moment.saturating_sub(self.refused.load(Ordering::SeqCst));
+        if before >= REFUSALS && long >= PATIENCE {
+            self.given_up.store(1, Ordering::SeqCst);
+            self.ring();
+        }
+    }
+
+    /// Returns whether the session is to end, since memory was refused for a second for what it is owed.
+    pub fn is_given_up(&self) -> bool {
+        self.given_up.load(Ordering::SeqCst) != 0
     }
 
     /// Returns whether the session was given nothing in the last milliseconds before this moment.

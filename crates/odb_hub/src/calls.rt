@@ -43,6 +43,14 @@ impl Calls {
         }
     }
 
+    /// Returns whether the session at this place was called and not heard since. O(1).
+    pub fn is_called(&self, place: usize) -> bool {
+        match self.words.get(place / WORD) {
+            Some(word) => word.load(Ordering::SeqCst) & 1u64 << (place % WORD) != 0,
+            None => false,
+        }
+    }
+
     /// Returns whether something was called that wasn't heard.
     pub fn is_any(&self) -> bool {
         self.any.load(Ordering::SeqCst) != 0

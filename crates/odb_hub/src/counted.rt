@@ -80,7 +80,7 @@ impl<L: Ledger> Counted<L> {
     ghost use Rattle.odb_hub.specs.Batch.{IsSome, IsTurn, Submits, is_sooner};
     ghost use Rattle.odb_hub.specs.Counted.{Closes, IsCounted, SameCount, submits};
     ghost use Rattle.odb_hub.specs.Kept.{IsQuiet, Takes, TakesRound, counted};
-    ghost use Rattle.odb_hub.specs.Own.{GivesOwn, IsGiven};
+    ghost use Rattle.odb_hub.specs.Own.{GivesOwn, GivesTo, IsGiven};
     ghost use Rattle.odb_hub.specs.Represented.Mailbox.{name_of, taken};
     ghost use Rattle.odb_hub.specs.Represented.Submission.{events_of};
     ghost use Rattle.odb_hub.specs.Rings.{fresh_ring, IsFlushedAt};
@@ -174,6 +174,14 @@ impl<L: Ledger> Counted<L> {
         ensures count { SameCount self.old self.new }
     {
         self.state.rounds_for(session)
+    }
+
+    /// Does what [`HubState::give_next`] does.
+    pub fn give_next(&mut self, from: SessionId, now: u64) -> Option<SessionId>
+        ensures given { GivesTo result self.old.kept self.new.kept }
+        ensures count { SameCount self.old self.new }
+    {
+        self.state.give_next(from, now)
     }
 
     /// Does what [`HubState::tick`] does.

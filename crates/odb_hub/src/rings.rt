@@ -79,6 +79,14 @@ impl Rings {
         }
     }
 
+    /// Notes that memory was refused at this moment, in milliseconds, for what the session is owed. O(log n). No contract
+    /// speaks of it.
+    pub(crate) fn note_refusal(&self, session: SessionId, now: u64) {
+        if let Some(ring) = self.rings.get(&session) {
+            ring.bell().note_refusal(now);
+        }
+    }
+
     /// States that each ring which holds a message back has no room for it. O(1).
     pub(crate) fn short(&self)
         ensures { AreShort self.now }

@@ -59,7 +59,7 @@ impl HubState {
     ghost use Rattle.odb_core.specs.Represented.Reason.{IsReason};
     ghost use Rattle.odb_hub.specs.Batch.{IsSome, IsTurn, RefusesFirst, TakesUpTo};
     ghost use Rattle.odb_hub.specs.Kept.{IsKept, IsQuiet, Takes, TakesRound, counted};
-    ghost use Rattle.odb_hub.specs.Own.{FlushesOwn, GivesOwn, IsGiven, IsOwedNothing, TakesOwnRound};
+    ghost use Rattle.odb_hub.specs.Own.{FlushesOwn, GivesOwn, GivesTo, IsGiven, IsOwedNothing, TakesOwnRound};
     ghost use Rattle.odb_hub.specs.Represented.Submission.{events_of};
     ghost use Rattle.odb_hub.specs.Represented.Mailbox.{name_of, taken};
     ghost use Rattle.odb_hub.specs.Rings.{AreShort, fresh_ring, IsFlushedAt};
@@ -268,6 +268,32 @@ impl HubState {
             }
         }
         Err(AllocError)
+    }
+
+    /// Gives what it is owed to one session, as `rounds_for` does: the first, from this number on, of those that may be owed
+    /// something, whose number it returns; `None` says that there is none. Where memory is refused for that, again and again
+    /// for a second up to this moment, in milliseconds, the thread that serves the session is told to end it. O(k) where k
+    /// sessions may be owed something, and what the rounds cost.
+    pub fn give_next(&mut self, from: SessionId, now: u64) -> Option<SessionId>
+        ensures { GivesTo result self.old self.new }
+    {
+        let Some(session) = self.next_owed(from) else {
+            return None;
+        };
+        if self.rounds_for(session).is_err() {
+            self.rings.note_refusal(session, now);
+        }
+        Some(session)
+    }
+
+    /// Returns the first session, from this number on, of those that may be owed something. No contract speaks of it.
+    fn next_owed(&self, from: SessionId) -> Option<SessionId> {
+        for session in self.core.owed().iter() {
+            if *session >= from {
+                return Some(*session);
+            }
+        }
+        None
     }
 
     /// Returns whether nothing is owed to the session, and nothing is held back for it. O(log n).

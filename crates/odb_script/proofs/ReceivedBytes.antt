@@ -2,7 +2,7 @@
 use Rattle.std.proofs.Common.{◌≡◌, ℕ, List, [], ◌++◌, codes, drop, slice_get, slice_set, Some, refl, ap, sym, ◌∙◌, append_assoc}
 use Rattle.serde_json.specs.Data.{Data}
 use Rattle.odb_service.specs.Service.{Service}
-use Rattle.odb_wire.specs.Stream.{Ending, fault_bad, fault_too_long, goes_on, messages}
+use Rattle.odb_wire.specs.Stream.{Ending, fault_bad, fault_too_long, goes_on, max_message, messages}
 use Rattle.odb_script.specs.Script.{ScriptSession, Script, at_ending, at_name, deliver_all, shut_with, receive, with_bytes}
 use Rattle.odb_script.specs.Represented.Names.{AreApart, place_in}
 use Rattle.odb_script.specs.Represented.Steps.{Does}
@@ -27,12 +27,12 @@ module _ (h : Service) (n : List ℕ) (s : ℕ) where
 
 -- what the code did with the bytes
 pub received : (h : Service) (x : ScriptSession) (n bytes : List ℕ) (s k : ℕ) (p q r : Script) (ys : List ScriptSession) (t u v : List ℕ) (ds : List Data) → AreApart p.sessions → x.name ≡ n → s ≡ x.session → place_in n p.sessions ≡ Some k → slice_get p.sessions k ≡ Some x
-    → ys ≡ slice_set p.sessions k (with_bytes bytes x) → ds ≡ drop x.delivered (messages (x.bytes ++ bytes)).0 → Does (deliver_all h n s ds) (record p { sessions = ys }) t q u
-    → at_ending h n s (messages (x.bytes ++ bytes)).1 (q, u) ≡ (r, v) → Does (receive h x bytes) p t r v
+    → ys ≡ slice_set p.sessions k (with_bytes bytes x) → ds ≡ drop x.delivered (messages max_message (x.bytes ++ bytes)).0 → Does (deliver_all h n s ds) (record p { sessions = ys }) t q u
+    → at_ending h n s (messages max_message (x.bytes ++ bytes)).1 (q, u) ≡ (r, v) → Does (receive h x bytes) p t r v
 received h x n bytes s k p q r ys t u v ds apart named number place there set messages_are does ended =
     let fed : Script → Script = λ o. record o { sessions = at_name x.name (with_bytes bytes) o.sessions } in
     let same : record p { sessions = ys } ≡ fed p = (λ i. record p { sessions = set i }) ∙ (λ i. record p { sessions = sym (at_place n (with_bytes bytes) p.sessions k x apart place there) i }) ∙ (λ i. record p { sessions = at_name (sym named i) (with_bytes bytes) p.sessions }) in
     let d : Does (λ o. deliver_all h n s ds (record o { sessions = ys })) p t q u = does in
-    let e : Does (λ o. at_ending h n s (messages (x.bytes ++ bytes)).1 (deliver_all h n s ds (record o { sessions = ys }))) p t r v = ends_after h n s (λ o. deliver_all h n s ds (record o { sessions = ys })) (messages (x.bytes ++ bytes)).1 p q r t u v d ended in
-    let all : at_ending h n s (messages (x.bytes ++ bytes)).1 (deliver_all h n s ds (record p { sessions = ys })) ≡ receive h x bytes p = (λ i. at_ending h (sym named i) (number i) (messages (x.bytes ++ bytes)).1 (deliver_all h (sym named i) (number i) (messages_are i) (same i))) in
+    let e : Does (λ o. at_ending h n s (messages max_message (x.bytes ++ bytes)).1 (deliver_all h n s ds (record o { sessions = ys }))) p t r v = ends_after h n s (λ o. deliver_all h n s ds (record o { sessions = ys })) (messages max_message (x.bytes ++ bytes)).1 p q r t u v d ended in
+    let all : at_ending h n s (messages max_message (x.bytes ++ bytes)).1 (deliver_all h n s ds (record p { sessions = ys })) ≡ receive h x bytes p = (λ i. at_ending h (sym named i) (number i) (messages max_message (x.bytes ++ bytes)).1 (deliver_all h (sym named i) (number i) (messages_are i) (same i))) in
     (ap (λ (a : Script × List ℕ). a.0) (sym all) ∙ e.0, ap (λ (a : Script × List ℕ). t ++ a.1) (sym all) ∙ e.1)

@@ -9,7 +9,7 @@ use Rattle.odb_service.specs.Service.{Service, service}
 use Rattle.odb_schema.specs.Schema.{Schema}
 use Rattle.odb_service.specs.Session.{Session, drained, owed}
 use Rattle.odb_service.specs.World.{World, revision_of}
-use Rattle.odb_wire.specs.Stream.{Ending, fault_bad, fault_too_long, goes_on, messages}
+use Rattle.odb_wire.specs.Stream.{Ending, fault_bad, fault_too_long, goes_on, max_message, messages}
 use Rattle.odb_atoms.specs.Text.{is_digit}
 use Rattle.odb_atoms.specs.Uuid.{Uuid, uuid_from}
 use Rattle.odb_rpc.specs.Message.{inserts_of}
@@ -94,7 +94,7 @@ at_name n f xs = map (λ x. if bytes_eq x.name n then f x else x) xs
 
 -- a session to which bytes came, all of whose messages are delivered on
 abbrev pub with_bytes : List ℕ → ScriptSession → ScriptSession
-with_bytes bytes x = record { name = x.name; session = x.session; bytes = x.bytes ++ bytes; delivered = length (messages (x.bytes ++ bytes)).0; held = x.held }
+with_bytes bytes x = record { name = x.name; session = x.session; bytes = x.bytes ++ bytes; delivered = length (messages max_message (x.bytes ++ bytes)).0; held = x.held }
 
 -- a session whose messages are kept back, or no longer
 abbrev pub with_held : Bool → ScriptSession → ScriptSession
@@ -173,7 +173,7 @@ module _ (h : Service) where
   -- the bytes that came, and of their messages the ones that weren't delivered on yet
   abbrev pub receive : ScriptSession → List ℕ → Script → Script × List ℕ
   receive x bytes p =
-      let ms = messages (x.bytes ++ bytes) in
+      let ms = messages max_message (x.bytes ++ bytes) in
       let q = record p { sessions = at_name x.name (with_bytes bytes) p.sessions } in
       at_ending x.name x.session ms.1 (deliver_all x.name x.session (drop x.delivered ms.0) q)
 

@@ -135,7 +135,7 @@ impl Engine {
         match self.core.open() {
             Ok(session) => {
                 let name = Vec::from_slice(self.alloc, name)?;
-                let framer = Framer::new(self.alloc);
+                let framer = Framer::with_default_limit(self.alloc);
                 self.sessions.push(ScriptSession {
                     name,
                     session,

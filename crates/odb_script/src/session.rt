@@ -3,7 +3,7 @@ ghost use Rattle.std.specs.Prelude.{◌≡◌, All, IfOk, drop, map};
 ghost use Rattle.odb_script.specs.Script.{with_bytes, with_held};
 ghost use Rattle.odb_wire.specs.Feeding.{fault_of};
 ghost use Rattle.odb_wire.specs.Shown.{message_data, IsOfItsKind};
-ghost use Rattle.odb_wire.specs.Stream.{messages};
+ghost use Rattle.odb_wire.specs.Stream.{max_message, messages};
 
 use odb_core::SessionId;
 use odb_wire::{Fed, Framer};
@@ -19,10 +19,10 @@ pub(crate) struct ScriptSession {
 }
 
 impl Model for ScriptSession {
-    ghost use Rattle.std.specs.Prelude.{length};
+    ghost use Rattle.std.specs.Prelude.{◌≡◌, length};
     ghost use Rattle.odb_script.specs.Running.{script_session_code};
     ghost use Rattle.odb_script.specs.Script as model;
-    ghost use Rattle.odb_wire.specs.Stream.{messages};
+    ghost use Rattle.odb_wire.specs.Stream.{max_message, messages};
 
     ghost Value = { model.ScriptSession };
 
@@ -31,10 +31,12 @@ impl Model for ScriptSession {
     ghost view = { λ n. record {
       name = n.name.items;
       session = n.session;
-      bytes = n.framer;
-      delivered = length (messages n.framer).0;
+      bytes = n.framer.bytes;
+      delivered = length (messages max_message n.framer.bytes).0;
       held = n.held;
     } };
+
+    ghost invariant = { λ n. n.framer.most ≡ max_message };
 }
 
 impl ScriptSession {
@@ -49,9 +51,9 @@ impl ScriptSession {
     pub(crate) fn feed(&mut self, bytes: &[u8]) -> Result<Fed, AllocError>
         ensures session { IfOk result (λ fed. self.new ≡ with_bytes bytes.now self.old) }
         ensures messages { IfOk result (λ fed. map message_data fed.messages.items
-            ≡ drop self.old.delivered (messages self.new.bytes).0) }
+            ≡ drop self.old.delivered (messages max_message self.new.bytes).0) }
         ensures kinds { IfOk result (λ fed. All IsOfItsKind fed.messages.items) }
-        ensures fault { IfOk result (λ fed. fault_of (messages self.new.bytes).1 ≡ fed.fault) }
+        ensures fault { IfOk result (λ fed. fault_of (messages max_message self.new.bytes).1 ≡ fed.fault) }
         ensures name { self.new.name ≡ self.old.name }
         ensures number { self.new.session ≡ self.old.session }
     {

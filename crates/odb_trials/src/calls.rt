@@ -6,7 +6,7 @@ use odb_cond::{Clause, Filter, Function, Member, Selector};
 use odb_locks::{LockFault, Locks};
 use odb_schema::{Schema, TableId};
 use odb_tables::{Db, Draft};
-use odb_wire::read_pieces;
+use odb_wire::{MAX_MESSAGE, read_pieces};
 use std::alloc::{AllocError, Global};
 use std::hash::RandomState;
 use std::test::Fail;
@@ -83,7 +83,11 @@ fn locks_steals_and_drops(alloc: Global) -> Result<bool, LockFault> {
 
 /// Tries a message that comes in two pieces, and a fault after it.
 fn reads_pieces(alloc: Global) -> Result<bool, AllocError> {
-    let fed = read_pieces(alloc, &[b"{\"result\"".as_slice(), b":1}]".as_slice()])?;
+    let fed = read_pieces(
+        alloc,
+        MAX_MESSAGE,
+        &[b"{\"result\"".as_slice(), b":1}]".as_slice()],
+    )?;
     Ok(fed.messages.len() == 1 && fed.fault.is_some())
 }
 

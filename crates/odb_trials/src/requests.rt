@@ -6,7 +6,7 @@ use odb_core::{Core, Out};
 use odb_hub::Submission;
 use odb_rpc::inserts;
 use odb_schema::Schema;
-use odb_wire::{Framer, Message, Request};
+use odb_wire::{Framer, MAX_MESSAGE, Message, Request};
 use std::alloc::{AllocError, Global};
 use std::hash::RandomState;
 use uuid::Uuid;
@@ -30,7 +30,7 @@ pub(crate) fn core(alloc: Global, hashing: RandomState, schema: &[u8]) -> Result
 
 /// Returns the request of this text.
 pub(crate) fn request(alloc: Global, text: &[u8]) -> Result<Submission, AllocError> {
-    let mut framer = Framer::new(alloc);
+    let mut framer = Framer::new(alloc, MAX_MESSAGE);
     let fed = framer.feed(text)?;
     for message in fed.messages {
         if let Message::Request(request) = message {

@@ -1,4 +1,4 @@
--- How a loop of the server sleeps, a thread that serves many sessions by what a poll reports of their sockets, and how those that give a session messages wake it: one loop, and one of its sessions. A step is one atomic operation of one thread, and a run is any list of steps: what threads do may come in each order. [P 15.2]
+-- How a loop of the server sleeps, a thread that serves many sessions by what a poll reports of their sockets, how those that give a session messages wake it, and how a session ends: one loop, and one of its sessions. A step is one atomic operation of one thread, and a run is any list of steps: what threads do may come in each order. [P 15.2]
 use Rattle.std.specs.Prelude.{◌≡◌, ℕ, zero, suc, ◌&&◌, ◌||◌, Bool, true, false, not, if◌then◌else◌, List, fold}
 
 -- where the thread is that has the lock
@@ -18,12 +18,16 @@ pub data Place : Type 0 where
   -- before it forgets what it was told; before it takes the calls
   begins : Place
   collects : Place
-  -- at the session: it writes; takes a message out of the ring; looks whether one is held back; has rounds run; reads and submits
+  -- at the session: it writes; takes a message out of the ring; looks whether one is held back; has rounds run; looks whether it may submit; reads and submits
   writes : Place
   takes : Place
   looks : Place
   refills : Place
+  checks : Place
   submits : Place
+  -- where nothing more is submitted: it looks whether all is written; it ends the session
+  ends : Place
+  parts : Place
   -- before it counts as asleep; before it looks once more whether it was told; asleep in the poll; before it counts as awake
   lies_down : Place
   looks_again : Place
@@ -31,7 +35,7 @@ pub data Place : Type 0 where
   rises : Place
 
 pub record Loop : Type 0 where
-  -- how many messages the session's ring has; whether one is held back, and whether the flag says so; whether one was sent since its request met Busy
+  -- how many messages the session's ring has; whether one is held back, and whether the flag says so; whether one was sent since a request of its met Busy
   pub in_ring : ℕ
   pub held : Bool
   pub holds : Bool
@@ -49,11 +53,20 @@ pub record Loop : Type 0 where
   pub full : Bool
   pub unread : Bool
   pub ready : Bool
-  -- what the loop knows: that the poll reported the session; that it was called and not served since; that its socket is full; that its request waits since it met Busy
+  -- whether the peer ended its side, and sends no more; whether it can neither send nor take
+  pub half : Bool
+  pub over : Bool
+  -- what the loop knows: that the poll reported the session; that its socket is full; that a request of its waits to be submitted again, and that it wasn't called since that met Busy
   pub reported : Bool
-  pub unserved : Bool
   pub blocked : Bool
   pub waits : Bool
+  pub busy : Bool
+  -- that the peer ended its side; that the session is to end at once; that nothing more is read or submitted; that the session ended; that the connection is closed
+  pub ended : Bool
+  pub cut : Bool
+  pub done : Bool
+  pub parted : Bool
+  pub closed : Bool
   pub giver : Giver
   pub place : Place
 
@@ -67,9 +80,13 @@ pub data Step : Type 0 where
   giver_looks : Step
   giver_swaps : Step
   giver_wakes : Step
-  -- the peer takes bytes out of the socket; it sends some
+  -- the peer takes bytes out of the socket; it sends some; it ends its side; it can neither send nor take any more
   peer_takes : Step
   peer_sends : Step
+  peer_ends : Step
+  peer_goes : Step
+  -- the daemon's patience with the peer is at its end
+  cuts_off : Step
   -- the loop goes on, and where one of two things may be, true means: the socket takes all; the request that waits is accepted; all is read; the poll reports the session
   loop_goes_on : Bool → Step
   -- a request meets Busy
@@ -77,15 +94,15 @@ pub data Step : Type 0 where
 
 -- nothing was put, and the loop begins
 abbrev pub begun : Loop
-begun = record { in_ring = zero; held = false; holds = false; given = false; called = false; any = false; asleep = false; token = false; looking = zero; swapping = zero; waking = zero; full = false; unread = false; ready = false; reported = false; unserved = false; blocked = false; waits = false; giver = idle; place = begins }
+begun = record { in_ring = zero; held = false; holds = false; given = false; called = false; any = false; asleep = false; token = false; looking = zero; swapping = zero; waking = zero; full = false; unread = false; ready = false; half = false; over = false; reported = false; blocked = false; waits = false; busy = false; ended = false; cut = false; done = false; parted = false; closed = false; giver = idle; place = begins }
 
 abbrev pub tried : Bool → Loop → Loop
 tried true p = record p { in_ring = suc p.in_ring; given = true; giver = sent }
 tried false p = record p { giver = refused }
 
--- a message is put only where none is held back
+-- a message is put only where none is held back; a session that ended has no ring
 abbrev pub put_at : Giver → Bool → Loop → Loop
-put_at idle room p = if p.held then p else tried room p
+put_at idle room p = if p.parted || p.held then p else tried room p
 put_at refused room p = p
 put_at marked room p = p
 put_at sent room p = p
@@ -93,7 +110,7 @@ put_at calls room p = p
 put_at tells room p = p
 
 abbrev pub flushed_at : Giver → Bool → Loop → Loop
-flushed_at idle room p = if p.held then tried room (record p { held = false }) else p
+flushed_at idle room p = if not p.parted && p.held then tried room (record p { held = false }) else p
 flushed_at refused room p = p
 flushed_at marked room p = p
 flushed_at sent room p = p
@@ -124,18 +141,29 @@ abbrev pub woken_by : ℕ → Loop → Loop
 woken_by zero p = p
 woken_by (suc n) p = record p { token = true; waking = n }
 
--- the loop looks at a session that the poll reported, and at one that was called, but where its socket is full
-abbrev pub chosen : Bool → Loop → Loop
-chosen true p = record p { reported = false; blocked = false; place = writes }
-chosen false p = record p { place = lies_down }
+-- the loop leaves the session; it closes the connection
+abbrev pub rested : Loop → Loop
+rested p = record p { place = lies_down }
 
-abbrev pub collected : Bool → Loop → Loop
-collected unserved p = chosen (p.reported || (unserved && not p.blocked)) (record p { called = false; unserved = unserved })
+abbrev pub shut : Loop → Loop
+shut p = record p { closed = true; place = lies_down }
 
--- what the socket doesn't take stays in the loop
-abbrev pub written : Bool → Loop → Loop
-written true p = record p { place = takes }
-written false p = record p { full = true; blocked = true; place = lies_down }
+-- the loop looks at a session that the poll reported, and at one that was called, and no more at one that is closed
+abbrev pub chosen : Bool → Bool → Loop → Loop
+chosen true cut p = record p { place = if cut then parts else writes }
+chosen false cut p = rested p
+
+abbrev pub heard : Bool → Loop → Loop
+heard called p = record p { called = false; busy = not called && p.busy; blocked = not p.reported && p.blocked; reported = false }
+
+abbrev pub collected : Loop → Loop
+collected p = chosen (not p.closed && (p.reported || p.called)) p.cut (heard p.called p)
+
+-- what the socket doesn't take stays in the loop; nothing is written while it is known to be full
+abbrev pub written : Bool → Bool → Loop → Loop
+written true b p = record p { place = checks }
+written false true p = record p { place = takes }
+written false false p = record p { full = true; blocked = true; place = checks }
 
 abbrev pub taken : ℕ → Loop → Loop
 taken zero p = record p { place = looks }
@@ -150,36 +178,67 @@ refilled sent p = p
 refilled calls p = p
 refilled tells p = p
 
--- a request that waits is submitted again where the session was called since; nothing is read meanwhile
-abbrev pub resubmitted : Bool → Loop → Loop
-resubmitted true p = record p { waits = false }
-resubmitted false p = if p.unserved then p else record p { place = lies_down }
+-- a request that met Busy isn't submitted before the session is called; where the peer ended its side, the session ends. Nothing is submitted while a message is held back
+abbrev pub checked : Bool → Bool → Bool → Loop → Loop
+checked true busy holds p = record p { place = ends }
+checked false true holds p = if p.ended && not p.called then record p { place = ends } else rested p
+checked false false true p = rested p
+checked false false false p = record p { place = submits }
 
--- all is read, or what was submitted may have put messages into the ring
-abbrev pub read : Bool → Loop → Loop
-read true p = record p { unread = false; unserved = false; place = lies_down }
-read false p = record p { place = takes }
+-- a request that waits is submitted again; what is accepted may have put messages into the ring
+abbrev pub resubmitted : Bool → Loop → Loop
+resubmitted true p = record p { waits = false; place = writes }
+resubmitted false p = p
+
+-- all is read, and nothing more will come where the peer ended its side; or some of it, and submitted
+abbrev pub read : Bool → Bool → Loop → Loop
+read true true p = record p { unread = false; done = true; place = ends }
+read true false p = rested (record p { unread = false })
+read false half p = record p { place = writes }
+
+-- what the session was given is written before it ends, and after it; once it ended, the flag of what is held back says nothing
+abbrev pub ended_at : Bool → Bool → Bool → Loop → Loop
+ended_at true parted holds p = rested p
+ended_at false true holds p = shut p
+ended_at false false true p = rested p
+ended_at false false false p = record p { place = parts }
+
+-- a session ends under the lock, and what is held back for it is dropped; one that is cut off isn't written to any more
+abbrev pub parted_at : Giver → Bool → Loop → Loop
+parted_at idle true p = shut (record p { parted = true; done = true; waits = false; busy = false; held = false })
+parted_at idle false p = record p { parted = true; done = true; waits = false; busy = false; held = false; place = writes }
+parted_at refused cut p = p
+parted_at marked cut p = p
+parted_at sent cut p = p
+parted_at calls cut p = p
+parted_at tells cut p = p
 
 abbrev pub polled : Bool → Loop → Loop
-polled true p = record p { token = false; reported = p.ready; ready = false; place = rises }
+polled true p = record p { token = false; reported = p.ready; ended = p.ended || (p.ready && p.half); cut = p.cut || (p.ready && p.over); ready = false; place = rises }
 polled false p = record p { token = false; place = rises }
 
 -- a loop that was told something asks the poll as well, but doesn't sleep in it; one that sleeps may wake for any reason
 abbrev pub loop_at : Place → Bool → Loop → Loop
 loop_at begins b p = record p { any = false; place = collects }
-loop_at collects b p = collected (p.unserved || p.called) p
-loop_at writes b p = written b p
+loop_at collects b p = collected p
+loop_at writes b p = written p.blocked b p
 loop_at takes b p = taken p.in_ring p
-loop_at looks b p = record p { place = if p.holds then refills else submits }
+loop_at looks b p = record p { place = if p.holds && not p.parted then refills else checks }
 loop_at refills b p = refilled p.giver p
-loop_at submits b p = if p.waits then resubmitted b p else read b p
+loop_at checks b p = checked p.done p.busy p.holds p
+loop_at submits b p = if p.waits then resubmitted b p else read b p.half p
+loop_at ends b p = ended_at p.blocked p.parted p.holds p
+loop_at parts b p = parted_at p.giver p.cut p
 loop_at lies_down b p = record p { asleep = true; place = looks_again }
 loop_at looks_again b p = if p.any then polled b p else record p { place = sleeps }
 loop_at sleeps b p = polled b p
 loop_at rises b p = record p { asleep = false; place = begins }
 
 abbrev pub is_submitting : Place → Bool
-is_submitting x = elim x [ begins ↦ false | collects ↦ false | writes ↦ false | takes ↦ false | looks ↦ false | refills ↦ false | submits ↦ true | lies_down ↦ false | looks_again ↦ false | sleeps ↦ false | rises ↦ false ]
+is_submitting x = elim x [ begins ↦ false | collects ↦ false | writes ↦ false | takes ↦ false | looks ↦ false | refills ↦ false | checks ↦ false | submits ↦ true | ends ↦ false | parts ↦ false | lies_down ↦ false | looks_again ↦ false | sleeps ↦ false | rises ↦ false ]
+
+abbrev pub is_beginning : Place → Bool
+is_beginning x = elim x [ begins ↦ true | collects ↦ false | writes ↦ false | takes ↦ false | looks ↦ false | refills ↦ false | checks ↦ false | submits ↦ false | ends ↦ false | parts ↦ false | lies_down ↦ false | looks_again ↦ false | sleeps ↦ false | rises ↦ false ]
 
 abbrev pub next : Step → Loop → Loop
 next (puts room) p = put_at p.giver room p
@@ -189,10 +248,13 @@ next calls_another p = record p { any = true; looking = suc p.looking }
 next giver_looks p = looked_by p.looking p
 next giver_swaps p = swapped_by p.swapping p
 next giver_wakes p = woken_by p.waking p
-next peer_takes p = record p { full = false; ready = true }
-next peer_sends p = record p { unread = true; ready = true }
+next peer_takes p = if p.over then p else record p { full = false; ready = true }
+next peer_sends p = if p.half || p.over then p else record p { unread = true; ready = true }
+next peer_ends p = record p { half = true; unread = true; ready = true }
+next peer_goes p = record p { over = true; ready = true }
+next cuts_off p = if is_beginning p.place && not p.closed then record p { cut = true; reported = true } else p
 next (loop_goes_on b) p = loop_at p.place b p
-next meets_busy p = if is_submitting p.place then record p { given = false; unserved = false; waits = true } else p
+next meets_busy p = if is_submitting p.place then record p { given = false; waits = true; busy = true; place = writes } else p
 
 -- after a run
 abbrev pub after : List Step → Loop
@@ -204,7 +266,7 @@ some (suc n) = true
 
 -- the loop sleeps, and the poll has nothing for it
 abbrev pub is_asleep : Loop → Bool
-is_asleep p = elim p.place [ begins ↦ false | collects ↦ false | writes ↦ false | takes ↦ false | looks ↦ false | refills ↦ false | submits ↦ false | lies_down ↦ false | looks_again ↦ false | sleeps ↦ not (p.token || p.ready) | rises ↦ false ]
+is_asleep p = elim p.place [ begins ↦ false | collects ↦ false | writes ↦ false | takes ↦ false | looks ↦ false | refills ↦ false | checks ↦ false | submits ↦ false | ends ↦ false | parts ↦ false | lies_down ↦ false | looks_again ↦ false | sleeps ↦ not (p.token || p.ready) | rises ↦ false ]
 
 -- whoever has the lock will tell the loop
 abbrev pub will_tell : Giver → Bool
@@ -219,14 +281,18 @@ will_tell tells = true
 abbrev pub is_to_wake : Loop → Bool
 is_to_wake p = will_tell p.giver || (some p.waking || (p.asleep && (some p.swapping || (p.any && some p.looking))))
 
--- the loop never sleeps while a message is in the ring or held back, and the socket isn't full as far as it knows, unless it is about to be woken
+-- the loop never sleeps while a message is in the ring or held back, of a connection that isn't closed, and the socket isn't full as far as it knows, unless it is about to be woken
 abbrev pub NoMessageIsLeft : Type 0
-NoMessageIsLeft = (steps : List Step) → (let p = after steps in is_asleep p ≡ true → (not p.blocked && (some p.in_ring || p.held)) ≡ true → is_to_wake p ≡ true)
+NoMessageIsLeft = (steps : List Step) → (let p = after steps in is_asleep p ≡ true → p.closed ≡ false → (not p.blocked && (some p.in_ring || p.held)) ≡ true → is_to_wake p ≡ true)
 
 -- it never sleeps so while a request waits, though a message was sent since it met Busy
 abbrev pub NoRequestIsLeft : Type 0
-NoRequestIsLeft = (steps : List Step) → (let p = after steps in is_asleep p ≡ true → (not p.blocked && (p.waits && p.given)) ≡ true → is_to_wake p ≡ true)
+NoRequestIsLeft = (steps : List Step) → (let p = after steps in is_asleep p ≡ true → p.closed ≡ false → (not p.blocked && (p.waits && p.given)) ≡ true → is_to_wake p ≡ true)
 
--- while it sleeps, a socket that it takes to be full is full, and of any other all is read, but where a request waits
+-- while it sleeps, a socket that it takes to be full is full, and of any other all is read, but where a request waits, or it is about to be woken
 abbrev pub NoSocketIsLeft : Type 0
-NoSocketIsLeft = (steps : List Step) → (let p = after steps in is_asleep p ≡ true → (if p.blocked then p.full else (not p.unread || p.waits)) ≡ true)
+NoSocketIsLeft = (steps : List Step) → (let p = after steps in is_asleep p ≡ true → p.closed ≡ false → (if p.blocked then p.full else (not p.unread || (p.waits || is_to_wake p))) ≡ true)
+
+-- while it sleeps, a connection is closed whose peer can neither send nor take, or that is to end at once; so is one whose peer ended its side, unless its socket is full, or the loop is about to be woken
+abbrev pub NoEndIsLeft : Type 0
+NoEndIsLeft = (steps : List Step) → (let p = after steps in is_asleep p ≡ true → p.closed ≡ false → ((p.over || p.cut) ≡ false) × ((p.half && not p.blocked) ≡ true → is_to_wake p ≡ true))

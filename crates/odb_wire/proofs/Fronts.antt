@@ -1,5 +1,5 @@
 -- What a scan says of the front of a stream.
-use Rattle.std.proofs.Common.{◌≡◌, ℕ, suc, ◌==◌, ◌+◌, ◌<◌, ◌≤◌, ◌++◌, Bool, true, false, not, nat_lt, if◌then◌else◌, List, [], ◌∷◌, Option, Some, None, option_map, refl, ap, subst, append_assoc, ◌∙◌, sym, length, get_or, take, drop, arith, add-one, min}
+use Rattle.std.proofs.Common.{◌≡◌, ℕ, zero, suc, ◌==◌, ◌+◌, ◌-◌, ◌<◌, ◌≤◌, ◌++◌, Bool, true, false, not, nat_lt, if◌then◌else◌, List, [], ◌∷◌, Option, Some, None, option_map, refl, ap, subst, append_assoc, ◌∙◌, sym, length, get_or, take, drop, arith, add-one, min}
 use Rattle.std.proofs.lemmas.List.{length-take, take-take, take_all, append-nil, take-append-drop}
 use Rattle.std.proofs.lemmas.Bool.{ltb-true}
 use Rattle.odb_wire.specs.Stream.{Place, outside, closed_at, place_after, open_after, whole, too_long, bad, of_text, front_of, max_message}
@@ -8,7 +8,7 @@ use Rattle.odb_wire.specs.declared.scan.Scan.{Scan}
 use Rattle.odb_wire.specs.Standing.{IsWhole, IsUnfinished}
 use Rattle.odb_wire.proofs.Streams.{front_of-whole_more}
 
--- the limit, as the code has it
+-- the limit where nobody asks for another, as the code has it
 pub max_message-is : max_message ≡ 16777216
 unfolding max_message
 max_message-is = refl
@@ -54,31 +54,31 @@ goes_on-brace s p n goes = record { further = λ more. ap (option_map (λ t. 123
     joined (Some t) = refl
 
 -- with a brace at the front
-at_text : (c : ℕ) (cs : List ℕ) → (c == 123) ≡ true → front_of (c ∷ cs) ≡ of_text (closed_at outside 0 (take max_message (c ∷ cs))) (not (nat_lt (length (c ∷ cs)) max_message))
-at_text c cs is = ap (λ b. if b then of_text (closed_at outside 0 (take max_message (c ∷ cs))) (not (nat_lt (suc (length cs)) max_message)) else bad) is
+at_text : (most c : ℕ) (cs : List ℕ) → (c == 123) ≡ true → front_of most (c ∷ cs) ≡ of_text (closed_at outside 0 (take most (c ∷ cs))) (not (nat_lt (length (c ∷ cs)) most))
+at_text most c cs is = ap (λ b. if b then of_text (closed_at outside 0 (take most (c ∷ cs))) (not (nat_lt (suc (length cs)) most)) else bad) is
 
 -- an object's text alone
-pub front_of-text : (s : List ℕ) → (get_or s 0 0 == 123) ≡ true → length s ≤ max_message → closed_at outside 0 s ≡ Some s → front_of s ≡ whole s
-front_of-text [] is short closed = absurd (cc)
-front_of-text (c ∷ cs) is short closed =
-    at_text c cs is ∙ ap (λ t. of_text (closed_at outside 0 t) (not (nat_lt (suc (length cs)) max_message))) (take_all max_message (c ∷ cs) short)
-    ∙ ap (λ o. of_text o (not (nat_lt (suc (length cs)) max_message))) closed
+pub front_of-text : (most : ℕ) (s : List ℕ) → (get_or s 0 0 == 123) ≡ true → length s ≤ most → closed_at outside 0 s ≡ Some s → front_of most s ≡ whole s
+front_of-text most [] is short closed = absurd (cc)
+front_of-text most (c ∷ cs) is short closed =
+    at_text most c cs is ∙ ap (λ t. of_text (closed_at outside 0 t) (not (nat_lt (suc (length cs)) most))) (take_all most (c ∷ cs) short)
+    ∙ ap (λ o. of_text o (not (nat_lt (suc (length cs)) most))) closed
 
 -- no end in as many bytes as a message may have
-pub front_of-endless : (s : List ℕ) → (get_or s 0 0 == 123) ≡ true → max_message ≤ length s → closed_at outside 0 (take max_message s) ≡ None → front_of s ≡ too_long
-front_of-endless [] is long unclosed = absurd (cc)
-front_of-endless (c ∷ cs) is long unclosed =
-    at_text c cs is ∙ ap (λ o. of_text o (not (nat_lt (suc (length cs)) max_message))) unclosed ∙ ap (λ b. of_text None b) (full max_message (suc (length cs)) long)
+pub front_of-endless : (most : ℕ) (s : List ℕ) → (get_or s 0 0 == 123) ≡ true → most ≤ length s → closed_at outside 0 (take most s) ≡ None → front_of most s ≡ too_long
+front_of-endless most [] is long unclosed = absurd (cc)
+front_of-endless most (c ∷ cs) is long unclosed =
+    at_text most c cs is ∙ ap (λ o. of_text o (not (nat_lt (suc (length cs)) most))) unclosed ∙ ap (λ b. of_text None b) (full most (suc (length cs)) long)
   where
     full : (m k : ℕ) → m ≤ k → not (nat_lt k m) ≡ true
     full m k h = grind (arith, ltb-true)
 
 -- any other byte
-pub front_of-other : (s : List ℕ) → 0 < length s → (get_or s 0 0 == 123) ≡ false → front_of s ≡ bad
-front_of-other [] h isnt = absurd (omega arith)
-front_of-other (c ∷ cs) h isnt = ap (λ b. if b then of_text (closed_at outside 0 (take max_message (c ∷ cs))) (not (nat_lt (suc (length cs)) max_message)) else bad) isnt
+pub front_of-other : (most : ℕ) (s : List ℕ) → 0 < length s → (get_or s 0 0 == 123) ≡ false → front_of most s ≡ bad
+front_of-other most [] h isnt = absurd (omega arith)
+front_of-other most (c ∷ cs) h isnt = ap (λ b. if b then of_text (closed_at outside 0 (take most (c ∷ cs))) (not (nat_lt (suc (length cs)) most)) else bad) isnt
 
--- ---- what a scan of the bytes after a brace says: m of them are within the limit k + 1
+-- ---- what a scan of the bytes after a brace says: m of them are within the limit
 
 pub take_within : (m : ℕ) (s : List ℕ) (n : ℕ) → n ≤ length (take m s) → take n (take m s) ≡ take n s
 take_within m s n h =
@@ -86,49 +86,50 @@ take_within m s n h =
     take-take n m s (omega (arith, bound))
 
 -- the object ends among them
-pub is_whole-scanned : (k : ℕ) → max_message ≡ suc k → (s : List ℕ) (first : ℕ) (later : List ℕ) (m n : ℕ) (p : Place) (d : ℕ) → s ≡ first ∷ later → first ≡ 123 → m ≡ min (length later) k
-    → p ≡ outside → d ≡ 1 → IsEnd p d (take m later) n → IsWhole s (n + 1)
-is_whole-scanned k limit s first later m n p d is_s is_first is_m is_p is_d end =
+pub is_whole-scanned : (most : ℕ) (s : List ℕ) (first : ℕ) (later : List ℕ) (m n : ℕ) (p : Place) (d : ℕ) → s ≡ first ∷ later → first ≡ 123 → m ≡ min (length later) (most - 1)
+    → p ≡ outside → d ≡ 1 → IsEnd p d (take m later) n → IsWhole most s (n + 1)
+is_whole-scanned most s first later m n p d is_s is_first is_m is_p is_d end =
     let bound : length (take m later) ≡ min m (length later) = length-take m later in
     let same : take n (take m later) ≡ take n later = take_within m later n end.within in
     let scanned : closed_at outside 1 (take m later) ≡ Some (take n later) = subst (λ (q : Place). closed_at q 1 (take m later) ≡ Some (take n later)) is_p (subst (λ (e : ℕ). closed_at p e (take m later) ≡ Some (take n later)) is_d (end.closed ∙ ap (λ t. Some t) same)) in
     let alone : closed_at outside 1 (take n later) ≡ Some (take n later) = closed_at-text outside 1 (take m later) (take n later) scanned in
     let closed : closed_at outside 0 (123 ∷ take n later) ≡ Some (123 ∷ take n later) = ap (option_map (λ t. 123 ∷ t)) alone in
     let size : length (take n later) ≡ min n (length later) = length-take n later in
-    let fits : length (123 ∷ take n later) ≤ max_message = omega (arith, bound, size, limit, end.within, is_m) in
-    let text : front_of (123 ∷ take n later) ≡ whole (123 ∷ take n later) = front_of-text (123 ∷ take n later) refl fits closed in
-    let further : front_of ((123 ∷ take n later) ++ drop n later) ≡ whole (123 ∷ take n later) = front_of-whole_more (123 ∷ take n later) (drop n later) (123 ∷ take n later) text in
+    let fits : length (123 ∷ take n later) ≤ most = omega (arith, bound, size, end.some, end.within, is_m) in
+    let text : front_of most (123 ∷ take n later) ≡ whole (123 ∷ take n later) = front_of-text most (123 ∷ take n later) refl fits closed in
+    let further : front_of most ((123 ∷ take n later) ++ drop n later) ≡ whole (123 ∷ take n later) = front_of-whole_more most (123 ∷ take n later) (drop n later) (123 ∷ take n later) text in
     let is : s ≡ 123 ∷ later = is_s ∙ ap (λ c. c ∷ later) is_first in
-    let joined : front_of (123 ∷ later) ≡ whole (123 ∷ take n later) = ap (λ t. front_of (123 ∷ t)) (sym (take-append-drop n later)) ∙ further in
+    let joined : front_of most (123 ∷ later) ≡ whole (123 ∷ take n later) = ap (λ t. front_of most (123 ∷ t)) (sym (take-append-drop n later)) ∙ further in
     let text_is : take (n + 1) (123 ∷ later) ≡ 123 ∷ take n later = ap (λ j. take j (123 ∷ later)) (add-one n) in
-    subst (λ (u : List ℕ). IsWhole u (n + 1)) (sym is)
+    subst (λ (u : List ℕ). IsWhole most u (n + 1)) (sym is)
     (record { within = omega (arith, bound, end.within); text = joined ∙ ap whole (sym text_is) })
 
 -- it goes on after all of the bytes
-pub is_unfinished-scanned : (k : ℕ) → max_message ≡ suc k → (s : List ℕ) (first : ℕ) (later : List ℕ) (m : ℕ) (p : Place) (d : ℕ) (scan : Scan) → s ≡ first ∷ later → first ≡ 123
-    → m ≡ min (length later) k → p ≡ outside → d ≡ 1 → GoesOn p d (take m later) (place_of scan.place) scan.depth → scan.depth ≤ d + length (take m later) → length s < suc k → IsUnfinished s scan
-is_unfinished-scanned k limit s first later m p d scan is_s is_first is_m is_p is_d goes bound short =
+pub is_unfinished-scanned : (most : ℕ) (s : List ℕ) (first : ℕ) (later : List ℕ) (m : ℕ) (p : Place) (d : ℕ) (scan : Scan) → s ≡ first ∷ later → first ≡ 123
+    → m ≡ min (length later) (most - 1) → p ≡ outside → d ≡ 1 → GoesOn p d (take m later) (place_of scan.place) scan.depth → scan.depth ≤ d + length (take m later) → length s < most → IsUnfinished most s scan
+is_unfinished-scanned most s first later m p d scan is_s is_first is_m is_p is_d goes bound short =
     let is : s ≡ 123 ∷ later = is_s ∙ ap (λ c. c ∷ later) is_first in
     let size : length s ≡ suc (length later) = ap length is in
     let all : take m later ≡ later = take_all m later (omega (arith, size, is_m)) in
     let scanned : GoesOn outside 1 later (place_of scan.place) scan.depth =
     subst (λ (q : Place). GoesOn q 1 later (place_of scan.place) scan.depth) is_p (subst (λ (e : ℕ). GoesOn p e later (place_of scan.place) scan.depth) is_d (subst (λ (u : List ℕ). GoesOn p d u (place_of scan.place) scan.depth) all goes)) in
     record {
-      short = omega (arith, limit);
+      short = short;
       brace = ap (λ u. get_or u 0 0 == 123) is;
       depth = omega (arith, size, ap length all, is_d);
       further = subst (λ (u : List ℕ). GoesOn outside 0 u (place_of scan.place) scan.depth) (sym is) (goes_on-brace later (place_of scan.place) scan.depth scanned);
     }
 
 -- it goes on after as many as a message may have
-pub front_of-scanned : (k : ℕ) → max_message ≡ suc k → (s : List ℕ) (first : ℕ) (later : List ℕ) (m : ℕ) (p : Place) (d : ℕ) (p' : Place) (d' : ℕ) → s ≡ first ∷ later → first ≡ 123
-    → m ≡ min (length later) k → p ≡ outside → d ≡ 1 → GoesOn p d (take m later) p' d' → suc k ≤ length s → front_of s ≡ too_long
-front_of-scanned k limit s first later m p d p' d' is_s is_first is_m is_p is_d goes long =
+pub front_of-scanned : (most : ℕ) (s : List ℕ) (first : ℕ) (later : List ℕ) (m : ℕ) (p : Place) (d : ℕ) (p' : Place) (d' : ℕ) → s ≡ first ∷ later → first ≡ 123
+    → m ≡ min (length later) (most - 1) → p ≡ outside → d ≡ 1 → GoesOn p d (take m later) p' d' → most ≤ length s → front_of most s ≡ too_long
+front_of-scanned zero s first later m p d p' d' is_s is_first is_m is_p is_d goes long = front_of-endless zero s (ap (λ u. get_or u 0 0 == 123) (is_s ∙ ap (λ c. c ∷ later) is_first)) (omega arith) refl
+front_of-scanned (suc k) s first later m p d p' d' is_s is_first is_m is_p is_d goes long =
     let is : s ≡ 123 ∷ later = is_s ∙ ap (λ c. c ∷ later) is_first in
     let size : length s ≡ suc (length later) = ap length is in
     let same : m ≡ k = omega (arith, size, is_m) in
     let scanned : GoesOn outside 1 (take k later) p' d' =
     subst (λ (q : Place). GoesOn q 1 (take k later) p' d') is_p (subst (λ (e : ℕ). GoesOn p e (take k later) p' d') is_d (subst (λ (j : ℕ). GoesOn p d (take j later) p' d') same goes)) in
-    let unclosed : closed_at outside 0 (take max_message s) ≡ None =
-    ap (λ j. closed_at outside 0 (take j s)) limit ∙ ap (λ u. closed_at outside 0 (take (suc k) u)) is ∙ goes_on-unclosed outside 0 (123 ∷ take k later) p' d' (goes_on-brace (take k later) p' d' scanned) in
-    front_of-endless s (ap (λ u. get_or u 0 0 == 123) is) (omega (arith, limit)) unclosed
+    let unclosed : closed_at outside 0 (take (suc k) s) ≡ None =
+    ap (λ u. closed_at outside 0 (take (suc k) u)) is ∙ goes_on-unclosed outside 0 (123 ∷ take k later) p' d' (goes_on-brace (take k later) p' d' scanned) in
+    front_of-endless (suc k) s (ap (λ u. get_or u 0 0 == 123) is) long unclosed

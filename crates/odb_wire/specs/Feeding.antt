@@ -13,10 +13,10 @@ fault_of goes_on = None
 fault_of fault_too_long = Some TooLong
 fault_of fault_bad = Some BadStream
 
--- the piece comes after the bytes, and with it these messages are whole that weren't before
-pub record Adds (old piece new : List ℕ) (found : List Data) : Type 0 where
+-- the piece comes after the bytes of a stream whose messages have so many bytes at most, and with it these messages are whole that weren't before
+pub record Adds (most : ℕ) (old piece new : List ℕ) (found : List Data) : Type 0 where
   pub bytes : new ≡ old ++ piece
-  pub messages : (stream.messages new).0 ≡ (stream.messages old).0 ++ found
+  pub messages : (stream.messages most new).0 ≡ (stream.messages most old).0 ++ found
 
 -- no message comes, and the fault again
 abbrev pub StaysAt : {E : Type 0} → Result Fed E → WireFault → Type 0

@@ -30,6 +30,7 @@ closed_at p n [] = None
 closed_at p n (c ∷ cs) =
     if open_after p c n == 0 then Some (c ∷ []) else option_map (λ t. c ∷ t) (closed_at (place_after p c) (open_after p c n) cs)
 
+-- the most bytes of one message where nobody asks for another limit
 unfoldable pub max_message : ℕ
 max_message = 16777216
 
@@ -44,11 +45,11 @@ abbrev pub of_text : Option (List ℕ) → Bool → Front
 of_text (Some t) full = whole t
 of_text None full = if full then too_long else incomplete
 
--- at the first byte that isn't blank
-abbrev pub front_of : List ℕ → Front
-front_of [] = incomplete
-front_of (c ∷ cs) =
-    if c == 123 then of_text (closed_at outside 0 (take max_message (c ∷ cs))) (not (nat_lt (length (c ∷ cs)) max_message)) else bad
+-- at the first byte that isn't blank, where a message has so many bytes at most
+abbrev pub front_of : ℕ → List ℕ → Front
+front_of most [] = incomplete
+front_of most (c ∷ cs) =
+    if c == 123 then of_text (closed_at outside 0 (take most (c ∷ cs))) (not (nat_lt (length (c ∷ cs)) most)) else bad
 
 abbrev pub skip_blanks : List ℕ → List ℕ
 skip_blanks [] = []
@@ -64,20 +65,20 @@ pub data Ending : Type 0 where
   fault_too_long : Ending
   fault_bad : Ending
 
--- the whole messages at the front, at most so many
-abbrev pub messages_in : ℕ → List ℕ → List Data × Ending
-messages_in zero s = ([], goes_on)
-messages_in (suc n) s =
-    elim (front_of (skip_blanks s)) [
+-- the whole messages at the front, each of so many bytes at most, and n of them at most
+abbrev pub messages_in : ℕ → ℕ → List ℕ → List Data × Ending
+messages_in most zero s = ([], goes_on)
+messages_in most (suc n) s =
+    elim (front_of most (skip_blanks s)) [
       | incomplete ↦ ([], goes_on)
       | too_long ↦ ([], fault_too_long)
       | bad ↦ ([], fault_bad)
       | whole t ↦ elim (message_of t) [
         | None ↦ ([], fault_bad)
-        | Some d ↦ (let rest = messages_in n (drop (length t) (skip_blanks s)) in (d ∷ rest.0, rest.1))
+        | Some d ↦ (let rest = messages_in most n (drop (length t) (skip_blanks s)) in (d ∷ rest.0, rest.1))
       ]
     ]
 
--- each message takes a byte or more
-abbrev pub messages : List ℕ → List Data × Ending
-messages s = messages_in (suc (length s)) s
+-- those of a stream whose messages have so many bytes at most: each takes a byte or more
+abbrev pub messages : ℕ → List ℕ → List Data × Ending
+messages most s = messages_in most (suc (length s)) s

@@ -18,6 +18,6 @@ mod scan;
 mod split;
 
 pub use fault::WireFault;
-pub use framer::{Fed, Framer, read_pieces};
+pub use framer::{Fed, Framer, MAX_MESSAGE, read_pieces};
 pub use left_out::has_left_out_number;
 pub use message::{Message, Request, Response};

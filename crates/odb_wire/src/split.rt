@@ -11,9 +11,6 @@ use crate::message::Message;
 use crate::scan::Scan;
 use std::alloc::{AllocError, Global};
 
-/// The most bytes of one message.
-const MAX_MESSAGE: usize = 16_777_216;
-
 /// What stands between whole messages: the text of an object so far, or nothing.
 #[derive(Drop)]
 pub(crate) struct Unfinished {
@@ -63,10 +60,10 @@ impl Step {
 }
 
 impl StreamState {
-    /// Makes the state before the first byte, or between two messages.
+    /// Makes the state before the first byte, or between two messages, whatever the limit.
     pub(crate) fn between(alloc: Global) -> StreamState
-        ensures stands { IsStanding result }
-        ensures fresh { (more : List ℕ) → messages_after result more ≡ messages more }
+        ensures stands { (most : ℕ) → IsStanding most result }
+        ensures fresh { (most : ℕ) (more : List ℕ) → messages_after most result more ≡ messages most more }
     {
         StreamState::Going(Unfinished {
             text: Vec::new(alloc),
@@ -76,8 +73,7 @@ impl StreamState {
 
     /// Returns the fault that the stream stands at.
     pub(crate) fn fault(&self) -> Option<WireFault>
-        requires { IsStanding self.now }
-        ensures { result ≡ fault_of (messages_after self.now []).1 }
+        ensures { (most : ℕ) → IsStanding most self.now → result ≡ fault_of (messages_after most self.now []).1 }
     {
         match self {
             StreamState::Stopped(fault) => Some(*fault),
@@ -85,17 +81,22 @@ impl StreamState {
         }
     }
 
-    /// Takes a piece in. For want of memory it gives back what it was.
-    pub(crate) fn advance(self, alloc: Global, piece: &[u8]) -> Result<Step, StreamState>
-        requires { IsStanding self }
-        ensures ok { IfOk result (λ step. TakesIn self piece.now (map message_data step.messages.items) step.state) }
+    /// Takes a piece in, where a message has `most` bytes at most. For want of memory it gives back what it was.
+    pub(crate) fn advance(
+        self,
+        alloc: Global,
+        most: usize,
+        piece: &[u8],
+    ) -> Result<Step, StreamState>
+        requires { IsStanding most self }
+        ensures ok { IfOk result (λ step. TakesIn most self piece.now (map message_data step.messages.items) step.state) }
         ensures kinds { IfOk result (λ step. All IsOfItsKind step.messages.items) }
-        ensures err { IfErr result (IsAsBefore self) }
-        ensures only_going { OnErr result (fault_of (messages_after self []).1 ≡ None) }
+        ensures err { IfErr result (IsAsBefore most self) }
+        ensures only_going { OnErr result (fault_of (messages_after most self []).1 ≡ None) }
     {
         match self {
             StreamState::Stopped(fault) => Ok(Step::stopped(Vec::new(alloc), fault)),
-            StreamState::Going(rest) => match rest.advance(alloc, piece) {
+            StreamState::Going(rest) => match rest.advance(alloc, most, piece) {
                 Ok(step) => Ok(step),
                 Err(rest) => Err(StreamState::Going(rest)),
             },
@@ -104,9 +105,9 @@ impl StreamState {
 }
 
 impl Unfinished {
-    fn advance(self, alloc: Global, piece: &[u8]) -> Result<Step, Unfinished>
-        requires { IsRest self.text.items self.scan }
-        ensures ok { IfOk result (λ step. ReadsOn [] (self.text.items ++ piece.now)
+    fn advance(self, alloc: Global, most: usize, piece: &[u8]) -> Result<Step, Unfinished>
+        requires { IsRest most self.text.items self.scan }
+        ensures ok { IfOk result (λ step. ReadsOn most [] (self.text.items ++ piece.now)
             (map message_data step.messages.items) step.state) }
         ensures kinds { IfOk result (λ step. All IsOfItsKind step.messages.items) }
         ensures text { IfErr result (λ rest. rest.text.items ≡ self.text.items) }
@@ -114,13 +115,13 @@ impl Unfinished {
     {
         let Unfinished { mut text, scan } = self;
         if text.is_empty() {
-            return match split(alloc, Vec::new(alloc), piece) {
+            return match split(alloc, most, Vec::new(alloc), piece) {
                 Ok(step) => Ok(step),
                 Err(_) => Err(Unfinished { text, scan }),
             };
         }
         let kept = text.len();
-        let room = MAX_MESSAGE - kept;
+        let room = most - kept;
         let mut further = scan;
         let Some(end) = further.end_in(&piece[..piece.len().min(room)]) else {
             if piece.len() >= room {
@@ -133,7 +134,7 @@ impl Unfinished {
             return Ok(Step::going(Vec::new(alloc), Unfinished { text, scan }));
         };
         let (last, later) = piece.split_at(end);
-        match complete(alloc, &mut text, last, later) {
+        match complete(alloc, most, &mut text, last, later) {
             Ok(step) => Ok(step),
             Err(_) => {
                 text.truncate(kept);
@@ -146,12 +147,13 @@ impl Unfinished {
 /// Completes the unfinished message with its last bytes, and splits the messages after it.
 fn complete(
     alloc: Global,
+    most: usize,
     text: &mut Vec<u8>,
     last: &[u8],
     later: &[u8],
 ) -> Result<Step, AllocError>
-    requires { front_of (text.old.items ++ last.now) ≡ whole (text.old.items ++ last.now) }
-    ensures ok { IfOk result (λ step. ReadsOn [] ((text.old.items ++ last.now) ++ later.now)
+    requires { front_of most (text.old.items ++ last.now) ≡ whole (text.old.items ++ last.now) }
+    ensures ok { IfOk result (λ step. ReadsOn most [] ((text.old.items ++ last.now) ++ later.now)
         (map message_data step.messages.items) step.state) }
     ensures kinds { IfOk result (λ step. All IsOfItsKind step.messages.items) }
     ensures err { take (vec_len text.old) text.new.items ≡ text.old.items }
@@ -161,23 +163,28 @@ fn complete(
     match Message::read(alloc, text.as_slice())? {
         Some(message) => {
             messages.push(message)?;
-            split(alloc, messages, later)
+            split(alloc, most, messages, later)
         }
         None => Ok(Step::stopped(messages, WireFault::BadStream)),
     }
 }
 
-/// Splits off the messages at the front of the bytes, adds them to those given, and returns how the bytes stand after
-/// them.
-fn split(alloc: Global, mut messages: Vec<Message>, bytes: &[u8]) -> Result<Step, AllocError>
-    ensures ok { IfOk result (λ step. ReadsOn (map message_data messages.items) bytes.now
+/// Splits off the messages at the front of the bytes, each of `most` bytes at most, adds them to those given, and
+/// returns how the bytes stand after them.
+fn split(
+    alloc: Global,
+    most: usize,
+    mut messages: Vec<Message>,
+    bytes: &[u8],
+) -> Result<Step, AllocError>
+    ensures ok { IfOk result (λ step. ReadsOn most (map message_data messages.items) bytes.now
         (map message_data step.messages.items) step.state) }
     ensures kinds { All IsOfItsKind messages.items
         → IfOk result (λ step. All IsOfItsKind step.messages.items) }
 {
     let mut left = skip_blanks(bytes);
     while !left.is_empty() {
-        match front_at(left) {
+        match front_at(most, left) {
             Front::Whole(end) => {
                 let (text, later) = left.split_at(end);
                 match Message::read(alloc, text)? {
@@ -219,17 +226,17 @@ fn is_blank(byte: u8) -> bool
     matches!(byte, b' ' | b'\t' | b'\n' | b'\r')
 }
 
-fn front_at(bytes: &[u8]) -> Front
+fn front_at(most: usize, bytes: &[u8]) -> Front
     requires { 0 < length bytes.now }
-    ensures { IsFront bytes.now result }
+    ensures { IsFront most bytes.now result }
 {
     let Some((b'{', later)) = bytes.split_first() else {
         return Front::Bad;
     };
     let mut scan = Scan::begun();
-    match scan.end_in(&later[..later.len().min(MAX_MESSAGE - 1)]) {
+    match scan.end_in(&later[..later.len().min(most.saturating_sub(1))]) {
         Some(end) => Front::Whole(end + 1),
-        None => if bytes.len() < MAX_MESSAGE {
+        None => if bytes.len() < most {
             Front::Incomplete(scan)
         } else {
             Front::TooLong

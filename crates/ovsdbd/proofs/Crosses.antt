@@ -11,10 +11,12 @@ use Rattle.odb_par.proofs.workers.Workers.TheSendSync as workers
 use Rattle.odb_par.specs.contracts.workers.Workers as Workers
 use Rattle.ovsdbd.proofs.daemon.Patience.TheSendSync as patience
 use Rattle.ovsdbd.proofs.desk.Desk.TheSendSync as desk
+use Rattle.ovsdbd.proofs.notices.Notices.TheSendSync as notices
 use Rattle.ovsdbd.proofs.pace.Pace.TheSendSync as pace
 use Rattle.ovsdbd.specs.contracts.daemon.Daemon as Daemon
 use Rattle.ovsdbd.specs.contracts.daemon.Patience as Patience
 use Rattle.ovsdbd.specs.contracts.desk.Desk as Desk
+use Rattle.ovsdbd.specs.contracts.notices.Notices as Notices
 use Rattle.ovsdbd.specs.contracts.pace.Pace as Pace
 
 pub Poll-send : IsSend Poll.the_row
@@ -26,6 +28,9 @@ Desk-sync = desk.the_sync
 Patience-sync : IsSync Patience.the_row
 Patience-sync = patience.the_sync
 
+Notices-sync : IsSync Notices.the_row
+Notices-sync = notices.the_sync
+
 Pace-sync : IsSync Pace.the_row
 Pace-sync = pace.the_sync
 
@@ -36,6 +41,6 @@ Instant-sync : IsSync Instant.the_row
 Instant-sync = search (sendable, heap.crosses) depth 20
 
 pub Daemon-sync : (L : RattleType) (g : Ghosts L.Denot) → IsSend L → IsSync (Daemon.the_field L g).row
-Daemon-sync L g s = search (Hub-sync, Desk-sync, Patience-sync, Pace-sync, Workers-sync, Instant-sync, sendable, heap.crosses) depth 40 fits 20000
+Daemon-sync L g s = search (Hub-sync, Desk-sync, Notices-sync, Patience-sync, Pace-sync, Workers-sync, Instant-sync, sendable, heap.crosses) depth 40 fits 20000
 
 pub ruleset crosses = (Daemon-sync, Desk-sync, Poll-send, sendable, heap.crosses)

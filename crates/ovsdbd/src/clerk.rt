@@ -5,6 +5,7 @@ use crate::daemon::Daemon;
 use crate::desk::Desk;
 use mio::net::TcpStream;
 use mio::{Events, Interest, Poll, Token};
+use odb_core::Refused;
 use odb_hub::{Bell, Calls};
 use rand::make_rng;
 use std::alloc::{AllocError, Global};
@@ -145,14 +146,30 @@ impl<'a, L: Ledger, R: Wait + Clock> Clerk<'a, L, R> {
         let daemon = self.tools.daemon;
         let bell = Bell::new(Arc::try_clone(&self.desk.calls)?, place);
         let opened = daemon.hub.enter(self.tools.rt).open(bell);
-        let Ok((seat, mailbox)) = opened else {
-            return Err(Error::from(ErrorKind::OutOfMemory));
+        let (seat, mailbox) = match opened {
+            Ok(opened) => opened,
+            Err(why) => return Err(self.refuse(&stream, why)),
         };
-        let connection = Connection::new(daemon.alloc, stream, seat, mailbox, self.tools.moment);
+        let connection = Connection::new(daemon, stream, seat, mailbox, self.tools.moment);
         drop(self.vacant.pop());
         self.put(place, connection);
         self.enqueue(place);
         Ok(())
+    }
+
+    /// Returns why a connection is closed for which no session could be opened, and has it said that there are too many.
+    fn refuse(&self, stream: &TcpStream, why: Refused) -> Error {
+        if matches!(why, Refused::TooMany) {
+            self.note_too_many(stream);
+        }
+        Error::from(ErrorKind::OutOfMemory)
+    }
+
+    fn note_too_many(&self, stream: &TcpStream) {
+        if let Ok(client) = stream.peer_addr() {
+            let daemon = self.tools.daemon;
+            daemon.notices.note_too_many(self.tools.rt, client);
+        }
     }
 
     /// Returns the place that is the last of those that are vacant, of which there is one then. There is room in the

@@ -6,7 +6,7 @@ use mio::net::TcpStream;
 use odb_core::Refused;
 use odb_hub::{Mailbox, Outbox, Seat, Submission};
 use odb_rpc::inserts;
-use odb_wire::{Framer, Message, Request};
+use odb_wire::{Framer, Message, Request, WireFault};
 use rand::rngs::StdRng;
 use std::alloc::{AllocError, Global};
 use std::io::{self, ErrorKind, Read};
@@ -90,17 +90,18 @@ pub(crate) struct Connection<L: Ledger> {
 impl<L: Ledger> Connection<L> {
     /// Makes that of a session that was just opened, at this moment.
     pub(crate) fn new(
-        alloc: Global,
+        daemon: &Daemon<L>,
         stream: TcpStream,
         seat: Seat<L>,
         mailbox: Mailbox,
         moment: u64,
     ) -> Connection<L> {
+        let alloc = daemon.alloc;
         Connection {
             stream,
             seat: Some(seat),
             outbox: Outbox::new(alloc, mailbox),
-            framer: Framer::new(alloc),
+            framer: Framer::new(alloc, daemon.max_message),
             submissions: Vec::new(alloc),
             reads: true,
             is_readable: true,
@@ -116,16 +117,21 @@ impl<L: Ledger> Connection<L> {
         }
     }
 
-    /// Learns what the poll tells of the connection.
+    /// Learns what the poll tells of the connection. One whose peer can neither send nor take is cut off. Step: what
+    /// the loop learns as it asks the poll, `looks_again` or `sleeps`.
     pub(crate) fn notice(&mut self, event: &Event, moment: u64) {
-        let is_over = event.is_error() || event.is_write_closed();
-        if event.is_readable() || event.is_read_closed() || is_over {
-            self.is_readable = true;
+        if event.is_error() || event.is_write_closed() {
+            self.is_cut_off = true;
+            return;
         }
-        if event.is_read_closed() || is_over {
+        if event.is_readable() || event.is_read_closed() {
+            self.is_readable = true;
+            self.hear_peer(moment);
+        }
+        if event.is_read_closed() {
             self.is_closed = true;
         }
-        if event.is_writable() || is_over {
+        if event.is_writable() {
             self.is_writable = true;
             self.took = moment;
         }
@@ -136,12 +142,13 @@ impl<L: Ledger> Connection<L> {
         self.is_busy = false;
     }
 
-    /// Has a turn: it writes what it can, and reads and submits a piece of what there is.
+    /// Has a turn: it writes what it can, and reads and submits a piece of what there is. Where it is cut off, or memory was
+    /// refused for too long for what its session is owed, it ends. Steps: those of `turn`, or `parts`.
     pub(crate) fn serve<R: Threads + Wait + Clock + Sync>(
         &mut self,
         tools: &mut Tools<'_, L, R>,
     ) -> Next {
-        if !self.is_cut_off {
+        if !self.is_cut_off && !self.outbox.bell().is_given_up() {
             match self.turn(tools) {
                 Ok(next) => return next,
                 Err(_) => self.is_cut_off = true,
@@ -154,7 +161,7 @@ impl<L: Ledger> Connection<L> {
         }
     }
 
-    /// Has the session end at its next turn, and the peer learn it.
+    /// Has the session end at its next turn, and the peer learn it. Step: `cuts_off`.
     pub(crate) fn cut_off(&mut self) {
         self.is_cut_off = true;
         drop(self.stream.shutdown(Shutdown::Both));
@@ -176,6 +183,8 @@ impl<L: Ledger> Connection<L> {
         false
     }
 
+    /// Writes, reads and submits, also where the socket is full. Steps: those of `write`; `checks`; those of `read` and
+    /// `submit`, and of `write` again; those of `next`.
     fn turn<R: Threads + Wait + Clock + Sync>(
         &mut self,
         tools: &mut Tools<'_, L, R>,
@@ -194,7 +203,7 @@ impl<L: Ledger> Connection<L> {
     }
 
     /// Returns whether a request may be submitted: none waits since it met Busy, and no message is held back, since
-    /// then the client doesn't read what it was given.
+    /// then the client doesn't read what it was given. Step: `checks`.
     fn may_submit(&self) -> bool {
         !self.is_busy && !self.outbox.bell().is_held_back()
     }
@@ -215,9 +224,10 @@ impl<L: Ledger> Connection<L> {
         self.was_asked = false;
     }
 
-    /// Returns what comes next, after so much was written.
+    /// Returns what comes next, after so much was written. Steps: `checks` where a request waits since it met Busy; those of
+    /// `end`.
     fn next<R: Wait + Clock>(&mut self, tools: &Tools<'_, L, R>, written: Written) -> Next {
-        if !self.reads && self.submissions.is_empty() {
+        if self.has_read_all() || self.is_left_at_busy() {
             return self.end(tools, written);
         }
         if written == Written::Some || self.has_requests() && self.may_submit() {
@@ -226,17 +236,33 @@ impl<L: Ledger> Connection<L> {
         Next::Rests
     }
 
-    /// Returns what comes next of a connection of which nothing more is read: what the session is given is written,
-    /// then the session ends, and what it was given by then is written.
+    /// Returns whether all that is read of it was submitted.
+    fn has_read_all(&self) -> bool {
+        !self.reads && self.submissions.is_empty()
+    }
+
+    /// Returns whether the peer ended its side while a request waits that met Busy, and nothing was given to the session
+    /// since: then it is owed replies to transactions that wait, and to nothing else.
+    fn is_left_at_busy(&self) -> bool {
+        self.is_closed && self.is_busy && !self.outbox.bell().is_called()
+    }
+
+    /// Returns what comes next of a connection of which nothing more is submitted: what the session is given is written,
+    /// then the session ends, and what it was given by then is written. Once it ended, it doesn't matter any more whether a
+    /// message was held back. Steps: `ends`, `parts`.
     fn end<R: Wait + Clock>(&mut self, tools: &Tools<'_, L, R>, written: Written) -> Next {
         match written {
-            Written::All if !self.outbox.bell().is_held_back() => {}
+            Written::All => {}
             Written::Some => return Next::GoesOn,
-            _ => return Next::Rests,
+            Written::Blocked => return Next::Rests,
         }
         if self.seat.is_none() {
             return Next::Ends;
         }
+        if self.outbox.bell().is_held_back() {
+            return Next::Rests;
+        }
+        self.stop();
         self.part(tools);
         Next::GoesOn
     }
@@ -280,8 +306,8 @@ impl<L: Ledger> Connection<L> {
     }
 
     /// Reads a piece, and finds the requests in it. Nothing more is read where the stream ends or is at a fault, and where
-    /// memory is refused.
-    fn read<R>(&mut self, tools: &mut Tools<'_, L, R>) {
+    /// memory is refused. Step: `submits`.
+    fn read<R: Wait>(&mut self, tools: &mut Tools<'_, L, R>) {
         let mut reader = &self.stream;
         match reader.read(tools.piece.as_mut_slice()) {
             Ok(read) if read > 0 => {
@@ -304,21 +330,39 @@ impl<L: Ledger> Connection<L> {
     }
 
     /// Finds the requests among so many bytes that were read.
-    fn take_in<R>(&mut self, tools: &mut Tools<'_, L, R>, read: usize) -> Result<(), AllocError> {
-        let Some(bytes) = tools.piece.get(..read) else {
-            return Ok(());
-        };
-        let messages = self.feed(bytes)?;
+    fn take_in<R: Wait>(
+        &mut self,
+        tools: &mut Tools<'_, L, R>,
+        read: usize,
+    ) -> Result<(), AllocError> {
+        let messages = self.feed(tools, read)?;
         let alloc = tools.daemon.alloc;
         self.submissions = submissions_of(alloc, messages, &mut tools.rng)?;
         Ok(())
     }
 
     /// Finds the messages that end in these bytes. A fault that comes after them stops the reading.
-    fn feed(&mut self, bytes: &[u8]) -> Result<Vec<Message>, AllocError> {
+    fn feed<R: Wait>(
+        &mut self,
+        tools: &Tools<'_, L, R>,
+        read: usize,
+    ) -> Result<Vec<Message>, AllocError> {
+        let Some(bytes) = tools.piece.get(..read) else {
+            return Ok(Vec::new(tools.daemon.alloc));
+        };
         let fed = self.framer.feed(bytes)?;
         self.reads = fed.fault.is_none();
+        if fed.fault == Some(WireFault::TooLong) {
+            self.note_too_long(tools);
+        }
         Ok(fed.messages)
+    }
+
+    /// Has it said that the connection is closed for a message that is too long.
+    fn note_too_long<R: Wait>(&self, tools: &Tools<'_, L, R>) {
+        if let Ok(client) = self.stream.peer_addr() {
+            tools.daemon.notices.note_too_long(tools.rt, client);
+        }
     }
 
     /// Submits a turn of the requests, and the other sessions are told. Step: `submits`.
@@ -335,10 +379,11 @@ impl<L: Ledger> Connection<L> {
     }
 
     /// Returns whether the daemon's patience with the peer is at its end at this moment. Before that the peer is asked
-    /// whether it is there, which is to be written. A peer that isn't read isn't silent.
+    /// whether it is there, which is to be written. A peer that isn't read isn't silent, but where its request waits since it
+    /// met Busy: then what arrives is noticed though it isn't read.
     pub(crate) fn has_expired(&mut self, patience: Patience, moment: u64) -> bool {
         let Patience { probe, stall } = patience;
-        if !self.may_read() {
+        if !self.may_read() && !self.is_busy || self.outbox.bell().is_held_back() {
             self.hear_peer(moment);
         }
         let silent = moment.saturating_sub(self.heard);

@@ -1,9 +1,10 @@
 //! What all threads of the daemon share. [P 15.2]
 
 use crate::desk::Desk;
+use crate::notices::Notices;
 use crate::pace::Pace;
 use crate::serve::Terms;
-use odb_core::{Core, Refused, SessionId};
+use odb_core::{Core, MAX_SESSIONS, Refused, SessionId};
 use odb_hub::{Hub, Seat, Submission};
 use odb_par::{Open, Workers};
 use std::alloc::Global;
@@ -49,7 +50,10 @@ pub(crate) struct Daemon<L: Ledger> {
     pub(crate) hub: Hub<L>,
     pub(crate) pace: Pace,
     pub(crate) desks: Vec<Desk>,
+    pub(crate) notices: Notices,
     pub(crate) patience: Patience,
+    /// The most bytes of a message.
+    pub(crate) max_message: usize,
     workers: Workers,
     start: Instant,
     ended: AtomicU64,
@@ -77,7 +81,9 @@ impl<L: Ledger> Daemon<L> {
             hub: Hub::new(alloc, core, blank, seats),
             pace: Pace::new(),
             desks,
+            notices: Notices::new(terms.max_message, MAX_SESSIONS),
             patience: terms.patience,
+            max_message: terms.max_message,
             workers: terms.workers,
             start,
             ended: AtomicU64::new(0),
@@ -92,10 +98,11 @@ impl<L: Ledger> Daemon<L> {
         }
     }
 
-    /// Ends the pump.
+    /// Ends the pump, and the thread that writes notices.
     pub(crate) fn end(&self) {
         self.ended.store(1, Ordering::SeqCst);
         self.pace.wake();
+        self.notices.end();
     }
 
     /// Tells each thread that serves connections that none will come any more.
@@ -198,8 +205,25 @@ impl<L: Ledger> Daemon<L> {
         self.wake_called();
         match round {
             Ok(round) => self.pace.pause(rt, round, self.left(rt, round.deadline)),
-            Err(_) => self.pace.rest(rt, Duration::from_millis(REFUSED), None),
+            Err(_) => {
+                self.give_each(rt, now);
+                self.pace.rest(rt, Duration::from_millis(REFUSED), None);
+            }
         }
+    }
+
+    /// Gives each session alone what it is owed, as memory was refused for all together, so that the others go on where it
+    /// is refused for one; that one is to end where this goes on for a second.
+    fn give_each<R: Wait>(&self, rt: &R, now: u64) {
+        let mut from = 0;
+        for _ in rt.forever() {
+            let given = self.hub.enter(rt).give_next(from, now);
+            match given {
+                Some(session) => from = session.saturating_add(1),
+                None => break,
+            }
+        }
+        self.wake_called();
     }
 
     /// Returns how long it is until a moment, and a millisecond where that is over: a tick for which memory was refused
@@ -223,7 +247,9 @@ impl<L: Ledger> Drop for Daemon<L> {
             hub: _,
             pace: _,
             desks: _,
+            notices: _,
             patience: _,
+            max_message: _,
             workers: _,
             start: _,
             ended: _,

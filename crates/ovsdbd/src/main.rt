@@ -11,23 +11,26 @@ mod clerk;
 mod connection;
 mod daemon;
 mod desk;
+mod notices;
 mod pace;
 mod serve;
 
 use crate::daemon::Patience;
 use crate::serve::{Memory, Terms, begin, serve_all};
 use clap::builder::ValueParser;
+use clap::error::ErrorKind;
 use clap::{Arg, ArgAction, ArgMatches, Command, Error};
 use odb_par::Workers;
 use odb_schema::{Schema, SchemaFault};
 use odb_script::{FailureLatch, RunFault, run_script};
+use odb_wire::MAX_MESSAGE;
 use rand::make_rng;
 use rand::rngs::StdRng;
 use rand_core::Rng;
 use std::alloc::Global;
 use std::hash::RandomState;
-use std::io::{self, BufReader};
-use std::net::{Net, TcpListener, TcpStream};
+use std::io::{self, BufReader, Eprint};
+use std::net::{Net, SocketAddr, TcpListener, TcpStream};
 use std::process::ExitCode;
 use std::random::RandomSource;
 use std::rt::Files;
@@ -42,13 +45,13 @@ use thiserror::Error as ErrorText;
 enum ProgramFault {
     /// The file of the schema can't be read.
     #[error("schema: cannot read")]
-    SchemaUnread,
+    SchemaUnread(io::Error),
     /// The file holds no schema; the fault's number is 1 to 7.
-    #[error("schema: fault {0}")]
-    Schema(u8),
-    /// The address isn't one, or can't be listened on.
+    #[error("schema: fault {}", .0.number())]
+    Schema(SchemaFault),
+    /// The address can't be listened on.
     #[error("cannot listen")]
-    NotListening,
+    NotListening(io::Error),
     /// The script wasn't run to its end, or the daemon ended.
     #[error("{0}")]
     Run(RunFault),
@@ -56,28 +59,76 @@ enum ProgramFault {
 
 fn main(rt: HostRuntime) -> io::Result<ExitCode> {
     let words: Vec<String> = env::args(&rt)?.collect(rt.alloc())?;
-    let command = match command(rt.alloc()) {
-        Ok(command) => command,
-        Err(error) => return refuse(&rt, error),
-    };
-    let matches = match command.try_get_matches_from(words.as_slice()) {
+    let matches = match read_words(rt.alloc(), words.as_slice()) {
         Ok(matches) => matches,
         Err(error) => return refuse(&rt, error),
     };
+    let file = schema_file(&matches);
     let done = match matches.subcommand_matches("serve") {
-        Some(words) => match read_schema(&rt, word(words, "schema", "")) {
+        Some(words) => match read_schema(&rt, file) {
             Ok(schema) => listen(&rt, rt.alloc(), schema, words),
             Err(failure) => Err(failure),
         },
-        None => script(&rt, script_file(&matches)),
+        None => script(&rt, file),
     };
     match done {
         Ok(()) => Ok(ExitCode::SUCCESS),
-        Err(failure) => {
-            eprintln!(rt; "ovsdbd: {failure}")?;
-            Ok(ExitCode::FAILURE)
-        }
+        Err(failure) => report(&rt, failure, file, listen_address(&matches)),
     }
+}
+
+/// Prints what ended the program: a line with the fault, and one with the file or the address, and the reason.
+fn report(
+    rt: &HostRuntime,
+    failure: ProgramFault,
+    file: &str,
+    address: &str,
+) -> io::Result<ExitCode> {
+    eprintln!(rt; "ovsdbd: {failure}")?;
+    match &failure {
+        ProgramFault::SchemaUnread(error) => eprintln!(rt; "ovsdbd: {file}: {error}")?,
+        ProgramFault::Schema(fault) => eprintln!(rt; "ovsdbd: {file}: {}", meaning(*fault))?,
+        ProgramFault::NotListening(error) => eprintln!(rt; "ovsdbd: {address}: {error}")?,
+        ProgramFault::Run(_) => {}
+    }
+    Ok(ExitCode::FAILURE)
+}
+
+/// Reads the words, or returns what is printed in their place.
+fn read_words<'a>(alloc: Global, words: &'a [String]) -> Result<ArgMatches<'a>, Error> {
+    let matches = command(alloc)?.try_get_matches_from(words)?;
+    check_address(alloc, listen_address(&matches))?;
+    Ok(matches)
+}
+
+/// Refuses what isn't an address with a port.
+fn check_address(alloc: Global, address: &str) -> Result<(), Error> {
+    if is_address(address) {
+        return Ok(());
+    }
+    let text = format!(in alloc;
+        "invalid value '{address}' for '--listen <A>': not an address with a port, as {ADDRESS}"
+    )?;
+    let mut command = command(alloc)?;
+    Err(command.error(ErrorKind::ValueValidation, text.as_str())?)
+}
+
+/// Says whether a text is an address with a port, or the name of a host with one.
+fn is_address(text: &str) -> bool {
+    if text.parse::<SocketAddr>().is_ok() {
+        return true;
+    }
+    match text.rsplit_once(':') {
+        Some((host, port)) => is_host(host.as_bytes()) && port.parse::<u16>().is_ok(),
+        None => false,
+    }
+}
+
+/// Says whether a host may have this name: of letters, a letter at least, digits, `-`, `_` and `.`.
+fn is_host(name: &[u8]) -> bool {
+    name.iter().any(|byte| byte.is_ascii_alphabetic())
+        && name.iter().all(|byte| byte.is_ascii_alphanumeric()
+            || matches!(*byte, b'-' | b'_' | b'.'))
 }
 
 /// Returns the value of a word that may be absent.
@@ -85,8 +136,19 @@ fn word<'a>(words: &ArgMatches<'a>, name: &str, absent: &'a str) -> &'a str {
     words.get_str(name).unwrap_or(absent)
 }
 
-/// Returns the file that a script is to run on.
-fn script_file<'a>(matches: &ArgMatches<'a>) -> &'a str {
+/// Returns where the daemon is to listen.
+fn listen_address<'a>(matches: &ArgMatches<'a>) -> &'a str {
+    match matches.subcommand_matches("serve") {
+        Some(words) => word(words, "listen", ADDRESS),
+        None => ADDRESS,
+    }
+}
+
+/// Returns the file of the schema.
+fn schema_file<'a>(matches: &ArgMatches<'a>) -> &'a str {
+    if let Some(words) = matches.subcommand_matches("serve") {
+        return word(words, "schema", "");
+    }
     match matches.subcommand_matches("script") {
         Some(words) => word(words, "schema", ""),
         None => "",
@@ -104,6 +166,9 @@ const KEPT: u64 = 100;
 
 /// Of how many at most.
 const MOST_KEPT: u64 = 1_000_000;
+
+/// How many bytes a message may have at most, whatever is asked for.
+const LONGEST_MESSAGE: u64 = 1_073_741_824;
 
 /// How many threads may serve connections, and how many compose what clients are sent.
 const MOST_THREADS: u64 = 64;
@@ -156,7 +221,7 @@ Example:
 fn command<'a>(alloc: Global) -> Result<Command<'a>, Error> {
     let command = Command::new(alloc, "ovsdbd")
         .about("An OVSDB server (RFC 7047) that begins with empty tables.")
-        .version("0.1.0")
+        .version("0.2.0~")
         .after_help(AFTER_HELP)
         .subcommand_required(true)
         .subcommand(script_command(alloc)?)?
@@ -184,6 +249,7 @@ fn serve_command<'a>(alloc: Global) -> Result<Command<'a>, Error> {
         .arg(probe_word(alloc))?
         .arg(stall_word(alloc))?
         .arg(kept_word(alloc))?
+        .arg(max_message_word(alloc))?
         .arg(threads_word(alloc))?
         .arg(workers_word(alloc))?;
     Ok(serve)
@@ -241,6 +307,15 @@ fn kept_word<'a>(alloc: Global) -> Arg<'a> {
         .action(ArgAction::Set)
 }
 
+fn max_message_word<'a>(alloc: Global) -> Arg<'a> {
+    Arg::new(alloc, "max-message")
+        .long("max-message")
+        .value_name("BYTES")
+        .help("The most bytes of one message, 1 to 1,073,741,824; 16,777,216 if absent")
+        .value_parser(ValueParser::Unsigned(1, LONGEST_MESSAGE))
+        .action(ArgAction::Set)
+}
+
 fn threads_word<'a>(alloc: Global) -> Arg<'a> {
     Arg::new(alloc, "threads")
         .long("threads")
@@ -295,13 +370,12 @@ fn listen<
         + Clock
         + RandomSource
         + Print
+        + Eprint
         + Sync,
 >(rt: &R, alloc: Global, schema: Schema, words: &ArgMatches<'_>) -> Result<(), ProgramFault> {
     let address = word(words, "listen", ADDRESS);
-    let listener = TcpListener::bind(rt, address).map_err(|_| ProgramFault::NotListening)?;
-    let local = listener
-        .local_addr()
-        .map_err(|_| ProgramFault::NotListening)?;
+    let listener = TcpListener::bind(rt, address).map_err(ProgramFault::NotListening)?;
+    let local = listener.local_addr().map_err(ProgramFault::NotListening)?;
     println!(rt; "listening {local}").map_err(|_| ProgramFault::Run(RunFault::Write))?;
     let hashing = RandomState::new(rt).map_err(|_| ProgramFault::Run(RunFault::Memory))?;
     let memory = Memory {
@@ -329,6 +403,7 @@ fn terms<R: Threads>(rt: &R, words: &ArgMatches<'_>) -> Terms {
             probe: milliseconds(words, "probe"),
             stall: milliseconds(words, "stall"),
         },
+        max_message: words.get_one("max-message").unwrap_or(MAX_MESSAGE as u64) as usize,
         threads: threads(rt, words, "threads"),
         workers: Workers::new(threads(rt, words, "workers"), HEAVY),
     }
@@ -363,17 +438,36 @@ fn milliseconds(words: &ArgMatches<'_>, name: &str) -> Option<u64> {
 
 /// Reads the schema in a file.
 fn read_schema(rt: &HostRuntime, file: &str) -> Result<Schema, ProgramFault> {
-    let text = fs::read(rt, file).map_err(|_| ProgramFault::SchemaUnread)?;
-    Schema::read(rt.alloc(), text.as_slice()).map_err(|fault| ProgramFault::Schema(fault.number()))
+    let text = fs::read(rt, file).map_err(ProgramFault::SchemaUnread)?;
+    Schema::read(rt.alloc(), text.as_slice()).map_err(ProgramFault::Schema)
+}
+
+/// Returns what a fault of a schema means, as the help has it.
+fn meaning(fault: SchemaFault) -> &'static str {
+    match fault {
+        SchemaFault::Memory => "memory ran out",
+        SchemaFault::Syntax => {
+            "it isn't JSON, a member is missing or of another kind, or the version is no version"
+        }
+        SchemaFault::BadId => "a name of the database, a table or a column isn't one",
+        SchemaFault::BadType => "a number or a text isn't allowed where it stands",
+        SchemaFault::UnknownRefTable => "refTable names no table of the schema",
+        SchemaFault::BadIndex => {
+            "an index is empty, repeats a column, or names one that isn't there or is ephemeral"
+        }
+        SchemaFault::TooLarge => {
+            "more than 16,777,216 bytes, or more than 256 tables, or columns of a table"
+        }
+    }
 }
 
 // Written, and not derived, so that each end of a scope is one call to prove.
 impl Drop for ProgramFault {
     fn drop(self) {
         match self {
-            ProgramFault::SchemaUnread => {}
+            ProgramFault::SchemaUnread(_) => {}
             ProgramFault::Schema(_) => {}
-            ProgramFault::NotListening => {}
+            ProgramFault::NotListening(_) => {}
             ProgramFault::Run(_) => {}
         }
     }

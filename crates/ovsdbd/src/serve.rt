@@ -13,20 +13,20 @@ use odb_schema::Schema;
 use odb_script::RunFault;
 use std::alloc::Global;
 use std::hash::RandomState;
+use std::io::{self, Eprint};
 use std::marker::Brand;
 use std::net::{Net, TcpListener, TcpStream};
 use std::random::RandomSource;
 use std::sync::Wait;
 use std::sync::ledger::{Blank, Ledger};
-use std::thread::{Builder, Scope, Threads};
+use std::thread::{self, Builder, Scope, Threads};
 use std::time::{Clock, Duration, Instant};
-use std::{io, thread};
 
-/// How many seats may be given at once: one for each session that may be open.
-const SEATS: u64 = MAX_SESSIONS as u64;
+/// How many seats may be given at once: one more than sessions may be open, so that it is the core that refuses one too many.
+const SEATS: u64 = MAX_SESSIONS as u64 + 1;
 
 /// The stack of a thread, in bytes.
-const STACK: usize = 262_144;
+const STACK: usize = 1_048_576;
 
 /// For how many milliseconds the daemon waits after a connection couldn't be accepted, as where no file descriptor is left.
 const PAUSE: u64 = 100;
@@ -37,6 +37,8 @@ pub(crate) struct Terms {
     /// How many connections it serves before it ends; none: it goes on.
     pub(crate) sessions: Option<u64>,
     pub(crate) patience: Patience,
+    /// The most bytes of a message.
+    pub(crate) max_message: usize,
     /// How many threads serve connections.
     pub(crate) threads: usize,
     /// How many threads compose the jobs of a round.
@@ -72,7 +74,7 @@ pub(crate) fn begin<R: Clock>(
 }
 
 /// Serves all that connect. With `terms.sessions` it accepts so many connections and returns when they have ended.
-pub(crate) fn serve_all<R: Net + Threads + Wait + Clock + RandomSource + Sync>(
+pub(crate) fn serve_all<R: Net + Threads + Wait + Clock + RandomSource + Eprint + Sync>(
     rt: &R,
     begun: Begun,
     listener: &TcpListener,
@@ -84,16 +86,13 @@ pub(crate) fn serve_all<R: Net + Threads + Wait + Clock + RandomSource + Sync>(
 }
 
 /// Serves all that connect, under the ledger that the blank names.
-fn serve_under<L: Ledger + Send + Sync, R: Net + Threads + Wait + Clock + RandomSource + Sync>(
-    rt: &R,
-    begun: Begun,
-    blank: Blank,
-    listener: &TcpListener,
-    terms: Terms,
-) -> Result<(), RunFault>
+fn serve_under<
+    L: Ledger + Send + Sync,
+    R: Net + Threads + Wait + Clock + RandomSource + Eprint + Sync,
+>(rt: &R, begun: Begun, blank: Blank, listener: &TcpListener, terms: Terms) -> Result<(), RunFault>
     requires core { (begun.core.world.sessions ≡ empty) × (begun.core.opened ≡ 0) }
     requires ledger { (blank.name ≡ L.name) × (blank.parts ≡ L.parts) }
-    requires parts { blank.parts ≡ 4097 }
+    requires parts { blank.parts ≡ 4098 }
 {
     let Ok((desks, polls)) = open_desks(rt, begun.alloc, terms.threads) else {
         return Err(RunFault::Memory);
@@ -115,8 +114,8 @@ fn open_desks<R: Net>(rt: &R, alloc: Global, threads: usize) -> io::Result<(Vec<
     Ok((desks, polls))
 }
 
-/// Serves all that connect, while the pump runs.
-fn serve_with<L: Ledger + Send + Sync, R: Threads + Wait + Clock + RandomSource + Sync>(
+/// Serves all that connect, while the pump runs, and a thread writes notices.
+fn serve_with<L: Ledger + Send + Sync, R: Threads + Wait + Clock + RandomSource + Eprint + Sync>(
     rt: &R,
     daemon: &Daemon<L>,
     polls: Vec<Poll>,
@@ -127,10 +126,14 @@ fn serve_with<L: Ledger + Send + Sync, R: Threads + Wait + Clock + RandomSource 
         let pump = Builder::new()
             .stack_size(STACK)
             .spawn_scoped(scope, move || daemon.pump(rt));
-        if pump.is_err() {
-            return Err(RunFault::Memory);
-        }
-        let served = accept_and_wait(rt, daemon, polls, listener, sessions);
+        let notices = Builder::new()
+            .stack_size(STACK)
+            .spawn_scoped(scope, move || daemon.notices.write_all(rt));
+        let served = if pump.is_ok() && notices.is_ok() {
+            accept_and_wait(rt, daemon, polls, listener, sessions)
+        } else {
+            Err(RunFault::Memory)
+        };
         daemon.end();
         served
     })
@@ -189,7 +192,7 @@ fn accept_all<L: Ledger, R: Threads + Wait + Clock>(
                 accepted = accepted.saturating_add(1);
             }
             Err(error) => {
-                drop(error);
+                daemon.notices.note_unaccepted(rt, error);
                 thread::sleep(rt, Duration::from_millis(PAUSE));
             }
         }

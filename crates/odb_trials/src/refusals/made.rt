@@ -7,7 +7,7 @@ use odb_core::Core;
 use odb_hub::Submission;
 use odb_rpc::inserts;
 use odb_schema::Schema;
-use odb_wire::{Framer, Message, Request};
+use odb_wire::{Framer, MAX_MESSAGE, Message, Request};
 use std::alloc::{AllocError, Global};
 use std::hash::RandomState;
 use uuid::Uuid;
@@ -54,7 +54,7 @@ pub(crate) fn submission(
 }
 
 fn read_submission(alloc: Global, text: &[u8], inserts: usize) -> Result<Submission, AllocError> {
-    let mut framer = Framer::new(alloc);
+    let mut framer = Framer::new(alloc, MAX_MESSAGE);
     let fed = framer.feed(text)?;
     for message in fed.messages {
         if let Message::Request(request) = message {

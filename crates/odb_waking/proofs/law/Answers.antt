@@ -1,4 +1,4 @@
-use Rattle.odb_waking.proofs.LoopKept.{no_message_is_left, no_request_is_left, no_socket_is_left}
+use Rattle.odb_waking.proofs.LoopKept.{no_end_is_left, no_message_is_left, no_request_is_left, no_socket_is_left}
 use Rattle.odb_waking.proofs.PumpKept.{no_pump_oversleeps}
 use Rattle.odb_waking.proofs.law.Goals as goal
 
@@ -13,3 +13,6 @@ returns-clause-request c = no_request_is_left
 
 pub returns-clause-socket : goal.returns-clause-socket
 returns-clause-socket c = no_socket_is_left
+
+pub returns-clause-end : goal.returns-clause-end
+returns-clause-end c = no_end_is_left

@@ -5,4 +5,4 @@ use Rattle.odb_wire.proofs.Pieces.{ReadUpTo}
 use Rattle.odb_wire.proofs.framer.read_pieces.Given as goal
 
 abbrev pub invariant-loop-piece : goal.invariant-loop-piece
-invariant-loop-piece l = ReadUpTo l.pieces l.piece-index l.framer l.messages.items × (l.fault ≡ fault_of (messages l.framer).1)
+invariant-loop-piece l = (l.framer.most ≡ l.most) × ReadUpTo l.most l.pieces l.piece-index l.framer.bytes l.messages.items × (l.fault ≡ fault_of (messages l.most l.framer.bytes).1)

@@ -8,7 +8,7 @@ abbrev pub invariant-loop-left : goal.invariant-loop-left
 invariant-loop-left l =
     record {
       clean : skip_blanks l.left ≡ l.left;
-      so_far : SoFar (map message_data l.fn.messages.items) l.bytes (map message_data l.messages.items) l.left;
+      so_far : SoFar l.most (map message_data l.fn.messages.items) l.bytes (map message_data l.messages.items) l.left;
       kinds : All IsOfItsKind l.fn.messages.items → All IsOfItsKind l.messages.items;
     }
 

@@ -3,7 +3,7 @@ use Rattle.odb_service.specs.Server.{served_by}
 use Rattle.odb_wire.specs.Shown.{message_data}
 use Rattle.odb_schema.specs.Schema.{Schema}
 use Rattle.odb_wire.specs.Feeding.{fault_of}
-use Rattle.odb_wire.specs.Stream.{Ending, messages}
+use Rattle.odb_wire.specs.Stream.{Ending, max_message, messages}
 use Rattle.std.proofs.lemmas.Option.{same_Some}
 use Rattle.odb_script.specs.Running.{Running}
 use Rattle.odb_script.specs.Script.{ScriptSession, Script, at_ending, deliver_all, line_of, perform, piece, receive, with_bytes}
@@ -65,16 +65,16 @@ returns-clause-done c =
     let at-first : c.index.result.now ≡ slice_index_or xs k c.index.result.now = search rules in
     let one : c.index.result.now ≡ x = same_Some _ _ (sym (standing n xs k c.index.result.now place at-first).0 ∙ st.0) in
     let number : s ≡ x.session = ap (λ (y : ScriptSession). y.session) (c.behind-self.view_is ∙ one) in
-    let new : map message_data c.in_ok-fed.fed.messages.items ≡ drop x.delivered (messages c.feed.new.self.bytes).0 = search rules in
-    let found : map message_data c.in_ok-fed.fed.messages.items ≡ drop x.delivered (messages (x.bytes ++ bytes)).0 = new ∙ ap (λ (y : ScriptSession). drop x.delivered (messages y.bytes).0) fed in
+    let new : map message_data c.in_ok-fed.fed.messages.items ≡ drop x.delivered (messages max_message c.feed.new.self.bytes).0 = search rules in
+    let found : map message_data c.in_ok-fed.fed.messages.items ≡ drop x.delivered (messages max_message (x.bytes ++ bytes)).0 = new ∙ ap (λ (y : ScriptSession). drop x.delivered (messages max_message y.bytes).0) fed in
     let does : Does (deliver_all h n s (map message_data c.in_ok-fed.fed.messages.items)) (script_of old.core (slice_set xs k c.feed.new.self) old.inserts old.moment) c.args.text.now.items c.deliver_all.new.self.script c.deliver_all.new.text.items = search rules in
     let schema : c.deliver_all.new.self.schema ≡ old.core.schema = search rules in
-    let fault_new : fault_of (messages c.feed.new.self.bytes).1 ≡ c.in_ok-fed.fed.fault = search rules in
-    let fault : fault_of (messages (x.bytes ++ bytes)).1 ≡ c.in_ok-fed.fed.fault = ap (λ (y : ScriptSession). fault_of (messages y.bytes).1) (sym fed) ∙ fault_new in
+    let fault_new : fault_of (messages max_message c.feed.new.self.bytes).1 ≡ c.in_ok-fed.fed.fault = search rules in
+    let fault : fault_of (messages max_message (x.bytes ++ bytes)).1 ≡ c.in_ok-fed.fed.fault = ap (λ (y : ScriptSession). fault_of (messages max_message y.bytes).1) (sym fed) ∙ fault_new in
     let any : OnOk c.end.result ((e : Ending) → fault_of e ≡ c.in_ok-fed.fed.fault → at_ending (served_by c.deliver_all.new.self.schema) n s e (c.deliver_all.new.self.script, c.deliver_all.new.text.items) ≡ (c.end.new.self.script, c.end.new.text.items)) = search rules in
-    let ended : OnOk c.end.result (at_ending h n s (messages (x.bytes ++ bytes)).1 (c.deliver_all.new.self.script, c.deliver_all.new.text.items) ≡ (c.end.new.self.script, c.end.new.text.items)) =
-    subst (λ (a : Schema). OnOk c.end.result (at_ending (served_by a) n s (messages (x.bytes ++ bytes)).1 (c.deliver_all.new.self.script, c.deliver_all.new.text.items) ≡ (c.end.new.self.script, c.end.new.text.items))) schema
-    (on_ok_weaker c.end.result (λ f. f (messages (x.bytes ++ bytes)).1 fault) any) in
+    let ended : OnOk c.end.result (at_ending h n s (messages max_message (x.bytes ++ bytes)).1 (c.deliver_all.new.self.script, c.deliver_all.new.text.items) ≡ (c.end.new.self.script, c.end.new.text.items)) =
+    subst (λ (a : Schema). OnOk c.end.result (at_ending (served_by a) n s (messages max_message (x.bytes ++ bytes)).1 (c.deliver_all.new.self.script, c.deliver_all.new.text.items) ≡ (c.end.new.self.script, c.end.new.text.items))) schema
+    (on_ok_weaker c.end.result (λ f. f (messages max_message (x.bytes ++ bytes)).1 fault) any) in
     let a = acts h n (λ y q. receive h y bytes q) p k x place at in
     subst (λ (v : Running). OnOk c.end.result (Does (perform (served_by v.schema) (piece n bytes)) v.script c.args.text.now.items c.end.new.self.script c.end.new.text.items)) c.self.view_is
     (on_ok_weaker c.end.result (λ e.
