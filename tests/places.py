@@ -1,6 +1,7 @@
 """Where things stand: the repository, its crates, the program that is built of them, and a schema."""
 
 import os
+import re
 import shutil
 import subprocess
 import sys
@@ -8,6 +9,8 @@ import sys
 ROOT = os.path.dirname(os.path.dirname(os.path.realpath(__file__)))
 PROGRAM = os.path.join(ROOT, "crates", "ovsdbd", "out", "ovsdbd")
 NET = os.path.join(ROOT, "crates", "ovsdbd", "data", "net.json")
+CACHE = os.environ.get("XDG_CACHE_HOME") or os.path.join(os.path.expanduser("~"), ".cache")
+FOLDER = os.path.join(CACHE, "ovsdbd", re.sub(r"\W+", "-", ROOT).strip("-"))  # what is kept of this clone's builds
 GENERATED = ("declared", "contracts")  # what the toolchain makes of code, below a crate's specs
 
 
@@ -40,6 +43,15 @@ def below(*names):
             found.add(name)
             left += uses[name]
     return [name for name in uses if name in found]
+
+
+def sources(crate, parts=("src", "specs", "proofs")):
+    """The folders and files that a crate is proved and built from."""
+    for part in parts:
+        for folder, folders, files in os.walk(os.path.join(crate, part)):
+            folders.sort()
+            yield folder
+            yield from (os.path.join(folder, file) for file in sorted(files))
 
 
 def copy_crates(folder, names):
