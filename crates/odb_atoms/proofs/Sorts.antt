@@ -8,7 +8,7 @@ use Rattle.std.proofs.lemmas.List.Sorted.{IsPermutation-map, length_permutation,
 use Rattle.std.specs.declared.cmp.Ordering.{Ordering}
 use Rattle.std.specs.declared.cmp.Ordering.TheVariants.{Less, Equal, Greater}
 use Rattle.std.specs.List.{IsAllAdjacentAnswer, list_any}
-use Rattle.std.specs.Ordering.{eq_by_cmp, is_eq, is_lt}
+use Rattle.std.specs.Ordering.{eq_by_cmp, is_eq, is_lt, ordering_reverse}
 use Rattle.std.specs.Cmp.{IsTotalOrder}
 use Rattle.std.specs.FinMap.Entries.{below_all, is_sorted, length-put}
 use Rattle.odb_atoms.specs.FinSet as set
@@ -100,14 +100,26 @@ repeats-counted (e ∷ es) h =
     let both = counted twice (is_sorted atom_cmp es) _ _ _ rest.0 rest.1 size in
     (both.0, both.1 ∙ ap (λ b. not (b && is_sorted atom_cmp es)) (sym (below_all-none e es h.0)))
 
+pub not_not : (b : Bool) → b ≡ not (not b)
+not_not true = refl
+not_not false = refl
+
+none-before : (e : Entry) (es : List Entry) → T (below_all atom_cmp e.0 es) → NoneBefore e es
+none-before e [] up = tt
+none-before e (f ∷ fs) up = (ap is_lt (atom_cmp_total.antisymm f.0 e.0) ∙ ap (λ r. is_lt (ordering_reverse r)) (less _ (first _ _ up)), none-before e fs (second _ _ up))
+
+rising-ordered : (es : List Entry) → T (is_sorted atom_cmp es) → IsOrdered es
+rising-ordered [] up = tt
+rising-ordered (e ∷ es) up = (none-before e es (first _ _ up), rising-ordered es (second _ _ up))
+
+-- where keys rise none stands twice
+pub distinct-rising : (es : List Entry) → true ≡ is_sorted atom_cmp es → true ≡ not (repeats (keys_of es))
+distinct-rising es up = up ∙ not_not _ ∙ ap not (sym (repeats-counted es (rising-ordered es (subst T up tt))).1)
+
 repeats-IsPermutation : (ks ls : List Atom) → IsPermutation ks ls → repeats ks ≡ repeats ls
 repeats-IsPermutation ks ls moved =
     let same : atoms ks ≡ atoms ls = same_set atom_cmp_total atom_cmp-IsAntisymmetric (atoms ks) (atoms ls) (λ q. contains-from_list atom_cmp_total ks q ∙ list_any-IsPermutation (eq_by_cmp atom_cmp q) ks ls moved ∙ sym (contains-from_list atom_cmp_total ls q)) in
     λ i. nat_lt (set.len (same i)) (sym (length_permutation ks ls moved) i)
-
-pub not_not : (b : Bool) → b ≡ not (not b)
-not_not true = refl
-not_not false = refl
 
 module _ {X : Type 0} (f : X → Entry) where
   -- what was sorted rises where no key of the list stood twice

@@ -3,7 +3,9 @@
 ghost use Rattle.std.specs.Prelude.{◌≡◌, refl, IfOk, Some};
 ghost use Rattle.odb_atoms.specs.Atom.{kind_of, atom_cmp, same_atom, zero_atom};
 ghost use Rattle.odb_atoms.specs.ColType.{is_a};
-ghost use Rattle.odb_atoms.specs.Represented.Atom.{atom_of, kind_in};
+ghost use Rattle.odb_atoms.specs.Represented.Atom.{atom_of, kind_in, uuid_of};
+ghost use Rattle.odb_atoms.specs.Uuid.{uuid_cmp};
+ghost use Rattle.std.specs.Int.{from_be_bytes, w128};
 ghost use Rattle.odb_atoms.specs.Represented.AtomOrder.{atoms_equivalent, atoms_partial};
 ghost use Rattle.odb_atoms.specs.Represented.AtomOrder.{atoms_partially_equivalent, atoms_total};
 
@@ -101,10 +103,28 @@ impl Ord for Atom {
             (Atom::Integer(x), Atom::Integer(y)) => x.cmp(y),
             (Atom::Boolean(x), Atom::Boolean(y)) => x.cmp(y),
             (Atom::Text(x), Atom::Text(y)) => x.as_str().cmp(y.as_str()),
-            (Atom::Uuid(x), Atom::Uuid(y)) => x.as_u128().cmp(&y.as_u128()),
+            (Atom::Uuid(x), Atom::Uuid(y)) => cmp_uuids(*x, *y),
             _ => self.kind().cmp(&other.kind()),
         }
     }
+}
+
+/// Compares the identifiers as numbers.
+fn cmp_uuids(x: Uuid, y: Uuid) -> Ordering
+    ensures { result ≡ uuid_cmp (uuid_of x) (uuid_of y) }
+{
+    number_of(x).cmp(&number_of(y))
+}
+
+/// Returns the identifier as a number, the highest byte first. It is read as two words, where `Uuid::as_u128` reads it
+/// byte by byte: most of what a commit compares are identifiers.
+fn number_of(uuid: Uuid) -> u128
+    ensures { result ≡ from_be_bytes w128 uuid }
+{
+    let b = uuid.into_bytes();
+    let high = u64::from_be_bytes([b[0], b[1], b[2], b[3], b[4], b[5], b[6], b[7]]);
+    let low = u64::from_be_bytes([b[8], b[9], b[10], b[11], b[12], b[13], b[14], b[15]]);
+    u128::from(high) * 0x1_0000_0000_0000_0000 + u128::from(low)
 }
 
 impl PartialOrd for Atom {

@@ -151,7 +151,7 @@ impl Base {
     }
 
     /// Returns whether the atom meets the constraints, its kind aside. O(log e) comparisons for an `enum`
-    /// of e atoms, and O(the bytes) of a string.
+    /// of e atoms, and O(the bytes) of a string whose length has a bound.
     pub fn meets(&self, atom: &Atom) -> bool
         ensures { result ≡ model.meets (base_of self.now) (atom_of atom.now) }
     {
@@ -176,12 +176,19 @@ impl Base {
                 self.max_integer,
                 i128::from(*integer),
             ),
-            Atom::Text(text) => is_within(
-                self.min_length,
-                self.max_length,
-                character_count(text.as_str()) as i128,
-            ),
+            Atom::Text(text) => self.bounds_length(text.as_str()),
             Atom::Boolean(_) | Atom::Uuid(_) => true,
+        }
+    }
+
+    /// Returns whether the string is as long as the type wants. Its characters are counted where there is a
+    /// bound.
+    fn bounds_length(&self, string: &str) -> bool
+        ensures { result ≡ model.in_bounds (base_of self.now) (text string.now) }
+    {
+        match (self.min_length, self.max_length) {
+            (None, None) => true,
+            (min, max) => is_within(min, max, character_count(string) as i128),
         }
     }
 

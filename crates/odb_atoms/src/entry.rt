@@ -2,8 +2,10 @@
 
 ghost use Rattle.std.specs.Prelude.{◌≡◌, Bool, not, map, ◌++◌, option_map, Option, Some, None};
 ghost use Rattle.std.specs.Prelude.{IfOk, OnOk, IsTrue, IsPermutation};
+ghost use Rattle.std.specs.FinMap.Entries.{is_sorted};
 ghost use Rattle.std.specs.List.{list_all};
 ghost use Rattle.odb_atoms.specs.Atom as model;
+ghost use Rattle.odb_atoms.specs.Atom.{atom_cmp};
 ghost use Rattle.odb_atoms.specs.Members.{repeats};
 ghost use Rattle.odb_atoms.specs.Represented.Atom.{atom_of};
 ghost use Rattle.odb_atoms.specs.Represented.Entry.{alike, entry_at, has_entry, keys_of};
@@ -63,13 +65,23 @@ impl Entry for (Atom, Atom) {
 }
 
 /// Puts the entries in the order of their keys, in place, and says whether no key stands twice.
-/// O(n log n) comparisons.
+/// O(n log n) comparisons, O(n) where the keys rise already.
 pub fn sort<E: Entry>(entries: &mut Vec<E>) -> bool
     ensures permutation { IsPermutation entries.old.items entries.new.items }
     ensures distinct { result ≡ not (repeats (keys_of (map E.entry entries.old.items))) }
     ensures rising { IsTrue result → IsRising (map E.entry entries.new.items) }
 {
+    if is_rising(entries) {
+        return true;
+    }
     entries.sort_unstable_by(|x, y| x.key().cmp(y.key()));
+    is_rising(entries)
+}
+
+/// Returns whether each key is greater than the one before. O(n) comparisons.
+fn is_rising<E: Entry>(entries: &[E]) -> bool
+    ensures { result ≡ is_sorted atom_cmp (map E.entry entries.now) }
+{
     entries.is_sorted_by(|x, y| x.key().cmp(y.key()).is_lt())
 }
 

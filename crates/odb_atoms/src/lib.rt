@@ -1,7 +1,8 @@
 //! Values of an OVSDB server (RFC 7047): atoms, sets, maps, column types, differences and rows.
 //!
 //! Where memory is refused a call returns `AllocError`, and what it was given is as it was,
-//! unless its own page says otherwise. A call whose result has no such error takes no memory.
+//! unless its own page says otherwise. A call whose result has no such error takes no memory, or does
+//! without where it is refused.
 #![tactic(auto)]
 
 mod atom;
@@ -16,5 +17,5 @@ pub use atom::{Atom, Kind};
 pub use column_type::{Admit, Base, ColType, Enumeration, Reference, default_of};
 pub use error::Error;
 pub use row::Row;
-pub use update::difference;
+pub use update::{changed, difference};
 pub use value::{Entries, ListFault, Refused, Value};

@@ -12,7 +12,7 @@ ghost use Rattle.odb_atoms.specs.Value as model;
 ghost use Rattle.odb_atoms.specs.Value.{atoms, map_of, set_of, value_code};
 ghost use Rattle.odb_atoms.specs.ColType.{is_a};
 ghost use Rattle.odb_atoms.specs.Represented.Atom.{atom_of, kind_in};
-ghost use Rattle.odb_atoms.specs.Represented.Value.{AreAscending, AreInOrder, HaveAscendingKeys};
+ghost use Rattle.odb_atoms.specs.Represented.Value.{AreAscending, AreInOrder, HaveAscendingKeys, ascends, content_of};
 ghost use Rattle.odb_atoms.specs.Represented.Value.{Lists, each_element, each_pair, map_in, pair_of};
 ghost use Rattle.odb_atoms.specs.Represented.Value.{set_in, value_in};
 ghost use Rattle.odb_atoms.specs.Represented.Refused.{refusal_of};
@@ -25,13 +25,18 @@ use std::alloc::{AllocError, Global};
 use std::cmp::Ordering;
 use std::marker::Model;
 use std::slice;
+use std::sync::Arc;
 use thiserror::Error;
+
+/// From how many entries on equal values that were copied from each other have them in common.
+const SHARED: usize = 16;
 
 /// A value of a column (RFC 7047, section 5.1, `<value>`): a finite set of atoms, or a finite map
 /// from atoms to atoms. A scalar is a set of one atom.
 ///
 /// A value of one atom takes no memory beside its text; any other keeps its entries in one
-/// allocation. A `Value` itself is 40 bytes.
+/// allocation. From 16 entries on its copies share them, and the last of these drops them: where
+/// they lie is one allocation more. A `Value` itself is 40 bytes.
 #[derive(Drop)]
 pub struct Value {
     content: Content,
@@ -70,6 +75,8 @@ enum Content {
     One(Atom),
     Set(Vec<Atom>),
     Map(Vec<(Atom, Atom)>),
+    SharedSet(Arc<Vec<Atom>>),
+    SharedMap(Arc<Vec<(Atom, Atom)>>),
 }
 
 /// The entries of a value in ascending order: the elements of a set, or the pairs of a map by their
@@ -183,7 +190,7 @@ impl Value {
             return Value::one(atom);
         }
         Value {
-            content: Content::Set(elements),
+            content: set_content(elements),
         }
     }
 
@@ -193,7 +200,7 @@ impl Value {
         ensures { result ≡ map_in pairs.items }
     {
         Value {
-            content: Content::Map(pairs),
+            content: map_content(pairs),
         }
     }
 
@@ -207,6 +214,8 @@ impl Value {
             Content::One(atom) => Entries::Set(slice::from_ref(atom)),
             Content::Set(elements) => Entries::Set(elements.as_slice()),
             Content::Map(pairs) => Entries::Map(pairs.as_slice()),
+            Content::SharedSet(elements) => Entries::Set(elements.as_slice()),
+            Content::SharedMap(pairs) => Entries::Map(pairs.as_slice()),
         }
     }
 
@@ -286,7 +295,7 @@ impl Value {
         }
     }
 
-    /// Makes an equal value. O(the bytes copied).
+    /// Makes an equal value. O(the bytes copied), which are those of 15 entries at most; from 16 on they are shared.
     pub fn try_copy(&self, alloc: Global) -> Result<Value, AllocError>
         ensures { IfOk result (λ copy. copy ≡ self.now) }
     {
@@ -294,6 +303,12 @@ impl Value {
             Content::One(atom) => Ok(Value::one(atom.try_copy(alloc)?)),
             Content::Set(elements) => Ok(Value::of_elements(entry::copies(alloc, elements)?)),
             Content::Map(pairs) => Ok(Value::of_pairs(entry::copies(alloc, pairs)?)),
+            Content::SharedSet(elements) => Ok(Value {
+                content: Content::SharedSet(elements.clone()?),
+            }),
+            Content::SharedMap(pairs) => Ok(Value {
+                content: Content::SharedMap(pairs.clone()?),
+            }),
         }
     }
 }
@@ -346,6 +361,36 @@ impl Eq for Value {
     ghost laws = { values_equivalent };
 }
 
+/// Keeps ascending elements, from `SHARED` on so that copies share them, unless memory for that is refused.
+fn set_content(elements: Vec<Atom>) -> Content
+    requires { AreAscending elements.items }
+    ensures content { content_of result ≡ set_in elements.items }
+    ensures ascends { ascends result }
+{
+    if elements.len() < SHARED {
+        return Content::Set(elements);
+    }
+    match Arc::new(*elements.allocator(), elements) {
+        Ok(shared) => Content::SharedSet(shared),
+        Err(refused) => Content::Set(refused.value),
+    }
+}
+
+/// Keeps pairs whose keys ascend, as `set_content` does elements.
+fn map_content(pairs: Vec<(Atom, Atom)>) -> Content
+    requires { HaveAscendingKeys pairs.items }
+    ensures content { content_of result ≡ map_in pairs.items }
+    ensures ascends { ascends result }
+{
+    if pairs.len() < SHARED {
+        return Content::Map(pairs);
+    }
+    match Arc::new(*pairs.allocator(), pairs) {
+        Ok(shared) => Content::SharedMap(shared),
+        Err(refused) => Content::Map(refused.value),
+    }
+}
+
 /// Returns whether the elements are of the first one's kind.
 fn are_of_one_kind(elements: &[Atom]) -> bool
     ensures { result ≡ members.are_of_one_kind (map atom_of elements.now) }
@@ -389,6 +434,8 @@ impl Drop for Content {
             Content::One(_) => {}
             Content::Set(_) => {}
             Content::Map(_) => {}
+            Content::SharedSet(_) => {}
+            Content::SharedMap(_) => {}
         }
     }
 }

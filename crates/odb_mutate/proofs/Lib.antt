@@ -1,5 +1,6 @@
 pub mod Distinct
 pub mod Each
+pub mod Inserted
 pub mod Listed
 pub mod Maps
 pub mod Results

@@ -28,9 +28,9 @@ use Rattle.odb_mutate.specs.MutationTyping.{is_set_of}
 use Rattle.odb_mutate.specs.declared.operator.Operator.{Operator}
 use Rattle.odb_mutate.proofs.Distinct.{IsDistinct, distinct-filter, distinct-joined, distinct-rising, map_fault-none, set_fault-none}
 use Rattle.odb_mutate.proofs.Each.{all-++, all-filter, filter-map}
-use Rattle.odb_mutate.proofs.Maps.{inserted-listed, keys_deleted-listed, pairs_deleted-listed}
+use Rattle.odb_mutate.proofs.Maps.{keys_deleted-listed, pairs_deleted-listed}
 use Rattle.odb_mutate.proofs.Results.{calculated}
-use Rattle.odb_mutate.proofs.Sets.{difference-listed, union-listed}
+use Rattle.odb_mutate.proofs.Sets.{difference-listed}
 
 -- ---- sets
 
@@ -69,40 +69,14 @@ calculated_set operator xs (set_of a) (set_of b) y e f is one =
 calculated_set operator xs (set_of a) (map_of n) y e f is one = absurd (true≢false f)
 calculated_set operator xs (map_of m) w y e f is one = absurd (true≢false e)
 
-distinct-union : (a b : Atoms) → IsDistinct (filter (λ x. not (set.contains a x)) (set.items b) ++ set.items a)
-unfolding finite.keys
-distinct-union a b =
-    subst IsDistinct
-    (ap (λ zs. zs ++ set.items a) (filter-map (λ e. e.0) (λ x. not (list_any (same_atom x) (set.items a))) b.entries ∙ (λ i. filter (λ x. not (sym (contains_key-keys a x) i)) (set.items b))))
-    (distinct-joined (λ e. e.0) b.entries (set.items a) (distinct-rising b.entries b.sorted) (distinct-rising a.entries a.sorted))
-
 distinct-difference : (a b : Atoms) → IsDistinct (filter (λ x. not (set.contains b x)) (set.items a))
 unfolding finite.keys
 distinct-difference a b =
     subst IsDistinct (filter-map (λ e. e.0) (λ x. not (set.contains b x)) a.entries)
     (distinct-filter (λ e. e.0) (λ e. not (set.contains b e.0)) a.entries (distinct-rising a.entries a.sorted))
 
--- the new elements, and then the old
-union_listed : (s t : Bor (List Atom)) (a b : Atoms) (once twice : List Atom) → map atom_of s.now ≡ set.items a → map atom_of t.now ≡ set.items b → map atom_of once ≡ map atom_of (filter (λ x. not (has (set_of a) (atom_of x))) t.now) → map atom_of twice ≡ map atom_of once ++ map atom_of s.now → map atom_of twice ≡ filter (λ x. not (set.contains a x)) (set.items b) ++ set.items a
-union_listed s t a b once twice in_s in_t one two =
-    let new = one ∙ filter-map atom_of (λ x. not (set.contains a x)) t.now ∙ ap (filter (λ x. not (set.contains a x))) in_t in
-    two ∙ (λ i. new i ++ in_s i)
-
-pub union_fault : (s t : Bor (List Atom)) (v w : Value) (once twice : List Atom) → Lists (entries.Set s) v → Lists (entries.Set t) w → AreAlike v w → map atom_of once ≡ map atom_of (filter (λ x. not (has v (atom_of x))) t.now) → map atom_of twice ≡ map atom_of once ++ map atom_of s.now → set_fault (map atom_of twice) ≡ None
-union_fault s t (set_of a) (set_of b) once twice in_s in_t alike one two =
-    let k = alike.1.0 in
-    let of = all-++ (is_a k) _ (set.items a) (all-filter (is_a k) (λ x. not (set.contains a x)) (set.items b) alike.1.3) alike.1.2 in
-    ap set_fault (union_listed s t a b once twice in_s in_t one two) ∙ set_fault-none k _ of (distinct-union a b)
-union_fault s t (set_of a) (map_of n) once twice in_s in_t alike one two = absurd in_t
-union_fault s t (map_of m) w once twice in_s in_t alike one two = absurd in_s
-
-pub union_value : (s t : Bor (List Atom)) (v w : Value) (once twice : List Atom) → Lists (entries.Set s) v → Lists (entries.Set t) w → map atom_of once ≡ map atom_of (filter (λ x. not (has v (atom_of x))) t.now) → map atom_of twice ≡ map atom_of once ++ map atom_of s.now → ◌≡◌ {A = Result Value Error} (Ok (set_of (atoms (map atom_of twice)))) (result_of insert v w)
-union_value s t (set_of a) (set_of b) once twice in_s in_t one two = ap (λ zs. let r : Result Value Error = Ok (set_of (atoms zs)) in r) (union_listed s t a b once twice in_s in_t one two) ∙ ap (λ x. Ok (set_of x)) (union-listed a b)
-union_value s t (set_of a) (map_of n) once twice in_s in_t one two = absurd in_t
-union_value s t (map_of m) w once twice in_s in_t one two = absurd in_s
-
 -- what is left of the elements
-left_listed : (s : Bor (List Atom)) (a b : Atoms) (once : List Atom) → map atom_of s.now ≡ set.items a → map atom_of once ≡ map atom_of (filter (λ x. not (has (set_of b) (atom_of x))) s.now) → map atom_of once ≡ filter (λ x. not (set.contains b x)) (set.items a)
+pub left_listed : (s : Bor (List Atom)) (a b : Atoms) (once : List Atom) → map atom_of s.now ≡ set.items a → map atom_of once ≡ map atom_of (filter (λ x. not (has (set_of b) (atom_of x))) s.now) → map atom_of once ≡ filter (λ x. not (set.contains b x)) (set.items a)
 left_listed s a b once in_s one = one ∙ filter-map atom_of (λ x. not (set.contains b x)) s.now ∙ ap (filter (λ x. not (set.contains b x))) in_s
 
 pub left_fault : (s t : Bor (List Atom)) (v w : Value) (once : List Atom) → Lists (entries.Set s) v → Lists (entries.Set t) w → HasKinds v → map atom_of once ≡ map atom_of (filter (λ x. not (has w (atom_of x))) s.now) → set_fault (map atom_of once) ≡ None
@@ -118,39 +92,11 @@ left_value s t (map_of m) w once in_s in_t one = absurd in_s
 
 -- ---- maps
 
-inserted-distinct : (m n : Pairs) → IsDistinct (keys (filter (λ e. not (finite.contains_key m e.0)) n.entries ++ m.entries))
-unfolding finite.keys
-inserted-distinct m n =
-    subst IsDistinct
-    (ap (λ zs. zs ++ keys m.entries) (λ i. keys (filter (λ e. not (sym (contains_key-keys m e.0) i)) n.entries)) ∙ sym (map-append (λ e. e.0) (filter (λ e. not (finite.contains_key m e.0)) n.entries) m.entries))
-    (distinct-joined (λ e. e.0) n.entries (keys m.entries) (distinct-rising n.entries n.sorted) (distinct-rising m.entries m.sorted))
-
-inserted_list : (s t : Bor (List (Atom × Atom))) (m n : Pairs) (once twice : List (Atom × Atom)) → map pair_of s.now ≡ m.entries → map pair_of t.now ≡ n.entries → map pair_of once ≡ map pair_of (filter (λ p. not (has (map_of m) (atom_of p.0))) t.now) → map pair_of twice ≡ map pair_of once ++ map pair_of s.now → map pair_of twice ≡ filter (λ e. not (finite.contains_key m e.0)) n.entries ++ m.entries
-inserted_list s t m n once twice in_s in_t one two =
-    let p : model.Atom × model.Atom → Bool = λ e. not (finite.contains_key m e.0) in
-    let new = one ∙ filter-map pair_of p t.now ∙ ap (filter p) in_t in
-    two ∙ (λ i. new i ++ in_s i)
-
-pub inserted_fault : (s t : Bor (List (Atom × Atom))) (v w : Value) (once twice : List (Atom × Atom)) → Lists (entries.Map s) v → Lists (entries.Map t) w → AreAlike v w → map pair_of once ≡ map pair_of (filter (λ p. not (has v (atom_of p.0))) t.now) → map pair_of twice ≡ map pair_of once ++ map pair_of s.now → map_fault (map pair_of twice) ≡ None
-inserted_fault s t (map_of m) (map_of n) once twice in_s in_t alike one two =
-    let k = alike.1.0 in
-    let l = alike.1.1 in
-    let p : model.Atom × model.Atom → Bool = λ e. is_a k e.0 && is_a l e.1 in
-    let of = all-++ p _ m.entries (all-filter p (λ e. not (finite.contains_key m e.0)) n.entries alike.1.3) alike.1.2 in
-    ap map_fault (inserted_list s t m n once twice in_s in_t one two) ∙ map_fault-none k l _ of (inserted-distinct m n)
-inserted_fault s t (map_of m) (set_of b) once twice in_s in_t alike one two = absurd in_t
-inserted_fault s t (set_of a) w once twice in_s in_t alike one two = absurd in_s
-
-pub inserted_value : (s t : Bor (List (Atom × Atom))) (v w : Value) (once twice : List (Atom × Atom)) → Lists (entries.Map s) v → Lists (entries.Map t) w → map pair_of once ≡ map pair_of (filter (λ p. not (has v (atom_of p.0))) t.now) → map pair_of twice ≡ map pair_of once ++ map pair_of s.now → ◌≡◌ {A = Result Value Error} (Ok (map_of (finite.from_entries (map pair_of twice)))) (result_of insert v w)
-inserted_value s t (map_of m) (map_of n) once twice in_s in_t one two = ap (λ es. let r : Result Value Error = Ok (map_of (finite.from_entries es)) in r) (inserted_list s t m n once twice in_s in_t one two) ∙ ap (λ x. Ok (map_of x)) (inserted-listed m n)
-inserted_value s t (map_of m) (set_of b) once twice in_s in_t one two = absurd in_t
-inserted_value s t (set_of a) w once twice in_s in_t one two = absurd in_s
-
 -- some pairs of a map make one
 kept_fault : (k l : Kind) (m : Pairs) (p : model.Atom × model.Atom → Bool) → IsOf k l (map_of m) → map_fault (filter p m.entries) ≡ None
 kept_fault k l m p of = map_fault-none k l _ (all-filter (λ e. is_a k e.0 && is_a l e.1) p m.entries of) (distinct-filter (λ e. e.0) p m.entries (distinct-rising m.entries m.sorted))
 
-kept_list : (s : Bor (List (Atom × Atom))) (m : Pairs) (p : model.Atom × model.Atom → Bool) (once : List (Atom × Atom)) → map pair_of s.now ≡ m.entries → map pair_of once ≡ map pair_of (filter (λ x. p (pair_of x)) s.now) → map pair_of once ≡ filter p m.entries
+pub kept_list : (s : Bor (List (Atom × Atom))) (m : Pairs) (p : model.Atom × model.Atom → Bool) (once : List (Atom × Atom)) → map pair_of s.now ≡ m.entries → map pair_of once ≡ map pair_of (filter (λ x. p (pair_of x)) s.now) → map pair_of once ≡ filter p m.entries
 kept_list s m p once in_s one = one ∙ filter-map pair_of p s.now ∙ ap (filter p) in_s
 
 pub kept_keys_fault : (s : Bor (List (Atom × Atom))) (v w : Value) (once : List (Atom × Atom)) → Lists (entries.Map s) v → HasKinds v → map pair_of once ≡ map pair_of (filter (λ p. not (has w (atom_of p.0))) s.now) → map_fault (map pair_of once) ≡ None

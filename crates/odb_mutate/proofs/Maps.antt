@@ -16,30 +16,9 @@ pub get-from_entries : (es : List (Atom × Atom)) (q : Atom) → finite.get (fin
 get-from_entries [] q = get-empty atom_cmp q
 get-from_entries (e ∷ es) q = get-insert atom_cmp_total (finite.from_entries es) e.0 e.1 q ∙ ap (cond (same_atom q e.0) (Some e.1)) (get-from_entries es q)
 
-find-++ : (q : Atom) (es fs : List (Atom × Atom)) → find atom_cmp q (es ++ fs) ≡ first_of (find atom_cmp q es) (find atom_cmp q fs)
-find-++ q [] fs = refl
-find-++ q (e ∷ es) fs = elim (same_atom q e.0) as (λ b. cond b (Some e.1) (find atom_cmp q (es ++ fs)) ≡ first_of (cond b (Some e.1) (find atom_cmp q es)) (find atom_cmp q fs)) [ true ↦ refl | false ↦ find-++ q es fs ]
-
 -- the entries with some keys
-find-keys : (p : Atom → Bool) (q : Atom) (es : List (Atom × Atom)) → find atom_cmp q (filter (λ e. p e.0) es) ≡ cond (p q) (find atom_cmp q es) None
+pub find-keys : (p : Atom → Bool) (q : Atom) (es : List (Atom × Atom)) → find atom_cmp q (filter (λ e. p e.0) es) ≡ cond (p q) (find atom_cmp q es) None
 find-keys p q es = find-where_key atom_cmp p q (λ x tied. ap p (sym (atom_cmp-IsAntisymmetric q x tied))) es
-
--- the pairs whose key m doesn't have, and then those of m
-pub inserted-listed : (m n : Pairs) → finite.from_entries (filter (λ e. not (finite.contains_key m e.0)) n.entries ++ m.entries) ≡ insert_pairs m n
-inserted-listed m n =
-    let new = filter (λ (e : Atom × Atom). not (finite.contains_key m e.0)) n.entries in
-    same_map atom_cmp_total atom_cmp-IsAntisymmetric _ (insert_pairs m n) (λ q.
-    get-from_entries (new ++ m.entries) q
-    ∙ find-++ q new m.entries
-    ∙ (λ i. first_of (find-keys (λ k. not (finite.contains_key m k)) q n.entries i) (sym (get-entries m q) i))
-    ∙ ap (λ o. first_of (cond (not (is_some (finite.get m q))) o None) (finite.get m q)) (sym (get-entries n q))
-    ∙ by (finite.get m q) (finite.get n q)
-    ∙ sym (get-combine atom_cmp_total atom_cmp-IsAntisymmetric first_of refl m n q))
-  where
-    by : (x y : Option Atom) → first_of (cond (not (is_some x)) y None) x ≡ first_of x y
-    by None None = refl
-    by None (Some b) = refl
-    by (Some a) y = refl
 
 -- the pairs whose key s doesn't have
 pub keys_deleted-listed : (m : Pairs) (s : Atoms) → finite.from_entries (filter (λ e. not (set.contains s e.0)) m.entries) ≡ delete_keys m s

@@ -10,11 +10,7 @@ use Rattle.odb_atoms.specs.Represented.AtomOrder.{atom_cmp_total}
 use Rattle.odb_atoms.proofs.FinMaps.{contains_key-keys, same_key}
 use Rattle.odb_atoms.proofs.FinSets.{contains-difference, contains-from_list, contains-union, same_set}
 
-any-++ : (q : Atom → Bool) (xs ys : List Atom) → list_any q (xs ++ ys) ≡ (list_any q xs || list_any q ys)
-any-++ q [] ys = refl
-any-++ q (x ∷ xs) ys = elim (q x) as (λ b. (b || list_any q (xs ++ ys)) ≡ ((b || list_any q xs) || list_any q ys)) [ true ↦ refl | false ↦ any-++ q xs ys ]
-
-any-filter : (p : Atom → Bool) (q : Atom) (xs : List Atom) → list_any (same_atom q) (filter p xs) ≡ (list_any (same_atom q) xs && p q)
+pub any-filter : (p : Atom → Bool) (q : Atom) (xs : List Atom) → list_any (same_atom q) (filter p xs) ≡ (list_any (same_atom q) xs && p q)
 any-filter p q [] = refl
 any-filter p q (x ∷ xs) = by (same_atom q x) refl (p x) refl (any-filter p q xs)
   where
@@ -31,24 +27,6 @@ any-filter p q (x ∷ xs) = by (same_atom q x) refl (p x) refl (any-filter p q x
         rest ∙ ap (λ b. list_any (same_atom q) xs && b) here ∙ none (list_any (same_atom q) xs) ∙ sym here
     by false t true e rest = ap (λ b. b || list_any (same_atom q) (filter p xs)) t ∙ rest
     by false t false e rest = rest
-
--- those that s doesn't have, and then those of s
-pub union-listed : (s t : Atoms) → atoms (filter (λ a. not (set.contains s a)) (set.items t) ++ set.items s) ≡ set.union s t
-union-listed s t =
-    let new = filter (λ a. not (set.contains s a)) (set.items t) in
-    same_set atom_cmp_total atom_cmp-IsAntisymmetric _ (set.union s t) (λ q.
-    contains-from_list atom_cmp_total (new ++ set.items s) q
-    ∙ any-++ (same_atom q) new (set.items s)
-    ∙ (λ i. any-filter (λ a. not (set.contains s a)) q (set.items t) i || sym (contains_key-keys s q) i)
-    ∙ ap (λ b. (b && not (set.contains s q)) || set.contains s q) (sym (contains_key-keys t q))
-    ∙ either (set.contains s q) (set.contains t q)
-    ∙ sym (contains-union atom_cmp_total s t q))
-  where
-    either : (a b : Bool) → ((b && not a) || a) ≡ (a || b)
-    either true true = refl
-    either true false = refl
-    either false true = refl
-    either false false = refl
 
 -- those of s that t doesn't have
 pub difference-listed : (s t : Atoms) → atoms (filter (λ a. not (set.contains t a)) (set.items s)) ≡ set.difference s t

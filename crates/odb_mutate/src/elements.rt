@@ -32,18 +32,6 @@ pub fn lone(value: &Value) -> &Atom
     }
 }
 
-/// Adds copies of the elements to the list.
-pub fn append(alloc: Global, elements: &[Atom], list: &mut Vec<Atom>) -> Result<(), AllocError>
-    ensures { OnOk result
-        (map atom_of list.new.items
-        ≡ map atom_of list.old.items ++ map atom_of elements.now) }
-{
-    for element in elements {
-        list.push(element.try_copy(alloc)?)?;
-    }
-    Ok(())
-}
-
 /// Adds copies of the elements that the value doesn't have to the list. O(log n) comparisons for
 /// each of them, for a value of n elements or keys.
 pub fn append_others(

@@ -16,7 +16,7 @@ ghost use Rattle.odb_mutate.specs.MutationTyping.{takes};
 use crate::operator::Operator;
 use crate::pairs::Lack;
 use crate::{elements, pairs};
-use odb_atoms::{Atom, ColType, Entries, Value};
+use odb_atoms::{Atom, ColType, Entries, Value, changed};
 use std::alloc::{AllocError, Global};
 use std::marker::Model;
 use thiserror::Error;
@@ -108,8 +108,9 @@ impl Mutation {
     ///
     /// The value has to be of the type's kind, and the mutation has to suit the type.
     ///
-    /// O((m + n) log (m + n)) comparisons for m elements or pairs of the value and n of the operand,
-    /// and the bytes copied; an error of the outer result says that there was no memory.
+    /// `insert` and `delete` cost O(m + n log n) comparisons for m elements or pairs of the value and n
+    /// of the operand, `delete` O(m log n), arithmetic O(m log m), and the bytes copied; an error of the
+    /// outer result says that there was no memory.
     pub fn on(
         &self,
         alloc: Global,
@@ -184,16 +185,16 @@ fn insert(alloc: Global, value: &Value, added: &Value) -> Result<Value, AllocErr
 {
     match (value.entries(), added.entries()) {
         (Entries::Set(elements), Entries::Set(others)) => {
-            let mut union = Vec::new(alloc);
-            elements::append_others(alloc, others, value, &mut union)?;
-            elements::append(alloc, elements, &mut union)?;
-            Ok(elements::set_of(union))
+            let mut new = Vec::new(alloc);
+            elements::append_others(alloc, others, value, &mut new)?;
+            let lacking = elements::set_of(new);
+            changed(alloc, value, &lacking)
         }
         (Entries::Map(pairs), Entries::Map(others)) => {
-            let mut union = Vec::new(alloc);
-            pairs::append_others(alloc, others, value, Lack::Key, &mut union)?;
-            pairs::append(alloc, pairs, &mut union)?;
-            Ok(pairs::map_of(union))
+            let mut new = Vec::new(alloc);
+            pairs::append_others(alloc, others, value, Lack::Key, &mut new)?;
+            let lacking = pairs::map_of(new);
+            changed(alloc, value, &lacking)
         }
         _ => unreachable!(),
     }

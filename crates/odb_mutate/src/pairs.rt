@@ -11,21 +11,6 @@ ghost use Rattle.odb_mutate.specs.Represented.Lack.{lacks};
 use odb_atoms::{Atom, Value};
 use std::alloc::{AllocError, Global};
 
-/// Adds copies of the pairs to the list.
-pub fn append(
-    alloc: Global,
-    pairs: &[(Atom, Atom)],
-    list: &mut Vec<(Atom, Atom)>,
-) -> Result<(), AllocError>
-    ensures { OnOk result
-        (map pair_of list.new.items ≡ map pair_of list.old.items ++ map pair_of pairs.now) }
-{
-    for pair in pairs {
-        list.push(copy_of(alloc, pair)?)?;
-    }
-    Ok(())
-}
-
 /// What of a pair a value may lack.
 #[derive(Clone, Copy)]
 pub enum Lack {

@@ -1,6 +1,7 @@
 -- What a value of the code stands for: the set or the map of its entries, whose keys ascend.
 use Rattle.std.specs.Prelude.{◌≡◌, Bool, ◌&&◌, T, List, [], ◌∷◌, map}
 use Rattle.std.specs.FinMap.Entries.{is_sorted}
+use Rattle.std.specs.Arc.{arc_value}
 use Rattle.std.specs.List.{list_all}
 use Rattle.odb_atoms.specs.Atom as model
 use Rattle.odb_atoms.specs.Atom.{atom_cmp}
@@ -10,7 +11,7 @@ use Rattle.odb_atoms.specs.FinMap as finite
 use Rattle.odb_atoms.specs.Represented.Atom.{atom_of}
 use Rattle.odb_atoms.specs.declared.atom.Atom.{Atom}
 use Rattle.odb_atoms.specs.declared.value.Content.{Content}
-use Rattle.odb_atoms.specs.declared.value.Content.TheVariants.{One, Set, Map}
+use Rattle.odb_atoms.specs.declared.value.Content.TheVariants.{One, Set, Map, SharedSet, SharedMap}
 use Rattle.odb_atoms.specs.declared.value.Entries.{Entries}
 use Rattle.odb_atoms.specs.declared.value.Entries.TheVariants as entries
 use Rattle.odb_atoms.specs.declared.value.Value.TheInside.{Inside}
@@ -47,11 +48,15 @@ abbrev pub content_of : Content → Value
 content_of (One a) = set_in (a ∷ [])
 content_of (Set v) = set_in v.items
 content_of (Map v) = map_in v.items
+content_of (SharedSet v) = set_in (arc_value v).items
+content_of (SharedMap v) = map_in (arc_value v).items
 
 abbrev pub ascends : Content → Type 0
 ascends (One a) = AreAscending (a ∷ [])
 ascends (Set v) = AreAscending v.items
 ascends (Map v) = HaveAscendingKeys v.items
+ascends (SharedSet v) = AreAscending (arc_value v).items
+ascends (SharedMap v) = HaveAscendingKeys (arc_value v).items
 
 abbrev pub value_of : Inside → Value
 value_of a = content_of a.content

@@ -11,3 +11,9 @@ returns-in-Set-clause-listed c = listed (Set c.as_slice.result) c.args.self.now 
 
 pub returns-in-Map-clause-listed : goal.returns-in-Map-clause-listed
 returns-in-Map-clause-listed c = listed (Map c.as_slice-in-Map.result) c.args.self.now (search rules) (search rules)
+
+pub returns-in-SharedSet-clause-listed : goal.returns-in-SharedSet-clause-listed
+returns-in-SharedSet-clause-listed c = listed (Set c.as_slice-in-SharedSet.result) c.args.self.now (search rules) (search rules)
+
+pub returns-in-SharedMap-clause-listed : goal.returns-in-SharedMap-clause-listed
+returns-in-SharedMap-clause-listed c = listed (Map c.as_slice-in-SharedMap.result) c.args.self.now (search rules) (search rules)
