@@ -12,6 +12,7 @@ ghost use Rattle.odb_atoms.specs.Value.{same_value, set_of};
 ghost use Rattle.odb_cond.specs.Condition as model;
 ghost use Rattle.odb_cond.specs.Pinned.{pinned_by, uuid_in};
 ghost use Rattle.odb_cond.specs.Represented.Clause.{function_of, selector_of, some_stands, test_of};
+ghost use Rattle.odb_cond.specs.Represented.Keyed.{one};
 
 use odb_atoms::{Atom, Entries, Row, Value};
 use std::alloc::{AllocError, Global};
@@ -267,6 +268,16 @@ fn lone_uuid(value: &Value) -> Option<Uuid>
 {
     match value.entries() {
         Entries::Set([Atom::Uuid(uuid)]) => Some(*uuid),
+        _ => None,
+    }
+}
+
+/// Returns the one element of a set, if it has just one.
+pub(crate) fn lone_atom(value: &Value) -> Option<&Atom>
+    ensures { IfSome result (λ atom. value.now ≡ one (atom_of atom.now)) }
+{
+    match value.entries() {
+        Entries::Set([atom]) => Some(atom),
         _ => None,
     }
 }

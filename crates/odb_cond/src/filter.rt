@@ -1,13 +1,15 @@
 //! The filters of conditional monitors (ovsdb-server(7), "monitor_cond"). [P 9.1]
 
-ghost use Rattle.std.specs.Prelude.{◌≡◌, map, IfOk};
+ghost use Rattle.std.specs.Prelude.{◌≡◌, ◌||◌, ◌==◌, length, map, true, IfOk, OnOk};
 ghost use Rattle.std.specs.Bool.{Decides};
 ghost use Rattle.std.specs.List.{list_any};
 ghost use Rattle.odb_atoms.specs.Represented.Atom.{uuid_of};
-ghost use Rattle.odb_cond.specs.Filter.{member_holds, selects};
+ghost use Rattle.odb_cond.specs.Filter.{TellsApart, member_holds, selects};
 ghost use Rattle.odb_cond.specs.Represented.Filter.{member_of};
+ghost use Rattle.odb_cond.specs.Represented.Prepared.{GainsLacking, IsFound};
 
 use crate::clause::Clause;
+use crate::prepared::Prepared;
 use odb_atoms::Row;
 use std::alloc::{AllocError, Global};
 use std::marker::Model;
@@ -23,9 +25,9 @@ pub enum Member {
 
 /// The `where` of a table in a conditional monitor (ovsdb-server(7), "monitor_cond"): of its
 /// members one has to hold, and without members every row is selected.
-#[derive(Drop)]
 pub struct Filter {
     members: Vec<Member>,
+    prepared: Prepared,
 }
 
 impl Model for Filter {
@@ -36,6 +38,10 @@ impl Model for Filter {
     ghost use Rattle.odb_cond.specs.Represented.Filter.{filter_of};
 
     ghost view = { filter_of };
+
+    ghost use Rattle.odb_cond.specs.Represented.Prepared.{IsPrepared};
+
+    ghost invariant = { IsPrepared };
 }
 
 impl Member {
@@ -50,7 +56,7 @@ impl Member {
     }
 
     /// Returns whether the two are the same member.
-    fn same(&self, other: &Member) -> bool
+    pub(crate) fn same(&self, other: &Member) -> bool
         ensures { Decides result (member_of self.now ≡ member_of other.now) }
     {
         match (self, other) {
@@ -72,11 +78,16 @@ impl Member {
 }
 
 impl Filter {
-    /// Makes the filter with these members. O(1).
-    pub fn new(members: Vec<Member>) -> Filter
-        ensures { result ≡ map member_of members.items }
+    /// Makes the filter with these members, prepared for the test of many rows.
+    ///
+    /// O(n log n) comparisons of atoms for n members, and O(n) of columns for each column that they ask. It
+    /// keeps a copy of each atom that is searched, as `holds` says. Where memory is refused the members are
+    /// dropped.
+    pub fn new(alloc: Global, members: Vec<Member>) -> Result<Filter, AllocError>
+        ensures { IfOk result (λ filter. filter ≡ map member_of members.items) }
     {
-        Filter { members }
+        let prepared = Prepared::of(alloc, &members)?;
+        Ok(Filter { members, prepared })
     }
 
     /// Returns its members, in the order in which they were given. O(1).
@@ -99,15 +110,66 @@ impl Filter {
     /// Returns whether it selects the row with the identifier: some member holds of it, or there is no
     /// member.
     ///
-    /// O(the members, times the sizes of their columns and values), as `Clause::holds` says it.
+    /// Conditions with a set of one atom, by `==` or `includes`, are searched: O(log n) comparisons for n of
+    /// them on one column, by `includes` for each element that the row has there. Each other member costs
+    /// what `Member::holds` does.
     #[tactic(auto, using(crate::proofs::Filters::selected))]
     pub fn holds(&self, uuid: Uuid, row: &Row) -> bool
         ensures { result ≡ selects self.now (uuid_of uuid) row.now }
     {
-        self.members.is_empty() || some_member_holds(&self.members, uuid, row)
+        self.members.is_empty() || self.prepared.holds(&self.members, uuid, row)
     }
 
-    /// Makes an equal filter. O(the bytes copied).
+    /// Returns a filter that selects each row which one of the two selects and the other doesn't. It selects
+    /// other rows, too, where a member that only one of them has holds of a row for which both have another.
+    ///
+    /// It has the members that only one of them has. O(n log n) comparisons for n members that are searched,
+    /// as `holds` says, and of the others each is compared with each.
+    pub fn difference(&self, alloc: Global, other: &Filter) -> Result<Filter, AllocError>
+        ensures { IfOk result (λ differing. TellsApart differing self.now other.now) }
+    {
+        if self.has_none(other) {
+            return Filter::new(alloc, Vec::new(alloc));
+        }
+        let mut differing = Vec::new(alloc);
+        differing.push(Member::Always(false))?;
+        self.append_lacking(alloc, other, &mut differing)?;
+        other.append_lacking(alloc, self, &mut differing)?;
+        Filter::new(alloc, differing)
+    }
+
+    /// Returns whether one of the two has no members. O(1).
+    fn has_none(&self, other: &Filter) -> bool
+        ensures { result ≡ ((length self.now == 0) || (length other.now == 0)) }
+    {
+        self.members.is_empty() || other.members.is_empty()
+    }
+
+    /// Appends the members that the other filter lacks.
+    fn append_lacking(
+        &self,
+        alloc: Global,
+        other: &Filter,
+        list: &mut Vec<Member>,
+    ) -> Result<(), AllocError>
+        ensures { OnOk result (GainsLacking self.now other.now list.old.items list.new.items) }
+    {
+        for member in &self.members {
+            if !other.has(member) {
+                list.push(member.try_copy(alloc)?)?;
+            }
+        }
+        Ok(())
+    }
+
+    /// Returns whether it is certain that a member is like this one.
+    fn has(&self, member: &Member) -> bool
+        ensures { result ≡ true → IsFound member.now (λ u r. list_any (member_holds u r) self.now) }
+    {
+        self.prepared.has(&self.members, member)
+    }
+
+    /// Makes an equal filter. O(the bytes copied), and what `new` costs.
     pub fn try_copy(&self, alloc: Global) -> Result<Filter, AllocError>
         ensures { IfOk result (λ copy. copy ≡ self.now) }
     {
@@ -115,15 +177,8 @@ impl Filter {
         for member in &self.members {
             members.push(member.try_copy(alloc)?)?;
         }
-        Ok(Filter::new(members))
+        Filter::new(alloc, members)
     }
-}
-
-fn some_member_holds(members: &[Member], uuid: Uuid, row: &Row) -> bool
-    ensures { result
-        ≡ list_any (λ m. member_holds (uuid_of uuid) row.now (member_of m)) members.now }
-{
-    members.iter().any(|member| member.holds(uuid, row))
 }
 
 /// Returns whether the two lists have the same members, one by one.
@@ -148,5 +203,15 @@ impl Drop for Member {
             Member::Always(_) => {}
             Member::When(_) => {}
         }
+    }
+}
+
+// Written, and not derived, so that each end of a scope is one call to prove.
+impl Drop for Filter {
+    fn drop(self) {
+        let Filter {
+            members: _,
+            prepared: _,
+        } = self;
     }
 }

@@ -7,6 +7,8 @@
 mod clause;
 mod conditions;
 mod filter;
+mod keyed;
+mod prepared;
 
 pub use clause::{Clause, Function, Selector};
 pub use conditions::Where;

@@ -57,10 +57,10 @@ pub fn read_filter(
         (get_member (codes "where") (members_view members.now.entries))) }
 {
     match member("where", members) {
-        None => Ok(Filter::new(Vec::new(alloc))),
+        None => Ok(Filter::new(alloc, Vec::new(alloc))?),
         Some(value) => {
             let items = read_array(value)?;
-            Ok(Filter::new(read_members(alloc, items, table)?))
+            Ok(Filter::new(alloc, read_members(alloc, items, table)?)?)
         }
     }
 }
@@ -77,7 +77,7 @@ pub fn read_where(
         (members_view members.now.entries)) }
 {
     match kind {
-        Kind::Monitor => Ok(Filter::new(Vec::new(alloc))),
+        Kind::Monitor => Ok(Filter::new(alloc, Vec::new(alloc))?),
         Kind::MonitorCond => read_filter(alloc, members, table),
     }
 }

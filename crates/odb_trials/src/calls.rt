@@ -96,7 +96,7 @@ fn copies_a_filter(alloc: Global) -> Result<bool, AllocError> {
     members.push(Member::Always(false))?;
     let clause = Clause::new(Selector::Declared(2), Function::Equal, set(alloc, &[1])?);
     members.push(Member::When(clause))?;
-    let filter = Filter::new(members);
+    let filter = Filter::new(alloc, members)?;
     Ok(filter.try_copy(alloc)?.same(&filter))
 }
 

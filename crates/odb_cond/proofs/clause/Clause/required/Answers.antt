@@ -1,5 +1,4 @@
 use Rattle.std.proofs.Common.{rules, ◌≡◌}
-use Rattle.std.specs.Bool.{OnTrue}
 use mathlib.Core.Path.{ap, sym, ◌∙◌}
 use Rattle.odb_atoms.specs.Row.{declared}
 use Rattle.odb_cond.specs.Condition as model

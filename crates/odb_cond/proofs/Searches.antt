@@ -1,0 +1,166 @@
+-- A search among atoms tells whether a condition that asks for one of them holds.
+use Rattle.std.specs.Prelude.{◌≡◌, Bool, true, false, not, ◌&&◌, ◌||◌, ◌==◌, List, [], ◌∷◌, length}
+use Rattle.std.specs.Borrow.{Bor}
+use Rattle.std.specs.BTreeSet.{insert_key}
+use Rattle.std.specs.List.{list_all, list_any}
+use Rattle.std.specs.declared.cmp.Ordering.{Ordering}
+use Rattle.std.specs.declared.cmp.Ordering.TheVariants.{Less, Equal, Greater}
+use Rattle.std.specs.Ordering.{match_ordering}
+use Rattle.std.proofs.Common.{arith}
+use Rattle.std.proofs.lemmas.Bool.Decides.{nat_tests}
+use Rattle.std.proofs.lemmas.Cmp.{eq_by_cmp_equiv}
+use Rattle.std.proofs.lemmas.List.{length-map}
+use mathlib.Core.Path.{refl, sym, ap, ◌∙◌}
+use Rattle.odb_atoms.specs.Atom.{Atom, atom_cmp, same_atom}
+use Rattle.odb_atoms.specs.FinMap as finite
+use Rattle.odb_atoms.specs.FinSet as set
+use Rattle.odb_atoms.specs.Represented.Atom.{atom_of}
+use Rattle.odb_atoms.specs.Represented.AtomOrder.{atom_cmp_total}
+use Rattle.odb_atoms.specs.Represented.Value.{Lists}
+use Rattle.odb_atoms.specs.Value.{Atoms, Value, atoms, includes_all, map_of, same_value, set_of}
+use Rattle.odb_atoms.specs.declared.atom.Atom as code
+use Rattle.odb_atoms.specs.declared.value.Entries.TheVariants as entries
+use Rattle.odb_atoms.proofs.Atoms.{atom_cmp-IsAntisymmetric}
+use Rattle.odb_atoms.proofs.FinMaps.{contains_key-keys}
+use Rattle.odb_atoms.proofs.FinSets.{contains-from_list}
+use Rattle.odb_atoms.proofs.Lists.{any-map}
+use Rattle.odb_atoms.proofs.Values.{same_value-equal}
+use Rattle.odb_cond.specs.Represented.Keyed.{asks, asks_some, found_in, one}
+
+-- ---- tests of lists
+
+and_false : (b : Bool) → (b && false) ≡ false
+and_false true = refl
+and_false false = refl
+
+and_true : (b : Bool) → (b && true) ≡ b
+and_true true = refl
+and_true false = refl
+
+twice : (b : Bool) → (b && (b && true)) ≡ b
+twice true = refl
+twice false = refl
+
+two_each : (a b c d : Bool) → ((a || b) || (c || d)) ≡ ((a || c) || (b || d))
+two_each true b c d = refl
+two_each false true true d = refl
+two_each false true false d = refl
+two_each false false c d = refl
+
+any_none : {X : Type 0} (p : X → Bool) → ((x : X) → p x ≡ false) → (xs : List X) → list_any p xs ≡ false
+any_none p none [] = refl
+any_none p none (x ∷ xs) = ap (λ b. b || list_any p xs) (none x) ∙ any_none p none xs
+
+any_and : {X : Type 0} (t : Bool) (p : X → Bool) (xs : List X) → list_any (λ x. t && p x) xs ≡ (t && list_any p xs)
+any_and true p xs = refl
+any_and false p xs = any_none (λ x. false && p x) (λ x. refl) xs
+
+any_or : {X : Type 0} (p q : X → Bool) (xs : List X) → (list_any p xs || list_any q xs) ≡ list_any (λ x. p x || q x) xs
+any_or p q [] = refl
+any_or p q (x ∷ xs) = two_each (p x) (list_any p xs) (q x) (list_any q xs) ∙ ap (λ b. (p x || q x) || b) (any_or p q xs)
+
+-- which of two lists is gone through first doesn't matter
+any_swap : {X Y : Type 0} (p : X → Y → Bool) (xs : List X) (ys : List Y) → list_any (λ x. list_any (p x) ys) xs ≡ list_any (λ y. list_any (λ x. p x y) xs) ys
+any_swap p [] ys = sym (any_none (λ y. false) (λ y. refl) ys)
+any_swap p (x ∷ xs) ys = ap (λ b. list_any (p x) ys || b) (any_swap p xs ys) ∙ any_or (p x) (λ y. list_any (λ z. p z y) xs) ys
+
+-- ---- the set of one atom
+
+one_listed : (a : Atom) → set.items (atoms (a ∷ [])) ≡ a ∷ []
+unfolding finite.keys finite.insert finite.checked finite.empty
+one_listed a = refl
+
+abbrev elements : Value → List Atom
+elements (set_of s) = set.items s
+elements (map_of m) = []
+
+includes_one : (s : Atoms) (a : Atom) → includes_all (set_of s) (one a) ≡ list_any (same_atom a) (set.items s)
+includes_one s a = ap (list_all (set.contains s)) (one_listed a) ∙ and_true (set.contains s a) ∙ contains_key-keys s a
+
+turned : (a b : Atom) → same_atom a b ≡ same_atom b a
+turned a b = (eq_by_cmp_equiv atom_cmp_total).symm a b
+
+-- a set of one is the set of the atom where that is the element; any other set isn't
+equals_one : (s : Atoms) (a : Atom) → same_value (set_of s) (one a) ≡ ((length (set.items s) == 1) && list_any (same_atom a) (set.items s))
+equals_one s a = by (set.items s) refl
+  where
+    by : (xs : List Atom) → set.items s ≡ xs → same_value (set_of s) (one a) ≡ ((length xs == 1) && list_any (same_atom a) xs)
+    by [] e = ap (λ b. b && includes_all (one a) (set_of s)) (includes_one s a ∙ ap (list_any (same_atom a)) e)
+    by (x ∷ []) e =
+        let it_has : includes_all (set_of s) (one a) ≡ (same_atom a x || false) = includes_one s a ∙ ap (list_any (same_atom a)) e in
+        let is_had : includes_all (one a) (set_of s) ≡ ((same_atom a x || false) && true) = ap (list_all (set.contains (atoms (a ∷ [])))) e ∙ ap (λ b. b && true) (contains-from_list atom_cmp_total (a ∷ []) x ∙ ap (λ b. b || false) (turned x a)) in
+        (λ i. it_has i && is_had i) ∙ twice (same_atom a x || false)
+    by (x ∷ y ∷ zs) e = differs (same_value (set_of s) (one a)) refl ∙ ap (λ b. b && list_any (same_atom a) (x ∷ y ∷ zs)) (more_than_one)
+      where
+        more_than_one : false ≡ (length (x ∷ y ∷ zs) == 1)
+        more_than_one = grind (arith, nat_tests)
+
+        differs : (b : Bool) → same_value (set_of s) (one a) ≡ b → b ≡ false
+        differs true same = let listed : (x ∷ y ∷ zs) ≡ (a ∷ []) = sym e ∙ ap elements (same_value-equal (set_of s) (one a) same) ∙ one_listed a in absurd (omega (arith, ap length listed))
+        differs false same = refl
+
+asks_set : (is_equality : Bool) (s : Atoms) (a : Atom) → asks is_equality (set_of s) a ≡ ((not is_equality || (length (set.items s) == 1)) && list_any (same_atom a) (set.items s))
+asks_set true s a = equals_one s a
+asks_set false s a = includes_one s a
+
+-- ---- the search
+
+pub found : (is_equality : Bool) (ks : List (code.Atom)) (es : Bor (List (code.Atom))) (v : Value) → Lists (entries.Set es) v → found_in is_equality ks es.now ≡ asks_some is_equality ks v
+found is_equality ks es (set_of s) listed =
+    let alone : List Atom → Bool = λ xs. not is_equality || (length xs == 1) in
+    let each : (k : code.Atom) → list_any (same_atom (atom_of k)) (set.items s) ≡ list_any (λ e. same_atom (atom_of e) (atom_of k)) es.now = λ k.
+    ap (list_any (same_atom (atom_of k))) (sym listed)
+    ∙ any-map (same_atom (atom_of k)) atom_of es.now
+    ∙ (λ i. list_any (λ e. turned (atom_of k) (atom_of e) i) es.now) in
+    sym ((λ i. list_any (λ k. asks_set is_equality s (atom_of k) i) ks)
+    ∙ any_and (alone (set.items s)) (λ k. list_any (same_atom (atom_of k)) (set.items s)) ks
+    ∙ (λ i. alone (sym listed i) && list_any (λ k. each k i) ks)
+    ∙ (λ i. (not is_equality || (length-map es.now atom_of i == 1)) && any_swap (λ k e. same_atom (atom_of e) (atom_of k)) ks es.now i))
+found is_equality ks es (map_of m) listed = absurd listed
+
+asks_map : (is_equality : Bool) (m : _) (a : Atom) → asks is_equality (map_of m) a ≡ false
+asks_map true m a = refl
+asks_map false m a = refl
+
+-- no condition that asks for one atom holds of a map
+pub none_in_map : (is_equality : Bool) (ks : List (code.Atom)) (es : Bor (List (code.Atom × code.Atom))) (v : Value) → Lists (entries.Map es) v → false ≡ asks_some is_equality ks v
+none_in_map is_equality ks es (set_of s) listed = absurd listed
+none_in_map is_equality ks es (map_of m) listed = sym (any_none (λ k. asks is_equality (map_of m) (atom_of k)) (λ k. asks_map is_equality m (atom_of k)) ks)
+
+no_element : (alone : List Atom → Bool) (a : Atom) → (alone (set.items {R = atom_cmp} set.empty) && list_any (same_atom a) (set.items {R = atom_cmp} set.empty)) ≡ false
+unfolding finite.keys finite.empty
+no_element alone a = and_false (alone [])
+
+-- nor of the empty set
+pub none_in_nothing : (is_equality : Bool) (ks : List (code.Atom)) → asks_some is_equality ks (set_of set.empty) ≡ false
+none_in_nothing is_equality ks = any_none (λ k. asks is_equality (set_of set.empty) (atom_of k)) (λ k. asks_set is_equality set.empty (atom_of k) ∙ no_element (λ xs. not is_equality || (length xs == 1)) (atom_of k)) ks
+
+-- ---- one atom more
+
+by_cases : (a b c : Bool) → a ≡ b → (b || c) ≡ ((b || c) || a)
+by_cases a true c e = refl
+by_cases a false true e = refl
+by_cases true false false e = sym e
+by_cases false false false e = refl
+
+in_front : (a b : Bool) → (a || b) ≡ (b || a)
+in_front true true = refl
+in_front true false = refl
+in_front false true = refl
+in_front false false = refl
+
+behind : (a b c d : Bool) → b ≡ (c || d) → (a || b) ≡ ((a || c) || d)
+behind true b c d e = refl
+behind false b c d e = e
+
+any_insert : {K : Type 0} (cmp : K → K → Ordering) (p : K → Bool) → ((k x : K) → cmp k x ≡ Equal → p k ≡ p x) → (xs : List K) (k : K) → list_any p (insert_key cmp xs k) ≡ (list_any p xs || p k)
+any_insert cmp p alike [] k = in_front (p k) false
+any_insert cmp p alike (x ∷ xs) k = by (cmp k x) refl (any_insert cmp p alike xs k)
+  where
+    by : (o : Ordering) → cmp k x ≡ o → list_any p (insert_key cmp xs k) ≡ (list_any p xs || p k) → list_any p (match_ordering o (k ∷ x ∷ xs) (x ∷ xs) (x ∷ insert_key cmp xs k)) ≡ ((p x || list_any p xs) || p k)
+    by Less e rest = in_front (p k) (p x || list_any p xs)
+    by Equal e rest = by_cases (p k) (p x) (list_any p xs) (alike k x e)
+    by Greater e rest = behind (p x) (list_any p (insert_key cmp xs k)) (list_any p xs) (p k) rest
+
+pub one_atom_more : (is_equality : Bool) (v : Value) (ks : List (code.Atom)) (k : code.Atom) → asks_some is_equality (insert_key (λ a b. atom_cmp (atom_of a) (atom_of b)) ks k) v ≡ (asks_some is_equality ks v || asks is_equality v (atom_of k))
+one_atom_more is_equality v ks k = any_insert (λ a b. atom_cmp (atom_of a) (atom_of b)) (λ a. asks is_equality v (atom_of a)) (λ a b e. ap (asks is_equality v) (atom_cmp-IsAntisymmetric (atom_of a) (atom_of b) e)) ks k
