@@ -1,7 +1,5 @@
--- The tags of rows: where two rows have the same, what a value's atoms add, and what may be cut.
-use Rattle.std.proofs.Common.{◌≡◌, ◌⊎◌, ◌||◌, ℕ, true, false, not, List, [], ◌∷◌, map, slice_get, unwrap_or, Global, Vec, IfSome, Option, Some, None, refl, sym, ap, subst, ◌∙◌, Bor}
-use mathlib.Core.Bool.{true≢false}
-use mathlib.Core.Logic.{inl, inr}
+-- The tags of rows: where two rows have the same, and what tells them.
+use Rattle.std.proofs.Common.{◌≡◌, ◌||◌, ℕ, true, false, not, List, [], ◌∷◌, map, slice_get, unwrap_or, Global, Vec, IfSome, Option, Some, None, refl, sym, ap, subst, ◌∙◌, Bor}
 use Rattle.std.proofs.lemmas.Option.{none-some, same_Some}
 use Rattle.std.specs.Cmp.{unsigned_Decides}
 use Rattle.std.specs.List.{list_all, list_any}
@@ -15,16 +13,14 @@ use Rattle.odb_atoms.specs.Uuid.{Uuid, same_number-same, same_uuid, zero_uuid}
 use Rattle.odb_atoms.specs.Value.{Value, map_of, same_values, set_of}
 use Rattle.odb_atoms.specs.declared.atom.Atom as code
 use Rattle.odb_atoms.specs.declared.value.Entries.TheVariants as entries
-use Rattle.odb_atoms.proofs.Atoms.{atom_cmp-IsAntisymmetric}
 use Rattle.odb_atoms.proofs.Equal.{same_atom-itself, same_values-equal}
-use Rattle.odb_atoms.proofs.FinMaps.{contains_key-keys, same_key}
-use Rattle.odb_atoms.proofs.Lists.{both, either}
+use Rattle.odb_atoms.proofs.FinMaps.{contains_key-keys}
+use Rattle.odb_atoms.proofs.Lists.{both}
 use Rattle.odb_atoms.proofs.Values.{same_value-equal}
 use Rattle.odb_tables.specs.Kept.{cells_at, is_twin, mentions}
 use Rattle.odb_tables.specs.Represented.Digest.{digest}
-use Rattle.odb_tables.specs.Represented.Facet.{Cuts, identifier_in, is_tag, is_tag_now}
-use Rattle.odb_tables.specs.Represented.Kept.{have_same_at, is_in}
-use Rattle.odb_tables.specs.Represented.Pairs.{Pairs, has}
+use Rattle.odb_tables.specs.Represented.Facet.{identifier_in, is_tag}
+use Rattle.odb_tables.specs.Represented.Kept.{have_same_at}
 use Rattle.odb_tables.specs.declared.facet.Facet.{Facet}
 use Rattle.odb_tables.specs.declared.facet.Facet.TheVariants.{Mentions, Values}
 use Rattle.odb_tables.proofs.Twins.{mentions-nothing, nothing_in, same_cells}
@@ -36,44 +32,6 @@ cells-same r s places e = same_values-equal (cells_at places r) (cells_at places
 
 pub cell-same : (r s : Row) (place : ℕ) → have_same_at r s place ≡ true → cell zero_uuid r (declared place) ≡ cell zero_uuid s (declared place)
 cell-same r s place e = same_value-equal _ _ e
-
--- ---- the identifiers that a value mentions
-
-of_atom : (tag : Uuid) (a : Atom) → same_atom (uuid tag) a ≡ true → identifier_in a ≡ Some tag
-of_atom tag a e = ap identifier_in (sym (same_key atom_cmp-IsAntisymmetric (uuid tag) a e))
-
-of_turned : (tag : Uuid) (a : Atom) → same_atom a (uuid tag) ≡ true → identifier_in a ≡ Some tag
-of_turned tag a e = ap identifier_in (same_key atom_cmp-IsAntisymmetric a (uuid tag) e)
-
--- each tag that is still to come is still to come, or stands now
-pub next_element : (P : Uuid → Type 0) (tag : Uuid) (a : Atom) (rest : List Atom) → (identifier_in a ≡ Some tag → P tag) → list_any (same_atom (uuid tag)) (a ∷ rest) ≡ true → P tag ⊎ (list_any (same_atom (uuid tag)) rest ≡ true)
-next_element P tag a rest here e = elim (either (same_atom (uuid tag) a) (list_any (same_atom (uuid tag)) rest) e) as (λ _. P tag ⊎ (list_any (same_atom (uuid tag)) rest ≡ true)) [ inl h ↦ inl (here (of_atom tag a h)) | inr h ↦ inr h ]
-
-pub next_entry : (P : Uuid → Type 0) (tag : Uuid) (p : Atom × Atom) (ps : List (Atom × Atom)) → (identifier_in p.0 ≡ Some tag → P tag) → (identifier_in p.1 ≡ Some tag → P tag) → list_any (is_in (uuid tag)) (p ∷ ps) ≡ true → P tag ⊎ (list_any (is_in (uuid tag)) ps ≡ true)
-next_entry P tag p ps first second e =
-    elim (either (is_in (uuid tag) p) (list_any (is_in (uuid tag)) ps) e) as (λ _. P tag ⊎ (list_any (is_in (uuid tag)) ps ≡ true)) [
-      | inl h ↦ elim (either (same_atom p.0 (uuid tag)) (same_atom p.1 (uuid tag)) h) as (λ _. P tag ⊎ (list_any (is_in (uuid tag)) ps ≡ true)) [ inl k ↦ inl (first (of_turned tag p.0 k)) | inr k ↦ inl (second (of_turned tag p.1 k)) ]
-      | inr h ↦ inr h
-    ]
-
-pub element_mentioned : (tag : Uuid) (elements : Bor (List code.Atom)) (v : Value) → shown.Lists (entries.Set elements) v → mentions tag v ≡ true → list_any (same_atom (uuid tag)) (map atom_of elements.now) ≡ true
-element_mentioned tag elements (set_of s) listed e = ap (list_any (same_atom (uuid tag))) listed ∙ sym (contains_key-keys s (uuid tag)) ∙ e
-element_mentioned tag elements (map_of m) listed e = absurd listed
-
-pub entry_mentioned : (tag : Uuid) (pairs : Bor (List (code.Atom × code.Atom))) (v : Value) → shown.Lists (entries.Map pairs) v → mentions tag v ≡ true → list_any (is_in (uuid tag)) (map pair_of pairs.now) ≡ true
-entry_mentioned tag pairs (set_of s) listed e = absurd listed
-entry_mentioned tag pairs (map_of m) listed e = ap (list_any (is_in (uuid tag))) listed ∙ e
-
--- ---- what is cut
-
-pub cuts-then : (f : Facet) (first second third : Pairs) (u : Uuid) (now : Option Row) → Cuts f first second u now → Cuts f second third u now → Cuts f first third u now
-cuts-then f first second third u now p q tag v h stays = q tag v (p tag v h stays) stays
-
-pub cut-one : (f : Facet) (old new : Pairs) (tag u : Uuid) (now : Option Row) → ((t v : Uuid) → has old t v ≡ true → (has new t v ≡ true) ⊎ ((t ≡ tag) × (v ≡ u))) → is_tag_now f tag now ≡ false → Cuts f old new u now
-cut-one f old new tag u now one no_tag t v h stays = elim (one t v h) as (λ _. has new t v ≡ true) [
-  | inl there ↦ there
-  | inr here ↦ absurd (true≢false (sym (stays here.1) ∙ ap (λ x. is_tag_now f x now) here.0 ∙ no_tag))
-]
 
 pub same-uuid : (t u : Uuid) → same_uuid t u ≡ true → t ≡ u
 same-uuid t u e = same_number-same t u ((unsigned_Decides t.number u.number).0 e)
@@ -95,8 +53,8 @@ values-tag f keys places s tag is same = ap (λ g. is_tag g tag s) is ∙ ap (λ
     itself : (u : Uuid) → same_uuid u u ≡ true
     itself u = (unsigned_Decides u.number u.number).1 refl
 
-pub mentions-tag : (f : Facet) (place : ℕ) (s : Row) (tag : Uuid) → f ≡ Mentions place → mentions tag (cell zero_uuid s (declared place)) ≡ true → is_tag f tag s ≡ true
-mentions-tag f place s tag is there = ap (λ g. is_tag g tag s) is ∙ there
+pub values-tagged : (f : Facet) (keys : RandomState) (places : Vec ℕ Global) (s : Row) (tag : Uuid) → f ≡ Values keys places → is_tag f tag s ≡ true → tag ≡ digest keys (cells_at places.items s)
+values-tagged f keys places s tag is e = same-uuid tag (digest keys (cells_at places.items s)) (sym (ap (λ g. is_tag g tag s) is) ∙ e)
 
 pub twin-cells : (places : List ℕ) (u v : Uuid) (r s : Row) → is_twin places u r (v, s) ≡ true → cells_at places r ≡ cells_at places s
 twin-cells places u v r s e = same_values-equal (cells_at places r) (cells_at places s) (both (not (same_uuid u v)) (same_values (cells_at places r) (cells_at places s)) e).1

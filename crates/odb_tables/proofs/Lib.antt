@@ -10,6 +10,7 @@ mod Keepings
 pub mod KeyedMaps
 mod Keys
 pub mod Leading
+mod Mentions
 mod Overlays
 mod PairSets
 mod Steps

@@ -1,6 +1,7 @@
 pub mod Counted
 pub mod Digest
 pub mod Draft
+pub mod Entry
 pub mod Facet
 pub mod Found
 pub mod Installed

@@ -135,7 +135,8 @@ impl Db {
 
     /// Makes the whole change, or none: where memory is refused the database is as it was, and the change
     /// comes back. The old sides of the change have to be what the database has. O(rows changed), O(tables),
-    /// and O(log n) for each tag of a row changed and n pairs that are kept.
+    /// O(the values compared), and for each tag that a row gained or lost O(log n) for the n pairs that are kept
+    /// and, where it was lost, a search in the value.
     pub fn install(&mut self, change: ChangeSet) -> Result<(), AllocFailed<ChangeSet>>
         requires { IsChangeOf self.old change }
         ensures ok { OnOk result (self.new ≡ all_changed_by self.old change) }

@@ -1,25 +1,21 @@
 //! Facets of rows: by what rows are kept, so that they are found without a walk.
-ghost use Rattle.std.specs.Prelude.{◌≡◌, true, IsTrue, map, OnOk, option_map, Some};
-ghost use Rattle.std.specs.List.{list_any};
+ghost use Rattle.std.specs.Prelude.{◌≡◌, ◌⊎◌, true, IsTrue, OnOk};
 ghost use Rattle.std.specs.Option.{option_copied};
-ghost use Rattle.odb_atoms.specs.Atom as model_atom;
-ghost use Rattle.odb_atoms.specs.Represented.Atom.{atom_of, uuid_of};
-ghost use Rattle.odb_atoms.specs.Represented.Value.{pair_of};
 ghost use Rattle.odb_atoms.specs.Row as model_row;
 ghost use Rattle.odb_atoms.specs.Uuid as model_uuid;
-ghost use Rattle.odb_tables.specs.Kept as kept;
-ghost use Rattle.odb_tables.specs.Represented.Facet.{Cuts, identifier_in, is_tag, is_tag_now};
-ghost use Rattle.odb_tables.specs.Represented.Kept.{is_in};
+ghost use Rattle.odb_tables.specs.Represented.Entry.{mentions_now};
+ghost use Rattle.odb_tables.specs.Represented.Facet.{Cuts, is_tag, is_tag_now};
 ghost use Rattle.odb_tables.specs.Represented.Pairs.{Grows, has};
+ghost use Rattle.odb_tables.specs.declared.facet.Facet.TheVariants as facets;
 
 use crate::key::Key;
 use crate::row_test::{have_same, have_same_at, refers};
-use crate::{digest, pairs};
-use odb_atoms::{Atom, Entries, Row, Value};
+use crate::staying::Staying;
+use crate::{digest, mentioned, pairs};
+use odb_atoms::{Row, Value};
 use std::alloc::AllocError;
 use std::collections::BTreeSet;
 use std::hash::RandomState;
-use uuid::Uuid;
 
 /// By what rows are kept: under each tag that it gives a row, the row is found.
 pub(crate) enum Facet {
@@ -54,8 +50,8 @@ impl Facet {
         }
     }
 
-    /// Returns whether there is a row, and the tag is one of its.
-    fn has_tag_now(&self, tag: Key, row: Option<&Row>) -> bool
+    /// Returns whether there is a row, and the tag is one of its. O(the bytes of the values), or a search in the value.
+    pub(crate) fn has_tag_now(&self, tag: Key, row: Option<&Row>) -> bool
         ensures { result ≡ is_tag_now self.now tag (option_copied row.entry) }
     {
         match row {
@@ -86,16 +82,18 @@ impl Facet {
         }
     }
 
-    /// Keeps the row under each of its tags. Where memory is refused it is under some of them. O(log n)
-    /// for each tag and n pairs.
-    pub(crate) fn add(
+    /// Keeps the row under each of its tags that it didn't have before. Where memory is refused it is under some of
+    /// them. O(the values compared), and O(log n) for each tag that came and n pairs.
+    pub(crate) fn add_gained(
         &self,
         pairs: &mut BTreeSet<(Key, Key)>,
         key: Key,
+        before: Option<&Row>,
         row: &Row,
     ) -> Result<(), AllocError>
         ensures grows { Grows pairs.old pairs.new }
-        ensures ok { OnOk result ((tag : model_uuid.Uuid) → is_tag self.now tag row.now ≡ true → has pairs.new tag key ≡ true) }
+        ensures ok { OnOk result ((tag : model_uuid.Uuid) → is_tag self.now tag row.now ≡ true
+            → (is_tag_now self.now tag (option_copied before.entry) ≡ true) ⊎ (has pairs.new tag key ≡ true)) }
     {
         match self {
             Facet::Values(hashing, places) => {
@@ -103,14 +101,14 @@ impl Facet {
                 pairs::add(pairs, tag, key)
             }
             Facet::Mentions(place) => match row.get(*place) {
-                Some(value) => add_mentioned(pairs, value, key),
+                Some(value) => mentioned::add_gained(pairs, key, value_at(before, *place), value),
                 None => Ok(()),
             },
         }
     }
 
-    /// Takes the pairs of the row out, but for those under a tag that the row has now. O(log n) for each
-    /// tag and n pairs.
+    /// Takes the pairs of the row out, but for those under a tag that the row has now. O(the values compared), and
+    /// for each tag that went a search in the value and O(log n) for n pairs.
     pub(crate) fn cut(
         &self,
         pairs: &mut BTreeSet<(Key, Key)>,
@@ -120,147 +118,31 @@ impl Facet {
     )
         ensures { Cuts self.now pairs.old pairs.new key (option_copied now.entry) }
     {
+        let staying = Staying {
+            facet: self,
+            key,
+            row: now,
+        };
         match self {
             Facet::Values(hashing, places) => {
-                let tag = digest::of_row(*hashing, places.as_slice(), row);
-                self.cut_tag(pairs, tag, key, now);
+                staying.cut_tag(pairs, digest::of_row(*hashing, places.as_slice(), row));
             }
             Facet::Mentions(place) => match row.get(*place) {
-                Some(value) => self.cut_mentioned(pairs, value, key, now),
+                Some(value) => staying.cut_lost(pairs, value, value_at(now, *place)),
                 None => {}
             },
         }
     }
-
-    fn cut_mentioned(
-        &self,
-        pairs: &mut BTreeSet<(Key, Key)>,
-        value: &Value,
-        key: Key,
-        now: Option<&Row>,
-    )
-        ensures { Cuts self.now pairs.old pairs.new key (option_copied now.entry) }
-    {
-        match value.entries() {
-            Entries::Set(elements) => self.cut_elements(pairs, elements, key, now),
-            Entries::Map(entries) => self.cut_entries(pairs, entries, key, now),
-        }
-    }
-
-    fn cut_elements(
-        &self,
-        pairs: &mut BTreeSet<(Key, Key)>,
-        elements: &[Atom],
-        key: Key,
-        now: Option<&Row>,
-    )
-        ensures { Cuts self.now pairs.old pairs.new key (option_copied now.entry) }
-    {
-        for element in elements {
-            self.cut_atom(pairs, element, key, now);
-        }
-    }
-
-    fn cut_entries(
-        &self,
-        pairs: &mut BTreeSet<(Key, Key)>,
-        entries: &[(Atom, Atom)],
-        key: Key,
-        now: Option<&Row>,
-    )
-        ensures { Cuts self.now pairs.old pairs.new key (option_copied now.entry) }
-    {
-        for entry in entries {
-            self.cut_atom(pairs, &entry.0, key, now);
-            self.cut_atom(pairs, &entry.1, key, now);
-        }
-    }
-
-    fn cut_atom(&self, pairs: &mut BTreeSet<(Key, Key)>, atom: &Atom, key: Key, now: Option<&Row>)
-        ensures { Cuts self.now pairs.old pairs.new key (option_copied now.entry) }
-    {
-        match identifier(atom) {
-            Some(uuid) => self.cut_tag(pairs, Key::of(uuid), key, now),
-            None => {}
-        }
-    }
-
-    /// Takes the pair out, unless the row has the tag now.
-    fn cut_tag(&self, pairs: &mut BTreeSet<(Key, Key)>, tag: Key, key: Key, now: Option<&Row>)
-        ensures { Cuts self.now pairs.old pairs.new key (option_copied now.entry) }
-    {
-        if self.has_tag_now(tag, now) {
-            return;
-        }
-        pairs::remove(pairs, tag, key);
-    }
 }
 
-/// Keeps the key under each identifier that the value mentions.
-fn add_mentioned(
-    pairs: &mut BTreeSet<(Key, Key)>,
-    value: &Value,
-    key: Key,
-) -> Result<(), AllocError>
-    ensures grows { Grows pairs.old pairs.new }
-    ensures ok { OnOk result ((tag : model_uuid.Uuid) → kept.mentions tag value.now ≡ true → has pairs.new tag key ≡ true) }
+/// Returns what the row has in the column at the place, if there is a row.
+fn value_at(row: Option<&Row>, place: usize) -> Option<&Value>
+    ensures { (tag : model_uuid.Uuid) → mentions_now tag (option_copied result) ≡ true
+        → is_tag_now (facets.Mentions place) tag (option_copied row.entry) ≡ true }
 {
-    match value.entries() {
-        Entries::Set(elements) => add_elements(pairs, elements, key),
-        Entries::Map(entries) => add_entries(pairs, entries, key),
-    }
-}
-
-fn add_elements(
-    pairs: &mut BTreeSet<(Key, Key)>,
-    elements: &[Atom],
-    key: Key,
-) -> Result<(), AllocError>
-    ensures grows { Grows pairs.old pairs.new }
-    ensures ok { OnOk result ((tag : model_uuid.Uuid) → list_any (model_atom.same_atom (model_atom.uuid tag)) (map atom_of elements.now) ≡ true
-        → has pairs.new tag key ≡ true) }
-{
-    for element in elements {
-        add_atom(pairs, element, key)?;
-    }
-    Ok(())
-}
-
-fn add_entries(
-    pairs: &mut BTreeSet<(Key, Key)>,
-    entries: &[(Atom, Atom)],
-    key: Key,
-) -> Result<(), AllocError>
-    ensures grows { Grows pairs.old pairs.new }
-    ensures ok { OnOk result ((tag : model_uuid.Uuid) → list_any (is_in (model_atom.uuid tag)) (map pair_of entries.now) ≡ true
-        → has pairs.new tag key ≡ true) }
-{
-    for entry in entries {
-        add_atom(pairs, &entry.0, key)?;
-        add_atom(pairs, &entry.1, key)?;
-    }
-    Ok(())
-}
-
-fn add_atom(pairs: &mut BTreeSet<(Key, Key)>, atom: &Atom, key: Key) -> Result<(), AllocError>
-    ensures grows { Grows pairs.old pairs.new }
-    ensures ok { OnOk result ((tag : model_uuid.Uuid) → identifier_in (atom_of atom.now) ≡ Some tag → has pairs.new tag key ≡ true) }
-{
-    match identifier(atom) {
-        Some(uuid) => pairs::add(pairs, Key::of(uuid), key),
-        None => Ok(()),
-    }
-}
-
-/// Returns the identifier that the atom is, if it is one.
-pub(crate) fn identifier(atom: &Atom) -> Option<Uuid>
-    ensures { option_map uuid_of result ≡ identifier_in (atom_of atom.now) }
-{
-    match atom {
-        Atom::Integer(_) => None,
-        Atom::Boolean(_) => None,
-        Atom::Text(_) => None,
-        Atom::Uuid(uuid) => Some(*uuid),
+    match row {
+        Some(row) => row.get(place),
+        None => None,
     }
 }
 

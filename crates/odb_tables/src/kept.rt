@@ -64,7 +64,8 @@ impl Kept {
     }
 
     /// Keeps the rows that are new by the change, and those that it changes under their new tags.
-    /// Where memory is refused some of that is done. O(log n) for each tag of a row changed and n pairs.
+    /// Where memory is refused some of that is done. O(the values compared), and O(log n) for each tag that came
+    /// and n pairs.
     pub(crate) fn note(&mut self, change: &TableChange) -> Result<(), AllocError>
         ensures same { IsOfSame self.old self.new }
         ensures grows { Grows self.old.pairs self.new.pairs }
@@ -80,11 +81,11 @@ impl Kept {
         ensures grows { Grows self.old.pairs self.new.pairs }
         ensures ok { OnOk result (HasTagsNow self.old.facet self.new.pairs key (Some row.now)) }
     {
-        self.facet.add(&mut self.pairs, key, row)
+        self.facet.add_gained(&mut self.pairs, key, None, row)
     }
 
-    /// Takes out the pairs of the side that goes, but for those of the other side. O(log n) for each tag of a
-    /// row changed and n pairs.
+    /// Takes out the pairs of the side that goes, but for those of the other side. O(the values compared), and
+    /// for each tag that went a search in the value and O(log n) for n pairs.
     pub(crate) fn cut(&mut self, change: &TableChange, side: Side)
         ensures same { IsOfSame self.old self.new }
         ensures cuts { CutsAll self.old.facet self.old.pairs self.new.pairs side change.now }
@@ -137,7 +138,7 @@ fn note_row(
     if facet.is_same(change.old(), new) {
         return Ok(());
     }
-    facet.add(pairs, Key::of(change.uuid()), new)
+    facet.add_gained(pairs, Key::of(change.uuid()), change.old(), new)
 }
 
 fn cut(facet: &Facet, pairs: &mut BTreeSet<(Key, Key)>, change: &TableChange, side: Side)

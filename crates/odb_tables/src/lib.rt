@@ -8,15 +8,18 @@ mod change_set;
 mod database;
 mod digest;
 mod draft;
+mod entry;
 mod facet;
 mod kept;
 mod kept_for;
 mod key;
+mod mentioned;
 mod new_twins;
 mod overlay;
 mod pairs;
 mod row_change;
 mod row_test;
+mod staying;
 mod table;
 mod table_change;
 

@@ -4,7 +4,7 @@ ghost use Rattle.odb_atoms.specs.FinSet as set;
 ghost use Rattle.std.specs.List.{list_all, list_any};
 ghost use Rattle.odb_atoms.specs.Represented.Atom.{atom_of, uuid_of};
 ghost use Rattle.odb_atoms.specs.Represented.Value.{pair_of};
-ghost use Rattle.odb_tables.specs.Represented.Facet.{identifier_in, is_tag};
+ghost use Rattle.odb_tables.specs.Represented.Facet.{is_tag};
 ghost use Rattle.odb_tables.specs.Represented.Kept.{have_same_at as same_at, is_in};
 ghost use Rattle.odb_atoms.specs.Row.{cell, declared};
 ghost use Rattle.odb_atoms.specs.Row as model_row;
@@ -16,7 +16,8 @@ ghost use Rattle.odb_cond.specs.Condition.{holds_all};
 ghost use Rattle.odb_tables.specs.Kept.{is_twin};
 
 use crate::digest;
-use crate::facet::{Facet, identifier};
+use crate::entry::key_of;
+use crate::facet::Facet;
 use crate::key::Key;
 use odb_atoms::{Atom, Entries, Row, Value};
 use odb_cond::Where;
@@ -186,15 +187,5 @@ fn first_mentioned(value: &Value) -> Option<Key>
             None => None,
         },
         Entries::Map(_) => None,
-    }
-}
-
-/// Returns the key that the atom is, if it is an identifier.
-fn key_of(atom: &Atom) -> Option<Key>
-    ensures { result ≡ identifier_in (atom_of atom.now) }
-{
-    match identifier(atom) {
-        Some(uuid) => Some(Key::of(uuid)),
-        None => None,
     }
 }

@@ -1,6 +1,0 @@
-use Rattle.std.specs.Option.{option_copied}
-use Rattle.odb_tables.specs.Represented.Facet.{Cuts}
-use Rattle.odb_tables.proofs.facet.Facet.cut_elements.Given as goal
-
-abbrev pub invariant-loop-element : goal.invariant-loop-element
-invariant-loop-element l = Cuts l.self l.initial.pairs l.pairs l.key (option_copied l.now)
