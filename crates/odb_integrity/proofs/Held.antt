@@ -11,7 +11,9 @@ use Rattle.odb_schema.specs.Schema.{Schema, is_root_at}
 use Rattle.odb_tables.specs.Database.{Db}
 use Rattle.odb_integrity.specs.Represented.RowId.{row_id_cmp, supports}
 use Rattle.odb_integrity.specs.Settlement.{RowId, has_support, is_kept, is_referred, is_there, kept, refers, row_ids, row_of, same_row, strong_of_row}
-use Rattle.odb_integrity.specs.Touched.{SameBut, SupportedBut, hanging}
+use Rattle.odb_integrity.specs.Gained.{gained, gained_since}
+use Rattle.odb_integrity.specs.Touched.{SameBut, SupportedBut, hanging, is_newly_referred}
+use Rattle.odb_integrity.proofs.Gains.{gained_refers, referred_before}
 use Rattle.odb_integrity.proofs.Databases.{any-row_ids, each_row_same, there_inside}
 use Rattle.odb_integrity.proofs.Ids.{any-filter, member, own_row}
 use Rattle.odb_integrity.proofs.Kept.{kept_is_largest, kept_is_supported}
@@ -60,14 +62,6 @@ module _ (s : Schema) (db : Db) where
           let h = both (not (same_row x w.0)) (refers s db w.0 x) w.2 in
           inr (w.0, gives_any (same_row w.0) xs w.0 w.1 (own_row w.0), not_true (same_row x w.0) h.0, h.1)
 
-  -- support by some rows is support
-  pub supported_among : (xs : List RowId) (x : RowId) → has_support s db xs x ≡ true → has_support s db (row_ids db) x ≡ true
-  supported_among xs x e = by (supporter_in xs x e)
-    where
-      by : (is_root_at s x.0 ≡ true) ⊎ ((y : RowId) × (list_any (same_row y) xs ≡ true) × (same_row x y ≡ false) × (refers s db y x ≡ true)) → has_support s db (row_ids db) x ≡ true
-      by (inl root) = supported_root (row_ids db) x root
-      by (inr v) = supported_by x v.0 v.2 v.3
-
   -- where each row has support, each is kept
   pub supported_kept : ((x : RowId) → is_there db x ≡ true → has_support s db (row_ids db) x ≡ true) → db ≡ kept s db
   supported_kept h = all_kept s db (kept_is_largest s db (is_there db) (λ x there. (any-row_ids db x ∙ there, by x (supporter_in (row_ids db) x (h x there)))))
@@ -88,38 +82,64 @@ module _ (s : Schema) (db : Db) where
 
 module _ (s : Schema) (old now : Db) (touched rows waiting : List RowId) (referred : BTreeSet RowId) (same : SameBut touched old now)
     (settled : (x : RowId) → is_there old x ≡ true → is_kept s old x ≡ true)
-    (all : rows ≡ flat_map (hanging s old) touched)
-    (referring : (x : RowId) → contains row_id_cmp referred x ≡ is_referred s now touched x)
+    (all : rows ≡ flat_map (hanging s old now) touched)
+    (referring : (x : RowId) → contains row_id_cmp referred x ≡ is_newly_referred s old now touched x)
     (others : waiting ≡ filter (λ x. not (supports s referred x)) rows) where
-  -- one that hangs on no row that was touched
-  untouched : (x y : RowId) → list_any (same_row x) rows ≡ false → list_any (same_row x) (hanging s old y) ≡ true → list_any (same_row y) touched ≡ false
-  untouched x y absent e = by (list_any (same_row y) touched) refl
+  -- a touched row on which it hung would have it listed
+  not_hanging : (x y : RowId) → list_any (same_row x) rows ≡ false → list_any (same_row y) touched ≡ true → list_any (same_row x) (hanging s old now y) ≡ false
+  not_hanging x y absent listed = by (list_any (same_row x) (hanging s old now y)) refl
     where
-      by : (b : Bool) → list_any (same_row y) touched ≡ b → b ≡ false
-      by true listed =
-          sym (gives_any (λ z. list_any (same_row x) (hanging s old z)) touched y (member y touched listed) e)
-          ∙ sym (any-flat_map (same_row x) (hanging s old) touched)
+      by : (b : Bool) → list_any (same_row x) (hanging s old now y) ≡ b → b ≡ false
+      by true e =
+          sym (gives_any (λ z. list_any (same_row x) (hanging s old now z)) touched y (member y touched listed) e)
+          ∙ sym (any-flat_map (same_row x) (hanging s old now) touched)
           ∙ ap (list_any (same_row x)) (sym all)
           ∙ absent
-      by false listed = refl
+      by false e = refl
+
+  -- it isn't new: a new one would be listed
+  was_there : (x : RowId) → is_there now x ≡ true → list_any (same_row x) rows ≡ false → is_there old x ≡ true
+  was_there x there absent = by (list_any (same_row x) touched) refl (row_of old x) refl
+    where
+      by : (b : Bool) → list_any (same_row x) touched ≡ b → (o : Option Row) → row_of old x ≡ o → is_some o ≡ true
+      by b listed (Some r) e = refl
+      by false listed None e = sym (ap is_some e) ∙ sym (ap is_some (same x listed)) ∙ there
+      by true listed None e =
+          sym (not_hanging x x absent listed)
+          ∙ ap (λ o. list_any (same_row x) (unwrap_or (option_map (gained_since s x (row_of now x)) o) (x ∷ []))) e
+          ∙ ap (λ b. b || false) (own_row x)
+
+  -- who referred to it does so still
+  refers_still : (x y : RowId) → list_any (same_row x) rows ≡ false → refers s old y x ≡ true → refers s now y x ≡ true
+  refers_still x y absent e = by (list_any (same_row y) touched) refl
+    where
+      lost : (o : Option Row) → unwrap_or (option_map (λ r. list_any (same_row x) (strong_of_row s y r)) o) false ≡ true
+          → list_any (same_row x) (unwrap_or (option_map (gained_since s y (row_of now y)) o) (y ∷ [])) ≡ false
+          → list_any (same_row x) (unwrap_or (option_map (gained_since s y (row_of now y)) o) []) ≡ false
+      lost None e f = refl
+      lost (Some r) e f = f
+
+      by : (b : Bool) → list_any (same_row y) touched ≡ b → refers s now y x ≡ true
+      by true listed = referred_before s now old y x e (lost (row_of old y) e (not_hanging x y absent listed))
+      by false listed = ap (λ o. unwrap_or (option_map (λ r. list_any (same_row x) (strong_of_row s y r)) o) false) (same y listed) ∙ e
 
   supported_still : (x : RowId) → is_there now x ≡ true → list_any (same_row x) rows ≡ false → has_support s now (row_ids now) x ≡ true
-  supported_still x there absent = by (kept_is_supported s old x (settled x (was (row_of old x) refl))).1
+  supported_still x there absent = by (kept_is_supported s old x (settled x (was_there x there absent))).1
     where
-      -- it isn't new: a new one would be listed
-      was : (o : Option Row) → row_of old x ≡ o → is_some o ≡ true
-      was None e =
-          let itself : list_any (same_row x) (hanging s old x) ≡ true = ap (λ o. list_any (same_row x) (unwrap_or (option_map (strong_of_row s x) o) (x ∷ []))) e ∙ ap (λ b. b || false) (own_row x) in
-          sym (ap is_some e) ∙ sym (ap is_some (same x (untouched x x absent itself))) ∙ there
-      was (Some r) e = refl
-
-      hangs : (y : RowId) (o : Option Row) → unwrap_or (option_map (λ r. list_any (same_row x) (strong_of_row s y r)) o) false ≡ true → list_any (same_row x) (unwrap_or (option_map (strong_of_row s y) o) (y ∷ [])) ≡ true
-      hangs y None e = absurd (true≢false (sym e))
-      hangs y (Some r) e = e
-
       by : (is_root_at s x.0 ≡ true) ⊎ ((y : RowId) × (is_kept s old y ≡ true) × (same_row x y ≡ false) × (refers s old y x ≡ true)) → has_support s now (row_ids now) x ≡ true
       by (inl root) = supported_root s now (row_ids now) x root
-      by (inr v) = supported_by s now x v.0 v.2 (ap (λ o. unwrap_or (option_map (λ r. list_any (same_row x) (strong_of_row s v.0 r)) o) false) (same v.0 (untouched x v.0 absent (hangs v.0 (row_of old v.0) v.3))) ∙ v.3)
+      by (inr v) = supported_by s now x v.0 v.2 (refers_still x v.0 absent v.3)
+
+  -- to which a touched row gained a reference
+  newly_supported : (x : RowId) → supports s referred x ≡ true → has_support s now (row_ids now) x ≡ true
+  newly_supported x e = by (either (is_root_at s x.0) (contains row_id_cmp referred x) e)
+    where
+      by : (is_root_at s x.0 ≡ true) ⊎ (contains row_id_cmp referred x ≡ true) → has_support s now (row_ids now) x ≡ true
+      by (inl root) = supported_root s now (row_ids now) x root
+      by (inr one) =
+          let w = any_gives (λ y. not (same_row x y) && list_any (same_row x) (gained s old now y)) touched (sym (referring x) ∙ one) in
+          let h = both (not (same_row x w.0)) (list_any (same_row x) (gained s old now w.0)) w.2 in
+          supported_by s now x w.0 (not_true (same_row x w.0) h.0) (gained_refers s old now w.0 x h.1)
 
   supported_but : SupportedBut s now waiting
   supported_but x there absent = by (list_any (same_row x) rows) refl
@@ -129,9 +149,7 @@ module _ (s : Schema) (old now : Db) (touched rows waiting : List RowId) (referr
       other false c e h = absurd (true≢false (sym h))
 
       by : (b : Bool) → list_any (same_row x) rows ≡ b → has_support s now (row_ids now) x ≡ true
-      by true listed =
-          let supported : supports s referred x ≡ true = other (list_any (same_row x) rows) (supports s referred x) (sym (any-filter (λ y. not (supports s referred y)) x rows) ∙ ap (list_any (same_row x)) (sym others) ∙ absent) listed in
-          supported_among s now touched x (sym (ap (λ b. is_root_at s x.0 || b) (referring x)) ∙ supported)
+      by true listed = newly_supported x (other (list_any (same_row x) rows) (supports s referred x) (sym (any-filter (λ y. not (supports s referred y)) x rows) ∙ ap (list_any (same_row x)) (sym others) ∙ absent) listed)
       by false listed = supported_still x there listed
 
   -- the same rows in another list

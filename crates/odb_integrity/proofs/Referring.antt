@@ -24,7 +24,7 @@ use Rattle.odb_atoms.specs.Represented.Atom.{atom_of, uuid_of}
 use Rattle.odb_atoms.specs.Represented.Value.{Lists, pair_of}
 use Rattle.odb_atoms.specs.Row.{Row, cell, declared}
 use Rattle.odb_atoms.specs.Uuid.{uuid_cmp, zero_uuid}
-use Rattle.odb_atoms.specs.Value.{Value, map_of, set_of}
+use Rattle.odb_atoms.specs.Value.{Atoms, Pairs, Value, map_of, set_of}
 use Rattle.odb_atoms.specs.declared.atom.Atom as declared_atom
 use Rattle.odb_atoms.specs.declared.value.Entries.TheVariants as entries
 use Rattle.odb_schema.specs.Schema.{Column, Schema, TableSchema, columns_at}
@@ -57,7 +57,7 @@ in_part f [] x y m n = absurd m
 in_part f (z ∷ zs) x y (inl h) n = in_left y (f z) (flat_map f zs) (subst (λ w. Member y (f w)) h n)
 in_part f (z ∷ zs) x y (inr m) n = in_right y (f z) (flat_map f zs) (in_part f zs x y m n)
 
-in_enumerated : {X : Type 0} (xs : List X) (n i m : ℕ) (x : X) → m ≡ n + i → slice_get xs i ≡ Some x → Member (m, x) (enumerate_from n xs)
+pub in_enumerated : {X : Type 0} (xs : List X) (n i m : ℕ) (x : X) → m ≡ n + i → slice_get xs i ≡ Some x → Member (m, x) (enumerate_from n xs)
 in_enumerated [] n zero m x e is = absurd (none-some x is)
 in_enumerated [] n (suc i) m x e is = absurd (none-some x is)
 in_enumerated (y ∷ ys) n zero m x e is = let same : m ≡ n = omega arith in inl (λ j. (same j, same_Some x y (sym is) j))
@@ -68,7 +68,7 @@ nothing_at zero x e = absurd (none-some x e)
 nothing_at (suc i) x e = absurd (none-some x e)
 
 -- the place of a pair of two lists
-place_in : {A B : Type 0} (xs : List A) (ys : List B) (e : A × B) → Member e (zip xs ys) → (i : ℕ) × (slice_get xs i ≡ Some e.0) × (slice_get ys i ≡ Some e.1)
+pub place_in : {A B : Type 0} (xs : List A) (ys : List B) (e : A × B) → Member e (zip xs ys) → (i : ℕ) × (slice_get xs i ≡ Some e.0) × (slice_get ys i ≡ Some e.1)
 place_in [] ys e m = absurd m
 place_in (x ∷ xs) [] e m = absurd m
 place_in (x ∷ xs) (y ∷ ys) e (inl h) = (zero, (λ i. Some ((sym h i).0)), (λ i. Some ((sym h i).1)))
@@ -76,7 +76,7 @@ place_in (x ∷ xs) (y ∷ ys) e (inr m) = let w = place_in xs ys e m in (suc w.
 
 -- ---- the atoms by which a value names a row, where `leads` says to which table a base type refers
 
-abbrev NamesIn : (Base → Option ℕ) → ColType → Value → RowId → Type 0
+abbrev pub NamesIn : (Base → Option ℕ) → ColType → Value → RowId → Type 0
 NamesIn leads t (set_of v) y = Member (uuid y.1) (set.items v) × (leads t.key ≡ Some y.0)
 NamesIn leads t (map_of m) y = (e : Atom × Atom) × Member e (map.entries_of m) × (((e.0 ≡ uuid y.1) × (leads t.key ≡ Some y.0)) ⊎ ((e.1 ≡ uuid y.1) × (leads (value_base t) ≡ Some y.0)))
 
@@ -95,7 +95,7 @@ named q o (text t) e = absurd (true≢false (sym e))
 named q None (uuid u) e = absurd (true≢false (sym e))
 named q (Some k) (uuid u) e = ((k, u), e, refl, refl)
 
-names_passes : (q : RowId → Bool) (o : Option ℕ) (a : Atom) (y : RowId) → q y ≡ true → a ≡ uuid y.1 → o ≡ Some y.0 → passes q o a ≡ true
+pub names_passes : (q : RowId → Bool) (o : Option ℕ) (a : Atom) (y : RowId) → q y ≡ true → a ≡ uuid y.1 → o ≡ Some y.0 → passes q o a ≡ true
 names_passes q o a y e is at = (λ i. passes q (at i) (is i)) ∙ e
 
 -- ---- strong references
@@ -132,7 +132,7 @@ module _ (s : Schema) (y : RowId) where
 -- ---- stale references
 
 module _ (s : Schema) (db : Db) where
-  abbrev gone : RowId → Bool
+  abbrev pub gone : RowId → Bool
   gone y = not (is_there db y)
 
   stale_in : (t : ColType) (v : Value) → has_stale s db t v ≡ true → (y : RowId) × (gone y ≡ true) × NamesIn (weak_target s) t v y
@@ -148,7 +148,7 @@ module _ (s : Schema) (db : Db) where
       by d there (inl one) = let h = named gone (weak_target s t.key) d.0 one in (h.0, h.1, (d, there, inl (h.2, h.3)))
       by d there (inr one) = let h = named gone (weak_target s (value_base t)) d.1 one in (h.0, h.1, (d, there, inr (h.2, h.3)))
 
-  in_stale : (t : ColType) (v : Value) (y : RowId) → gone y ≡ true → NamesIn (weak_target s) t v y → has_stale s db t v ≡ true
+  pub in_stale : (t : ColType) (v : Value) (y : RowId) → gone y ≡ true → NamesIn (weak_target s) t v y → has_stale s db t v ≡ true
   in_stale t (set_of v) y e h = gives_any (is_stale db (weak_target s t.key)) (set.items v) (uuid y.1) h.0 (names_passes gone (weak_target s t.key) (uuid y.1) y e refl h.1)
   in_stale t (map_of m) y e h = gives_any (λ (d : Atom × Atom). is_stale db (weak_target s t.key) d.0 || is_stale db (weak_target s (value_base t)) d.1) (map.entries_of m) h.0 h.1 (by h.2)
     where
@@ -201,7 +201,7 @@ module _ (s : Schema) where
       at : unwrap_or (option_map (λ r. value_mentions y.1 (cell zero_uuid r (declared i))) (row_of db x)) false ≡ true
       at = ap (λ o. unwrap_or (option_map (λ r. value_mentions y.1 (cell zero_uuid r (declared i))) o) false) there ∙ ap (λ o. value_mentions y.1 (unwrap_or o (set_of set.empty))) is ∙ e
 
-  in_value : (leads : Base → Option ℕ) (t : ColType) (v : Value) (y : RowId) → NamesIn leads t v y → (value_mentions y.1 v ≡ true) × ((leads t.key ≡ Some y.0) ⊎ (leads (value_base t) ≡ Some y.0))
+  pub in_value : (leads : Base → Option ℕ) (t : ColType) (v : Value) (y : RowId) → NamesIn leads t v y → (value_mentions y.1 v ≡ true) × ((leads t.key ≡ Some y.0) ⊎ (leads (value_base t) ≡ Some y.0))
   in_value leads t (set_of v) y h = (contains_key-keys v (uuid y.1) ∙ gives_any (eq_by_cmp atom_cmp (uuid y.1)) (set.items v) (uuid y.1) h.0 (same_atom-itself (uuid y.1)), inl h.1)
   in_value leads t (map_of m) y h = (gives_any (λ (e : Atom × Atom). same_atom e.0 (uuid y.1) || same_atom e.1 (uuid y.1)) (map.entries_of m) h.0 h.1 (at h.2), by h.2)
     where
@@ -237,7 +237,7 @@ module _ (s : Schema) where
       by true is e = absurd (none-some k e)
       by false is e = (e, is)
 
-  weak_kind : (b : Base) (k : ℕ) → weak_target s b ≡ Some k → (target s b ≡ Some k) × (is_weak b ≡ true)
+  pub weak_kind : (b : Base) (k : ℕ) → weak_target s b ≡ Some k → (target s b ≡ Some k) × (is_weak b ≡ true)
   weak_kind b k e = by (is_weak b) refl e
     where
       by : (w : Bool) → is_weak b ≡ w → cond w (target s b) None ≡ Some k → (target s b ≡ Some k) × (is_weak b ≡ true)
@@ -307,9 +307,8 @@ each_more P xs i x inside is before here y m = by (member-++ y (take i xs) (x �
 -- ---- tests of values
 
 -- a set has the row
-pub set_refers : (s : Schema) (t : ColType) (e : Bor (List declared_atom.Atom)) (v : Value) → Lists (entries.Set e) v → (k : Option ℕ) → k ≡ strong_target s t.key → (y : RowId) → (unwrap_or (option_map (λ j. y.0 == j) k) false && has v (uuid y.1)) ≡ list_any (same_row y) (strong_of_value s t v)
-set_refers s t e (map_of m) is k key y = absurd is
-set_refers s t e (set_of v) is k key y = by k ∙ (λ i. list_any (passes (same_row y) (key i)) (set.items v)) ∙ sym (any-filter_map (same_row y) (referent (strong_target s t.key)) (set.items v))
+pub set_has : (s : Schema) (t : ColType) (v : Atoms) (k : Option ℕ) → k ≡ strong_target s t.key → (y : RowId) → (unwrap_or (option_map (λ j. y.0 == j) k) false && set.contains v (uuid y.1)) ≡ list_any (same_row y) (strong_of_value s t (set_of v))
+set_has s t v k key y = by k ∙ (λ i. list_any (passes (same_row y) (key i)) (set.items v)) ∙ sym (any-filter_map (same_row y) (referent (strong_target s t.key)) (set.items v))
   where
     never : (b : Bool) → false ≡ (b && false)
     never true = refl
@@ -332,6 +331,10 @@ set_refers s t e (set_of v) is k key y = by k ∙ (λ i. list_any (passes (same_
     by None = nothing (set.items v)
     by (Some j) = ap (λ b. (y.0 == j) && b) (contains_key-keys v (uuid y.1)) ∙ sym (any_both (y.0 == j) (same_atom (uuid y.1)) (set.items v)) ∙ (λ i. list_any (λ a. one j a i) (set.items v))
 
+pub set_refers : (s : Schema) (t : ColType) (e : Bor (List declared_atom.Atom)) (v : Value) → Lists (entries.Set e) v → (k : Option ℕ) → k ≡ strong_target s t.key → (y : RowId) → (unwrap_or (option_map (λ j. y.0 == j) k) false && has v (uuid y.1)) ≡ list_any (same_row y) (strong_of_value s t v)
+set_refers s t e (map_of m) is k key y = absurd is
+set_refers s t e (set_of v) is k key y = set_has s t v k key y
+
 any_or : {A : Type 0} (p q : A → Bool) (xs : List A) → list_any (λ x. p x || q x) xs ≡ (list_any p xs || list_any q xs)
 any_or p q [] = refl
 any_or p q (x ∷ xs) = ap (λ b. (p x || q x) || b) (any_or p q xs) ∙ mixed (p x) (q x) (list_any p xs) (list_any q xs)
@@ -343,13 +346,16 @@ any_or p q (x ∷ xs) = ap (λ b. (p x || q x) || b) (any_or p q xs) ∙ mixed (
     mixed false false c d = refl
 
 -- a pair of a map names the row
-pub map_refers : (s : Schema) (t : ColType) (p : Bor (List (declared_atom.Atom × declared_atom.Atom))) (v : Value) → Lists (entries.Map p) v → (k w : Option ℕ) → k ≡ strong_target s t.key → w ≡ strong_target s (value_base t) → (y : RowId) → list_any (λ q. names k y (atom_of q.0) || names w y (atom_of q.1)) p.now ≡ list_any (same_row y) (strong_of_value s t v)
+pub map_has : (s : Schema) (t : ColType) (m : Pairs) (k w : Option ℕ) → k ≡ strong_target s t.key → w ≡ strong_target s (value_base t) → (y : RowId) → list_any (λ e. names k y e.0 || names w y e.1) m.entries ≡ list_any (same_row y) (strong_of_value s t (map_of m))
 unfolding map.keys
-map_refers s t p (set_of v) is k w key value y = absurd is
-map_refers s t p (map_of m) is k w key value y =
-    let both_named : Atom × Atom → Bool = λ e. names k y e.0 || names w y e.1 in
-    sym (any-map both_named pair_of p.now) ∙ ap (list_any both_named) is
-    ∙ any_or (λ (e : Atom × Atom). names k y e.0) (λ (e : Atom × Atom). names w y e.1) m.entries
+map_has s t m k w key value y =
+    any_or (λ (e : Atom × Atom). names k y e.0) (λ (e : Atom × Atom). names w y e.1) m.entries
     ∙ (λ i. list_any (λ (e : Atom × Atom). names (key i) y e.0) m.entries || list_any (λ (e : Atom × Atom). names (value i) y e.1) m.entries)
     ∙ (λ i. sym (any-filter_map (same_row y) (referent (strong_target s t.key)) (map.keys m) ∙ any-map (passes (same_row y) (strong_target s t.key)) (λ (e : Atom × Atom). e.0) m.entries) i || sym (any-filter_map (same_row y) (referent (strong_target s (value_base t))) (map.values m) ∙ any-map (passes (same_row y) (strong_target s (value_base t))) (λ (e : Atom × Atom). e.1) m.entries) i)
     ∙ sym (list_any-append (same_row y) (filter_map (referent (strong_target s t.key)) (map.keys m)) (filter_map (referent (strong_target s (value_base t))) (map.values m)))
+
+pub map_refers : (s : Schema) (t : ColType) (p : Bor (List (declared_atom.Atom × declared_atom.Atom))) (v : Value) → Lists (entries.Map p) v → (k w : Option ℕ) → k ≡ strong_target s t.key → w ≡ strong_target s (value_base t) → (y : RowId) → list_any (λ q. names k y (atom_of q.0) || names w y (atom_of q.1)) p.now ≡ list_any (same_row y) (strong_of_value s t v)
+map_refers s t p (set_of v) is k w key value y = absurd is
+map_refers s t p (map_of m) is k w key value y =
+    let both_named : Atom × Atom → Bool = λ e. names k y e.0 || names w y e.1 in
+    sym (any-map both_named pair_of p.now) ∙ ap (list_any both_named) is ∙ map_has s t m k w key value y

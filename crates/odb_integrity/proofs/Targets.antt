@@ -24,7 +24,7 @@ nowhere p h (x ∷ xs) = λ i. h x i || nowhere p h xs i
 
 -- ---- the targets of types
 
-strong_none : (s : Schema) (b : Base) → is_strong b ≡ false → strong_target s b ≡ None
+pub strong_none : (s : Schema) (b : Base) → is_strong b ≡ false → strong_target s b ≡ None
 strong_none s b e = by b.reference e
   where
     turned : (b : Bool) → not b ≡ false → b ≡ true
@@ -45,7 +45,7 @@ weak_not_strong b e = by b.reference e
     by None e = refl
     by (Some r) e = ap not e
 
-abbrev NoStrong : Schema → ColType → Type 0
+abbrev pub NoStrong : Schema → ColType → Type 0
 NoStrong s t = (strong_target s t.key ≡ None) × (strong_target s (value_base t) ≡ None)
 
 abbrev NoWeak : Schema → ColType → Type 0
@@ -78,7 +78,7 @@ fresh_value : (s : Schema) (db : Db) (t : ColType) → NoWeak s t → (v : Value
 fresh_value s db t h (set_of x) = nowhere (is_stale db (weak_target s t.key)) (nothing_stale db (weak_target s t.key) h.0) (set.items x)
 fresh_value s db t h (map_of m) = nowhere (λ e. is_stale db (weak_target s t.key) e.0 || is_stale db (weak_target s (value_base t)) e.1) (λ e i. nothing_stale db (weak_target s t.key) h.0 e.0 i || nothing_stale db (weak_target s (value_base t)) h.1 e.1 i) (map.entries_of m)
 
-no_strong : (s : Schema) (t : ColType) → NoStrong s t → (v : Value) → strong_of_value s t v ≡ []
+pub no_strong : (s : Schema) (t : ColType) → NoStrong s t → (v : Value) → strong_of_value s t v ≡ []
 no_strong s t h (set_of x) = ap (λ k. filter_map (referent k) (set.items x)) h.0 ∙ none_named (set.items x)
 no_strong s t h (map_of m) = (λ i. filter_map (referent (h.0 i)) (map.keys m) ++ filter_map (referent (h.1 i)) (map.values m)) ∙ (λ i. none_named (map.keys m) i ++ none_named (map.values m) i)
 

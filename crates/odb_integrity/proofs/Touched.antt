@@ -1,5 +1,5 @@
 -- Databases that were changed in some rows alone: which tests these rows decide.
-use Rattle.std.specs.Prelude.{◌≡◌, ℕ, zero, suc, ◌+◌, ◌<◌, ◌≤◌, nat_lt, Bool, true, false, not, ◌&&◌, ◌||◌, List, [], ◌∷◌, ◌++◌, length, map as map_list, zip, is_some, unwrap_or, Option, Some, None, option_map}
+use Rattle.std.specs.Prelude.{◌≡◌, ℕ, zero, suc, ◌+◌, ◌<◌, ◌≤◌, nat_lt, Bool, true, false, ◌&&◌, List, [], ◌∷◌, ◌++◌, length, map as map_list, is_some, unwrap_or, Option, Some, None, option_map}
 use Rattle.std.specs.List.{list_any}
 use Rattle.std.specs.Ordering.{eq_by_cmp}
 use Rattle.std.specs.Cmp.{unsigned_Decides, unsigned_tied}
@@ -11,17 +11,10 @@ use Rattle.std.proofs.lemmas.List.{take_all}
 use Rattle.std.proofs.lemmas.List.Folds.{list_any-append}
 use Rattle.odb_atoms.proofs.FinMaps.{get-empty}
 use Rattle.odb_atoms.proofs.Lists.{any-map, gives_any}
-use Rattle.odb_atoms.specs.Atom.{Atom}
-use Rattle.odb_atoms.specs.ColType.{ColType, value_base}
-use Rattle.odb_atoms.specs.FinMap as map
-use Rattle.odb_atoms.specs.FinSet as set
 use Rattle.odb_atoms.specs.Row.{Row}
 use Rattle.odb_atoms.specs.Uuid.{Uuid, same_uuid, uuid_cmp}
-use Rattle.odb_atoms.specs.Value.{Value, map_of, set_of}
-use Rattle.odb_schema.specs.Schema.{Column, Schema, columns_at}
 use Rattle.odb_tables.specs.Database.{Db}
-use Rattle.odb_integrity.specs.Settlement.{RowId, any_row, at_row, dangles, is_stale, is_there, referent, row_ids, row_of, same_row, weak_target}
-use Rattle.odb_integrity.specs.Steps.{has_stale, row_has_stale}
+use Rattle.odb_integrity.specs.Settlement.{RowId, any_row, at_row, is_there, row_ids, row_of, same_row}
 use Rattle.odb_integrity.specs.Touched.{Covers, SameAt, SameBut}
 use Rattle.odb_integrity.proofs.Databases.{any-row_ids}
 use Rattle.odb_integrity.proofs.Ids.{member}
@@ -57,49 +50,6 @@ module _ (old now : Db) (xs : List RowId) (same : SameBut xs old now) where
   -- a test that none passed before
   pub covers_old : (p : RowId → Row → Bool) → any_row p old ≡ false → Covers p now xs
   covers_old p none x r there absent = passes_nowhere p old none x r (sym (same x absent) ∙ there)
-
-  module _ (complete : list_any (λ x. not (is_there now x)) xs ≡ false) where
-    not_not : (b : Bool) → not b ≡ false → b ≡ true
-    not_not true e = refl
-    not_not false e = absurd (true≢false e)
-
-    -- no row went
-    pub still_there : (x : RowId) → is_there old x ≡ true → is_there now x ≡ true
-    still_there x e = by (list_any (same_row x) xs) refl
-      where
-        by : (b : Bool) → list_any (same_row x) xs ≡ b → is_there now x ≡ true
-        by true listed = not_not (is_there now x) (not_found (λ x. not (is_there now x)) xs complete x (member x xs listed))
-        by false absent = ap is_some (same x absent) ∙ e
-
-    fewer_pass : {A : Type 0} (p q : A → Bool) → ((x : A) → p x ≡ false → q x ≡ false) → (xs : List A) → list_any p xs ≡ false → list_any q xs ≡ false
-    fewer_pass p q h [] e = refl
-    fewer_pass p q h (x ∷ xs) e =
-        let parts = neither (p x) (list_any p xs) e in
-        λ i. h x parts.0 i || fewer_pass p q h xs parts.1 i
-
-    not_missing : (x : RowId) → not (is_there old x) ≡ false → not (is_there now x) ≡ false
-    not_missing x e = ap not (still_there x (not_not (is_there old x) e))
-
-    not_stale : (k : Option ℕ) (a : Atom) → is_stale old k a ≡ false → is_stale now k a ≡ false
-    not_stale k a e = by (referent k a) e
-      where
-        by : (o : Option RowId) → unwrap_or (option_map (λ x. not (is_there old x)) o) false ≡ false → unwrap_or (option_map (λ x. not (is_there now x)) o) false ≡ false
-        by None e = refl
-        by (Some x) e = not_missing x e
-
-    module _ (s : Schema) where
-      value_fresh : (t : ColType) (v : Value) → has_stale s old t v ≡ false → has_stale s now t v ≡ false
-      value_fresh t (set_of x) e = fewer_pass (is_stale old (weak_target s t.key)) (is_stale now (weak_target s t.key)) (not_stale (weak_target s t.key)) (set.items x) e
-      value_fresh t (map_of m) e =
-          let stale : Db → Atom × Atom → Bool = λ db c. is_stale db (weak_target s t.key) c.0 || is_stale db (weak_target s (value_base t)) c.1 in
-          fewer_pass (stale old) (stale now) (λ c h. let parts = neither (is_stale old (weak_target s t.key) c.0) (is_stale old (weak_target s (value_base t)) c.1) h in λ i. not_stale (weak_target s t.key) c.0 parts.0 i || not_stale (weak_target s (value_base t)) c.1 parts.1 i) (map.entries_of m) e
-
-      pub covers_dangling : any_row (dangles s old) old ≡ false → Covers (dangles s now) now xs
-      covers_dangling none x r there absent = fewer_pass (λ y. not (is_there old y)) (λ y. not (is_there now y)) not_missing _ (passes_nowhere (dangles s old) old none x r (sym (same x absent) ∙ there))
-
-      pub covers_stale : any_row (row_has_stale s old) old ≡ false → Covers (row_has_stale s now) now xs
-      covers_stale none x r there absent =
-          fewer_pass {A = Column × Value} (λ e. has_stale s old e.0.type e.1) (λ e. has_stale s now e.0.type e.1) (λ e. value_fresh e.0.type e.1) (zip (columns_at s x.0) r.columns) (passes_nowhere (row_has_stale s old) old none x r (sym (same x absent) ∙ there))
 
 -- ---- the rows that were touched, table by table
 

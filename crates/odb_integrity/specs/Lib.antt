@@ -1,3 +1,4 @@
+pub mod Gained
 pub mod References
 pub mod Represented
 pub mod Settled

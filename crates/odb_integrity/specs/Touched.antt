@@ -5,7 +5,8 @@ use Rattle.odb_atoms.specs.Row.{Row}
 use Rattle.odb_atoms.specs.Uuid.{Uuid}
 use Rattle.odb_schema.specs.Schema.{Schema}
 use Rattle.odb_tables.specs.Database.{Db}
-use Rattle.odb_integrity.specs.Settlement.{RowId, has_support, is_there, refers, row_ids, row_of, same_row, strong_of_row}
+use Rattle.odb_integrity.specs.Gained.{gained, gained_since}
+use Rattle.odb_integrity.specs.Settlement.{RowId, has_support, is_there, refers, row_ids, row_of, same_row}
 
 -- rows that aren't listed are as they were
 abbrev pub SameBut : List RowId → Db → Db → Type 0
@@ -21,9 +22,13 @@ Covers p db xs = (x : RowId) (r : Row) → row_of db x ≡ Some r → list_any (
 
 -- ---- support
 
--- the rows that hang on one: those to which it has strong references; itself, where it isn't there
-abbrev pub hanging : Schema → Db → RowId → List RowId
-hanging s db x = unwrap_or (option_map (strong_of_row s x) (row_of db x)) (x ∷ [])
+-- the rows that hung on one, and do so no more: those to which it had strong references that it lost; itself, where it wasn't there
+abbrev pub hanging : Schema → Db → Db → RowId → List RowId
+hanging s old now x = unwrap_or (option_map (gained_since s x (row_of now x)) (row_of old x)) (x ∷ [])
+
+-- another row of the list gained a strong reference to x
+abbrev pub is_newly_referred : Schema → Db → Db → List RowId → RowId → Bool
+is_newly_referred s old now xs x = list_any (λ y. not (same_row x y) && list_any (same_row x) (gained s old now y)) xs
 
 -- the row y, another one than x, has a strong reference to x
 abbrev pub is_referrer : Schema → Db → RowId → RowId → Bool

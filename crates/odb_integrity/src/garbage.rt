@@ -9,12 +9,14 @@ ghost use Rattle.odb_integrity.specs.Settlement.{kept, refers, row_ids, same_row
 ghost use Rattle.odb_integrity.specs.Steps.{without_rows};
 ghost use Rattle.odb_integrity.specs.Represented.Reference.{mentions_by, references_of};
 ghost use Rattle.odb_integrity.specs.Represented.RowId.{row_id_cmp, supports};
-ghost use Rattle.odb_integrity.specs.Touched.{SupportedBut, hanging, is_lost, is_referrer};
+ghost use Rattle.odb_integrity.specs.Gained as gains;
+ghost use Rattle.odb_integrity.specs.Touched.{SupportedBut, hanging, is_lost, is_newly_referred, is_referrer};
 ghost use Rattle.odb_schema.specs.Schema.{is_root_at};
 ghost use Rattle.odb_tables.specs.Typed.{IsTyped};
 
 use crate::dangling::is_missing;
-use crate::references::{append_strong, has_mixed, row_refers, strong_of_row};
+use crate::gained::{append_all, gained};
+use crate::references::{has_mixed, row_refers, strong_of_row};
 use crate::referrers::{Reference, references_of};
 use crate::row_id::RowId;
 use crate::rows::{in_order, remove_all, rows_of, touched_rows};
@@ -60,8 +62,8 @@ fn is_all_root(schema: &Schema) -> bool
     true
 }
 
-/// Returns the rows that may lack what keeps them: those that are new, and those to which touched rows had strong
-/// references before, but for rows to which a touched row has one now. Where a column pairs weak references
+/// Returns the rows that may lack what keeps them: those that are new, and those to which touched rows lost their
+/// strong references, but for rows to which a touched row gained one. Where a column pairs weak references
 /// with strong ones, a row of a settled database may lack it, and all rows are listed.
 fn first_waiting(alloc: Global, draft: &Draft, schema: &Schema) -> Result<Vec<RowId>, AllocError>
     requires { IsSettled schema.now draft.now.old }
@@ -72,38 +74,43 @@ fn first_waiting(alloc: Global, draft: &Draft, schema: &Schema) -> Result<Vec<Ro
     }
     let touched = touched_rows(alloc, draft)?;
     let rows = hanging_on(alloc, draft, schema, &touched)?;
-    let referred = referred(alloc, draft, schema, &touched)?;
+    let referred = newly_referred(alloc, draft, schema, &touched)?;
     let waiting = without_support(alloc, schema, &referred, &rows)?;
     once_each(alloc, &waiting)
 }
 
-/// Returns the rows of the list that weren't there before, and those to which the others had strong references.
+/// Returns the rows of the list that weren't there before, and those to which the others lost strong references.
 fn hanging_on(
     alloc: Global,
     draft: &Draft,
     schema: &Schema,
     rows: &[RowId],
 ) -> Result<Vec<RowId>, AllocError>
-    ensures { IfOk result (λ all. all.items ≡ flat_map (hanging schema.now draft.now.old) rows.now) }
+    ensures { IfOk result (λ all. all.items ≡ flat_map (hanging schema.now draft.now.old draft.now.now) rows.now) }
 {
     let mut all = Vec::new(alloc);
     for row in rows {
-        append_hanging(draft, schema, *row, &mut all)?;
+        append_hanging(alloc, draft, schema, *row, &mut all)?;
     }
     Ok(all)
 }
 
 fn append_hanging(
+    alloc: Global,
     draft: &Draft,
     schema: &Schema,
     id: RowId,
     all: &mut Vec<RowId>,
 ) -> Result<(), AllocError>
     ensures { OnOk result
-        (all.new.items ≡ all.old.items ++ hanging schema.now draft.now.old id) }
+        (all.new.items ≡ all.old.items ++ hanging schema.now draft.now.old draft.now.now id) }
 {
     match draft.before(id.table(), id.uuid()) {
-        Some(row) => append_strong(schema, id, row, all),
+        Some(before) => {
+            // What the row as it was has, and the row as it is has not: that is what it lost.
+            let lost = gained(alloc, schema, id, draft.get(id.table(), id.uuid()), before)?;
+            append_all(&lost, all)
+        }
         None => {
             all.push(id)?;
             Ok(())
@@ -295,6 +302,45 @@ fn refers(draft: &Draft, schema: &Schema, id: RowId, referent: RowId) -> bool
     match draft.get(id.table(), id.uuid()) {
         Some(row) => row_refers(schema, id, row, referent),
         None => false,
+    }
+}
+
+/// Returns the rows to which a row of the list, and not they themselves, gained a strong reference.
+fn newly_referred(
+    alloc: Global,
+    draft: &Draft,
+    schema: &Schema,
+    rows: &[RowId],
+) -> Result<BTreeSet<RowId>, AllocError>
+    ensures { IfOk result (λ referred. (x : model.RowId)
+        → contains row_id_cmp referred x ≡ is_newly_referred schema.now draft.now.old draft.now.now rows.now x) }
+{
+    let mut referred = BTreeSet::new(alloc);
+    for row in rows {
+        insert_gained(alloc, draft, schema, *row, &mut referred)?;
+    }
+    Ok(referred)
+}
+
+/// Adds the other rows to which the row gained strong references.
+fn insert_gained(
+    alloc: Global,
+    draft: &Draft,
+    schema: &Schema,
+    id: RowId,
+    referred: &mut BTreeSet<RowId>,
+) -> Result<(), AllocError>
+    ensures { OnOk result ((x : model.RowId)
+        → contains row_id_cmp referred.new x
+        ≡ (contains row_id_cmp referred.old x
+        || (not (same_row x id) && list_any (same_row x) (gains.gained schema.now draft.now.old draft.now.now id)))) }
+{
+    match draft.get(id.table(), id.uuid()) {
+        Some(row) => {
+            let gained = gained(alloc, schema, id, draft.before(id.table(), id.uuid()), row)?;
+            insert_others(id, &gained, referred)
+        }
+        None => Ok(()),
     }
 }
 

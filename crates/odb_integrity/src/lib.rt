@@ -7,6 +7,7 @@
 
 mod constraints;
 mod dangling;
+mod gained;
 mod garbage;
 mod indexes;
 mod pruning;
@@ -15,5 +16,6 @@ mod referrers;
 mod row_id;
 mod rows;
 mod settlement;
+mod suspects;
 
 pub use settlement::{settle, stays_settled};

@@ -14,32 +14,40 @@ ghost use Rattle.odb_integrity.specs.Settlement as model;
 ghost use Rattle.odb_integrity.specs.Settlement.{pruned};
 ghost use Rattle.odb_integrity.specs.Steps as steps;
 ghost use Rattle.odb_integrity.specs.Steps.{pruning, row_has_stale, with_rows};
-ghost use Rattle.odb_integrity.specs.Touched.{Covers};
+ghost use Rattle.odb_integrity.specs.Represented.Reference.{MentionGone, references_of};
+ghost use Rattle.odb_integrity.specs.Settled.{IsSettled};
+ghost use Rattle.odb_integrity.specs.Touched.{SameBut};
 ghost use Rattle.odb_schema.specs.Schema.{columns_at};
 ghost use Rattle.odb_tables.specs.Typed.{IsTyped, fits};
 
 use crate::dangling::is_missing;
 use crate::references::{columns_of, referent, value_base, weak_target};
 use crate::row_id::RowId;
+use crate::suspects::may_be_stale;
 use odb_atoms::{Atom, ColType, Entries, Row, Value};
 use odb_schema::{Column, Schema, TableId};
 use odb_tables::Draft;
 use std::alloc::{AllocError, Global};
 
 /// Takes out weak references to rows that aren't there; of a map the whole pair. Only rows that have one
-/// are put. No row but those of the list may have one. O(the rows of the list and their atoms).
+/// are put. Looked at are the touched rows that gained one, and the rows that mention
+/// a touched row that isn't there, `mentioning`: O(their atoms), and what `may_be_stale` costs.
 pub(crate) fn prune(
     alloc: Global,
     draft: &mut Draft,
     schema: &Schema,
-    rows: &[RowId],
+    touched: &[RowId],
+    mentioning: &[RowId],
 ) -> Result<(), AllocError>
-    requires rows { Covers (row_has_stale schema.now draft.old.now) draft.old.now rows.now }
+    requires settled { IsSettled schema.now draft.old.old }
+    requires touched { SameBut touched.now draft.old.old draft.old.now }
+    requires mentioning { MentionGone (references_of schema.now) draft.old.now touched.now mentioning.now }
     requires typed { IsTyped schema.now draft.old.now }
     ensures pruned { OnOk result (draft.new.now ≡ pruned schema.now draft.old.now) }
     ensures base { draft.new.old ≡ draft.old.old }
 {
-    let changes = prunings(alloc, draft, schema, rows)?;
+    let rows = may_be_stale(alloc, draft, schema, touched, mentioning)?;
+    let changes = prunings(alloc, draft, schema, &rows)?;
     put_all(draft, changes)
 }
 
@@ -108,7 +116,8 @@ fn row_has_stale(draft: &Draft, schema: &Schema, id: RowId, row: &Row) -> bool
     false
 }
 
-fn has_stale(draft: &Draft, schema: &Schema, column: &ColType, value: &Value) -> bool
+/// Returns whether the value has a weak reference to a row that isn't there. O(atoms).
+pub(crate) fn has_stale(draft: &Draft, schema: &Schema, column: &ColType, value: &Value) -> bool
     ensures { result ≡ steps.has_stale schema.now draft.now.now (type_of column.now) value.now }
 {
     let keys = weak_target(schema, &column.key);
@@ -141,7 +150,8 @@ fn has_stale_pair(
         .any(|pair| is_stale_pair(draft, keys, values, pair))
 }
 
-fn is_stale_pair(
+/// Returns whether the key of the pair or its value names a row that isn't there. O(1).
+pub(crate) fn is_stale_pair(
     draft: &Draft,
     keys: Option<TableId>,
     values: Option<TableId>,
@@ -155,7 +165,7 @@ fn is_stale_pair(
 }
 
 /// Returns whether the atom names a row of the table that isn't there. O(1).
-fn is_stale(draft: &Draft, target: Option<TableId>, atom: &Atom) -> bool
+pub(crate) fn is_stale(draft: &Draft, target: Option<TableId>, atom: &Atom) -> bool
     ensures { result ≡ model.is_stale draft.now.now target (atom_of atom.now) }
 {
     let Some(table) = target else {

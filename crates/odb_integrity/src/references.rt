@@ -84,7 +84,7 @@ pub(crate) fn strong_of_row(
 }
 
 /// Appends the rows to which a row has strong references. O(atoms).
-pub(crate) fn append_strong(
+fn append_strong(
     schema: &Schema,
     id: RowId,
     row: &Row,
@@ -113,7 +113,13 @@ pub(crate) fn row_refers(schema: &Schema, id: RowId, row: &Row, referent: RowId)
     false
 }
 
-fn value_refers(schema: &Schema, column: &ColType, value: &Value, referent: RowId) -> bool
+/// Returns whether the value refers to the referent. O(log n) comparisons for a set of n elements, O(n) for a map.
+pub(crate) fn value_refers(
+    schema: &Schema,
+    column: &ColType,
+    value: &Value,
+    referent: RowId,
+) -> bool
     ensures { result ≡ list_any (same_row referent) (model.strong_of_value schema.now (type_of column.now) value.now) }
 {
     let keys = strong_target(schema, &column.key);
@@ -163,6 +169,20 @@ fn names(target: Option<TableId>, atom: &Atom, row: RowId) -> bool
         Some(named) => row == named,
         None => false,
     }
+}
+
+/// Returns the rows to which a value has strong references, in its order. O(atoms).
+pub(crate) fn strong_of_value(
+    alloc: Global,
+    schema: &Schema,
+    column: &ColType,
+    value: &Value,
+) -> Result<Vec<RowId>, AllocError>
+    ensures { IfOk result (λ rows. rows.items ≡ model.strong_of_value schema.now (type_of column.now) value.now) }
+{
+    let mut rows = Vec::new(alloc);
+    append_value(schema, column, value, &mut rows)?;
+    Ok(rows)
 }
 
 fn append_value(
@@ -225,7 +245,8 @@ fn go_together(weak: &Base, strong: &Base) -> bool
     is_weak(weak) && is_strong(strong)
 }
 
-fn is_weak(base: &Base) -> bool
+/// Returns whether atoms of the base type make weak references. O(1).
+pub(crate) fn is_weak(base: &Base) -> bool
     ensures { result ≡ model.is_weak (base_of base.now) }
 {
     match &base.reference {
@@ -234,7 +255,8 @@ fn is_weak(base: &Base) -> bool
     }
 }
 
-fn is_strong(base: &Base) -> bool
+/// Returns whether atoms of the base type make strong references. O(1).
+pub(crate) fn is_strong(base: &Base) -> bool
     ensures { result ≡ is_strong (base_of base.now) }
 {
     match &base.reference {
@@ -257,7 +279,8 @@ fn append_referent(target: TableId, atom: &Atom, rows: &mut Vec<RowId>) -> Resul
     }
 }
 
-fn append_elements(
+/// Appends the rows of the target that the elements name, of no target none. O(elements).
+pub(crate) fn append_elements(
     target: Option<TableId>,
     elements: &[Atom],
     rows: &mut Vec<RowId>,

@@ -4,13 +4,13 @@ ghost use Rattle.std.specs.BTreeSet.{contains};
 ghost use Rattle.std.specs.List.{enumerate_from, list_any};
 ghost use Rattle.odb_atoms.specs.Represented.Atom.{uuid_of};
 ghost use Rattle.odb_atoms.specs.Represented.ColType.{base_of, type_of};
-ghost use Rattle.odb_integrity.specs.Represented.Reference.{base_references, column_references, is_concerned};
-ghost use Rattle.odb_integrity.specs.Represented.Reference.{mentions_by, references_of};
+ghost use Rattle.odb_integrity.specs.Represented.Reference.{base_references, column_references};
+ghost use Rattle.odb_integrity.specs.Represented.Reference.{MentionGone, mentions_by, mentions_gone, references_of};
 ghost use Rattle.odb_integrity.specs.Represented.RowId.{row_id_cmp};
 ghost use Rattle.odb_integrity.specs.Settlement as model;
 ghost use Rattle.odb_integrity.specs.Settlement.{same_row};
 
-use crate::dangling::is_missing;
+use crate::dangling::{is_missing, is_one_missing};
 use crate::row_id::RowId;
 use crate::rows::in_order;
 use odb_atoms::{Base, ColType};
@@ -138,27 +138,40 @@ fn append_one(
     }
 }
 
-/// Returns the rows of the list, and those that mention one of them which isn't there by one of the references.
-/// O(rows), and for each that isn't there O(references) and O(log n) for each of the n rows that mention
-/// it.
-pub(crate) fn with_referrers(
+/// Returns the rows that mention a row of the list which isn't there. O(rows), and where one of them isn't there
+/// O(columns of the schema), and for each that isn't O(references) and O(log n) for each of the n rows that mention it.
+pub(crate) fn mentioning_missing(
+    alloc: Global,
+    draft: &Draft,
+    schema: &Schema,
+    rows: &[RowId],
+) -> Result<Vec<RowId>, AllocError>
+    ensures { IfOk result (λ all. MentionGone (references_of schema.now) draft.now.now rows.now all.items) }
+{
+    if !is_one_missing(draft, rows) {
+        return Ok(Vec::new(alloc));
+    }
+    let references = references_of(alloc, schema)?;
+    referrers_of_missing(alloc, draft, &references, rows)
+}
+
+fn referrers_of_missing(
     alloc: Global,
     draft: &Draft,
     references: &[Reference],
     rows: &[RowId],
 ) -> Result<Vec<RowId>, AllocError>
-    ensures { IfOk result (λ all. (x : model.RowId)
-        → list_any (same_row x) all.items ≡ list_any (is_concerned references.now draft.now.now x) rows.now) }
+    ensures { IfOk result (λ all. MentionGone references.now draft.now.now rows.now all.items) }
 {
     let mut all = BTreeSet::new(alloc);
     for row in rows {
-        insert_with_referrers(draft, references, *row, &mut all)?;
+        insert_referrers(draft, references, *row, &mut all)?;
     }
     in_order(alloc, &all)
 }
 
-/// Adds the row, and those that mention it where it isn't there.
-fn insert_with_referrers(
+/// Adds those that mention the row, where it isn't there.
+fn insert_referrers(
     draft: &Draft,
     references: &[Reference],
     row: RowId,
@@ -166,9 +179,8 @@ fn insert_with_referrers(
 ) -> Result<(), AllocError>
     ensures { OnOk result ((x : model.RowId)
         → contains row_id_cmp all.new x
-        ≡ (contains row_id_cmp all.old x || is_concerned references.now draft.now.now x row)) }
+        ≡ (contains row_id_cmp all.old x || mentions_gone references.now draft.now.now x row)) }
 {
-    all.insert(row)?;
     if !is_missing(draft, row) {
         return Ok(());
     }

@@ -3,19 +3,15 @@ ghost use Rattle.std.specs.Prelude.{◌≡◌, length, true, IfOk, Ok};
 ghost use Rattle.odb_integrity.specs.Represented.{answer_of};
 ghost use Rattle.odb_integrity.specs.Settled.{IsSettled};
 ghost use Rattle.odb_integrity.specs.Settlement as model;
-ghost use Rattle.odb_integrity.specs.Settlement.{dangles};
-ghost use Rattle.odb_integrity.specs.Steps.{row_has_stale};
-ghost use Rattle.odb_integrity.specs.Touched.{Covers};
 ghost use Rattle.odb_tables.specs.Typed.{IsTyped};
 
 use crate::constraints::{exceeds_limit, has_too_few, has_too_many};
-use crate::dangling::{has_dangling, is_one_missing};
+use crate::dangling::has_dangling;
 use crate::garbage::collect_garbage;
 use crate::indexes::has_duplicates;
 use crate::pruning::prune;
 use crate::references::has_mixed;
-use crate::referrers::{references_of, with_referrers};
-use crate::row_id::RowId;
+use crate::referrers::mentioning_missing;
 use crate::rows::touched_rows;
 use odb_atoms::Error;
 use odb_schema::Schema;
@@ -36,15 +32,17 @@ use std::alloc::{AllocError, Global};
 /// A fault leaves the draft somewhere on this way: it is to be dropped then. Rows that don't change aren't
 /// put. The draft's rows have to be of the schema, and the database that it began with settled.
 ///
-/// It costs what the transaction touched: O(rows touched, and the atoms in them, before and now), O(tables)
-/// and O(columns of the schema). Beyond that it looks at these rows, and at no others:
+/// It costs what the transaction touched: O(rows touched, and their columns), O(tables) and O(columns of the schema).
+/// For each column of a touched row that may refer to rows, its values before and now are compared; where they differ
+/// it costs O(n) for the n atoms in them, and O(log n) for each that one of the two has alone. All that a new row names
+/// is looked up. Beyond that settlement looks at these rows, and at no others:
 ///
 /// - for each index, the touched rows of its table, and of the others those that may have the same values in its
 ///   columns as one that is new or has another value there, at what `Draft::has_new_twins` costs;
-/// - where a touched row isn't there any more, the rows that refer to it, as `Draft::referrers` lists them
-///   for each column that refers to its table;
-/// - of tables that aren't root, the new rows, and those to which a touched row had a strong reference
-///   before, but for rows to which a touched row has one now; and the rows to which rows that go out
+/// - where a touched row isn't there any more, the rows that still refer to it, with all their atoms, as
+///   `Draft::referrers` lists them for each column that refers to its table;
+/// - of tables that aren't root, the new rows, and those to which a touched row lost a strong reference,
+///   but for rows to which a touched row gained one; and the rows to which rows that go out
 ///   referred. For each the rows that refer to it are listed in the same way, and gone over until one is
 ///   found that keeps it;
 /// - all rows in place of these, where the schema has tables that aren't root, and a column pairs weak
@@ -65,11 +63,12 @@ pub fn settle(
     ensures base { draft.new.old ≡ draft.old.old }
 {
     collect_garbage(alloc, draft, schema)?;
-    let rows = rows_to_test(alloc, draft, schema)?;
-    if has_dangling(alloc, draft, schema, &rows)? {
+    let touched = touched_rows(alloc, draft)?;
+    let mentioning = mentioning_missing(alloc, draft, schema, &touched)?;
+    if has_dangling(alloc, draft, schema, &touched, &mentioning)? {
         return Ok(Err(Error::ReferentialIntegrityViolation));
     }
-    prune(alloc, draft, schema, &rows)?;
+    prune(alloc, draft, schema, &touched, &mentioning)?;
     constrained(alloc, draft, schema, max_rows)
 }
 
@@ -86,22 +85,6 @@ pub fn stays_settled(draft: &Draft, schema: &Schema, max_rows: usize) -> bool
         return false;
     }
     !exceeds_limit(draft, max_rows)
-}
-
-/// Returns the rows that may have a reference to a row that isn't there. The rows of the base had none; so these
-/// are among the rows that were touched and, where one of those isn't there any more, the rows that refer
-/// to it.
-fn rows_to_test(alloc: Global, draft: &Draft, schema: &Schema) -> Result<Vec<RowId>, AllocError>
-    requires { IsSettled schema.now draft.now.old }
-    ensures dangling { IfOk result (λ rows. Covers (dangles schema.now draft.now.now) draft.now.now rows.items) }
-    ensures stale { IfOk result (λ rows. Covers (row_has_stale schema.now draft.now.now) draft.now.now rows.items) }
-{
-    let touched = touched_rows(alloc, draft)?;
-    if !is_one_missing(draft, &touched) {
-        return Ok(touched);
-    }
-    let references = references_of(alloc, schema)?;
-    with_referrers(alloc, draft, &references, &touched)
 }
 
 /// Returns the first constraint that the draft breaks, if it breaks one.

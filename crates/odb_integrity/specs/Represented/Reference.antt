@@ -1,5 +1,5 @@
 -- The references that the columns of a schema make, and the rows that mention a row by them.
-use Rattle.std.specs.Prelude.{ℕ, Bool, not, ◌&&◌, ◌||◌, ◌==◌, List, [], ◌++◌, flat_map, option_map, option_to_list, unwrap_or}
+use Rattle.std.specs.Prelude.{◌≡◌, ℕ, Bool, not, ◌&&◌, ◌==◌, List, [], ◌++◌, flat_map, option_map, option_to_list, unwrap_or}
 use Rattle.std.specs.List.{enumerate_from, list_any}
 use Rattle.odb_atoms.specs.ColType.{Base, ColType}
 use Rattle.odb_schema.specs.Schema.{Schema}
@@ -27,6 +27,10 @@ mentions_by db x y r = (r.target == y.0) && ((x.0 == r.table) && refers_at r.pla
 abbrev pub mentions : List Reference → Db → RowId → RowId → Bool
 mentions rs db x y = list_any (mentions_by db x y) rs
 
--- x is the row y, or mentions it where it isn't there
-abbrev pub is_concerned : List Reference → Db → RowId → RowId → Bool
-is_concerned rs db x y = same_row x y || (not (is_there db y) && mentions rs db x y)
+-- x mentions the row y, which isn't there
+abbrev pub mentions_gone : List Reference → Db → RowId → RowId → Bool
+mentions_gone rs db x y = not (is_there db y) && mentions rs db x y
+
+-- the rows are those that mention one of the list which isn't there
+abbrev pub MentionGone : List Reference → Db → List RowId → List RowId → Type 0
+MentionGone rs db xs rows = (x : RowId) → list_any (same_row x) rows ≡ list_any (mentions_gone rs db x) xs

@@ -3,8 +3,8 @@ use Rattle.std.specs.List.{list_any}
 use Rattle.std.proofs.lemmas.Result.{IfOk-weaker}
 use Rattle.odb_integrity.specs.References.{has_type, is_mixed}
 use Rattle.odb_integrity.specs.Represented.RowId.{supports}
-use Rattle.odb_integrity.specs.Settlement.{is_referred, same_row}
-use Rattle.odb_integrity.specs.Touched.{hanging}
+use Rattle.odb_integrity.specs.Settlement.{same_row}
+use Rattle.odb_integrity.specs.Touched.{hanging, is_newly_referred}
 use Rattle.odb_integrity.proofs.Held.{all_wait, supported_but_each}
 use Rattle.odb_integrity.proofs.garbage.first_waiting.Goals as goal
 
@@ -20,7 +20,7 @@ returns c =
     let referred = c.in_ok-referred.referred in
     let plain : has_type is_mixed s ≡ false = search rules in
     IfOk-weaker c.once_each.result _ _ (λ each alike. supported_but_each s old now touched c.in_ok-rows.rows.items c.in_ok-waiting.waiting.items referred c.in_ok-touched.ensures (c.requires.kept plain)
-    (c.in_ok-rows.ensures ∙ ap (flat_map (hanging s old)) c.deref.ensures.value)
-    (λ x. c.in_ok-referred.ensures x ∙ ap (λ xs. is_referred s now xs x) c.deref-2.ensures.value)
+    (c.in_ok-rows.ensures ∙ ap (flat_map (hanging s old now)) c.deref.ensures.value)
+    (λ x. c.in_ok-referred.ensures x ∙ ap (λ xs. is_newly_referred s old now xs x) c.deref-2.ensures.value)
     (c.in_ok-waiting.ensures ∙ ap (filter (λ x. not (supports s referred x))) c.deref-3.ensures.value)
     each.items (λ x. alike x ∙ ap (list_any (same_row x)) c.deref-4.ensures.value)) c.once_each.ensures

@@ -10,4 +10,4 @@ loop-row-preserved c =
     let x = c.row-item.result in
     let inside : i < length rows = search rules in
     let is : x ≡ slice_index_or rows i x = search rules in
-    flat_more (hanging c.args.schema.now c.args.draft.now.old) c.loop-row.all.items c.append_hanging.new.all.items rows i x inside is c.loop-row.invariant c.in_ok-append_hanging.ensures
+    flat_more (hanging c.args.schema.now c.args.draft.now.old c.args.draft.now.now) c.loop-row.all.items c.append_hanging.new.all.items rows i x inside is c.loop-row.invariant c.in_ok-append_hanging.ensures

@@ -6,8 +6,11 @@ use Rattle.odb_integrity.proofs.Settled.{kept_typed}
 use Rattle.odb_tables.specs.Typed.{IsTyped}
 use Rattle.odb_integrity.proofs.settlement.settle.Goals as goal
 
-pub rows_to_test-requires : goal.rows_to_test-requires
-rows_to_test-requires c = subst (IsSettled c.args.schema.now) (sym c.in_ok-collect_garbage.ensures.base) c.requires.base
+pub has_dangling-requires-clause-base : goal.has_dangling-requires-clause-base
+has_dangling-requires-clause-base c = subst (IsSettled c.args.schema.now) (sym c.in_ok-collect_garbage.ensures.base) c.requires.base
+
+pub prune-requires-clause-settled : goal.prune-requires-clause-settled
+prune-requires-clause-settled c = subst (IsSettled c.args.schema.now) (sym c.in_ok-collect_garbage.ensures.base) c.requires.base
 
 pub prune-requires-clause-typed : goal.prune-requires-clause-typed
 prune-requires-clause-typed c =

@@ -2,10 +2,10 @@ use Rattle.std.proofs.Common.{rules, ap, ◌∙◌}
 use Rattle.std.specs.List.{list_any}
 use Rattle.std.proofs.lemmas.List.{take_all}
 use Rattle.std.proofs.lemmas.Result.{IfOk-weaker}
-use Rattle.odb_integrity.specs.Represented.Reference.{is_concerned}
+use Rattle.odb_integrity.specs.Represented.Reference.{mentions_gone}
 use Rattle.odb_integrity.specs.Settlement.{same_row}
 use Rattle.odb_integrity.proofs.Sets.{any-keys}
-use Rattle.odb_integrity.proofs.referrers.with_referrers.Goals as goal
+use Rattle.odb_integrity.proofs.referrers.referrers_of_missing.Goals as goal
 
 pub returns : goal.returns
 returns c =
@@ -13,4 +13,4 @@ returns c =
     let now = c.args.draft.now.now in
     IfOk-weaker c.in_order.result _ _ (λ all is x.
     ap (list_any (same_row x)) is ∙ any-keys c.loop-row.all x ∙ c.loop-row.invariant x
-    ∙ ap (list_any (is_concerned c.args.references.now now x)) (take_all c.loop-row.row-index rows (search rules))) c.in_order.ensures
+    ∙ ap (list_any (mentions_gone c.args.references.now now x)) (take_all c.loop-row.row-index rows (search rules))) c.in_order.ensures
