@@ -12,9 +12,9 @@ use Rattle.odb_atoms.specs.Uuid.{Uuid, uuid_cmp}
 use Rattle.odb_atoms.proofs.Atoms.{uuid_cmp-IsAntisymmetric}
 use Rattle.odb_atoms.proofs.Equal.{same_values-itself}
 use Rattle.odb_atoms.proofs.FinMaps.{same_key}
-use Rattle.odb_cond.specs.Filter.{selects}
-use Rattle.odb_monitor.specs.Represented.Candidates.{Covers, IsListOf, WasSo, changed_in, fresh_in, is_changed, stayed_in, unchanged}
-use Rattle.odb_monitor.specs.Represented.Sides.{Pair, only_shown, passed, shown_at}
+use Rattle.odb_cond.specs.Filter.{Filter, selects}
+use Rattle.odb_monitor.specs.Represented.Candidates.{Covers, IsListOf, WasSo, changed_in, fresh_in, is_changed, selected_by, stayed_in, unchanged}
+use Rattle.odb_monitor.specs.Represented.Sides.{Pair, only_shown, passed, shown_at, tells}
 use Rattle.odb_monitor.specs.View.{Cells, Change, change, cut, differs}
 use Rattle.odb_monitor.specs.declared.told.Told.{Told}
 use Rattle.odb_monitor.specs.declared.told.Told.TheVariants.{Asked, Nothing}
@@ -162,21 +162,45 @@ module _ {X : Type 0} (p : Uuid → Bool) where
       by true is false here h = absurd (true≢false (sym inside ∙ ap p (same_key uuid_cmp-IsAntisymmetric q e.0 is) ∙ here))
       by false is false here h = ap (λ b. b || list_any (eq_by_cmp uuid_cmp q) (keys_of (rest_of es))) is ∙ h
 
-  all-rest : (P : Uuid → Type 0) (rows : List (Uuid × X)) → AllByRecursion P (keys_of rows) → AllByRecursion P (keys_of (rest_of rows))
-  all-rest P [] h = tt
-  all-rest P (e ∷ es) h = by (p e.0) (all-rest P es h.1)
+-- of rows, those that pass a test
+module _ {X : Type 0} (s : Uuid × X → Bool) where
+  all-passed : (P : Uuid → Type 0) (rows : List (Uuid × X)) → AllByRecursion P (keys_of rows) → AllByRecursion P (keys_of (filter s rows))
+  all-passed P [] h = tt
+  all-passed P (e ∷ es) h = by (s e) (all-passed P es h.1)
     where
-      by : (a : Bool) → AllByRecursion P (keys_of (rest_of es)) → AllByRecursion P (keys_of (cond (not a) (e ∷ rest_of es) (rest_of es)))
-      by true r = r
-      by false r = (h.0, r)
+      by : (a : Bool) → AllByRecursion P (keys_of (filter s es)) → AllByRecursion P (keys_of (cond a (e ∷ filter s es) (filter s es)))
+      by true r = (h.0, r)
+      by false r = r
 
-  distinct-rest : (rows : List (Uuid × X)) → AreDistinct rows → AreDistinct (rest_of rows)
-  distinct-rest [] d = d
-  distinct-rest (e ∷ es) d = by (p e.0) (distinct-rest es (IsDistinct-tail (eq_by_cmp uuid_cmp) e.0 (keys_of es) d))
+  distinct-passed : (rows : List (Uuid × X)) → AreDistinct rows → AreDistinct (filter s rows)
+  distinct-passed [] d = d
+  distinct-passed (e ∷ es) d = by (s e) (distinct-passed es (IsDistinct-tail (eq_by_cmp uuid_cmp) e.0 (keys_of es) d))
     where
-      by : (a : Bool) → AreDistinct (rest_of es) → AreDistinct (cond (not a) (e ∷ rest_of es) (rest_of es))
-      by true r = r
-      by false r = IsDistinct-cons (eq_by_cmp uuid_cmp) e.0 (keys_of (rest_of es)) (all-rest _ es (IsDistinct-head (eq_by_cmp uuid_cmp) e.0 (keys_of es) d)) r
+      by : (a : Bool) → AreDistinct (filter s es) → AreDistinct (cond a (e ∷ filter s es) (filter s es))
+      by true r = IsDistinct-cons (eq_by_cmp uuid_cmp) e.0 (keys_of (filter s es)) (all-passed _ es (IsDistinct-head (eq_by_cmp uuid_cmp) e.0 (keys_of es) d)) r
+      by false r = r
+
+  find-absent : (q : Uuid) (rows : List (Uuid × X)) → AllByRecursion (λ y. eq_by_cmp uuid_cmp q y ≡ false) (keys_of rows) → find uuid_cmp q rows ≡ None
+  find-absent q [] h = refl
+  find-absent q (e ∷ es) h = ap (λ b. cond b (Some e.1) (find uuid_cmp q es)) h.0 ∙ find-absent q es h.1
+
+  find-passed : (rows : List (Uuid × X)) (q : Uuid) → AreDistinct rows → find uuid_cmp q (filter s rows) ≡ option_and_then (λ x. cond (s (q, x)) (Some x) None) (find uuid_cmp q rows)
+  find-passed [] q d = refl
+  find-passed (e ∷ es) q d = by (eq_by_cmp uuid_cmp q e.0) refl (s e) refl (find-passed es q (IsDistinct-tail (eq_by_cmp uuid_cmp) e.0 (keys_of es) d))
+    where
+      gone : q ≡ e.0 → find uuid_cmp q (filter s es) ≡ None
+      gone is = find-absent q (filter s es) (all-passed _ es (subst (λ u. AllByRecursion (λ y. eq_by_cmp uuid_cmp u y ≡ false) (keys_of es)) (sym is) (IsDistinct-head (eq_by_cmp uuid_cmp) e.0 (keys_of es) d)))
+
+      by : (b : Bool) → eq_by_cmp uuid_cmp q e.0 ≡ b → (a : Bool) → s e ≡ a → find uuid_cmp q (filter s es) ≡ option_and_then (λ x. cond (s (q, x)) (Some x) None) (find uuid_cmp q es)
+          → find uuid_cmp q (cond a (e ∷ filter s es) (filter s es)) ≡ option_and_then (λ x. cond (s (q, x)) (Some x) None) (cond b (Some e.1) (find uuid_cmp q es))
+      by true is true passes rest =
+          let same : q ≡ e.0 = same_key uuid_cmp-IsAntisymmetric q e.0 is in
+          ap (λ b. cond b (Some e.1) (find uuid_cmp q (filter s es))) is ∙ sym (ap (λ b. cond b (Some e.1) None) (ap (λ u. s (u, e.1)) same ∙ passes))
+      by true is false passes rest =
+          let same : q ≡ e.0 = same_key uuid_cmp-IsAntisymmetric q e.0 is in
+          gone same ∙ sym (ap (λ b. cond b (Some e.1) None) (ap (λ u. s (u, e.1)) same ∙ passes))
+      by false is true passes rest = ap (λ b. cond b (Some e.1) (find uuid_cmp q (filter s es))) is ∙ rest
+      by false is false passes rest = rest
 
 named_found : (cs : List (Uuid × Pair)) (q : Uuid) → is_changed cs q ≡ is_some (find uuid_cmp q cs)
 named_found [] q = refl
@@ -186,10 +210,23 @@ named_found (c ∷ cs) q = by (eq_by_cmp uuid_cmp q c.0) (named_found cs q)
     by true rest = refl
     by false rest = rest
 
-pub all_of : (cs : List (Uuid × Pair)) (rows : List (Uuid × Row)) (then now : Table) → AreDistinct cs → WasSo cs then now → IsListOf rows now → (first : Bool) (w : Told) (q : Request)
-    → Covers (map (changed_in now) cs ++ map stayed_in (unchanged cs rows)) first w q then now
-all_of cs rows then now d was h first w q = (subst (IsDistinct (eq_by_cmp uuid_cmp)) (sym (keys-++ front back)) (distinct-++ (keys_of front) (keys_of back) (distinct-each changed_side cs d) (distinct-each stayed_side (unchanged cs rows) (distinct-rest (is_changed cs) rows h.1)) apart), λ u. ap (option_and_then (shown_at first w q u)) (find-++ front back u ∙ (λ i. or_else (find-each changed_side cs u i) (find-each stayed_side (unchanged cs rows) u i))) ∙ by u (find uuid_cmp u cs) refl (finite.get now u) refl ∙ ap (λ r. shown_at first w q u (r, finite.get now u)) (sym (was u)))
+-- of a row that stayed nothing is shown, where it was told and is asked, or neither
+not_shown : (first : Bool) (w : Told) (q : Request) (u : Uuid) (r : Row) → tells w q.filter u r ≡ selects q.filter u r → shown_at first w q u (Some r, Some r) ≡ None
+not_shown first w q u r same =
+    ap (λ b. only_shown first q.select (change (option_map (cut q.shape.columns u) (cond b (Some r) None)) (option_map (cut q.shape.columns u) (passed (selects q.filter) u (Some r))))) same
+    ∙ only_changed first q u (Some r)
+
+pub all_apart : (cs : List (Uuid × Pair)) (all : List (Uuid × Row)) (d : Filter) (then now : Table) → AreDistinct cs → WasSo cs then now → IsListOf all now → (first : Bool) (w : Told) (q : Request)
+    → ((u : Uuid) (r : Row) → selects d u r ≡ false → tells w q.filter u r ≡ selects q.filter u r)
+    → Covers (map (changed_in now) cs ++ map stayed_in (unchanged cs (selected_by d all))) first w q then now
+all_apart cs all d then now distinct was h first w q apart_by = (subst (IsDistinct (eq_by_cmp uuid_cmp)) (sym (keys-++ front back)) (distinct-++ (keys_of front) (keys_of back) (distinct-each changed_side cs distinct) (distinct-each stayed_side (unchanged cs rows) (distinct-passed (λ e. not (is_changed cs e.0)) rows (distinct-passed test all h.1))) apart), λ u. ap (option_and_then (shown_at first w q u)) (find-++ front back u ∙ (λ i. or_else (find-each changed_side cs u i) (find-each stayed_side (unchanged cs rows) u i))) ∙ by u (find uuid_cmp u cs) refl (finite.get now u) refl ∙ ap (λ r. shown_at first w q u (r, finite.get now u)) (sym (was u)))
   where
+    test : Uuid × Row → Bool
+    test e = selects d e.0 e.1
+
+    rows : List (Uuid × Row)
+    rows = selected_by d all
+
     changed_side : Uuid → Pair → Pair
     changed_side u s = (s.0, finite.get now u)
 
@@ -208,11 +245,18 @@ all_of cs rows then now d was h first w q = (subst (IsDistinct (eq_by_cmp uuid_c
     by : (u : Uuid) (c : Option Pair) → find uuid_cmp u cs ≡ c → (r : Option Row) → finite.get now u ≡ r
         → option_and_then (shown_at first w q u) (or_else (option_map (changed_side u) c) (option_map (stayed_side u) (find uuid_cmp u (unchanged cs rows)))) ≡ shown_at first w q u (before (finite.get now u) c, finite.get now u)
     by u (Some c) is r there = refl
-    by u None is r there = ap (λ o. option_and_then (shown_at first w q u) (option_map (stayed_side u) o)) (find-rest (is_changed cs) rows u (named_found cs u ∙ ap is_some is) ∙ row_found rows now h u ∙ there) ∙ stays r ∙ ap (λ o. shown_at first w q u (o, o)) (sym there)
+    by u None is r there =
+        ap (λ o. option_and_then (shown_at first w q u) (option_map (stayed_side u) o)) (find-rest (is_changed cs) rows u (named_found cs u ∙ ap is_some is) ∙ find-passed test all u h.1 ∙ ap (option_and_then (λ x. cond (test (u, x)) (Some x) None)) (row_found all now h u ∙ there))
+        ∙ stays r
+        ∙ ap (λ o. shown_at first w q u (o, o)) (sym there)
       where
-        stays : (o : Option Row) → option_and_then (shown_at first w q u) (option_map (stayed_side u) o) ≡ shown_at first w q u (o, o)
+        stays : (o : Option Row) → option_and_then (shown_at first w q u) (option_map (stayed_side u) (option_and_then (λ x. cond (test (u, x)) (Some x) None) o)) ≡ shown_at first w q u (o, o)
         stays None = refl
-        stays (Some x) = refl
+        stays (Some x) = at (selects d u x) refl
+          where
+            at : (b : Bool) → selects d u x ≡ b → option_and_then (shown_at first w q u) (option_map (stayed_side u) (cond b (Some x) None)) ≡ shown_at first w q u (Some x, Some x)
+            at true e = refl
+            at false e = sym (not_shown first w q u x (apart_by u x e))
 
 -- ---- small parts
 

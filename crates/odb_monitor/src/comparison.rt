@@ -51,8 +51,8 @@ impl<'a> Comparison<'a> {
         }
     }
 
-    /// Returns what is shown of a row. O(the members of the filters, and the values of the monitored
-    /// columns).
+    /// Returns what is shown of a row. It costs what `Filter::holds` does, for each side, and O(the values of the
+    /// monitored columns).
     pub fn line<'r>(&self, sides: &Sides<'r>) -> Option<Line<'r>>
         ensures { option_map (line_in self.now.request.now.shape.columns) result
             ≡ line_at self.now.first self.now.told self.now.request.now (sides_in sides.now) }

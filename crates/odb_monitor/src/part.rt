@@ -7,7 +7,7 @@ ghost use Rattle.odb_atoms.specs.Represented.Atom.{uuid_of};
 ghost use Rattle.odb_atoms.specs.Row as model_row;
 ghost use Rattle.odb_atoms.specs.Uuid as model_uuid;
 ghost use Rattle.odb_atoms.specs.Uuid.{uuid_cmp};
-ghost use Rattle.odb_monitor.specs.Represented.Candidates.{Covers, IsListOf, WasSo, changed_in, fresh_in, stayed_in, unchanged};
+ghost use Rattle.odb_monitor.specs.Represented.Candidates.{Covers, IsListOf, ListsApart, WasSo, changed_in, fresh_in, stayed_in, unchanged};
 ghost use Rattle.odb_monitor.specs.Represented.Line.{line_in};
 ghost use Rattle.odb_monitor.specs.Represented.Part.{changes_shown, is_silent, part_of, part_tokens};
 ghost use Rattle.odb_monitor.specs.Represented.Sides.{line_at, sides_in, table_then};
@@ -20,8 +20,9 @@ use crate::comparison::Comparison;
 use crate::layout::Layout;
 use crate::line::Line;
 use crate::printer::Printer;
-use crate::sides::{Sides, add_others, changed, fresh, keys_of};
+use crate::sides::{Sides, add_others, changed, fresh, keys_of, selected};
 use crate::told::Told;
+use odb_cond::Filter;
 use odb_request::{Kind, Request};
 use odb_tables::{Key, RowChange, Table, TableChange};
 use std::alloc::{AllocError, Global};
@@ -95,7 +96,8 @@ impl<'a> Part<'a> {
     pub(crate) fn has_lines(&self, alloc: Global, first: bool) -> Result<bool, AllocError>
         ensures { IfOk result (λ shown. shown ≡ not (is_silent first self.now)) }
     {
-        let sides = sides_of(alloc, self.told, rows_of(&self.changes), self.table)?;
+        let asked = self.request.filter();
+        let sides = sides_of(alloc, self.told, asked, rows_of(&self.changes), self.table)?;
         let comparison = Comparison::of(alloc, first, self.told, self.request);
         Ok(has_line(&comparison, &sides))
     }
@@ -105,7 +107,8 @@ impl<'a> Part<'a> {
         ensures { IfOk result (λ lines. map (line_in self.now.request.shape.columns) lines.items
             ≡ (changes_shown first self.now).entries) }
     {
-        let sides = sides_of(alloc, self.told, rows_of(&self.changes), self.table)?;
+        let asked = self.request.filter();
+        let sides = sides_of(alloc, self.told, asked, rows_of(&self.changes), self.table)?;
         let comparison = Comparison::of(alloc, first, self.told, self.request);
         let mut lines = lines_of(alloc, &comparison, &sides)?;
         sort(&mut lines);
@@ -124,22 +127,23 @@ fn rows_of(changes: &Option<Arc<TableChange>>) -> &[RowChange]
     }
 }
 
-/// Returns the rows of which something may be shown.
+/// Returns the rows of which something may be shown, where this filter is asked.
 fn sides_of<'a>(
     alloc: Global,
     told: Told<'a>,
+    asked: &Filter,
     changes: &'a [RowChange],
     table: &'a Table,
 ) -> Result<Vec<Sides<'a>>, AllocError>
     requires { AreDistinct changes.now }
     ensures { IfOk result (λ sides. (first : Bool) (q : model_request.Request) (then : model_table.Table)
-        → WasSo changes.now then table.now
+        → q.filter ≡ asked.now → WasSo changes.now then table.now
         → Covers (map sides_in sides.items) first told.entry q then table.now) }
 {
     match told {
         Told::Nothing => all_fresh(alloc, table),
         Told::Asked => changed(alloc, changes, table),
-        Told::Under(_) => all_rows(alloc, changes, table),
+        Told::Under(filter) => told_apart(alloc, filter, asked, changes, table),
     }
 }
 
@@ -152,20 +156,25 @@ fn all_fresh<'a>(alloc: Global, table: &'a Table) -> Result<Vec<Sides<'a>>, Allo
     fresh(alloc, &rows)
 }
 
-/// Returns each row of the table, and each that was changed.
-fn all_rows<'a>(
+/// Returns each row that was changed, and of the others those that the filters may tell apart. O(rows of the
+/// table), times the members that only one of the filters has, and O(the members).
+fn told_apart<'a>(
     alloc: Global,
+    told: &Filter,
+    asked: &Filter,
     changes: &'a [RowChange],
     table: &'a Table,
 ) -> Result<Vec<Sides<'a>>, AllocError>
-    ensures { IfOk result (λ sides. (rows : List (model_uuid.Uuid × model_row.Row)) × IsListOf rows table.now
+    ensures { IfOk result (λ sides. (rows : List (model_uuid.Uuid × model_row.Row)) × ListsApart told.now asked.now rows table.now
         × (map sides_in sides.items
         ≡ map (changed_in table.now) changes.now ++ map stayed_in (unchanged changes.now rows))) }
 {
     let keys = keys_of(alloc, changes)?;
+    let differing = told.difference(alloc, asked)?;
     let rows = table.list(alloc)?;
+    let apart = selected(alloc, &differing, &rows)?;
     let mut all = changed(alloc, changes, table)?;
-    add_others(&rows, &keys, &mut all)?;
+    add_others(&apart, &keys, &mut all)?;
     Ok(all)
 }
 

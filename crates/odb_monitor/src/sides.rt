@@ -4,11 +4,12 @@ ghost use Rattle.std.specs.BTreeSet.{contains};
 ghost use Rattle.odb_atoms.specs.Represented.Atom.{uuid_of};
 ghost use Rattle.odb_atoms.specs.Uuid as model_uuid;
 ghost use Rattle.odb_atoms.specs.Uuid.{uuid_cmp};
-ghost use Rattle.odb_monitor.specs.Represented.Candidates.{changed_in, fresh_in, is_changed, others, stayed_in};
+ghost use Rattle.odb_monitor.specs.Represented.Candidates.{changed_in, fresh_in, is_changed, others, selected_by, stayed_in};
 ghost use Rattle.odb_monitor.specs.Represented.Sides.{sides_in};
 ghost use Rattle.odb_tables.specs.Represented.Table.{listed};
 
 use odb_atoms::Row;
+use odb_cond::Filter;
 use odb_tables::{Key, RowChange, Table};
 use std::alloc::{AllocError, Global};
 use std::collections::BTreeSet;
@@ -99,6 +100,26 @@ pub fn add_others<'a>(
         }
     }
     Ok(())
+}
+
+/// Returns the rows that the filter selects. O(rows), times what `Filter::holds` costs.
+pub fn selected<'a>(
+    alloc: Global,
+    by: &Filter,
+    rows: &[(Uuid, &'a Row)],
+) -> Result<Vec<(Uuid, &'a Row)>, AllocError>
+    ensures { IfOk result (λ found. map listed found.items ≡ selected_by by.now (map listed rows.now)) }
+{
+    let mut found = Vec::new(alloc);
+    for row in rows {
+        if !by.holds(row.0, row.1) {
+            continue;
+        }
+        if found.push((row.0, row.1)).is_err() {
+            return Err(AllocError);
+        }
+    }
+    Ok(found)
 }
 
 fn is_among(keys: &BTreeSet<Key>, uuid: Uuid) -> bool
