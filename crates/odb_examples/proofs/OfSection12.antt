@@ -1,4 +1,4 @@
--- Transcripts of section 12 of docs/PROTOCOL.md. Made by `tests/examples` from transcripts/: no hand writes here.
+-- Transcripts of section 12 of docs/PROTOCOL.md. Made by `tools/examples` from transcripts/: no hand writes here.
 use Rattle.std.specs.Prelude.{◌∷◌, [], codes, refl}
 use Rattle.odb_examples.proofs.TestSchemas.{net, settlement}
 use Rattle.odb_examples.proofs.Transcripts.{Plays, shows}
@@ -268,6 +268,20 @@ pub those_that_wait_again_keep_their_places : Plays net (
     ∷ [])
 unfolding shows
 those_that_wait_again_keep_their_places = refl
+
+-- Three that wait, of which the third wakes the second, and that the first
+pub three_that_wait_of_which_the_third_wakes_the_second_and_that_the_first : Plays net (
+    codes "> A transact 1 {\"op\":\"wait\",\"table\":\"Bridge\",\"where\":[[\"name\",\"==\",\"d\"]],\"columns\":[\"name\"],\"until\":\"==\",\"rows\":[{\"name\":\"d\"}]}"
+    ∷ codes "> B transact 1 {\"op\":\"wait\",\"table\":\"Bridge\",\"where\":[[\"name\",\"==\",\"c\"]],\"columns\":[\"name\"],\"until\":\"==\",\"rows\":[{\"name\":\"c\"}]},{\"op\":\"insert\",\"table\":\"Bridge\",\"row\":{\"name\":\"d\"}}"
+    ∷ codes "> C transact 1 {\"op\":\"wait\",\"table\":\"Bridge\",\"where\":[[\"name\",\"==\",\"b\"]],\"columns\":[\"name\"],\"until\":\"==\",\"rows\":[{\"name\":\"b\"}]},{\"op\":\"insert\",\"table\":\"Bridge\",\"row\":{\"name\":\"c\"}}"
+    ∷ codes "> A transact 2 {\"op\":\"insert\",\"table\":\"Bridge\",\"row\":{\"name\":\"b\"}}"
+    ∷ codes "< A reply 2 [{\"uuid\":[\"uuid\",\"U3\"]}]"
+    ∷ codes "< A reply 1 [{}]"
+    ∷ codes "< B reply 1 [{},{\"uuid\":[\"uuid\",\"U1\"]}]"
+    ∷ codes "< C reply 1 [{},{\"uuid\":[\"uuid\",\"U2\"]}]"
+    ∷ [])
+unfolding shows
+three_that_wait_of_which_the_third_wakes_the_second_and_that_the_first = refl
 
 -- A commit before the deadline wakes, and does not end, what waits
 pub a_commit_before_the_deadline_wakes_and_does_not_end_what_waits : Plays net (

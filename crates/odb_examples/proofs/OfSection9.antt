@@ -360,6 +360,16 @@ pub what_was_switched_off_counts_as_told : Plays net (
 unfolding shows
 what_was_switched_off_counts_as_told = refl
 
+-- A change names a table that is monitored, and then one that isn't
+pub a_change_names_a_table_that_is_monitored_and_then_one_that_is_not : Plays net (
+    codes "> A monitor_cond 1 [\"net\",\"m\",{\"Bridge\":{\"columns\":[\"name\"]}}]"
+    ∷ codes "< A reply 1 {}"
+    ∷ codes "> A monitor_cond_change 2 [\"m\",\"n\",{\"Bridge\":[{\"where\":[[\"name\",\"==\",\"b\"]]}],\"Port\":[{\"where\":[]}]}]"
+    ∷ codes "< A error 2 syntax error"
+    ∷ [])
+unfolding shows
+a_change_names_a_table_that_is_monitored_and_then_one_that_is_not = refl
+
 -- A plain monitor has no conditions to change
 pub a_plain_monitor_has_no_conditions_to_change : Plays net (
     codes "> B transact 1 {\"op\":\"insert\",\"table\":\"Bridge\",\"row\":{\"name\":\"br0\",\"ports\":[\"named-uuid\",\"p\"]}},{\"op\":\"insert\",\"table\":\"Port\",\"row\":{\"name\":\"p1\"},\"uuid-name\":\"p\"}"
