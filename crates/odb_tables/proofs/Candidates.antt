@@ -39,7 +39,7 @@ all_filter test P (u ∷ us) h = by (test u) (all_filter test P us h.1)
     by true r = (h.0, r)
     by false r = r
 
-distinct_filter : (test : Uuid → Bool) (us : List Uuid) → IsDistinct (eq_by_cmp uuid_cmp) us → IsDistinct (eq_by_cmp uuid_cmp) (filter test us)
+pub distinct_filter : (test : Uuid → Bool) (us : List Uuid) → IsDistinct (eq_by_cmp uuid_cmp) us → IsDistinct (eq_by_cmp uuid_cmp) (filter test us)
 unfolding IsDistinct
 distinct_filter test [] h = tt
 distinct_filter test (u ∷ us) h = by (test u) (distinct_filter test us (IsDistinct-tail (eq_by_cmp uuid_cmp) u us h))
@@ -48,7 +48,7 @@ distinct_filter test (u ∷ us) h = by (test u) (distinct_filter test us (IsDist
     by true r = IsDistinct-cons (eq_by_cmp uuid_cmp) u (filter test us) (all_filter test _ us (IsDistinct-head (eq_by_cmp uuid_cmp) u us h)) r
     by false r = r
 
-any_filter : (test : Uuid → Bool) (q : Uuid) (us : List Uuid) → list_any (eq_by_cmp uuid_cmp q) (filter test us) ≡ (list_any (eq_by_cmp uuid_cmp q) us && test q)
+pub any_filter : (test : Uuid → Bool) (q : Uuid) (us : List Uuid) → list_any (eq_by_cmp uuid_cmp q) (filter test us) ≡ (list_any (eq_by_cmp uuid_cmp q) us && test q)
 any_filter test q [] = refl
 any_filter test q (u ∷ us) = by (test u) refl (eq_by_cmp uuid_cmp q u) refl (any_filter test q us)
   where

@@ -1,18 +1,22 @@
 -- What a draft is after a row of it changed.
-use Rattle.std.proofs.Common.{◌≡◌, ◌<◌, ℕ, zero, suc, arith, List, [], ◌∷◌, get_or, length, map, slice_get, slice_set, unwrap_or, Some, None, refl, sym, ap, ◌∙◌}
+use Rattle.std.proofs.Common.{◌≡◌, ◌<◌, ℕ, zero, suc, arith, List, [], ◌∷◌, get_or, length, map, replicate, slice_get, slice_set, unwrap_or, Some, None, refl, sym, ap, ◌∙◌}
 use Rattle.odb_atoms.specs.FinMap as finite
 use Rattle.odb_atoms.specs.FinSet as set
 use Rattle.odb_atoms.specs.Row.{Row}
 use Rattle.odb_atoms.specs.Uuid.{Uuid}
 use Rattle.odb_tables.specs.Change.{Changes, change, change_between}
 use Rattle.odb_tables.specs.Database.{Db, Table, table_at}
-use Rattle.odb_tables.specs.Draft.{Draft, with_row, without_row}
+use Rattle.odb_tables.specs.Draft.{Draft, draft_of, with_row, without_row}
 use Rattle.odb_tables.specs.Represented.Draft.{all_overlaid, overlaid, taken_out, touched_at}
 use Rattle.odb_tables.specs.Represented.Overlay.{Touched}
-use Rattle.odb_tables.proofs.Overlays.{at-all_overlaid, overlaid-put, overlaid-removed, removed-all, set-all_overlaid, set-removed, taken_out-put, taken_out-removed}
+use Rattle.odb_tables.proofs.Overlays.{all_untouched, at-all_overlaid, none_removed, overlaid-put, overlaid-removed, removed-all, set-all_overlaid, set-removed, taken_out-put, taken_out-removed}
 
 abbrev pub drafted : Db → List Touched → Draft
 drafted db os = record { old = db; now = all_overlaid db os; removed = map taken_out os }
+
+-- nothing is touched
+pub drafted-none : (db : Db) (os : List Touched) → os ≡ replicate (length db) finite.empty → drafted db os ≡ draft_of db
+drafted-none db os none = ap (drafted db) none ∙ (λ i. let d : Draft = record { old = db; now = all_untouched db i; removed = none_removed (length db) i } in d)
 
 module _ (db : Db) (os : List Touched) (e : length os ≡ length db) (k : ℕ) (u : Uuid) (o new : Touched) (at : o ≡ touched_at os k) where
   now_is : overlaid (table_at db k) o ≡ table_at (all_overlaid db os) k

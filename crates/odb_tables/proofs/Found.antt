@@ -64,7 +64,7 @@ module _ {V : Type 0} (p : Uuid × V → Bool) where
       by true r = (h.0, r)
       by false r = r
 
-  distinct_found : (es : List (Uuid × V)) → IsDistinct (eq_by_cmp uuid_cmp) (keys_of es) → IsDistinct (eq_by_cmp uuid_cmp) (found es)
+  pub distinct_found : (es : List (Uuid × V)) → IsDistinct (eq_by_cmp uuid_cmp) (keys_of es) → IsDistinct (eq_by_cmp uuid_cmp) (found es)
   unfolding IsDistinct
   distinct_found [] h = tt
   distinct_found (e ∷ es) h = by (p e) (distinct_found es (IsDistinct-tail (eq_by_cmp uuid_cmp) e.0 (keys_of es) h))
@@ -99,7 +99,7 @@ module _ {V : Type 0} (p : Uuid × V → Bool) where
 
 -- ---- which rows match
 
-abbrev if_passes : (Uuid → Row → Bool) → Uuid → Row → Option Row
+abbrev pub if_passes : (Uuid → Row → Bool) → Uuid → Row → Option Row
 if_passes p u r = cond (p u r) (Some r) None
 
 pub get-passing : (p : Uuid → Row → Bool) (t : Table) (q : Uuid) → finite.get (passing p t) q ≡ option_and_then (if_passes p q) (finite.get t q)
@@ -108,7 +108,7 @@ get-passing p t q = get-map_entries uuid_cmp_total uuid_cmp-IsAntisymmetric (if_
 get-untouched : (o : Touched) (t : Table) (q : Uuid) → finite.get (untouched o t) q ≡ option_and_then (λ r. cond (finite.contains_key o q) None (Some r)) (finite.get t q)
 get-untouched o t q = get-map_entries uuid_cmp_total uuid_cmp-IsAntisymmetric (λ u r. cond (finite.contains_key o u) None (Some r)) t q
 
-get-standing : (o : Touched) (q : Uuid) → finite.get (standing o) q ≡ option_and_then (λ now. now) (finite.get o q)
+pub get-standing : (o : Touched) (q : Uuid) → finite.get (standing o) q ≡ option_and_then (λ now. now) (finite.get o q)
 get-standing o q = get-map_entries uuid_cmp_total uuid_cmp-IsAntisymmetric (λ u now. now) o q
 
 some_cond : (b : Bool) (r : Row) → is_some (cond b (Some r) None) ≡ b
@@ -192,6 +192,20 @@ listed-standing {Z = Z} p m distinct =
     by q None = refl
     by q (Some v) = refl
 
+-- of an entry of an overlay: the row is there
+abbrev pub is_there : {Z : Type 0} → Uuid × Option (Arc Row Z) → Bool
+is_there e = is_some e.1
+
+pub listed-there : {Z S : Type 0} (m : IndexMap Uuid (Option (Arc Row Z)) S) → IsUnique (eq_by_cmp uuid_cmp) m → Lists (found is_there m.entries) (standing (keyed row_of m))
+listed-there {Z = Z} m distinct =
+    found-Lists is_there m.entries _ distinct
+    (λ q. ap is_some (get-standing (keyed row_of m) q ∙ ap (option_and_then (λ now. now)) (get-keyed row_of m q)) ∙ by q (lookup (eq_by_cmp uuid_cmp q) m.entries))
+  where
+    by : (q : Uuid) (v : Option (Option (Arc Row Z))) → is_some (option_and_then (λ (now : Option Row). now) (option_map row_of v)) ≡ passes is_there q v
+    by q None = refl
+    by q (Some None) = refl
+    by q (Some (Some r)) = refl
+
 -- ---- the two parts after each other
 
 none_of : (p : Uuid → Bool) (us : List Uuid) → list_any p us ≡ false → AllByRecursion (λ y. p y ≡ false) us
@@ -206,7 +220,7 @@ all-++ : (P : Uuid → Type 0) (us ws : List Uuid) → AllByRecursion P us → A
 all-++ P [] ws h k = k
 all-++ P (u ∷ us) ws h k = (h.0, all-++ P us ws h.1 k)
 
-any-++ : (p : Uuid → Bool) (us ws : List Uuid) → list_any p (us ++ ws) ≡ (list_any p us || list_any p ws)
+pub any-++ : (p : Uuid → Bool) (us ws : List Uuid) → list_any p (us ++ ws) ≡ (list_any p us || list_any p ws)
 any-++ p [] ws = refl
 any-++ p (u ∷ us) ws = by (p u) (any-++ p us ws)
   where
@@ -218,7 +232,7 @@ or_later : (a b : Bool) → b ≡ true → (a || b) ≡ true
 or_later true b e = refl
 or_later false b e = e
 
-distinct-++ : (us ws : List Uuid) → IsDistinct (eq_by_cmp uuid_cmp) us → IsDistinct (eq_by_cmp uuid_cmp) ws → ((q : Uuid) → list_any (eq_by_cmp uuid_cmp q) us ≡ true → list_any (eq_by_cmp uuid_cmp q) ws ≡ false) → IsDistinct (eq_by_cmp uuid_cmp) (us ++ ws)
+pub distinct-++ : (us ws : List Uuid) → IsDistinct (eq_by_cmp uuid_cmp) us → IsDistinct (eq_by_cmp uuid_cmp) ws → ((q : Uuid) → list_any (eq_by_cmp uuid_cmp q) us ≡ true → list_any (eq_by_cmp uuid_cmp q) ws ≡ false) → IsDistinct (eq_by_cmp uuid_cmp) (us ++ ws)
 distinct-++ [] ws h k apart = k
 distinct-++ (u ∷ us) ws h k apart =
     IsDistinct-cons (eq_by_cmp uuid_cmp) u (us ++ ws)

@@ -1,10 +1,13 @@
 mod Candidates
 pub mod Changes
+mod Conditions
+mod Covering
 mod Counts
 mod Digests
 mod Drafts
 mod Facets
 mod Found
+mod Grounds
 mod Installs
 mod Keepings
 pub mod KeyedMaps
@@ -13,6 +16,8 @@ pub mod Leading
 mod Mentions
 mod Overlays
 mod PairSets
+mod PutChanges
+mod Selected
 mod Steps
 mod SameValues
 mod Stamps

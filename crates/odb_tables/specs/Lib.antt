@@ -4,6 +4,7 @@ pub mod Draft
 pub mod Installing
 pub mod Kept
 pub mod Matching
+pub mod Pending
 pub mod Represented
 pub mod Stamped
 pub mod Typed

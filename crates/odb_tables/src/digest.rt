@@ -1,18 +1,19 @@
 //! Digests: numbers by which rows with certain values in some columns are found.
-ghost use Rattle.std.specs.Prelude.{◌≡◌, IfSome, IsTrue, map};
+ghost use Rattle.std.specs.Prelude.{◌≡◌, [], ◌∷◌, IfSome, IsTrue, map};
 ghost use Rattle.odb_atoms.specs.Represented.Atom.{atom_of};
 ghost use Rattle.odb_atoms.specs.Represented.Value.{pair_of};
 ghost use Rattle.odb_atoms.specs.Row as model_row;
 ghost use Rattle.odb_atoms.specs.Row.{cell, declared};
 ghost use Rattle.odb_atoms.specs.Uuid as model_uuid;
 ghost use Rattle.odb_atoms.specs.Uuid.{zero_uuid};
-ghost use Rattle.odb_cond.specs.Condition.{holds_all};
+ghost use Rattle.odb_cond.specs.Condition.{holds, holds_all};
 ghost use Rattle.odb_tables.specs.Kept.{cells_at};
 ghost use Rattle.odb_tables.specs.Represented.Digest as spec;
 
 use crate::key::Key;
+use crate::row_test::required;
 use odb_atoms::{Atom, Entries, Row, Value};
-use odb_cond::Where;
+use odb_cond::{Clause, Where};
 use std::hash::{BuildHasher, DefaultHasher, Hash, Hasher, RandomState};
 
 /// Returns the digest of what the row has in the columns at the places. Rows with the same values there have
@@ -39,6 +40,28 @@ pub(crate) fn of_matches(hashing: RandomState, places: &[usize], conditions: &Wh
         feed_value(&mut state, value);
     }
     Some(Key::of_hash(state.finish()))
+}
+
+/// Returns the digest of what each row of which the condition holds has in the columns at the places, where there is one
+/// such column, and the condition asks a value of it by `==`. O(the bytes of the value).
+pub(crate) fn of_asked(hashing: RandomState, places: &[usize], condition: &Clause) -> Option<Key>
+    ensures { IfSome result (λ key. (u : model_uuid.Uuid) (r : model_row.Row)
+        → IsTrue (holds condition.now u r) → key ≡ spec.digest hashing (cells_at places.now r)) }
+{
+    let [place] = places else {
+        return None;
+    };
+    let value = required(condition, *place)?;
+    Some(of_value(hashing, value))
+}
+
+/// Returns the digest of what a row has that has this value in the only column. O(the bytes of the value).
+fn of_value(hashing: RandomState, value: &Value) -> Key
+    ensures { result ≡ spec.digest hashing (value.now ∷ []) }
+{
+    let mut state = hashing.build_hasher();
+    feed_value(&mut state, value);
+    Key::of_hash(state.finish())
 }
 
 /// Feeds what the row has in the column at the place.

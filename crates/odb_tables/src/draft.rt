@@ -1,5 +1,5 @@
 //! Drafts: a database under a transaction. [P 6.3]
-ghost use Rattle.std.specs.Prelude.{◌≡◌, ◌<◌, false, length, map, IfOk, IfSome, IsPermutation, IsTrue, OnErr, OnOk, option_map};
+ghost use Rattle.std.specs.Prelude.{◌≡◌, ◌<◌, false, length, map, IfOk, IfSome, IsPermutation, IsTrue, OnErr, OnOk, option_map, slice_get};
 ghost use Rattle.std.specs.List.{IsDistinct, list_any};
 ghost use Rattle.std.specs.List.Sorted.{IsSortedByKey};
 ghost use Rattle.std.specs.Option.{option_copied};
@@ -25,8 +25,10 @@ ghost use Rattle.odb_tables.specs.Stamped.{stamped};
 
 use crate::change_set::ChangeSet;
 use crate::database::Db;
+use crate::ground::Ground;
 use crate::key::Key;
-use crate::overlay::Overlay;
+use crate::overlay::{Overlay, all_changes, none_touched, overlay_at};
+use crate::pending::Pending;
 use crate::row_test::{Referrers, Test};
 use crate::table::Table;
 use odb_atoms::Row;
@@ -39,11 +41,14 @@ use std::sync::Arc;
 use uuid::Uuid;
 
 /// A database under a transaction (RFC 7047, section 4.1.3): as it was, and the rows that were touched.
-/// What isn't touched is read through, so a draft costs by the rows touched, and not by the tables.
+/// What isn't touched is read through, so a draft costs by the rows touched, and not by the tables. Under it may be
+/// changes that aren't made yet ([`Pending`]): what they change is so before, and where a call costs by the rows
+/// touched it costs by the rows that they change, too.
 #[derive(Drop)]
 pub struct Draft<'a> {
     alloc: Global,
     base: &'a Db,
+    under: &'a [Overlay],
     overlays: Vec<Overlay>,
 }
 
@@ -51,19 +56,19 @@ impl<'a> Model for Draft<'a> {
     ghost use Rattle.std.specs.Prelude.{◌≡◌, length, map};
     ghost use Rattle.odb_tables.specs.Draft as model;
     ghost use Rattle.odb_tables.specs.Draft.{draft_code};
-    ghost use Rattle.odb_tables.specs.Represented.Draft.{all_overlaid, taken_out};
+    ghost use Rattle.odb_tables.specs.Represented.Draft.{all_overlaid, grounds, taken_out};
 
     ghost Value = { model.Draft };
 
     ghost coded = { draft_code };
 
     ghost view = { λ d. record {
-      old = d.base.now;
-      now = all_overlaid d.base.now d.overlays.items;
+      old = grounds d.base.now d.under.now;
+      now = all_overlaid (grounds d.base.now d.under.now) d.overlays.items;
       removed = map taken_out d.overlays.items;
     } };
 
-    ghost invariant = { λ d. length d.overlays.items ≡ length d.base.now };
+    ghost invariant = { λ d. length d.overlays.items ≡ length (grounds d.base.now d.under.now) };
 }
 
 impl<'a> Draft<'a> {
@@ -71,13 +76,26 @@ impl<'a> Draft<'a> {
     pub fn new(alloc: Global, base: &'a Db) -> Result<Draft<'a>, AllocError>
         ensures { IfOk result (λ draft. draft ≡ draft_of base.now) }
     {
-        let mut overlays = Vec::with_capacity(alloc, base.len())?;
-        for _ in 0..base.len() {
-            overlays.push(Overlay::new(alloc, base.hashing()))?;
-        }
+        let overlays = none_touched(alloc, base.len(), base.hashing())?;
         Ok(Draft {
             alloc,
             base,
+            under: &[],
+            overlays,
+        })
+    }
+
+    /// Makes a draft of the database as it will be with the changes that are put over it, in which nothing is changed
+    /// yet. O(tables).
+    pub fn over(alloc: Global, pending: &'a Pending<'a>) -> Result<Draft<'a>, AllocError>
+        ensures { IfOk result (λ draft. draft ≡ draft_of pending.now.now) }
+    {
+        let base = pending.base();
+        let overlays = none_touched(alloc, base.len(), base.hashing())?;
+        Ok(Draft {
+            alloc,
+            base,
+            under: pending.overlays(),
             overlays,
         })
     }
@@ -107,7 +125,7 @@ impl<'a> Draft<'a> {
     {
         match touched(self.overlays.as_slice(), table, uuid) {
             Some(row) => row,
-            None => self.base.get(table, uuid),
+            None => self.before(table, uuid),
         }
     }
 
@@ -115,7 +133,20 @@ impl<'a> Draft<'a> {
     pub fn before(&self, table: TableId, uuid: Uuid) -> Option<&Row>
         ensures { option_copied result ≡ finite.get (table_at self.now.old table) (uuid_of uuid) }
     {
-        self.base.get(table, uuid)
+        match self.ground(table) {
+            Some(ground) => ground.get(uuid),
+            None => None,
+        }
+    }
+
+    /// Returns the table as it was when the draft was made, if the database has it. O(1).
+    fn ground(&self, table: TableId) -> Option<Ground<'a>>
+        ensures { result ≡ slice_get self.now.old table }
+    {
+        if table.place() >= self.len() {
+            return None;
+        }
+        Some(Ground::at(self.base, self.under, table.place()))
     }
 
     /// Returns how many rows the table has now. O(rows of it that were touched).
@@ -125,8 +156,8 @@ impl<'a> Draft<'a> {
         let Some(overlay) = self.overlays.get(table.place()) else {
             return 0;
         };
-        let base = &self.base.tables()[table.place()];
-        overlay.count(base)
+        let ground = Ground::at(self.base, self.under, table.place());
+        overlay.count(&ground, ground.len())
     }
 
     /// Returns whether a row of this identifier was taken out of the table. O(1).
@@ -251,7 +282,8 @@ impl<'a> Draft<'a> {
         Ok(found)
     }
 
-    /// Returns the keys of the rows that the table had before and that may pass the test, as `Db::candidates` does.
+    /// Returns the keys of the rows that the table had before and that may pass the test, as `Db::candidates` does, and
+    /// of those that changes under the draft leave.
     pub(crate) fn candidates<T: Test>(
         &self,
         table: TableId,
@@ -259,7 +291,13 @@ impl<'a> Draft<'a> {
     ) -> Result<Option<Vec<Key>>, AllocError>
         ensures { IfOk result (λ found. IfSome found (λ keys. Suffices keys.items (T.passes test.now) (table_at self.now.old table))) }
     {
-        self.base.candidates(self.alloc, table, test)
+        let Some(keys) = self.base.candidates(self.alloc, table, test)? else {
+            return Ok(None);
+        };
+        match overlay_at(self.under, table.place()) {
+            Some(under) => Ok(Some(under.candidates_over(keys)?)),
+            None => Ok(Some(keys)),
+        }
     }
 
     /// Returns the identifiers of the table's rows, as they are now, that pass the test, each of them once.
@@ -272,7 +310,13 @@ impl<'a> Draft<'a> {
         };
         let among = self.base.candidates(self.alloc, table, test)?;
         let base = &self.base.tables()[table.place()];
-        found_in(self.alloc, base, among, overlay, test)
+        match overlay_at(self.under, table.place()) {
+            Some(under) => {
+                let found = found_in(self.alloc, base, among, under, test)?;
+                overlay.find_over(found, test)
+            }
+            None => found_in(self.alloc, base, among, overlay, test),
+        }
     }
 
     /// Returns the identifiers of the table's rows, as they are now, whose value in the column at the place
@@ -302,12 +346,7 @@ impl<'a> Draft<'a> {
         ensures change_of { IfOk result (λ changes. IsChangeOf self.entry.old changes) }
         ensures leads_to { IfOk result (λ changes. all_changed_by self.entry.old changes ≡ self.entry.now) }
     {
-        let mut tables = Vec::with_capacity(self.alloc, self.overlays.len())?;
-        for place in 0..self.overlays.len() {
-            let table = &self.base.tables()[place];
-            tables.push(self.overlays[place].changes(self.alloc, table)?)?;
-        }
-        Ok(ChangeSet::new(tables))
+        all_changes(self.alloc, self.base, self.under, self.overlays.as_slice())
     }
 
     /// Returns what leads from the database as it was to the one as it is now, in which each row that is
@@ -323,12 +362,13 @@ impl<'a> Draft<'a> {
         let Draft {
             alloc,
             base,
+            under,
             overlays,
         } = self;
         let mut tables = Vec::with_capacity(alloc, overlays.len())?;
         for overlay in overlays {
-            let table = &base.tables()[tables.len()];
-            tables.push(overlay.commit(alloc, table, version)?)?;
+            let ground = Ground::at(base, under, tables.len());
+            tables.push(overlay.commit(alloc, &ground, version)?)?;
         }
         Ok(ChangeSet::new(tables))
     }

@@ -1,5 +1,6 @@
 //! Tests of rows: what rows of a table are looked for.
-ghost use Rattle.std.specs.Prelude.{◌≡◌, Bool, true, IfSome, IsTrue};
+ghost use Rattle.std.specs.Prelude.{◌≡◌, Bool, false, true, IfSome, IsTrue};
+ghost use Rattle.std.specs.Bool.{OnTrue};
 ghost use Rattle.odb_atoms.specs.FinSet as set;
 ghost use Rattle.std.specs.List.{list_all, list_any};
 ghost use Rattle.odb_atoms.specs.Represented.Atom.{atom_of, uuid_of};
@@ -10,9 +11,9 @@ ghost use Rattle.odb_atoms.specs.Row.{cell, declared};
 ghost use Rattle.odb_atoms.specs.Row as model_row;
 ghost use Rattle.odb_atoms.specs.Uuid as model_uuid;
 ghost use Rattle.odb_atoms.specs.Uuid.{zero_uuid};
-ghost use Rattle.odb_atoms.specs.Value.{same_value, set_of};
+ghost use Rattle.odb_atoms.specs.Value.{is_map, same_value, set_of};
 ghost use Rattle.odb_tables.specs.Kept as kept;
-ghost use Rattle.odb_cond.specs.Condition.{holds_all};
+ghost use Rattle.odb_cond.specs.Condition.{holds, holds_all};
 ghost use Rattle.odb_tables.specs.Kept.{is_twin};
 
 use crate::digest;
@@ -20,7 +21,7 @@ use crate::entry::key_of;
 use crate::facet::Facet;
 use crate::key::Key;
 use odb_atoms::{Atom, Entries, Row, Value};
-use odb_cond::Where;
+use odb_cond::{Clause, Function, Selector, Where};
 use uuid::Uuid;
 
 /// What rows of a table are looked for: those that pass.
@@ -51,6 +52,22 @@ impl Test for Where {
                 digest::of_matches(*hashing, places.as_slice(), self)
             }
             Facet::Mentions(place) => mentioned_by(self, *place),
+        }
+    }
+}
+
+/// Those of which the condition holds.
+impl Test for Clause {
+    ghost passes = { λ condition. holds condition };
+
+    fn passes(&self, uuid: Uuid, row: &Row) -> bool {
+        self.holds(uuid, row)
+    }
+
+    fn tag(&self, facet: &Facet) -> Option<Key> {
+        match facet {
+            Facet::Values(hashing, places) => digest::of_asked(*hashing, places.as_slice(), self),
+            Facet::Mentions(place) => mentioned_at(self, *place),
         }
     }
 }
@@ -177,9 +194,71 @@ fn mentioned_by(conditions: &Where, place: usize) -> Option<Key>
     }
 }
 
+/// Returns the value that each row of which the condition holds has in the column at the place, if the condition asks it by
+/// `==`. O(1).
+pub(crate) fn required(condition: &Clause, place: usize) -> Option<&Value>
+    ensures { IfSome result (λ value. (u : model_uuid.Uuid) (r : model_row.Row)
+        → IsTrue (holds condition.now u r) → cell u r (declared place) ≡ value.now) }
+{
+    if !is_on(condition, place) {
+        return None;
+    }
+    match condition.function() {
+        Function::Equal => Some(condition.value()),
+        _ => None,
+    }
+}
+
+/// Returns whether the condition is on the column at the place. O(1).
+fn is_on(condition: &Clause, place: usize) -> bool
+    ensures { OnTrue result (condition.now.column ≡ declared place) }
+{
+    match condition.column() {
+        Selector::Declared(column) => column == place,
+        _ => false,
+    }
+}
+
+/// Returns the identifier of the only row of which the condition can hold, if it asks `_uuid` by `==` or `includes`. O(1).
+pub(crate) fn named_by(condition: &Clause) -> Option<Key>
+    ensures { IfSome result (λ key. (u : model_uuid.Uuid) (r : model_row.Row)
+        → IsTrue (holds condition.now u r) → u ≡ key) }
+{
+    match condition.column() {
+        Selector::Uuid => asked(condition),
+        _ => None,
+    }
+}
+
+/// Returns an identifier that each row of which the condition holds mentions in the column at the place, where the
+/// condition asks identifiers there. O(1).
+fn mentioned_at(condition: &Clause, place: usize) -> Option<Key>
+    ensures { IfSome result (λ tag. (u : model_uuid.Uuid) (r : model_row.Row)
+        → IsTrue (holds condition.now u r) → kept.mentions tag (cell zero_uuid r (declared place)) ≡ true) }
+{
+    if !is_on(condition, place) {
+        return None;
+    }
+    asked(condition)
+}
+
+/// Returns an identifier that each row of which the condition holds mentions in its column, where the condition asks a set
+/// of identifiers by `==` or `includes`. O(1).
+fn asked(condition: &Clause) -> Option<Key>
+    ensures { IfSome result (λ tag. (u : model_uuid.Uuid) (r : model_row.Row)
+        → IsTrue (holds condition.now u r) → kept.mentions tag (cell u r condition.now.column) ≡ true) }
+{
+    match condition.function() {
+        Function::Equal => first_mentioned(condition.value()),
+        Function::Includes => first_mentioned(condition.value()),
+        _ => None,
+    }
+}
+
 /// Returns the first element of the set, if it is an identifier.
 fn first_mentioned(value: &Value) -> Option<Key>
-    ensures { IfSome result (λ tag. kept.mentions tag value.now ≡ true) }
+    ensures mentioned { IfSome result (λ tag. kept.mentions tag value.now ≡ true) }
+    ensures set { IfSome result (λ _. is_map value.now ≡ false) }
 {
     match value.entries() {
         Entries::Set(elements) => match elements.first() {

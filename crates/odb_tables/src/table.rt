@@ -8,8 +8,11 @@ ghost use Rattle.std.specs.Ordering.{eq_by_cmp};
 ghost use Rattle.odb_atoms.specs.FinMap as finite;
 ghost use Rattle.odb_atoms.specs.Represented.Atom.{uuid_of};
 ghost use Rattle.odb_atoms.specs.Uuid.{uuid_cmp};
+ghost use Rattle.odb_cond.specs.Filter.{selects};
+ghost use Rattle.odb_tables.specs.Matching.{selected};
 ghost use Rattle.odb_tables.specs.Represented.Found.{Appends, is_there, passing, untouched};
 ghost use Rattle.odb_tables.specs.Represented.Installed.{each_row, one_row, put_in, settled, taken_back, with_row_at};
+ghost use Rattle.odb_tables.specs.Represented.Keeping.{Covers};
 ghost use Rattle.odb_tables.specs.Represented.Overlay.{row_of};
 ghost use Rattle.odb_tables.specs.Represented.Table.{listed};
 
@@ -20,7 +23,9 @@ use crate::row_test::Test;
 use crate::table_change::TableChange;
 use indexmap::IndexMap;
 use odb_atoms::Row;
+use odb_cond::Filter;
 use std::alloc::{AllocError, AllocFailed, Global};
+use std::collections::BTreeSet;
 use std::hash::RandomState;
 use std::marker::Model;
 use std::sync::Arc;
@@ -118,6 +123,66 @@ impl Table {
             }
         }
         Ok(rows)
+    }
+
+    /// Returns each of the rows that the filter selects once, with its identifier, in no order that is told. O(rows),
+    /// each tested once.
+    pub(crate) fn select(
+        &self,
+        alloc: Global,
+        filter: &Filter,
+    ) -> Result<Vec<(Uuid, &Row)>, AllocError>
+        ensures rows { IfOk result (λ rows. finite.from_entries (map listed rows.items) ≡ selected filter.now self.now) }
+        ensures distinct { IfOk result (λ rows. IsDistinct (eq_by_cmp uuid_cmp) (keys_of (map listed rows.items))) }
+    {
+        let mut rows = Vec::new(alloc);
+        for (key, row) in self.rows.iter() {
+            let uuid = key.uuid();
+            if !filter.holds(uuid, &**row) {
+                continue;
+            }
+            if rows.push((uuid, &**row)).is_err() {
+                return Err(AllocError);
+            }
+        }
+        Ok(rows)
+    }
+
+    /// Returns what `select` returns, where each row that the filter selects stands under one of these keys. O(the keys),
+    /// each row under them tested once.
+    pub(crate) fn select_among(
+        &self,
+        alloc: Global,
+        keys: &BTreeSet<Key>,
+        filter: &Filter,
+    ) -> Result<Vec<(Uuid, &Row)>, AllocError>
+        requires { Covers keys.now.keys (selects filter.now) self.now }
+        ensures rows { IfOk result (λ rows. finite.from_entries (map listed rows.items) ≡ selected filter.now self.now) }
+        ensures distinct { IfOk result (λ rows. IsDistinct (eq_by_cmp uuid_cmp) (keys_of (map listed rows.items))) }
+    {
+        let mut rows = Vec::new(alloc);
+        for key in keys {
+            let Some(row) = self.get_selected(*key, filter) else {
+                continue;
+            };
+            if rows.push((key.uuid(), row)).is_err() {
+                return Err(AllocError);
+            }
+        }
+        Ok(rows)
+    }
+
+    /// Returns the row of a key, if the table has one and the filter selects it.
+    fn get_selected(&self, key: Key, filter: &Filter) -> Option<&Row>
+        ensures { option_copied result ≡ finite.get (selected filter.now self.now) key }
+    {
+        let Some(row) = self.get(key.uuid()) else {
+            return None;
+        };
+        if !filter.holds(key.uuid(), row) {
+            return None;
+        }
+        Some(row)
     }
 
     /// Makes an equal table, whose rows are shared with this one. O(rows).

@@ -52,9 +52,17 @@ stays New d = d.0
 abbrev pub CutsAll : Facet → Pairs → Pairs → Side → Changes → Type 0
 CutsAll f old new side c = (tag v : Uuid) → has old tag v ≡ true → ((d : Option Row × Option Row) → map.get c v ≡ Some d → is_tag_now f tag (stays side d) ≡ true) → has new tag v ≡ true
 
--- each row of the table that passes is among them, and none twice
+-- each row of the table that passes is among them
+abbrev pub Covers : List Uuid → (Uuid → Row → Bool) → Table → Type 0
+Covers keys p t = (u : Uuid) → passes_now p u (map.get t u) ≡ true → list_any (eq_by_cmp uuid_cmp u) keys ≡ true
+
+-- so it is, and none of them stands twice
 abbrev pub Suffices : List Uuid → (Uuid → Row → Bool) → Table → Type 0
-Suffices keys p t = IsDistinct (eq_by_cmp uuid_cmp) keys × ((u : Uuid) → passes_now p u (map.get t u) ≡ true → list_any (eq_by_cmp uuid_cmp u) keys ≡ true)
+Suffices keys p t = IsDistinct (eq_by_cmp uuid_cmp) keys × Covers keys p t
+
+-- every key stays
+abbrev pub KeepsKeys : List Uuid → List Uuid → Type 0
+KeepsKeys old new = (u : Uuid) → list_any (eq_by_cmp uuid_cmp u) old ≡ true → list_any (eq_by_cmp uuid_cmp u) new ≡ true
 
 -- ---- the rows that a draft touched
 

@@ -4,14 +4,14 @@ use Rattle.odb_atoms.specs.Represented.Atom.{uuid_of}
 use Rattle.odb_tables.specs.Database.{Db, table_at}
 use Rattle.odb_atoms.specs.FinSet as set
 use Rattle.odb_tables.specs.Draft.{Draft, removed_at}
-use Rattle.odb_tables.specs.Represented.Draft.{laid, touched_at}
+use Rattle.odb_tables.specs.Represented.Draft.{grounds, laid, touched_at}
 use Rattle.odb_tables.specs.Represented.Overlay.{Touched}
 use Rattle.odb_tables.proofs.Overlays.{at-all_overlaid, get-overlaid, there_if, there_not_removed}
 use Rattle.odb_tables.proofs.draft.Draft.get.Goals as goal
 
 pub returns-in-Some-clause-row : goal.returns-in-Some-clause-row
 returns-in-Some-clause-row c =
-    let db : Db = c.self.inside.base.now in
+    let db : Db = grounds c.self.inside.base.now c.self.inside.under.now in
     let os : List Touched = c.self.inside.overlays.items in
     let k = c.args.table in
     let u = uuid_of c.args.uuid in
@@ -21,18 +21,20 @@ returns-in-Some-clause-row c =
 pub returns-in-Some-clause-not_removed : goal.returns-in-Some-clause-not_removed
 returns-in-Some-clause-not_removed c =
     there_if _ c.in-Some.row (finite.get (table_at c.args.self.now.now c.args.table) (uuid_of c.args.uuid)) (returns-in-Some-clause-row c)
-    (λ x there. ap (λ (d : Draft). set.contains (removed_at d c.args.table) (uuid_of c.args.uuid)) (sym c.self.view_is) ∙ there_not_removed c.self.inside.base.now c.self.inside.overlays.items c.args.table (uuid_of c.args.uuid) x c.self.invariant (ap (λ (d : Draft). finite.get (table_at d.now c.args.table) (uuid_of c.args.uuid)) c.self.view_is ∙ there))
+    (λ x there. ap (λ (d : Draft). set.contains (removed_at d c.args.table) (uuid_of c.args.uuid)) (sym c.self.view_is) ∙ there_not_removed (grounds c.self.inside.base.now c.self.inside.under.now) c.self.inside.overlays.items c.args.table (uuid_of c.args.uuid) x c.self.invariant (ap (λ (d : Draft). finite.get (table_at d.now c.args.table) (uuid_of c.args.uuid)) c.self.view_is ∙ there))
 
 pub returns-in-None-clause-row : goal.returns-in-None-clause-row
 returns-in-None-clause-row c =
-    let db : Db = c.self.inside.base.now in
+    let db : Db = grounds c.self.inside.base.now c.self.inside.under.now in
     let os : List Touched = c.self.inside.overlays.items in
     let k = c.args.table in
     let u = uuid_of c.args.uuid in
     let got : None ≡ finite.get (touched_at os k) u = search rules in
-    c.get.ensures ∙ ap (laid (finite.get (table_at db k) u)) got ∙ sym (get-overlaid (table_at db k) (touched_at os k) u) ∙ ap (λ t. finite.get t u) (sym (at-all_overlaid db os k c.self.invariant)) ∙ ap (λ (d : Draft). finite.get (table_at d.now k) u) c.self.view_is
+    let same : finite.get (table_at c.args.self.now.old k) u ≡ finite.get (table_at c.args.self.now.now k) u =
+    ap (λ (d : Draft). finite.get (table_at d.old k) u) (sym c.self.view_is) ∙ ap (laid (finite.get (table_at db k) u)) got ∙ sym (get-overlaid (table_at db k) (touched_at os k) u) ∙ ap (λ t. finite.get t u) (sym (at-all_overlaid db os k c.self.invariant)) ∙ ap (λ (d : Draft). finite.get (table_at d.now k) u) c.self.view_is in
+    search rules
 
 pub returns-in-None-clause-not_removed : goal.returns-in-None-clause-not_removed
 returns-in-None-clause-not_removed c =
-    there_if _ c.get.result (finite.get (table_at c.args.self.now.now c.args.table) (uuid_of c.args.uuid)) (returns-in-None-clause-row c)
-    (λ x there. ap (λ (d : Draft). set.contains (removed_at d c.args.table) (uuid_of c.args.uuid)) (sym c.self.view_is) ∙ there_not_removed c.self.inside.base.now c.self.inside.overlays.items c.args.table (uuid_of c.args.uuid) x c.self.invariant (ap (λ (d : Draft). finite.get (table_at d.now c.args.table) (uuid_of c.args.uuid)) c.self.view_is ∙ there))
+    there_if _ _ (finite.get (table_at c.args.self.now.now c.args.table) (uuid_of c.args.uuid)) (returns-in-None-clause-row c)
+    (λ x there. ap (λ (d : Draft). set.contains (removed_at d c.args.table) (uuid_of c.args.uuid)) (sym c.self.view_is) ∙ there_not_removed (grounds c.self.inside.base.now c.self.inside.under.now) c.self.inside.overlays.items c.args.table (uuid_of c.args.uuid) x c.self.invariant (ap (λ (d : Draft). finite.get (table_at d.now c.args.table) (uuid_of c.args.uuid)) c.self.view_is ∙ there))

@@ -2,13 +2,14 @@ use Rattle.std.proofs.Common.{rules, ◌≡◌, ◌<◌, ◌≤◌, List, length
 use Rattle.odb_atoms.specs.FinMap as finite
 use Rattle.odb_tables.specs.Database.{Db, table_at}
 use Rattle.odb_tables.specs.Draft.{Draft}
+use Rattle.odb_tables.specs.Represented.Draft.{grounds}
 use Rattle.odb_tables.specs.Represented.Overlay.{Touched}
 use Rattle.odb_tables.proofs.Overlays.{same_untouched, touched-is, untouched-past}
 use Rattle.odb_tables.proofs.draft.Draft.is_untouched.Goals as goal
 
 pub returns-in-Some : goal.returns-in-Some
 returns-in-Some c empty =
-    let db : Db = c.self.inside.base.now in
+    let db : Db = grounds c.self.inside.base.now c.self.inside.under.now in
     let os : List Touched = c.self.inside.overlays.items in
     let o : Touched = c.in-Some.overlay.now in
     let k = c.args.table in
@@ -19,7 +20,7 @@ returns-in-Some c empty =
 
 pub returns-in-None : goal.returns-in-None
 returns-in-None c _ =
-    let db : Db = c.self.inside.base.now in
+    let db : Db = grounds c.self.inside.base.now c.self.inside.under.now in
     let os : List Touched = c.self.inside.overlays.items in
     let k = c.args.table in
     let past : length os ≤ k = search rules in

@@ -1,19 +1,20 @@
-use Rattle.std.proofs.Common.{rules, ◌≡◌, length, replicate, ap, ◌∙◌}
+use Rattle.std.proofs.Common.{rules, ◌≡◌, [], length, replicate, sym, ap, ◌∙◌}
+use Rattle.std.proofs.lemmas.List.{length-replicate}
 use Rattle.odb_atoms.specs.FinMap as finite
 use Rattle.odb_tables.specs.Database.{Db}
-use Rattle.odb_tables.specs.Draft.{Draft}
-use Rattle.odb_tables.proofs.Overlays.{all_untouched, none_removed}
-use Rattle.odb_tables.proofs.Drafts.{drafted}
-use Rattle.std.proofs.lemmas.List.{length-replicate}
+use Rattle.odb_tables.specs.Draft.{draft_of}
+use Rattle.odb_tables.specs.Represented.Draft.{grounds}
+use Rattle.odb_tables.proofs.Drafts.{drafted-none}
+use Rattle.odb_tables.proofs.Grounds.{grounds-none, length-grounds}
 use Rattle.odb_tables.proofs.draft.Draft.new.Goals as goal
 
 pub invariant_of-result : goal.invariant_of-result
 invariant_of-result c =
-    let all : c.loop.overlays.items ≡ replicate (length c.args.base.now) finite.empty = search rules in
-    ap length all ∙ length-replicate (length c.args.base.now) finite.empty
+    let all : c.in_ok-overlays.overlays.items ≡ replicate (length c.args.base.now) finite.empty = search rules in
+    ap length all ∙ length-replicate (length c.args.base.now) finite.empty ∙ sym (length-grounds c.args.base.now [])
 
 pub returns : goal.returns
 returns c =
-    let db : Db = c.args.base.now in
-    let all : c.loop.overlays.items ≡ replicate (length db) finite.empty = search rules in
-    ap (drafted db) all ∙ (λ i. let d : Draft = record { old = db; now = all_untouched db i; removed = none_removed (length db) i } in d)
+    let db : Db = grounds c.args.base.now [] in
+    let all : c.in_ok-overlays.overlays.items ≡ replicate (length c.args.base.now) finite.empty = search rules in
+    drafted-none db c.in_ok-overlays.overlays.items (all ∙ ap (λ n. replicate n finite.empty) (sym (length-grounds c.args.base.now []))) ∙ ap draft_of (grounds-none c.args.base.now)

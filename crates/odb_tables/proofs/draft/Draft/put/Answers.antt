@@ -3,6 +3,7 @@ use Rattle.odb_atoms.specs.FinMap as finite
 use Rattle.odb_atoms.specs.Represented.Atom.{uuid_of}
 use Rattle.odb_tables.specs.Database.{Db}
 use Rattle.odb_tables.specs.Draft.{with_row}
+use Rattle.odb_tables.specs.Represented.Draft.{grounds}
 use Rattle.odb_tables.specs.Represented.Overlay.{Touched}
 use Rattle.odb_tables.proofs.Overlays.{touched-is}
 use Rattle.odb_tables.proofs.Drafts.{drafted, put_is}
@@ -12,7 +13,7 @@ use Rattle.odb_tables.proofs.draft.Draft.put.Goals as goal
 
 pub returns : goal.returns
 returns c =
-    let db : Db = c.self.inside.base.now in
+    let db : Db = grounds c.self.inside.base.now c.self.inside.under.now in
     let os : List Touched = c.self.inside.overlays.items in
     let o : Touched = c.index_mut.result.now in
     let k = c.args.table in

@@ -8,13 +8,14 @@ use Rattle.odb_atoms.specs.Uuid.{uuid_cmp}
 use Rattle.odb_atoms.proofs.FinMaps.{get-empty}
 use Rattle.odb_tables.specs.Database.{Db, table_at}
 use Rattle.odb_tables.specs.Draft.{Draft}
+use Rattle.odb_tables.specs.Represented.Draft.{grounds}
 use Rattle.odb_tables.specs.Represented.Overlay.{Touched}
 use Rattle.odb_tables.proofs.Overlays.{as_it_was, none_twice, touched-is, untouched-past}
 use Rattle.odb_tables.proofs.draft.Draft.touched.Goals as goal
 
 pub returns-in-Some-clause-as_it_was : goal.returns-in-Some-clause-as_it_was
 returns-in-Some-clause-as_it_was c =
-    let db : Db = c.self.inside.base.now in
+    let db : Db = grounds c.self.inside.base.now c.self.inside.under.now in
     let os : List Touched = c.self.inside.overlays.items in
     let o : Touched = c.in-Some.overlay.now in
     let k = c.args.table in
@@ -28,7 +29,7 @@ returns-in-Some-clause-as_it_was c =
 
 pub returns-in-None-clause-as_it_was : goal.returns-in-None-clause-as_it_was
 returns-in-None-clause-as_it_was c u absent =
-    let db : Db = c.self.inside.base.now in
+    let db : Db = grounds c.self.inside.base.now c.self.inside.under.now in
     let os : List Touched = c.self.inside.overlays.items in
     let k = c.args.table in
     let long : length os ≡ length db = c.self.invariant in

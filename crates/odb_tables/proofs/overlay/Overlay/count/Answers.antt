@@ -22,7 +22,7 @@ overflow_add-gained c =
     let seen = map (shown row_of) (map deref_pair c.loop-key.yielded) in
     let start : c.into_iter-key-iterator.result ≡ es = search rules in
     let turn = iter_turn deref_pair es c.loop-key.yielded c.into_iter-key-iterator.result c.loop-key.key-iterator c.next.new.self c.next.result start c.loop-key.yielded_by (c.in-Some.key, c.in-Some.now) c.in-Some.is c.next.ensures.steps in
-    let small : length es < 2 ^ 63 = c.iter-key-items.ensures.fits in
+    let small : length es < 2 ^ 62 = c.self.invariant in
     let long : length seen ≡ length c.loop-key.yielded = length-map (map deref_pair c.loop-key.yielded) (shown row_of) ∙ length-map c.loop-key.yielded deref_pair in
     let upto : sum_by (gain t) seen ≤ length seen = sum_upto (gain t) (gain_one t) seen in
     let one : c.gain-gained.result ≤ 1 = subst (λ n. n ≤ 1) (sym c.gain-gained.ensures) (gain_one t _) in
@@ -35,7 +35,7 @@ overflow_add-lost c =
     let seen = map (shown row_of) (map deref_pair c.loop-key.yielded) in
     let start : c.into_iter-key-iterator.result ≡ es = search rules in
     let turn = iter_turn deref_pair es c.loop-key.yielded c.into_iter-key-iterator.result c.loop-key.key-iterator c.next.new.self c.next.result start c.loop-key.yielded_by (c.in-Some.key, c.in-Some.now) c.in-Some.is c.next.ensures.steps in
-    let small : length es < 2 ^ 63 = c.iter-key-items.ensures.fits in
+    let small : length es < 2 ^ 62 = c.self.invariant in
     let long : length seen ≡ length c.loop-key.yielded = length-map (map deref_pair c.loop-key.yielded) (shown row_of) ∙ length-map c.loop-key.yielded deref_pair in
     let upto : sum_by (loss t) seen ≤ length seen = sum_upto (loss t) (loss_one t) seen in
     let one : c.loss-lost.result ≤ 1 = subst (λ n. n ≤ 1) (sym c.loss-lost.ensures) (loss_one t _) in
@@ -47,9 +47,9 @@ overflow_add-result c =
     let es = c.self.inside.rows.entries in
     let all : map deref_pair c.loop-key.yielded ≡ es = search (rules, iter_end) in
     let gained : c.loop-key.gained ≡ sum_by (gain t) (map (shown row_of) es) = c.loop-key.invariant.gained ∙ ap (λ xs. sum_by (gain t) (map (shown row_of) xs)) all in
-    let small : length es < 2 ^ 63 = c.iter-key-items.ensures.fits in
+    let small : length es < 2 ^ 62 = c.self.invariant in
     let upto : sum_by (gain t) (map (shown row_of) es) ≤ length (map (shown row_of) es) = sum_upto (gain t) (gain_one t) (map (shown row_of) es) in
-    omega (arith, gained, small, upto, length-map es (shown row_of), c.len.ensures.small)
+    omega (arith, gained, small, upto, length-map es (shown row_of), c.requires.small)
 
 pub overflow_sub-result : goal.overflow_sub-result
 overflow_sub-result c =
@@ -60,10 +60,10 @@ overflow_sub-result c =
     let lost : c.loop-key.lost ≡ sum_by (loss t) (map (shown row_of) es) = c.loop-key.invariant.lost ∙ ap (λ xs. sum_by (loss t) (map (shown row_of) xs)) all in
     let apart : IsDistinct (eq_by_cmp uuid_cmp) (keys_of (map (shown row_of) es)) = subst (IsDistinct (eq_by_cmp uuid_cmp)) (keys-shown row_of es) c.iter-key-items.ensures.unique in
     let sums = counted t (map (shown row_of) es) apart in
-    omega (arith, gained, lost, sums, c.len.ensures.rows)
+    omega (arith, gained, lost, sums, c.requires.rows)
 
-pub returns : goal.returns
-returns c =
+pub returns-clause-rows : goal.returns-clause-rows
+returns-clause-rows c =
     let t = c.args.base.now in
     let es = c.self.inside.rows.entries in
     let all : map deref_pair c.loop-key.yielded ≡ es = search (rules, iter_end) in
@@ -71,5 +71,15 @@ returns c =
     let lost : c.loop-key.lost ≡ sum_by (loss t) (map (shown row_of) es) = c.loop-key.invariant.lost ∙ ap (λ xs. sum_by (loss t) (map (shown row_of) xs)) all in
     let apart : IsDistinct (eq_by_cmp uuid_cmp) (keys_of (map (shown row_of) es)) = subst (IsDistinct (eq_by_cmp uuid_cmp)) (keys-shown row_of es) c.iter-key-items.ensures.unique in
     let sums = counted t (map (shown row_of) es) apart in
-    let count : c.len.result + c.loop-key.gained - c.loop-key.lost ≡ finite.len (overlaid t (finite.from_entries (map (shown row_of) es))) = omega (arith, gained, lost, sums, c.len.ensures.rows) in
+    let count : c.args.rows + c.loop-key.gained - c.loop-key.lost ≡ finite.len (overlaid t (finite.from_entries (map (shown row_of) es))) = omega (arith, gained, lost, sums, c.requires.rows) in
     count ∙ ap (λ o. finite.len (overlaid t o)) c.self.view_is
+
+pub returns-clause-small : goal.returns-clause-small
+returns-clause-small c =
+    let t = c.args.base.now in
+    let es = c.self.inside.rows.entries in
+    let all : map deref_pair c.loop-key.yielded ≡ es = search (rules, iter_end) in
+    let gained : c.loop-key.gained ≡ sum_by (gain t) (map (shown row_of) es) = c.loop-key.invariant.gained ∙ ap (λ xs. sum_by (gain t) (map (shown row_of) xs)) all in
+    let small : length es < 2 ^ 62 = c.self.invariant in
+    let upto : sum_by (gain t) (map (shown row_of) es) ≤ length (map (shown row_of) es) = sum_upto (gain t) (gain_one t) (map (shown row_of) es) in
+    omega (arith, gained, small, upto, length-map es (shown row_of))

@@ -1,0 +1,20 @@
+use Rattle.std.proofs.Common.{rules, ◌≡◌, length, replicate, sym, ap, ◌∙◌}
+use Rattle.std.proofs.lemmas.List.{length-replicate}
+use Rattle.odb_atoms.specs.FinMap as finite
+use Rattle.odb_tables.specs.Database.{Db}
+use Rattle.odb_tables.specs.Draft.{draft_of}
+use Rattle.odb_tables.specs.Represented.Draft.{grounds}
+use Rattle.odb_tables.proofs.Drafts.{drafted-none}
+use Rattle.odb_tables.proofs.Grounds.{length-grounds}
+use Rattle.odb_tables.proofs.draft.Draft.over.Goals as goal
+
+pub invariant_of-result : goal.invariant_of-result
+invariant_of-result c =
+    let all : c.in_ok-overlays.overlays.items ≡ replicate (length c.base-base.result.now) finite.empty = search rules in
+    ap length all ∙ length-replicate (length c.base-base.result.now) finite.empty ∙ sym (length-grounds c.base-base.result.now c.overlays.result.now)
+
+pub returns : goal.returns
+returns c =
+    let db : Db = grounds c.base-base.result.now c.overlays.result.now in
+    let all : c.in_ok-overlays.overlays.items ≡ replicate (length c.base-base.result.now) finite.empty = search rules in
+    drafted-none db c.in_ok-overlays.overlays.items (all ∙ ap (λ n. replicate n finite.empty) (sym (length-grounds c.base-base.result.now c.overlays.result.now))) ∙ ap draft_of ((λ i. grounds (c.base-base.ensures i) c.overlays.result.now) ∙ c.overlays.ensures)
