@@ -15,7 +15,7 @@ use crate::chain::Chain;
 use crate::content::Content;
 use crate::mark::{Mark, all_again};
 use odb_schema::TableId;
-use odb_tables::{ChangeSet, Db, Table, TableChange};
+use odb_tables::{ChangeSet, Db, Rows, Table, TableChange};
 use std::alloc::{AllocError, AllocFailed, Global};
 use std::hash::RandomState;
 use std::marker::Model;
@@ -178,6 +178,14 @@ impl Chains {
         ensures { result.now ≡ table_at self.now.db mark.now.table }
     {
         table_in(self.db.tables(), self.table_of(mark))
+    }
+
+    /// Returns the rows of the mark's table as it is now, with what the database keeps beside them. O(1).
+    pub fn rows(&self, mark: &Mark) -> Rows<'_>
+        requires { IsLive self.now mark.now }
+        ensures { result ≡ table_at self.entry.now.db mark.entry.now.table }
+    {
+        self.db.rows(mark.table)
     }
 
     /// Copies the chains and their marks. The marks given are all that are counted, each once, and their copies come in the

@@ -15,6 +15,7 @@ mod Endings
 mod FirstTexts
 mod Firsts
 mod Gives
+mod InTurn
 mod Interests
 mod Keyed
 mod Leading

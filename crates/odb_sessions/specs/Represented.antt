@@ -3,6 +3,7 @@ pub mod Codes
 pub mod Composed
 pub mod Decided
 pub mod Digest
+pub mod Ended
 pub mod Job
 pub mod Keyed
 pub mod LentSession

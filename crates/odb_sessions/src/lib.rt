@@ -12,7 +12,9 @@ mod composing;
 mod copying;
 mod decided;
 mod digest;
+mod ended;
 mod ending;
+mod ends;
 mod filters;
 mod first_texts;
 mod foreseen;
@@ -44,6 +46,7 @@ mod wanted;
 mod way;
 
 pub use changing::Changing;
+pub use ended::Ended;
 pub use first_texts::FirstText;
 pub use id::Id;
 pub use item::Changes;

@@ -1,5 +1,5 @@
 //! The database with its past and its last commits, and the open sessions. [P 9.1, 9.5, 9.6, 10.1, 10.2, 10.3]
-ghost use Rattle.std.specs.Prelude.{◌≡◌, ◌+◌, ◌&&◌, [], false, is_some, not, nat_lt, map, option_and_then, option_map, None, IfOk, OnErr, OnOk};
+ghost use Rattle.std.specs.Prelude.{◌≡◌, ◌+◌, ◌&&◌, [], List, false, is_some, not, nat_lt, map, option_and_then, option_map, None, IfOk, OnErr, OnOk};
 ghost use Rattle.odb_atoms.specs.FinMap as finite;
 ghost use Rattle.odb_queue.specs.Represented.Answer.{call_at};
 ghost use Rattle.odb_queue.specs.Represented.Item.{item_of};
@@ -15,7 +15,9 @@ ghost use Rattle.odb_service.specs.World.{asked_of, watched};
 ghost use Rattle.odb_sessions.specs.Asked.{ended_in};
 ghost use Rattle.odb_sessions.specs.Book.{book_of, fresh_session};
 ghost use Rattle.odb_sessions.specs.Carried.{last_finished, used_by};
-ghost use Rattle.odb_sessions.specs.Committed.{changed_with, ended_with, posted_with};
+ghost use Rattle.odb_sessions.specs.Committed.{all_ended, all_left, each_changed_with, ended_with, posted_with, without_posts, AreChangesFrom, ComeTo};
+ghost use Rattle.odb_sessions.specs.Represented.Ended.{ending_of};
+ghost use Rattle.odb_tables.specs.Change.{Changes, all_changed_by};
 ghost use Rattle.odb_sessions.specs.Named.{named};
 ghost use Rattle.odb_sessions.specs.Owed.{AreNoted, AreOwed, addressed};
 ghost use Rattle.odb_sessions.specs.Posts.{all_posted, at_number, posted, unposted};
@@ -29,7 +31,9 @@ ghost use Rattle.odb_wire.specs.Shown.{request_data};
 use crate::asked::{ending, has};
 use crate::changing::Changing;
 use crate::copying::copy_tied;
+use crate::ended::Ended;
 use crate::ending::stopping;
+use crate::ends::note_commits;
 use crate::id::Id;
 use crate::interest::forget_owed;
 use crate::item::Item;
@@ -42,7 +46,7 @@ use crate::starting::Starting;
 use odb_interest::Interest;
 use odb_locks::SessionId;
 use odb_queue::{Finished, Post};
-use odb_recent::Recent;
+use odb_recent::{Recent, Undo};
 use odb_rpc::Printable;
 use odb_tables::{ChangeSet, Db};
 use odb_wire::Request;
@@ -267,25 +271,35 @@ impl Sessions {
         }
     }
 
+    /// Lets these transactions end, one after another: each as `commit` does where it changes the database, and else its
+    /// reply is posted. The one change has what all of theirs come to. Where memory is refused nothing was done.
+    pub fn end_all(&mut self, ended: Vec<Ended>, change: ChangeSet) -> Result<(), AllocError>
+        requires each { AreChangesFrom self.old.db (map ending_of ended.items) }
+        requires whole { IsChangeOf self.old.db change }
+        requires leads_to { all_changed_by self.old.db change ≡ all_left self.old.db (map ending_of ended.items) }
+        ensures ok { OnOk result ((schema : Schema) → self.new ≡ all_ended schema self.old (map ending_of ended.items)) }
+        ensures err { OnErr result (self.new ≡ self.old) }
+    {
+        let undos = self.prepare_all(ended.as_slice())?;
+        let posted_to = self.post_ends(ended)?;
+        self.install_after(posted_to, change, undos)
+    }
+
     /// Makes a change of the database and posts each item to its session, or does nothing.
     fn post_and_install(&mut self, posts: Vec<Post>, change: ChangeSet) -> Result<(), AllocError>
         requires { IsChangeOf self.old.db change }
         ensures ok { OnOk result (self.new ≡ posted_with (map post_of posts.items) change self.old) }
         ensures err { OnErr result (self.new ≡ self.old) }
     {
+        let mut undos = Vec::new(self.alloc);
+        self.prepare(&mut undos, Some(&change))?;
         let queued_for = self.post_all(posts)?;
-        match self.install(change) {
-            Ok(()) => Ok(()),
-            Err(_) => {
-                self.take_back(queued_for);
-                Err(AllocError)
-            }
-        }
+        self.install_after(queued_for, change, undos)
     }
 
     /// Posts the reply of a transaction that ended with a commit, after a sync for each of the session's
     /// monitors as asked, if the session is open. It returns what `post_all` does.
-    fn post_end(
+    pub(crate) fn post_end(
         &mut self,
         session: SessionId,
         reply: Finished,
@@ -335,16 +349,37 @@ impl Sessions {
         Ok(())
     }
 
-    /// Makes the whole change of the database, as one commit more, or none; what clients have stays. Where memory is
-    /// refused nothing changed; so it does after 2^64 - 1 commits, or changes of one table. Marks of sessions to which nothing was owed
-    /// move to now: those of the sessions that the change concerns before it, so that what they will be owed is this
-    /// change alone, and those of a few others after it.
-    fn install(&mut self, change: ChangeSet) -> Result<(), AllocError>
+    /// Does what `install` does after these posts, or takes them back.
+    fn install_after(
+        &mut self,
+        queued_for: Vec<SessionId>,
+        change: ChangeSet,
+        undos: Vec<Undo>,
+    ) -> Result<(), AllocError>
         requires { IsChangeOf self.old.db change }
-        ensures ok { OnOk result (self.new ≡ changed_with change self.old) }
+        ensures ok { OnOk result ((css : List (List Changes)) → ComeTo self.old undos.items change css → self.new ≡ each_changed_with css self.old) }
+        ensures err { OnErr result (self.new ≡ without_posts queued_for.items self.old) }
+    {
+        match self.install(change, undos) {
+            Ok(()) => Ok(()),
+            Err(_) => {
+                self.take_back(queued_for);
+                Err(AllocError)
+            }
+        }
+    }
+
+    /// Makes the whole change of the database, as one commit more for each of those that it comes to, which replaced
+    /// these, or none; what clients have stays. Where memory is refused nothing changed; so it does where there would
+    /// be 2^64 commits, or after as many changes of one table. Marks of sessions to which nothing was owed move to now:
+    /// those of the sessions that the change concerns before it, so that what they will be owed is this change alone,
+    /// and those of a few others after it.
+    fn install(&mut self, change: ChangeSet, undos: Vec<Undo>) -> Result<(), AllocError>
+        requires { IsChangeOf self.old.db change }
+        ensures ok { OnOk result ((css : List (List Changes)) → ComeTo self.old undos.items change css → self.new ≡ each_changed_with css self.old) }
         ensures err { OnErr result (self.new ≡ self.old) }
     {
-        let Ok(undo) = self.recent.prepare(&change) else {
+        let Some(_) = self.recent.commits().checked_add(undos.len() as u64) else {
             return Err(AllocError);
         };
         let touched = self.interest.touched(&change)?;
@@ -353,7 +388,7 @@ impl Sessions {
         refresh_each(&mut self.sessions, &mut self.past, &self.owed, concerned);
         note_each(&mut self.owed, concerned)?;
         self.past.absorb(change)?;
-        self.recent.note(undo);
+        note_commits(&mut self.recent, undos);
         self.refreshing
             .go_on(&mut self.sessions, &mut self.past, &self.owed);
         Ok(())

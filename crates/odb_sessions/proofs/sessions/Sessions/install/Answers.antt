@@ -1,15 +1,16 @@
-use Rattle.std.proofs.Common.{rules, ◌≡◌, [], subst, sym, ap, ◌∙◌}
+use Rattle.std.proofs.Common.{rules, ◌≡◌, List, [], subst, sym, ap, ◌∙◌}
 use Rattle.odb_chain.specs.Chains.{Chains}
 use Rattle.odb_tables.specs.Change.{all_changed_by}
 use Rattle.odb_tables.specs.Database.{Db}
 use Rattle.odb_tables.specs.Installing.{IsChangeOf}
-use Rattle.odb_recent.specs.Recent.{Recent, kept_undo, noted}
+use Rattle.odb_recent.specs.Recent.{Recent}
+use Rattle.odb_recent.specs.Undo.{Undo}
 use Rattle.odb_sessions.specs.Book.{Book, book_with}
-use Rattle.odb_sessions.specs.Committed.{changed_with}
+use Rattle.odb_sessions.specs.Committed.{ComeTo, all_noted, each_changed_with}
 use Rattle.odb_sessions.specs.Held.{Sessions, all_seen}
 use Rattle.odb_sessions.specs.Owed.{AreAtRest, AreNoted, book_seen}
 use Rattle.odb_sessions.specs.Tied.{IsTied}
-use Rattle.odb_sessions.proofs.Earlier.{book_committed}
+use Rattle.odb_sessions.proofs.InTurn.{books_committed}
 use Rattle.odb_sessions.proofs.OwedSessions.{rest_owed, said_rest, still_rest}
 use Rattle.odb_sessions.proofs.Ties.{on_err, tied_absorbed}
 use Rattle.odb_sessions.proofs.Untouched.{AreTouched, book_after, touched_rest}
@@ -95,13 +96,15 @@ returns-in_err-absorb-clause-err c =
     (ap (λ (b : Book). book_with b.db c.self.inside.recent b.sessions) ((λ j. book_seen (c.in_err-absorb.ensures.err j) c.refresh_each.new.sessions) ∙ c.refresh_each.ensures.seen) ∙ c.self.view_is)
 
 pub returns-clause-ok : goal.returns-clause-ok
-returns-clause-ok c =
+returns-clause-ok c = λ css come.
     let old = c.self.inside in
+    let us : List Undo = c.args.undos.items in
+    let m = all_seen old.sessions in
     let after = book_after old.past c.absorb.new.self c.refresh_each.new.past old.sessions c.refresh_each.new.sessions c.args.change c.in_ok-absorb.ensures.ok c.refresh_each.ensures.seen in
-    let is : IsChangeOf old.past.db c.args.change = subst (λ (x : Book). IsChangeOf x.db c.args.change) (sym c.self.view_is) c.requires in
-    let kept : c.in-Ok.undo ≡ kept_undo old.recent.most c.args.change = search rules in
-    let noted_so : c.note.new.self ≡ noted c.in-Ok.undo old.recent = search rules in
-    ap (λ (b : Book). book_with b.db c.note.new.self b.sessions) (c.go_on.ensures.seen ∙ after)
-    ∙ ap (λ (r : Recent). book_with (all_changed_by old.past.db c.args.change) r (all_seen old.sessions)) noted_so
-    ∙ book_committed old.past.db c.args.change old.recent is c.in-Ok.undo kept (all_seen old.sessions)
-    ∙ ap (changed_with c.args.change) c.self.view_is
+    let at : ComeTo (book_with old.past.db old.recent m) us c.args.change css = subst (λ (b : Book). ComeTo b us c.args.change css) (sym c.self.view_is) come in
+    let noted_so : c.note_commits.new.recent ≡ all_noted us old.recent = search rules in
+    ap (λ (b : Book). book_with b.db c.note_commits.new.recent b.sessions) (c.go_on.ensures.seen ∙ after)
+    ∙ ap (λ (r : Recent). book_with (all_changed_by old.past.db c.args.change) r m) noted_so
+    ∙ ap (λ (d : Db). book_with d (all_noted us old.recent) m) at.1
+    ∙ books_committed css old.past.db old.recent us m at.0 at.2
+    ∙ ap (each_changed_with css) c.self.view_is
