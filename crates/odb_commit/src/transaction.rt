@@ -9,12 +9,13 @@ ghost use Rattle.odb_commit.specs.Transaction as model;
 ghost use Rattle.odb_integrity.specs.Settlement.{settle};
 ghost use Rattle.odb_ops.specs.Represented.Context.{context_of};
 ghost use Rattle.odb_ops.specs.Represented.Ran.{results_of};
+ghost use Rattle.odb_tables.specs.Draft.{draft_of};
 ghost use Rattle.odb_tables.specs.Typed.{IsTyped};
 
 use odb_integrity::settle;
 use odb_ops::{Context, Ran, failure, run};
 use odb_schema::Schema;
-use odb_tables::{ChangeSet, Db, Draft};
+use odb_tables::{ChangeSet, Draft};
 use serde_json::Value;
 use std::alloc::{AllocError, Global};
 use uuid::Uuid;
@@ -38,7 +39,8 @@ pub enum Outcome {
     },
 }
 
-/// Carries a transaction out on the database, as the commit of this number (RFC 7047, section 4.1.3).
+/// Carries a transaction out on the database of a draft in which nothing is changed yet, as the commit of this number
+/// (RFC 7047, section 4.1.3).
 ///
 /// The operations run one after another; then the database is settled, with at most so many rows. Each row
 /// that is new or has another value in a column has the number as its `_version`. The database stays as it
@@ -48,18 +50,18 @@ pub enum Outcome {
 /// What the operations and the settlement cost, and O(rows touched).
 pub fn transact(
     alloc: Global,
-    db: &Db,
+    mut draft: Draft,
     schema: &Schema,
     operations: &[Value],
     number: u64,
     max_rows: usize,
     context: &Context,
 ) -> Result<Outcome, AllocError>
-    requires sound { IsSound schema.now db.now }
-    ensures outcome { IfOk result (λ outcome. Answers schema.now db.now outcome
-        (model.transact schema.now max_rows number (context_of context.entry.now) db.now (map view operations.now))) }
+    requires fresh { draft ≡ draft_of draft.old }
+    requires sound { IsSound schema.now draft.old }
+    ensures outcome { IfOk result (λ outcome. Answers schema.now draft.entry.old outcome
+        (model.transact schema.now max_rows number (context_of context.entry.now) draft.entry.old (map view operations.now))) }
 {
-    let mut draft = Draft::new(alloc, db)?;
     match run(alloc, &mut draft, schema, operations, context)? {
         Ran::Finished(results) => finish(alloc, draft, schema, results, number, max_rows),
         Ran::Failed(results) => Ok(Outcome::Failed { results }),

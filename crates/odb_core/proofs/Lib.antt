@@ -17,11 +17,6 @@ pub mod SessionNumbers
 pub mod WorldPosts
 pub mod QuietRounds
 pub mod Crossing
-pub mod AlikeDrafts
-pub mod PutChanges
-pub mod RetriedOnce
-pub mod ForecastOutcomes
 pub mod WaitingCounts
 pub mod RetriedInTurn
-pub mod DueInTurn
-pub mod ForecastNow
+pub mod Upcomings

@@ -3,8 +3,9 @@ use Rattle.std.proofs.Common.{◌≡◌, ℕ, suc, ◌+◌, ◌≤◌, ◌==◌,
 use Rattle.std.proofs.lemmas.List.{append-nil}
 use Rattle.std.proofs.lemmas.Option.{none-some, same_Some}
 use Rattle.std.specs.Cmp.{unsigned_Decides}
-use Rattle.std.specs.Prelude.{option_to_list}
-use Rattle.odb_service.proofs.Each.{none_passes}
+use Rattle.std.specs.Prelude.{option_map, option_to_list}
+use Rattle.std.proofs.lemmas.Bool.Decides.{nat_tests}
+use Rattle.odb_service.proofs.Each.{Each, none_passes}
 use Rattle.odb_service.proofs.Retried.{retried_next}
 use Rattle.odb_service.specs.Server.{Server, served_by}
 use Rattle.odb_service.specs.Service.{Outcome, Service, ended, waiting}
@@ -13,7 +14,6 @@ use Rattle.odb_core.specs.Represented.Retrying.{IsRetrying}
 use Rattle.odb_core.specs.Represented.Steps.{by_service, let_wait, try_again}
 use Rattle.odb_core.proofs.ClosedSessions.{none_pushed}
 use Rattle.odb_core.proofs.HandledRequests.{attempt_waiting, tries_beside}
-use Rattle.odb_core.proofs.RetriedOnce.{first_of, none_untried}
 use Rattle.odb_core.proofs.ServerSteps.{placed}
 
 abbrev Split : Type 0
@@ -21,6 +21,23 @@ Split = List Waiting × Waiting × List Waiting
 
 abbrev Tried : Type 0
 Tried = World × Option Waiting
+
+abbrev SplitOf : Type 0 → Type 0
+SplitOf A = List A × A × List A
+
+-- the first that passes stands after those that don't
+first_of : {A : Type 0} (test : A → Bool) (done : List A) (p : A) (rest : List A) → Each (λ x. test x ≡ false) done → test p ≡ true → split_first test (done ++ p ∷ rest) ≡ Some (let t : SplitOf A = (done, p, rest) in t)
+first_of {A} test [] p rest none is =
+    ap (λ b. cond b (Some (let t : SplitOf A = ([], p, rest) in t)) (option_map (λ t. let u : SplitOf A = (p ∷ t.0, t.1, t.2) in u) (split_first test rest))) is
+first_of {A} test (x ∷ done) p rest none is =
+    ap (λ b. cond b (Some (let t : SplitOf A = ([], x, done ++ p ∷ rest) in t)) (option_map (λ t. let u : SplitOf A = (x ∷ t.0, t.1, t.2) in u) (split_first test (done ++ p ∷ rest)))) none.0
+    ∙ ap (option_map (λ t. let u : SplitOf A = (x ∷ t.0, t.1, t.2) in u)) (first_of test done p rest none.1 is)
+
+none_untried : (n : ℕ) (p : Waiting) (deadline : Option ℕ) → is_untried n (record p { deadline = deadline; tried = n }) ≡ false
+none_untried n p deadline = itself n
+  where
+    itself : (n : ℕ) → not (n == n) ≡ false
+    itself n = grind (arith, nat_tests)
 
 abbrev bit : Bool → ℕ
 bit b = cond b 0 1

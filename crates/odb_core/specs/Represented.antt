@@ -6,9 +6,7 @@ pub mod Places
 pub mod Reason
 pub mod Requests
 pub mod Rounds
-pub mod Foreseen
-pub mod Spared
 pub mod Counts
 pub mod Retrying
-pub mod Due
+pub mod Upcoming
 pub mod Steps

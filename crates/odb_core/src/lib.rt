@@ -5,13 +5,14 @@
 #![tactic(auto)]
 
 mod counts;
-mod foreseen;
 mod monitors;
 mod refused;
 mod requests;
 mod server;
+mod setting;
 mod state;
 mod submitted;
+mod upcoming;
 mod waiting;
 mod waiting_list;
 

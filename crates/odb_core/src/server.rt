@@ -138,9 +138,8 @@ impl Core {
     /// an earlier one than the clock's counts as the clock's. It is refused with `Gone` where no
     /// such session is open, with `Busy` where the request needs a reply and the session is owed
     /// 256, and with `Memory`; the request is handed back then. A `transact` costs what its
-    /// operations and its settlement do, by the rows touched where these suffice, what those that wait cost that it
-    /// tries again, and a copy of all where one of these may change the database; any other call costs what its
-    /// request asks for, and O(log n + w).
+    /// operations and its settlement do, by the rows touched where these suffice, and what those that wait cost that it
+    /// tries again; any other call costs what its request asks for, and O(log n + w).
     pub fn submit(
         &mut self,
         session: SessionId,
@@ -169,7 +168,7 @@ impl Core {
 
     /// Advances the clock to `now` (milliseconds); it never goes back, so that an earlier `now`
     /// leaves it. Then the waiting transactions whose deadline has come are tried once each, in
-    /// order of arrival. O(w), what the tries cost, and a copy of all where one of these may change the database.
+    /// order of arrival. O(w), and what the tries cost.
     pub fn tick(&mut self, now: u64) -> Result<(), AllocError>
         ensures ok { OnOk result (serve (ticked now) self.old ≡ Ok (self.new, [])) }
         ensures err { OnErr result (self.new ≡ self.old) }

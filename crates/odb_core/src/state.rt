@@ -7,35 +7,30 @@ ghost use Rattle.odb_atoms.specs.FinMap as finite;
 ghost use Rattle.odb_ops.specs.Represented.Ran.{results_of};
 ghost use Rattle.odb_schema.specs.Json.{array_of};
 ghost use Rattle.odb_tables.specs.Change.{all_changed_by};
-ghost use Rattle.odb_sessions.specs.Asked.{ended_in};
 ghost use Rattle.odb_sessions.specs.FirstTexts.{IsFirstText};
 ghost use Rattle.odb_sessions.specs.Planned.{AreOnce};
-ghost use Rattle.odb_sessions.specs.Posts.{at_number};
 ghost use Rattle.odb_sessions.specs.Represented.Out.{sent_in};
 ghost use Rattle.odb_sessions.specs.Taken.{AreOf, given_by, sessions_in};
-ghost use Rattle.odb_core.specs.Represented.Foreseen.{committed, reply_with, standing};
 ghost use Rattle.odb_core.specs.Represented.Core.{empty_world};
 ghost use Rattle.odb_core.specs.Represented.Rounds.{book_in};
-ghost use Rattle.odb_core.specs.Represented.Waiting.{left_waiting, waiting_as};
+ghost use Rattle.odb_core.specs.Represented.Upcoming.{after_due, after_ended, IsPlanOf};
+ghost use Rattle.odb_core.specs.Represented.Waiting.{waiting_as};
+ghost use Rattle.odb_sessions.specs.Represented.Ended.{ending_of};
 
-use crate::foreseen::Foreseen;
+use crate::setting::Setting;
 use crate::submitted::Submitted;
-use crate::waiting::{Tried, Waiting};
+use crate::upcoming::Plan;
 use crate::waiting_list::WaitingList;
-use odb_commit::{Outcome, transact};
+use odb_commit::Outcome;
 use odb_locks::{Locks, SessionId};
-use odb_ops::Context;
 use odb_queue::{Finished, Post, ServedSchema, replied_as};
 use odb_schema::Schema;
 use odb_sessions::{FirstText, Out, Prepared, Sessions};
-use odb_tables::{ChangeSet, Db};
+use odb_tables::{ChangeSet, Db, Draft};
 use serde_json::Value;
 use std::alloc::{AllocError, Global};
 use std::hash::RandomState;
 use std::marker::Model;
-
-/// The rows that a database may have.
-pub(crate) const MAX_ROWS: usize = 1_000_000;
 
 /// The schema, how many sessions were opened, the moment, the transactions that wait in order of arrival, the
 /// locks, and the database with its commits and the open sessions. Contracts see it as the server. The database
@@ -68,16 +63,12 @@ impl Model for State {
 }
 
 impl State {
-    ghost use Rattle.std.specs.Prelude.{ℕ, List, ◌≤◌, ◌&&◌, if◌then◌else◌};
-    ghost use Rattle.odb_service.specs.World as model;
-    ghost use Rattle.odb_service.specs.Server.{Server};
-    ghost use Rattle.odb_service.specs.World.{is_untried, post, retry_all, try_due};
+    ghost use Rattle.odb_service.specs.World.{post, retry_all};
     ghost use Rattle.odb_queue.specs.Represented.Item.{item_of};
     ghost use Rattle.odb_queue.specs.Represented.Post.{post_of};
     ghost use Rattle.odb_core.specs.Represented.Core.{AreUnused, new_server, with_session};
-    ghost use Rattle.odb_core.specs.Represented.Retrying.{IsRetrying};
     ghost use Rattle.odb_core.specs.Represented.Rounds.{IsRoundOf};
-    ghost use Rattle.odb_core.specs.Represented.Steps.{AreTried, OnlySessions, attempted, by_service, in_world, let_wait, try_again};
+    ghost use Rattle.odb_core.specs.Represented.Steps.{AreTried, OnlySessions, by_service, in_world, let_wait};
     ghost use Rattle.odb_core.specs.Represented.Waiting.{IsDone, IsOutcome, ends, runs};
 
     /// Makes empty tables that keep what the schema asks for, at moment 0, with no commit and no session, in a run with
@@ -124,27 +115,27 @@ impl State {
         Ok(number)
     }
 
+    /// Returns what transactions are tried with.
+    pub(crate) fn setting(&self) -> Setting<'_>
+        ensures schema { result.schema.now ≡ self.entry.now.schema }
+        ensures locks { result.locks.now ≡ self.entry.now.world.locks }
+        ensures now { result.now ≡ self.entry.now.world.now }
+    {
+        Setting {
+            alloc: self.alloc,
+            schema: self.served.schema(),
+            locks: &self.locks,
+            now: self.now,
+        }
+    }
+
     /// Returns what a transaction comes to now, as the next commit. Nothing is changed.
     pub(crate) fn outcome(&self, asked: &Submitted) -> Result<Outcome, AllocError>
         ensures { IfOk result (λ outcome. IsOutcome self.entry.now asked.now outcome) }
     {
-        let owned = self.locks.owned(self.alloc, asked.session)?;
-        let context = Context {
-            fresh: asked.fresh.as_slice(),
-            arrival: asked.arrival,
-            now: self.now,
-            owned: owned.as_slice(),
-        };
-        let number = self.sessions.commits().checked_add(1).ok_or(AllocError)?;
-        transact(
-            self.alloc,
-            self.sessions.db(),
-            self.served.schema(),
-            asked.operations(),
-            number,
-            MAX_ROWS,
-            &context,
-        )
+        let draft = Draft::new(self.alloc, self.sessions.db())?;
+        self.setting()
+            .outcome(draft, asked, self.sessions.commits())
     }
 
     /// Queues the reply of a transaction that changes nothing.
@@ -198,147 +189,9 @@ impl State {
         Ok(())
     }
 
-    /// Carries out what a transaction came to.
-    fn attempt_with(&mut self, asked: &Submitted, outcome: Outcome) -> Result<Tried, AllocError>
-        requires { IsOutcome self.old asked.now outcome }
-        ensures { IfOk result (λ tried. (deadline : Option ℕ) → (n : ℕ)
-            → attempted (waiting_as asked.now deadline n) self.old ≡ (self.new, left_waiting tried asked.now self.old.world.commits)) }
-    {
-        match outcome {
-            Outcome::Done { results, change } => {
-                if changes_rows(&change) {
-                    self.commit(asked, results, change)?;
-                } else {
-                    self.reply(asked, results)?;
-                }
-                Ok(Tried::Ended)
-            }
-            Outcome::Failed { results } => {
-                self.reply(asked, results)?;
-                Ok(Tried::Ended)
-            }
-            Outcome::Waiting { deadline } => Ok(Tried::Waiting { deadline }),
-        }
-    }
-
-    /// Tries a transaction that waited: it ends, or waits again.
-    fn retried(&mut self, waiting: Waiting) -> Result<Option<Waiting>, AllocError>
-        ensures { IfOk result (λ left. attempted waiting self.old ≡ (self.new, left)) }
-    {
-        let outcome = self.outcome(waiting.submitted())?;
-        match self.attempt_with(waiting.submitted(), outcome)? {
-            Tried::Ended => Ok(None),
-            Tried::Waiting { deadline } => Ok(Some(waiting.tried_again(
-                deadline,
-                self.sessions.commits(),
-            ))),
-        }
-    }
-
-    /// Tries each transaction that waits and wasn't tried since the newest commit, the earliest
-    /// first, until there is none (RFC 7047, section 5.2.6). After an error the state is of no
-    /// further use. O(waiting) besides the tries, and once more for each that changes the database.
-    pub(crate) fn retry_all(&mut self) -> Result<(), AllocError>
-        ensures ok { OnOk result (by_service retry_all self.old ≡ self.new) }
-        ensures tried { OnOk result (AreTried self.new) }
-    {
-        let mut changed = true;
-        while changed {
-            changed = self.retry_until_commit()?;
-        }
-        Ok(())
-    }
-
-    /// Tries them in that order until one changes the database, and returns whether one did.
-    fn retry_until_commit(&mut self) -> Result<bool, AllocError>
-        ensures ok { IfOk result (λ changed. by_service retry_all self.old ≡ by_service retry_all self.new) }
-        ensures tried { IfOk result (λ changed. changed ≡ false → AreTried self.new) }
-        ensures fewer { IfOk result (λ changed. (if changed then 1 else 0) + length self.new.world.waiting ≤ length self.old.world.waiting) }
-    {
-        let commits = self.count_of_commits();
-        let earlier = self.take_waiting();
-        for waiting in earlier {
-            self.retry_next(waiting, commits)?;
-        }
-        Ok(self.count_of_commits() != commits)
-    }
-
-    /// Returns how many commits there were.
-    fn count_of_commits(&self) -> u64
-        ensures { result ≡ self.entry.now.world.commits }
-    {
-        self.sessions.commits()
-    }
-
-    /// Tries the next one of them, where there are still as many commits and it wasn't tried at these. It goes
-    /// after those that wait, unless it ends.
-    fn retry_next(&mut self, waiting: Waiting, commits: u64) -> Result<(), AllocError>
-        ensures { OnOk result ((old : Server) (rest : List model.Waiting) → IsRetrying old self.old commits (waiting ∷ rest) → IsRetrying old self.new commits rest) }
-    {
-        if !self.is_to_try(&waiting, commits) {
-            return self.keep(waiting);
-        }
-        self.retry(waiting)
-    }
-
-    /// Tries one that waited. It goes after those that wait, unless it ends.
-    fn retry(&mut self, waiting: Waiting) -> Result<(), AllocError>
-        ensures { OnOk result (by_service (try_again waiting) self.old ≡ self.new) }
-    {
-        if let Some(waiting) = self.retried(waiting)? {
-            self.keep(waiting)?;
-        }
-        Ok(())
-    }
-
-    /// Returns whether there are as many commits as that, and the transaction wasn't tried at these.
-    fn is_to_try(&self, waiting: &Waiting, commits: u64) -> bool
-        ensures { result ≡ (self.entry.now.world.commits == commits) && is_untried commits waiting.now }
-    {
-        self.count_of_commits() == commits && waiting.is_untried(commits)
-    }
-
-    /// Takes out all that wait.
-    fn take_waiting(&mut self) -> Vec<Waiting>
-        ensures all { result.items ≡ self.old.world.waiting }
-        ensures none { self.new ≡ let_wait [] self.old }
-    {
-        self.waiting.take_all()
-    }
-
-    /// Puts one after those that wait.
-    fn keep(&mut self, waiting: Waiting) -> Result<(), AllocError>
-        ensures { OnOk result (self.new ≡ let_wait (self.old.world.waiting ++ waiting ∷ []) self.old) }
-    {
-        self.waiting.push(waiting)
-    }
-
-    /// Tries each transaction whose deadline has come, in order of arrival. After an error the state is of
-    /// no further use.
-    pub(crate) fn try_due(&mut self) -> Result<(), AllocError>
-        ensures { OnOk result (by_service (λ h. try_due h self.old.world.waiting) (let_wait [] self.old) ≡ self.new) }
-    {
-        let earlier = self.take_waiting();
-        for waiting in earlier {
-            self.try_if_due(waiting)?;
-        }
-        Ok(())
-    }
-
-    fn try_if_due(&mut self, waiting: Waiting) -> Result<(), AllocError>
-        ensures { OnOk result ((ps : List model.Waiting) → by_service (λ h. try_due h (waiting ∷ ps)) self.old ≡ by_service (λ h. try_due h ps) self.new) }
-    {
-        if !waiting.is_due(self.now) {
-            return self.keep(waiting);
-        }
-        self.retry(waiting)
-    }
-
     /// Carries out a new transaction (RFC 7047, section 4.1.3): it ends, or waits after the others. Where
     /// memory is refused nothing changes, and it comes back. It costs what its operations and its
-    /// settlement do, by the rows touched where these suffice; a commit while others wait costs their
-    /// tries too, and works on a copy, O(rows + bytes queued + bytes of the schema), where one of them may change the
-    /// database.
+    /// settlement do, by the rows touched where these suffice; a commit while others wait costs their tries too.
     pub(crate) fn transact(&mut self, asked: Submitted) -> Result<(), (Submitted, AllocError)>
         requires tried { AreTried self.old }
         ensures ok { OnOk result (by_service (runs asked) self.old ≡ self.new) }
@@ -398,54 +251,34 @@ impl State {
         ensures tried { AreTried self.new }
         ensures err { OnErr result (self.new ≡ self.old) }
     {
-        match self.foresee(&change)? {
-            Some(foreseen) => self.commit_foreseen(asked, results, change, foreseen),
-            None => self.commit_on_copy(asked, results, change),
-        }
+        let plan = self.plan_commit(asked, results, change)?;
+        self.carry_out_plan(plan)
     }
 
-    /// Does the same on a copy of all, where a transaction that waits may change the database too. O(rows + bytes
-    /// queued + bytes of the schema), and what the tries cost.
-    fn commit_on_copy(
-        &mut self,
-        asked: &Submitted,
-        results: Vec<Value>,
-        change: ChangeSet,
-    ) -> Result<(), AllocError>
+    /// Tries each transaction whose deadline has come, in order of arrival, and then all that wait where one of these
+    /// changed the database. O(waiting), and what the tries cost.
+    pub(crate) fn end_due(&mut self) -> Result<(), AllocError>
         requires tried { AreTried self.old }
-        requires outcome { IsDone self.old asked.now results change }
-        ensures ok { OnOk result (by_service retry_all (by_service (ends asked.now results (Some (all_changed_by self.old.world.db change))) self.old) ≡ self.new) }
+        ensures ok { OnOk result (by_service after_due self.old ≡ self.new) }
         ensures tried { AreTried self.new }
         ensures err { OnErr result (self.new ≡ self.old) }
     {
-        let mut copy = self.try_copy()?;
-        copy.commit(asked, results, change)?;
-        copy.retry_all()?;
-        *self = copy;
-        Ok(())
+        let plan = self.plan_due()?;
+        self.carry_out_plan(plan)
     }
 
-    /// Does the same, where it is foreseen what becomes of those that wait. What `commit` costs, and O(log n) for each
-    /// reply.
-    fn commit_foreseen(
-        &mut self,
-        asked: &Submitted,
-        results: Vec<Value>,
-        change: ChangeSet,
-        foreseen: Foreseen,
-    ) -> Result<(), AllocError>
-        requires { IsDone self.old asked.now results change }
-        ensures ok { OnOk result (self.new ≡ in_world (λ w. standing foreseen.left (map post_of foreseen.posts.items) (at_number (ended_in self.old.schema (reply_with asked.now results)) w.sessions asked.now.session) (committed change w)) self.old) }
+    /// Lets come what was found out. What `odb_sessions::Sessions::end_all` costs.
+    fn carry_out_plan(&mut self, plan: Plan) -> Result<(), AllocError>
+        requires { IsPlanOf self.old plan }
+        ensures ok { OnOk result (self.new ≡ after_ended self.old (map ending_of plan.ended.items) plan.left) }
         ensures err { OnErr result (self.new ≡ self.old) }
     {
-        let reply = replied_as(
-            self.alloc,
-            &asked.request,
-            asked.id.as_slice(),
-            &Value::from(results),
-        )?;
-        let Foreseen { left, posts } = foreseen;
-        self.sessions.commit(asked.session, reply, posts, change)?;
+        let Plan {
+            ended,
+            change,
+            left,
+        } = plan;
+        self.sessions.end_all(ended, change)?;
         self.waiting = left;
         Ok(())
     }

@@ -10,9 +10,9 @@ use Rattle.serde_json.specs.Written.{compact_text}
 use Rattle.odb_atoms.specs.Represented.Atom.{uuid_of}
 use Rattle.odb_commit.specs.Transaction as transaction
 use Rattle.odb_commit.specs.Transaction.{transact}
-use Rattle.odb_locks.specs.Locks.{owns}
+use Rattle.odb_locks.specs.Locks.{Locks, owns}
 use Rattle.odb_ops.specs.Execution.{Context}
-use Rattle.odb_rpc.specs.Message.{operations_of}
+use Rattle.odb_rpc.specs.Message.{operations_of, reply}
 use Rattle.odb_ops.specs.Represented.Ran.{results_of}
 use Rattle.odb_schema.specs.Json.{array_of}
 use Rattle.odb_schema.specs.Schema.{Schema}
@@ -21,6 +21,7 @@ use Rattle.odb_wire.specs.Message.{id_of}
 use Rattle.odb_wire.specs.Shown.{request_data}
 use Rattle.odb_service.specs.Server.{Server}
 use Rattle.odb_service.specs.Service.{Service, max_rows}
+use Rattle.odb_service.specs.Session.{Item, say, to}
 use Rattle.odb_service.specs.World as model
 use Rattle.odb_service.specs.World.{World, end_transaction, run_transaction}
 use Rattle.odb_core.specs.declared.submitted.Submitted.{Submitted}
@@ -35,9 +36,17 @@ waiting_as a deadline tried = record { session = a.session; request = request_da
 abbrev pub is_named : ℕ → List ℕ → model.Waiting → Bool
 is_named s text p = (p.session == s) && bytes_eq text (compact_text (id_of p.request))
 
+-- the reply of a transaction with these results
+abbrev pub reply_with : Submitted → Vec Value Global → Item
+reply_with a results = say (to (request_data a.request)) (reply (id_of (request_data a.request)) (array_of (results_of results)))
+
 -- what the world gives a transaction
 abbrev pub context_in : World → Submitted → Context
 context_in w a = record { fresh = map uuid_of a.fresh.items; arrival = a.arrival; now = w.now; owns = owns w.locks a.session }
+
+-- what the transaction comes to with these locks, at this moment, after so many commits, on the database
+abbrev pub outcome_with : Schema → Locks → ℕ → ℕ → Db → Submitted → transaction.Outcome
+outcome_with s locks now commits db a = transact s max_rows (commits + 1) (record { fresh = map uuid_of a.fresh.items; arrival = a.arrival; now = now; owns = owns locks a.session }) db (operations_of (request_data a.request))
 
 -- what the transaction comes to in the world, for the schema
 abbrev pub outcome_in : Schema → World → Submitted → transaction.Outcome

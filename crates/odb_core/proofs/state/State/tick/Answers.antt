@@ -2,7 +2,7 @@ use Rattle.std.proofs.Common.{rules, ◌≡◌, ℕ, false, max, sym, ap, subst,
 use Rattle.std.specs.List.{list_any}
 use Rattle.odb_service.specs.Server.{Server, served_by}
 use Rattle.odb_service.specs.World.{World, is_due, untried}
-use Rattle.odb_core.specs.Represented.Due.{after_due}
+use Rattle.odb_core.specs.Represented.Upcoming.{after_due}
 use Rattle.odb_core.specs.Represented.Steps.{by_service, in_world}
 use Rattle.odb_core.proofs.ClosedSessions.{ticks_idly}
 use Rattle.odb_core.proofs.ServerSteps.{placed}
