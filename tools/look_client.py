@@ -184,6 +184,8 @@ def printed(found):
 def changed(column, old, difference):
     """A value with a difference of `update2` applied."""
     _, value, most = base(column)
+    if most == 1:
+        return difference
     if value is not None:
         pairs = {json.dumps(key): [key, each] for key, each in elements(old)}
         for key, each in elements(difference):
@@ -193,8 +195,6 @@ def changed(column, old, difference):
             else:
                 pairs[name] = [key, each]
         return ["map", list(pairs.values())]
-    if most == 1:
-        return difference
     ours, theirs = elements(old), elements(difference)
     return printed([it for it in ours if it not in theirs] + [it for it in theirs if it not in ours])
 

@@ -435,7 +435,7 @@ impl<L: Ledger> Connection<L> {
 }
 
 /// Ends a session. Where memory is refused it tries again.
-fn part_at_last<L: Ledger, R: Wait + Clock>(rt: &R, daemon: &Daemon<L>, seat: Seat<L>) {
+pub(crate) fn part_at_last<L: Ledger, R: Wait + Clock>(rt: &R, daemon: &Daemon<L>, seat: Seat<L>) {
     let mut seat = seat;
     for _ in rt.forever() {
         match daemon.part(rt, seat) {
@@ -467,7 +467,8 @@ fn submissions_of(
     Ok(submissions)
 }
 
-fn submission_of(
+/// Returns what is submitted for a request: it, with a random identifier for each of its inserts.
+pub(crate) fn submission_of(
     alloc: Global,
     request: Request,
     rng: &mut StdRng,

@@ -11,12 +11,15 @@ mod clerk;
 mod connection;
 mod daemon;
 mod desk;
+mod fault;
+mod load;
 mod notices;
 mod pace;
 mod serve;
 
 use crate::daemon::Patience;
-use crate::serve::{Memory, Terms, begin, serve_all};
+use crate::fault::ProgramFault;
+use crate::serve::{Memory, Start, Terms, begin, serve_all};
 use clap::builder::ValueParser;
 use clap::error::ErrorKind;
 use clap::{Arg, ArgAction, ArgMatches, Command, Error};
@@ -38,24 +41,6 @@ use std::sync::Wait;
 use std::thread::Threads;
 use std::time::Clock;
 use std::{env, fs, thread};
-use thiserror::Error as ErrorText;
-
-/// Why the program ends with status 1.
-#[derive(Debug, ErrorText)]
-enum ProgramFault {
-    /// The file of the schema can't be read.
-    #[error("schema: cannot read")]
-    SchemaUnread(io::Error),
-    /// The file holds no schema; the fault's number is 1 to 7.
-    #[error("schema: fault {}", .0.number())]
-    Schema(SchemaFault),
-    /// The address can't be listened on.
-    #[error("cannot listen")]
-    NotListening(io::Error),
-    /// The script wasn't run to its end, or the daemon ended.
-    #[error("{0}")]
-    Run(RunFault),
-}
 
 fn main(rt: HostRuntime) -> io::Result<ExitCode> {
     let words: Vec<String> = env::args(&rt)?.collect(rt.alloc())?;
@@ -66,14 +51,14 @@ fn main(rt: HostRuntime) -> io::Result<ExitCode> {
     let file = schema_file(&matches);
     let done = match matches.subcommand_matches("serve") {
         Some(words) => match read_schema(&rt, file) {
-            Ok(schema) => listen(&rt, rt.alloc(), schema, words),
+            Ok(schema) => serve_schema(&rt, rt.alloc(), schema, words),
             Err(failure) => Err(failure),
         },
         None => script(&rt, file),
     };
     match done {
         Ok(()) => Ok(ExitCode::SUCCESS),
-        Err(failure) => report(&rt, failure, file, listen_address(&matches)),
+        Err(failure) => report(&rt, failure, &matches),
     }
 }
 
@@ -81,14 +66,20 @@ fn main(rt: HostRuntime) -> io::Result<ExitCode> {
 fn report(
     rt: &HostRuntime,
     failure: ProgramFault,
-    file: &str,
-    address: &str,
+    matches: &ArgMatches<'_>,
 ) -> io::Result<ExitCode> {
     eprintln!(rt; "ovsdbd: {failure}")?;
+    let file = schema_file(matches);
     match &failure {
         ProgramFault::SchemaUnread(error) => eprintln!(rt; "ovsdbd: {file}: {error}")?,
         ProgramFault::Schema(fault) => eprintln!(rt; "ovsdbd: {file}: {}", meaning(*fault))?,
-        ProgramFault::NotListening(error) => eprintln!(rt; "ovsdbd: {address}: {error}")?,
+        ProgramFault::LoadUnread(error) => {
+            eprintln!(rt; "ovsdbd: {}: {error}", serve_word(matches, "load", ""))?
+        }
+        ProgramFault::NotListening(error) => {
+            eprintln!(rt; "ovsdbd: {}: {error}", listen_address(matches))?
+        }
+        ProgramFault::Load(_, _) => {}
         ProgramFault::Run(_) => {}
     }
     Ok(ExitCode::FAILURE)
@@ -136,12 +127,17 @@ fn word<'a>(words: &ArgMatches<'a>, name: &str, absent: &'a str) -> &'a str {
     words.get_str(name).unwrap_or(absent)
 }
 
+/// Returns the value of a word of `serve` that may be absent.
+fn serve_word<'a>(matches: &ArgMatches<'a>, name: &str, absent: &'a str) -> &'a str {
+    match matches.subcommand_matches("serve") {
+        Some(words) => word(words, name, absent),
+        None => absent,
+    }
+}
+
 /// Returns where the daemon is to listen.
 fn listen_address<'a>(matches: &ArgMatches<'a>) -> &'a str {
-    match matches.subcommand_matches("serve") {
-        Some(words) => word(words, "listen", ADDRESS),
-        None => ADDRESS,
-    }
+    serve_word(matches, "listen", ADDRESS)
 }
 
 /// Returns the file of the schema.
@@ -212,6 +208,8 @@ Example:
 const AFTER_SERVE_HELP: &str =
     "The first line printed is 'listening ADDRESS', with the port that it listens on.
 Each connection is a session. Rows are kept in memory alone, and are gone when it ends.
+With --load it begins with what the requests of FILE make. Where one of them has an error or waits, or FILE ends in the midst of
+one, it ends with status 1, and standard error has the request's number, from 1, and the error.
 
 Example:
   $ ovsdbd serve --schema net.json --listen 127.0.0.1:0 --sessions 1
@@ -245,6 +243,7 @@ fn serve_command<'a>(alloc: Global) -> Result<Command<'a>, Error> {
         .after_help(AFTER_SERVE_HELP)
         .arg(schema_word(alloc))?
         .arg(listen_word(alloc))?
+        .arg(load_word(alloc))?
         .arg(sessions_word(alloc))?
         .arg(probe_word(alloc))?
         .arg(stall_word(alloc))?
@@ -261,6 +260,16 @@ fn listen_word<'a>(alloc: Global) -> Arg<'a> {
         .value_name("A")
         .help(
             "The address and port to listen on, 127.0.0.1:6640 if absent; at port 0 the system chooses one",
+        )
+        .action(ArgAction::Set)
+}
+
+fn load_word<'a>(alloc: Global) -> Arg<'a> {
+    Arg::new(alloc, "load")
+        .long("load")
+        .value_name("FILE")
+        .help(
+            "A file of requests that go through, one after the other, before it listens: dump-to-load and keep write such files",
         )
         .action(ArgAction::Set)
 }
@@ -347,8 +356,15 @@ fn schema_word<'a>(alloc: Global) -> Arg<'a> {
 
 /// Prints help, on standard output, or what is wrong with the words, on standard error.
 fn refuse(rt: &HostRuntime, error: Error) -> io::Result<ExitCode> {
-    error.print(rt)?;
-    Ok(ExitCode::from(if error.use_stderr() { 2 } else { 0 }))
+    if error.use_stderr() {
+        error.print(rt)?;
+        return Ok(ExitCode::from(2));
+    }
+    if error.print(rt).is_err() {
+        eprintln!(rt; "ovsdbd: {}", RunFault::Write)?;
+        return Ok(ExitCode::FAILURE);
+    }
+    Ok(ExitCode::SUCCESS)
 }
 
 /// Runs the script on standard input.
@@ -362,9 +378,10 @@ fn script(rt: &HostRuntime, file: &str) -> Result<(), ProgramFault> {
     run_script(rt.alloc(), schema, hashing, &mut reader, &mut writer).map_err(ProgramFault::Run)
 }
 
-/// Listens, prints the address, and serves.
-fn listen<
-    R: Net<Listener = TcpListener, Stream = TcpStream>
+/// Serves the schema, beginning with the messages of a file where one is named.
+fn serve_schema<
+    R: Files
+        + Net<Listener = TcpListener, Stream = TcpStream>
         + Threads
         + Wait
         + Clock
@@ -373,17 +390,17 @@ fn listen<
         + Eprint
         + Sync,
 >(rt: &R, alloc: Global, schema: Schema, words: &ArgMatches<'_>) -> Result<(), ProgramFault> {
-    let address = word(words, "listen", ADDRESS);
-    let listener = TcpListener::bind(rt, address).map_err(ProgramFault::NotListening)?;
-    let local = listener.local_addr().map_err(ProgramFault::NotListening)?;
-    println!(rt; "listening {local}").map_err(|_| ProgramFault::Run(RunFault::Write))?;
     let hashing = RandomState::new(rt).map_err(|_| ProgramFault::Run(RunFault::Memory))?;
     let memory = Memory {
         run: run_word(rt)?,
         kept: words.get_one("kept").unwrap_or(KEPT) as usize,
     };
+    let start = Start {
+        address: word(words, "listen", ADDRESS),
+        file: words.get_str("load"),
+    };
     match begin(rt, alloc, schema, hashing, memory) {
-        Ok(begun) => serve_all(rt, begun, &listener, terms(rt, words)).map_err(ProgramFault::Run),
+        Ok(begun) => serve_all(rt, begun, start, terms(rt, words)),
         Err(fault) => Err(ProgramFault::Run(fault)),
     }
 }
@@ -457,18 +474,6 @@ fn meaning(fault: SchemaFault) -> &'static str {
         }
         SchemaFault::TooLarge => {
             "more than 16,777,216 bytes, or more than 256 tables, or columns of a table"
-        }
-    }
-}
-
-// Written, and not derived, so that each end of a scope is one call to prove.
-impl Drop for ProgramFault {
-    fn drop(self) {
-        match self {
-            ProgramFault::SchemaUnread(_) => {}
-            ProgramFault::Schema(_) => {}
-            ProgramFault::NotListening(_) => {}
-            ProgramFault::Run(_) => {}
         }
     }
 }

@@ -6,6 +6,8 @@ ghost use Rattle.odb_atoms.specs.FinMap.{empty};
 use crate::clerk::serve_desk;
 use crate::daemon::{Begun, Daemon, Patience};
 use crate::desk::Desk;
+use crate::fault::ProgramFault;
+use crate::load::load_file;
 use mio::{Poll, net};
 use odb_core::{Core, MAX_SESSIONS};
 use odb_par::Workers;
@@ -13,10 +15,11 @@ use odb_schema::Schema;
 use odb_script::RunFault;
 use std::alloc::Global;
 use std::hash::RandomState;
-use std::io::{self, Eprint};
+use std::io::{self, Eprint, Print};
 use std::marker::Brand;
 use std::net::{Net, TcpListener, TcpStream};
 use std::random::RandomSource;
+use std::rt::Files;
 use std::sync::Wait;
 use std::sync::ledger::{Blank, Ledger};
 use std::thread::{self, Builder, Scope, Threads};
@@ -43,6 +46,15 @@ pub(crate) struct Terms {
     pub(crate) threads: usize,
     /// How many threads compose the jobs of a round.
     pub(crate) workers: Workers,
+}
+
+/// What the daemon begins with.
+#[derive(Clone, Copy)]
+pub(crate) struct Start<'a> {
+    /// Where it listens.
+    pub(crate) address: &'a str,
+    /// The file of messages that it submits before.
+    pub(crate) file: Option<&'a str>,
 }
 
 /// By what clients that come back are known to have held the content that a commit made.
@@ -73,33 +85,69 @@ pub(crate) fn begin<R: Clock>(
     Ok(Begun { alloc, core, start })
 }
 
-/// Serves all that connect. With `terms.sessions` it accepts so many connections and returns when they have ended.
-pub(crate) fn serve_all<R: Net + Threads + Wait + Clock + RandomSource + Eprint + Sync>(
-    rt: &R,
-    begun: Begun,
-    listener: &TcpListener,
-    terms: Terms,
-) -> Result<(), RunFault>
+/// Loads the file, listens, prints the address, and serves all that connect. With `terms.sessions` it accepts so many
+/// connections and returns when they have ended.
+pub(crate) fn serve_all<
+    R: Files
+        + Net<Listener = TcpListener, Stream = TcpStream>
+        + Threads
+        + Wait
+        + Clock
+        + RandomSource
+        + Print
+        + Eprint
+        + Sync,
+>(rt: &R, begun: Begun, start: Start<'_>, terms: Terms) -> Result<(), ProgramFault>
     requires { (begun.core.world.sessions ≡ empty) × (begun.core.opened ≡ 0) }
 {
-    serve_under::<Brand, R>(rt, begun, Blank::new(SEATS + 1), listener, terms)
+    serve_under::<Brand, R>(rt, begun, Blank::new(SEATS + 1), start, terms)
 }
 
-/// Serves all that connect, under the ledger that the blank names.
+/// Does what `serve_all` does, under the ledger that the blank names.
 fn serve_under<
     L: Ledger + Send + Sync,
-    R: Net + Threads + Wait + Clock + RandomSource + Eprint + Sync,
->(rt: &R, begun: Begun, blank: Blank, listener: &TcpListener, terms: Terms) -> Result<(), RunFault>
+    R: Files
+        + Net<Listener = TcpListener, Stream = TcpStream>
+        + Threads
+        + Wait
+        + Clock
+        + RandomSource
+        + Print
+        + Eprint
+        + Sync,
+>(rt: &R, begun: Begun, blank: Blank, start: Start<'_>, terms: Terms) -> Result<(), ProgramFault>
     requires core { (begun.core.world.sessions ≡ empty) × (begun.core.opened ≡ 0) }
     requires ledger { (blank.name ≡ L.name) × (blank.parts ≡ L.parts) }
     requires parts { blank.parts ≡ 4098 }
 {
     let Ok((desks, polls)) = open_desks(rt, begun.alloc, terms.threads) else {
-        return Err(RunFault::Memory);
+        return Err(ProgramFault::Run(RunFault::Memory));
     };
     let sessions = terms.sessions;
     let daemon: Daemon<L> = Daemon::new(begun, blank, SEATS, desks, terms);
-    serve_with(rt, &daemon, polls, listener, sessions)
+    let listener = begin_to_listen(rt, &daemon, start)?;
+    serve_with(rt, &daemon, polls, &listener, sessions).map_err(ProgramFault::Run)
+}
+
+/// Loads the file, if there is one, then listens, and prints the address.
+fn begin_to_listen<
+    L: Ledger,
+    R: Files
+        + Net<Listener = TcpListener, Stream = TcpStream>
+        + Wait
+        + Clock
+        + RandomSource
+        + Print,
+>(rt: &R, daemon: &Daemon<L>, start: Start<'_>) -> Result<TcpListener, ProgramFault> {
+    if let Some(file) = start.file {
+        load_file(rt, daemon, file)?;
+    }
+    let listener = TcpListener::bind(rt, start.address).map_err(ProgramFault::NotListening)?;
+    let local = listener.local_addr().map_err(ProgramFault::NotListening)?;
+    match println!(rt; "listening {local}") {
+        Ok(()) => Ok(listener),
+        Err(_) => Err(ProgramFault::Run(RunFault::Write)),
+    }
 }
 
 /// Makes the desks of so many threads, and what each of them sleeps by.

@@ -1,0 +1,248 @@
+//! A file of messages, which is submitted before the daemon listens. [P 15.2]
+
+use crate::connection::{part_at_last, submission_of};
+use crate::daemon::Daemon;
+use crate::fault::{LoadFault, ProgramFault};
+use odb_hub::{Bell, Calls, Outbox, Seat, Submission};
+use odb_script::RunFault;
+use odb_wire::{Framer, Message, Request, Response, WireFault};
+use rand::make_rng;
+use rand::rngs::StdRng;
+use serde_json::Value;
+use std::alloc::{AllocError, Global};
+use std::fs::File;
+use std::io::{self, ErrorKind, Read};
+use std::random::RandomSource;
+use std::rt::Files;
+use std::sync::ledger::Ledger;
+use std::sync::{Arc, Wait};
+use std::time::Clock;
+
+/// How many bytes are read at once.
+const PIECE: usize = 65_536;
+
+/// A message that makes one whole where the file ended between two, and none where it ended in the midst of one: it has as many
+/// braces and quotes of either kind.
+const END: &[u8] = b"{\"method\":\"echo\",\"params\":[],\"id\":0}";
+
+/// What files are loaded by: the session's seat, where its replies come, and what reads messages and replies.
+struct Loader<'a, L: Ledger, R> {
+    rt: &'a R,
+    daemon: &'a Daemon<L>,
+    seat: &'a mut Seat<L>,
+    outbox: Outbox,
+    framer: Framer,
+    replies: Framer,
+    rng: StdRng,
+    /// How many messages were submitted.
+    count: u64,
+}
+
+/// Submits the messages of a file, one after the other, as one session's, which ends then, and reads each reply. It stops at
+/// the first message that didn't go through; what those before it committed stays. O(bytes of the file), and what the
+/// transactions cost.
+pub(crate) fn load_file<L: Ledger, R: Files + Wait + Clock + RandomSource>(
+    rt: &R,
+    daemon: &Daemon<L>,
+    path: &str,
+) -> Result<(), ProgramFault> {
+    let mut file = File::open(rt, path).map_err(ProgramFault::LoadUnread)?;
+    let rng = make_rng(rt).map_err(|_| memory())?;
+    let bell = silent_bell(daemon.alloc)?;
+    let opened = daemon.hub.enter(rt).open(bell);
+    let Ok((mut seat, mailbox)) = opened else {
+        return Err(memory());
+    };
+    let loader = Loader {
+        rt,
+        daemon,
+        seat: &mut seat,
+        outbox: Outbox::new(daemon.alloc, mailbox),
+        framer: Framer::new(daemon.alloc, daemon.max_message),
+        replies: Framer::new(daemon.alloc, usize::MAX),
+        rng,
+        count: 0,
+    };
+    let loaded = loader.load_all(&mut file);
+    part_at_last(rt, daemon, seat);
+    loaded
+}
+
+// Written, and not derived, so that each end of a scope is one call to prove.
+impl<'a, L: Ledger, R> Drop for Loader<'a, L, R> {
+    fn drop(self) {
+        let Loader {
+            rt: _,
+            daemon: _,
+            seat: _,
+            outbox: _,
+            framer: _,
+            replies: _,
+            rng: _,
+            count: _,
+        } = self;
+    }
+}
+
+impl<'a, L: Ledger, R: Wait + Clock> Loader<'a, L, R> {
+    /// Submits all messages of the file.
+    fn load_all<F: Read>(mut self, file: &mut F) -> Result<(), ProgramFault> {
+        let mut piece = Vec::new(self.daemon.alloc);
+        piece.resize(PIECE, 0u8)?;
+        for _ in 0..u64::MAX {
+            match read_some(file, piece.as_mut_slice()).map_err(ProgramFault::LoadUnread)? {
+                [] => return self.end(),
+                bytes => self.take_in(bytes)?,
+            }
+        }
+        Err(memory())
+    }
+
+    /// Submits the messages that end in these bytes.
+    fn take_in(&mut self, bytes: &[u8]) -> Result<(), ProgramFault> {
+        let fed = self.framer.feed(bytes)?;
+        for message in fed.messages {
+            let Message::Request(request) = message else {
+                return Err(self.fault(LoadFault::NoRequest));
+            };
+            self.submit(request)?;
+        }
+        match fed.fault {
+            None => Ok(()),
+            Some(WireFault::TooLong) => Err(self.fault(LoadFault::TooLong)),
+            Some(WireFault::BadStream) => Err(self.fault(LoadFault::Malformed)),
+        }
+    }
+
+    /// Tells that the file ends in the middle of a message, if it does.
+    fn end(&mut self) -> Result<(), ProgramFault> {
+        let fed = self.framer.feed(END)?;
+        if fed.fault.is_some() || fed.messages.is_empty() {
+            return Err(self.fault(LoadFault::Cut));
+        }
+        Ok(())
+    }
+
+    /// Submits a request, and reads its reply.
+    fn submit(&mut self, request: Request) -> Result<(), ProgramFault> {
+        let mut batch = batch_of(self.daemon.alloc, request, &mut self.rng)?;
+        let now = self.daemon.now(self.rt);
+        let mut hub = self.daemon.hub.enter(self.rt);
+        let submitted = hub.submit_turn(self.rt, self.seat, &mut batch, now);
+        drop(hub);
+        if submitted.owes.is_err() || submitted.given.is_err() {
+            return Err(memory());
+        }
+        self.look_at_reply()?;
+        self.count = self.count.saturating_add(1);
+        Ok(())
+    }
+
+    /// Takes what the session was given, and looks whether a reply without an error is there.
+    fn look_at_reply(&mut self) -> Result<(), ProgramFault> {
+        let mut is_there = false;
+        for message in self.take()? {
+            if let Message::Response(response) = message {
+                is_there = true;
+                if let Some(error) = error_of(self.daemon.alloc, &response)? {
+                    return Err(self.fault(LoadFault::Refused(error)));
+                }
+            }
+        }
+        if is_there {
+            Ok(())
+        } else {
+            Err(self.fault(LoadFault::Waits))
+        }
+    }
+
+    /// Takes all messages that the session is owed.
+    fn take(&mut self) -> Result<Vec<Message>, AllocError> {
+        let mut text = Vec::new(self.daemon.alloc);
+        for _ in 0..u64::MAX {
+            let Ok(is_all) = self.outbox.write_to(&mut text) else {
+                return Err(AllocError);
+            };
+            if is_all && !self.refill() {
+                break;
+            }
+        }
+        Ok(self.replies.feed(text.as_slice())?.messages)
+    }
+
+    /// Has what is held back sent. False says that there is nothing, or that memory was refused.
+    fn refill(&self) -> bool {
+        self.outbox.bell().is_held_back() && self.daemon.refill(self.rt, self.seat.session())
+    }
+
+    /// Makes the fault of the message that is submitted next.
+    fn fault(&self, why: LoadFault) -> ProgramFault {
+        ProgramFault::Load(self.count.saturating_add(1), why)
+    }
+}
+
+/// Makes a bell that calls nobody: what the session was given is there when a call returns.
+fn silent_bell(alloc: Global) -> Result<Bell, AllocError> {
+    let calls = Arc::new(alloc, Calls::new(alloc)?)?;
+    Ok(Bell::new(calls, 0))
+}
+
+/// Returns what is submitted for a request, alone.
+fn batch_of(
+    alloc: Global,
+    request: Request,
+    rng: &mut StdRng,
+) -> Result<Vec<Submission>, AllocError> {
+    let mut batch = Vec::with_capacity(alloc, 1)?;
+    batch.push(submission_of(alloc, request, rng)?)?;
+    Ok(batch)
+}
+
+/// Reads the next bytes: none at the end.
+fn read_some<'a, F: Read>(file: &mut F, piece: &'a mut [u8]) -> io::Result<&'a [u8]> {
+    for _ in 0..u64::MAX {
+        match file.read(piece) {
+            Ok(read) => return Ok(piece.get(..read).unwrap_or(&[])),
+            Err(error) if error.kind() == ErrorKind::Interrupted => {}
+            Err(error) => return Err(error),
+        }
+    }
+    Err(io::Error::from(ErrorKind::Interrupted))
+}
+
+/// Returns the text of the error of a reply, or of the first of its results that is one; none where it has none.
+fn error_of(alloc: Global, response: &Response) -> Result<Option<String>, AllocError> {
+    let message = response.message();
+    match message.get("error") {
+        Some(error) if !error.is_null() => return Ok(Some(text_of(alloc, error)?)),
+        _ => {}
+    }
+    let Some(results) = message.get("result").and_then(Value::as_array) else {
+        return Ok(None);
+    };
+    for result in results {
+        if result.get("error").is_some() {
+            return Ok(Some(text_of(alloc, result)?));
+        }
+    }
+    Ok(None)
+}
+
+/// Returns an error's text: itself, or its members `error` and `details`.
+fn text_of(alloc: Global, error: &Value) -> Result<String, AllocError> {
+    if let Some(text) = error.as_str() {
+        return String::from_str(alloc, text);
+    }
+    let name = error
+        .get("error")
+        .and_then(Value::as_str)
+        .unwrap_or("unknown error");
+    match error.get("details").and_then(Value::as_str) {
+        Some(details) => format!(in alloc; "{name}: {details}"),
+        None => String::from_str(alloc, name),
+    }
+}
+
+fn memory() -> ProgramFault {
+    ProgramFault::Run(RunFault::Memory)
+}
