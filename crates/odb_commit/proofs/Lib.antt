@@ -1,6 +1,5 @@
 pub mod NoFloats
 pub mod Outcomes
-pub mod ReadOnly
 pub mod Sound
 pub mod Typed
 pub mod Versions

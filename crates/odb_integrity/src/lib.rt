@@ -18,4 +18,4 @@ mod rows;
 mod settlement;
 mod suspects;
 
-pub use settlement::{settle, stays_settled};
+pub use settlement::settle;

@@ -10,7 +10,6 @@ use crate::dangling::has_dangling;
 use crate::garbage::collect_garbage;
 use crate::indexes::has_duplicates;
 use crate::pruning::prune;
-use crate::references::has_mixed;
 use crate::referrers::mentioning_missing;
 use crate::rows::touched_rows;
 use odb_atoms::Error;
@@ -70,21 +69,6 @@ pub fn settle(
     }
     prune(alloc, draft, schema, &touched, &mentioning)?;
     constrained(alloc, draft, schema, max_rows)
-}
-
-/// Returns whether it is certain that a settlement leaves the draft's database as it is. The database has to be
-/// settled; then only two things can be in the way: a column that pairs weak references with strong ones,
-/// where a row may lack what keeps it, and more than `max_rows` rows in all. O(rows touched), O(tables) and
-/// O(columns of the schema).
-pub fn stays_settled(draft: &Draft, schema: &Schema, max_rows: usize) -> bool
-    requires typed { IsTyped schema.now draft.now.now }
-    requires settled { IsSettled schema.now draft.now.now }
-    ensures { result ≡ true → model.settle schema.now max_rows draft.now.now ≡ Ok draft.now.now }
-{
-    if has_mixed(schema) {
-        return false;
-    }
-    !exceeds_limit(draft, max_rows)
 }
 
 /// Returns the first constraint that the draft breaks, if it breaks one.

@@ -8,8 +8,6 @@ pub mod Inserts
 pub mod Loops
 pub mod Mutates
 pub mod NoFloats
-pub mod OwnIdentifiers
-pub mod Readers
 pub mod Rewrites
 pub mod RowSets
 pub mod Rows
@@ -18,3 +16,5 @@ pub mod Selected
 pub mod Typed
 pub mod Unions
 pub mod Written
+pub mod Readers
+pub mod OwnIdentifiers

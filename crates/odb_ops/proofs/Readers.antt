@@ -1,4 +1,4 @@
--- Operations that only read leave the database as it is.
+-- What is read as an operation that only reads is one.
 use Rattle.std.specs.Prelude.{◌≡◌, ℕ, Bool, true, false, not, ◌||◌, List, [], ◌∷◌, codes, length, ⊤, unwrap_or, Option, Some, None, option_map, option_and_then, Result, Ok, Err, ok_or}
 use Rattle.std.specs.List.{AllByRecursion, list_all, list_any}
 use Rattle.std.proofs.lemmas.Slice.Eq.{bytes_eq-Decides}
@@ -13,7 +13,6 @@ use Rattle.odb_json.specs.Operation as operation
 use Rattle.odb_json.specs.Operation.{Op, read_op}
 use Rattle.odb_ops.specs.Execution as model
 use Rattle.odb_ops.specs.Execution.{Context, Draft, Ran, Stop}
-use Rattle.odb_ops.specs.OnlyReads.{is_reader, readers, reads_alone}
 use Rattle.odb_ops.proofs.Typed.{or_stop_holds}
 use Rattle.odb_schema.proofs.Holds.{Holds, behind, in_read, next, none_read, read_in, tested_holds, then_holds, with_holds}
 use Rattle.odb_schema.specs.Json as json
@@ -84,90 +83,3 @@ module _ (s : Schema) (names : Names) (ms : Members) where
 
   pub assert_reads : Reads (operation.read_assert ms)
   assert_reads = any (operation.read_needed (codes "lock") operation.read_id ms) _ (λ lock. ends (Op.assert lock) tt (operation.refuse_other_members (codes "lock" ∷ []) ms))
-
-  -- what is read after this name
-  abbrev after_name : List ℕ → Result Op Error
-  after_name name = next (ok_or (operation.verb_named name) unknown_operation) (λ verb. operation.read_members s names ms verb)
-
-  name_reads : (name : List ℕ) → is_reader name ≡ true → Reads (after_name name)
-  name_reads =
-      one_of (λ name. Reads (after_name name)) readers
-      (on_table operation.read_select select_reads, (on_table operation.read_wait wait_reads, (commit_reads, (abort_reads, (comment_reads, (assert_reads, tt))))))
-
-  text_reads : (o : Option (List ℕ)) → unwrap_or (option_map is_reader o) false ≡ true → Reads (next (ok_or o syntax_error) after_name)
-  text_reads None e = absurd (true≢false (sym e))
-  text_reads (Some name) e = name_reads name e
-
-  member_reads : (o : Option Data) → unwrap_or (option_map is_reader (option_and_then json.as_str o)) false ≡ true → Reads (next (next (ok_or o syntax_error) read_text) after_name)
-  member_reads None e = absurd (true≢false (sym e))
-  member_reads (Some d) e = text_reads (json.as_str d) e
-
-object_reads : (s : Schema) (names : Names) (o : Option Members) → unwrap_or (option_map is_reader (option_and_then json.as_str (option_and_then (json.get_member (codes "op")) o))) false ≡ true
-    → Holds IsReader (next (ok_or o syntax_error) (λ ms. next (operation.read_needed (codes "op") read_text ms) (after_name s names ms)))
-object_reads s names None e = absurd (true≢false (sym e))
-object_reads s names (Some ms) e = member_reads s names ms (json.get_member (codes "op") ms) e
-
-op_reads : (s : Schema) (names : Names) (d : Data) → reads_alone d ≡ true → Holds IsReader (read_op s names d)
-unfolding read_op
-op_reads s names d e = object_reads s names (json.as_object d) e
-
--- ---- carrying out
-
-abbrev KeepsDb : Db → Draft × Data → Type 0
-KeepsDb db p = p.0.db ≡ db
-
-goes_on : (b : Bool) (d : Draft) (stop : Stop) → Holds (KeepsDb d.db) (model.go_on b d stop)
-goes_on true d stop = read_in Stop (KeepsDb d.db) (d, model.empty_result) refl
-goes_on false d stop = none_read (KeepsDb d.db) stop
-
-perform_keeps : (s : Schema) (c : Context) (u : Uuid) (d : Draft) (o : Op) → IsReader o → Holds (KeepsDb d.db) (model.perform s c u d o)
-unfolding model.perform
-perform_keeps s c u d (Op.insert t given name own) h = absurd h
-perform_keeps s c u d (Op.select t clauses columns) h = read_in Stop (KeepsDb d.db) (d, model.rows_result (columns_at s t) columns (model.distinct (model.selected columns (model.found d t clauses)))) refl
-perform_keeps s c u d (Op.update t clauses given) h = absurd h
-perform_keeps s c u d (Op.mutate t clauses ms) h = absurd h
-perform_keeps s c u d (Op.delete t clauses) h = absurd h
-perform_keeps s c u d (Op.wait t clauses columns until rows timeout) h = goes_on _ d _
-perform_keeps s c u d (Op.commit durable) h = goes_on (not durable) d _
-perform_keeps s c u d Op.abort h = none_read (KeepsDb d.db) _
-perform_keeps s c u d Op.comment h = read_in Stop (KeepsDb d.db) (d, model.empty_result) refl
-perform_keeps s c u d (Op.assert lock) h = goes_on (c.owns lock) d _
-
-read_keeps : (s : Schema) (c : Context) (names : Names) (u : Uuid) (d : Draft) (op : Data) → reads_alone op ≡ true → Holds (KeepsDb d.db) (model.read_and_perform s c names u d op)
-read_keeps s c names u d op e =
-    with_holds IsReader (KeepsDb d.db) (model.or_stop (read_op s names op)) _ (or_stop_holds IsReader (read_op s names op) (op_reads s names op e)) (λ o h. perform_keeps s c u d o h)
-
--- ---- lists of operations
-
--- what went through ended with this database
-abbrev pub EndsWith : Db → Ran → Type 0
-EndsWith db (model.finished d results) = d.db ≡ db
-EndsWith db (model.failed results) = ⊤
-EndsWith db (model.waiting moment) = ⊤
-
-with_result_ends : (db : Db) (result : Data) (r : Ran) → EndsWith db r → EndsWith db (model.with_result result r)
-with_result_ends db result (model.finished d results) h = h
-with_result_ends db result (model.failed results) h = h
-with_result_ends db result (model.waiting moment) h = h
-
-stopped_ends : (db : Db) (stop : Stop) (later : ℕ) → EndsWith db (model.stopped stop later)
-stopped_ends db (model.fails e) later = tt
-stopped_ends db (model.must_wait moment) later = tt
-
-run_from_ends : (s : Schema) (c : Context) (names : Names) (fresh : List Uuid) (d : Draft) (ops : List Data) → list_all reads_alone ops ≡ true → EndsWith d.db (model.run_from s c names fresh d ops)
-run_from_ends s c names fresh d [] e = refl
-run_from_ends s c names fresh d (op ∷ ops) e =
-    let h : (reads_alone op ≡ true) × (list_all reads_alone ops ≡ true) = both (reads_alone op) (list_all reads_alone ops) e in
-    by (model.read_and_perform s c names (model.first_fresh fresh) d op) (read_keeps s c names (model.first_fresh fresh) d op h.0) (λ x. run_from_ends s c names (model.fresh_after op fresh) x ops h.1)
-  where
-    by : (r : Result (Draft × Data) Stop) → Holds (KeepsDb d.db) r → ((x : Draft) → EndsWith x.db (model.run_from s c names (model.fresh_after op fresh) x ops))
-        → EndsWith d.db (elim r as (λ _. Ran) [ Ok p ↦ model.with_result p.1 (model.run_from s c names (model.fresh_after op fresh) p.0 ops) | Err stop ↦ model.stopped stop (length ops) ])
-    by (Ok p) g rest =
-        let later : Ran = model.run_from s c names (model.fresh_after op fresh) p.0 ops in
-        let same : p.0.db ≡ d.db = in_read Stop (KeepsDb d.db) p g in
-        with_result_ends d.db p.1 later (subst (λ (db : Db). EndsWith db later) same (rest p.0))
-    by (Err stop) g rest = stopped_ends d.db stop (length ops)
-
-pub run_ends : (s : Schema) (c : Context) (d : Draft) (ops : List Data) → list_all reads_alone ops ≡ true → EndsWith d.db (model.run s c d ops)
-unfolding model.run
-run_ends s c d ops e = run_from_ends s c (model.names_of ops c.fresh) c.fresh d ops e

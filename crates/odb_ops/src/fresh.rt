@@ -29,7 +29,7 @@ pub fn next_uuid(fresh: &[Uuid]) -> Uuid
 
 /// Returns what an insert has of its own under `uuid` (ovsdb-server(7), 5.2.1), where it can be read. O(log n)
 /// comparisons of names for n members.
-pub fn own_uuid(operation: &Value) -> Option<Uuid>
+fn own_uuid(operation: &Value) -> Option<Uuid>
     ensures { option_map uuid_of result ≡ model.own_uuid (view operation.now) }
 {
     match read_own_uuid(member("uuid", operation.as_object()?)?) {

@@ -16,7 +16,6 @@ mod merging;
 mod mutate;
 mod names;
 mod operation;
-mod reading;
 mod results;
 mod select;
 mod stop;
@@ -25,6 +24,4 @@ mod wait;
 
 pub use context::Context;
 pub use execution::{Ran, run};
-pub use fresh::own_uuid;
-pub use reading::only_reads;
 pub use results::failure;
