@@ -13,12 +13,13 @@ use Rattle.odb_atoms.proofs.Atoms.{uuid_cmp-IsAntisymmetric}
 use Rattle.odb_atoms.proofs.Equal.{same_values-itself}
 use Rattle.odb_atoms.proofs.FinMaps.{same_key}
 use Rattle.odb_cond.specs.Filter.{Filter, selects}
-use Rattle.odb_monitor.specs.Represented.Candidates.{Covers, IsListOf, WasSo, changed_in, fresh_in, is_changed, selected_by, stayed_in, unchanged}
+use Rattle.odb_monitor.specs.Represented.Candidates.{Covers, ListsSelected, WasSo, changed_in, fresh_in, is_changed, stayed_in, unchanged}
 use Rattle.odb_monitor.specs.Represented.Sides.{Pair, only_shown, passed, shown_at, tells}
 use Rattle.odb_monitor.specs.View.{Cells, Change, change, cut, differs}
 use Rattle.odb_monitor.specs.declared.told.Told.{Told}
 use Rattle.odb_monitor.specs.declared.told.Told.TheVariants.{Asked, Nothing}
 use Rattle.odb_monitor.proofs.Kept.{AreDistinct}
+use Rattle.odb_monitor.proofs.Maps.{get-map_entries}
 use Rattle.odb_request.specs.Request.{Request}
 use Rattle.odb_tables.specs.Change.{before}
 use Rattle.odb_tables.specs.Database.{Table}
@@ -63,20 +64,25 @@ module _ {X Y : Type 0} (f : Uuid → X → Y) where
   pub distinct-each : (es : List (Uuid × X)) → AreDistinct es → AreDistinct (each es)
   distinct-each es d = subst (IsDistinct (eq_by_cmp uuid_cmp)) (sym (keys-each es)) d
 
-row_found : (rows : List (Uuid × Row)) (t : Table) → IsListOf rows t → (u : Uuid) → find uuid_cmp u rows ≡ finite.get t u
-row_found rows t h u = sym (get-from_entries rows u) ∙ ap (λ m. finite.get m u) h.0
+-- what is found of the rows that a filter selects
+row_found : (f : Filter) (rows : List (Uuid × Row)) (t : Table) → ListsSelected f rows t → (u : Uuid) → find uuid_cmp u rows ≡ option_and_then (λ r. cond (selects f u r) (Some r) None) (finite.get t u)
+row_found f rows t h u = sym (get-from_entries rows u) ∙ ap (λ m. finite.get m u) h.0 ∙ get-map_entries (λ k r. cond (selects f k r) (Some r) None) t u
 
--- ---- a first reply: each row comes in
+-- ---- a first reply: each row that is asked for comes in
 
-pub all_fresh : (first : Bool) (q : Request) (rows : List (Uuid × Row)) (then now : Table) → IsListOf rows now → Covers (map fresh_in rows) first Nothing q then now
-all_fresh first q rows then now h = (distinct-each side rows h.1, λ u. ap (option_and_then (shown_at first Nothing q u)) (find-each side rows u ∙ ap (option_map (side u)) (row_found rows now h u)) ∙ by u (finite.get now u))
+pub all_fresh : (first : Bool) (q : Request) (rows : List (Uuid × Row)) (then now : Table) → ListsSelected q.filter rows now → Covers (map fresh_in rows) first Nothing q then now
+all_fresh first q rows then now h = (distinct-each side rows h.1, λ u. ap (option_and_then (shown_at first Nothing q u)) (find-each side rows u ∙ ap (option_map (side u)) (row_found q.filter rows now h u)) ∙ by u (finite.get now u))
   where
     side : Uuid → Row → Pair
     side u r = (None, Some r)
 
-    by : (u : Uuid) (r : Option Row) → option_and_then (shown_at first Nothing q u) (option_map (side u) r) ≡ shown_at first Nothing q u (finite.get then u, r)
+    by : (u : Uuid) (r : Option Row) → option_and_then (shown_at first Nothing q u) (option_map (side u) (option_and_then (λ x. cond (selects q.filter u x) (Some x) None) r)) ≡ shown_at first Nothing q u (finite.get then u, r)
     by u None = ap (λ o. only_shown first q.select (change (option_map (cut q.shape.columns u) o) None)) (sym (never u (finite.get then u)))
-    by u (Some r) = ap (λ o. only_shown first q.select (change (option_map (cut q.shape.columns u) o) (option_map (cut q.shape.columns u) (passed (selects q.filter) u (Some r))))) (sym (never u (finite.get then u)))
+    by u (Some r) = at (selects q.filter u r) refl
+      where
+        at : (b : Bool) → selects q.filter u r ≡ b → option_and_then (shown_at first Nothing q u) (option_map (side u) (cond b (Some r) None)) ≡ shown_at first Nothing q u (finite.get then u, Some r)
+        at true is = ap (λ o. only_shown first q.select (change (option_map (cut q.shape.columns u) o) (option_map (cut q.shape.columns u) (passed (selects q.filter) u (Some r))))) (sym (never u (finite.get then u)))
+        at false is = λ i. only_shown first q.select (change (option_map (cut q.shape.columns u) (sym (never u (finite.get then u)) i)) (option_map (cut q.shape.columns u) (cond (sym is i) (Some r) None)))
 
 -- ---- where the filter stays: those that were changed
 
@@ -180,28 +186,6 @@ module _ {X : Type 0} (s : Uuid × X → Bool) where
       by true r = IsDistinct-cons (eq_by_cmp uuid_cmp) e.0 (keys_of (filter s es)) (all-passed _ es (IsDistinct-head (eq_by_cmp uuid_cmp) e.0 (keys_of es) d)) r
       by false r = r
 
-  find-absent : (q : Uuid) (rows : List (Uuid × X)) → AllByRecursion (λ y. eq_by_cmp uuid_cmp q y ≡ false) (keys_of rows) → find uuid_cmp q rows ≡ None
-  find-absent q [] h = refl
-  find-absent q (e ∷ es) h = ap (λ b. cond b (Some e.1) (find uuid_cmp q es)) h.0 ∙ find-absent q es h.1
-
-  find-passed : (rows : List (Uuid × X)) (q : Uuid) → AreDistinct rows → find uuid_cmp q (filter s rows) ≡ option_and_then (λ x. cond (s (q, x)) (Some x) None) (find uuid_cmp q rows)
-  find-passed [] q d = refl
-  find-passed (e ∷ es) q d = by (eq_by_cmp uuid_cmp q e.0) refl (s e) refl (find-passed es q (IsDistinct-tail (eq_by_cmp uuid_cmp) e.0 (keys_of es) d))
-    where
-      gone : q ≡ e.0 → find uuid_cmp q (filter s es) ≡ None
-      gone is = find-absent q (filter s es) (all-passed _ es (subst (λ u. AllByRecursion (λ y. eq_by_cmp uuid_cmp u y ≡ false) (keys_of es)) (sym is) (IsDistinct-head (eq_by_cmp uuid_cmp) e.0 (keys_of es) d)))
-
-      by : (b : Bool) → eq_by_cmp uuid_cmp q e.0 ≡ b → (a : Bool) → s e ≡ a → find uuid_cmp q (filter s es) ≡ option_and_then (λ x. cond (s (q, x)) (Some x) None) (find uuid_cmp q es)
-          → find uuid_cmp q (cond a (e ∷ filter s es) (filter s es)) ≡ option_and_then (λ x. cond (s (q, x)) (Some x) None) (cond b (Some e.1) (find uuid_cmp q es))
-      by true is true passes rest =
-          let same : q ≡ e.0 = same_key uuid_cmp-IsAntisymmetric q e.0 is in
-          ap (λ b. cond b (Some e.1) (find uuid_cmp q (filter s es))) is ∙ sym (ap (λ b. cond b (Some e.1) None) (ap (λ u. s (u, e.1)) same ∙ passes))
-      by true is false passes rest =
-          let same : q ≡ e.0 = same_key uuid_cmp-IsAntisymmetric q e.0 is in
-          gone same ∙ sym (ap (λ b. cond b (Some e.1) None) (ap (λ u. s (u, e.1)) same ∙ passes))
-      by false is true passes rest = ap (λ b. cond b (Some e.1) (find uuid_cmp q (filter s es))) is ∙ rest
-      by false is false passes rest = rest
-
 named_found : (cs : List (Uuid × Pair)) (q : Uuid) → is_changed cs q ≡ is_some (find uuid_cmp q cs)
 named_found [] q = refl
 named_found (c ∷ cs) q = by (eq_by_cmp uuid_cmp q c.0) (named_found cs q)
@@ -216,17 +200,11 @@ not_shown first w q u r same =
     ap (λ b. only_shown first q.select (change (option_map (cut q.shape.columns u) (cond b (Some r) None)) (option_map (cut q.shape.columns u) (passed (selects q.filter) u (Some r))))) same
     ∙ only_changed first q u (Some r)
 
-pub all_apart : (cs : List (Uuid × Pair)) (all : List (Uuid × Row)) (d : Filter) (then now : Table) → AreDistinct cs → WasSo cs then now → IsListOf all now → (first : Bool) (w : Told) (q : Request)
+pub all_apart : (cs : List (Uuid × Pair)) (rows : List (Uuid × Row)) (d : Filter) (then now : Table) → AreDistinct cs → WasSo cs then now → ListsSelected d rows now → (first : Bool) (w : Told) (q : Request)
     → ((u : Uuid) (r : Row) → selects d u r ≡ false → tells w q.filter u r ≡ selects q.filter u r)
-    → Covers (map (changed_in now) cs ++ map stayed_in (unchanged cs (selected_by d all))) first w q then now
-all_apart cs all d then now distinct was h first w q apart_by = (subst (IsDistinct (eq_by_cmp uuid_cmp)) (sym (keys-++ front back)) (distinct-++ (keys_of front) (keys_of back) (distinct-each changed_side cs distinct) (distinct-each stayed_side (unchanged cs rows) (distinct-passed (λ e. not (is_changed cs e.0)) rows (distinct-passed test all h.1))) apart), λ u. ap (option_and_then (shown_at first w q u)) (find-++ front back u ∙ (λ i. or_else (find-each changed_side cs u i) (find-each stayed_side (unchanged cs rows) u i))) ∙ by u (find uuid_cmp u cs) refl (finite.get now u) refl ∙ ap (λ r. shown_at first w q u (r, finite.get now u)) (sym (was u)))
+    → Covers (map (changed_in now) cs ++ map stayed_in (unchanged cs rows)) first w q then now
+all_apart cs rows d then now distinct was h first w q apart_by = (subst (IsDistinct (eq_by_cmp uuid_cmp)) (sym (keys-++ front back)) (distinct-++ (keys_of front) (keys_of back) (distinct-each changed_side cs distinct) (distinct-each stayed_side (unchanged cs rows) (distinct-passed (λ e. not (is_changed cs e.0)) rows h.1)) apart), λ u. ap (option_and_then (shown_at first w q u)) (find-++ front back u ∙ (λ i. or_else (find-each changed_side cs u i) (find-each stayed_side (unchanged cs rows) u i))) ∙ by u (find uuid_cmp u cs) refl (finite.get now u) refl ∙ ap (λ r. shown_at first w q u (r, finite.get now u)) (sym (was u)))
   where
-    test : Uuid × Row → Bool
-    test e = selects d e.0 e.1
-
-    rows : List (Uuid × Row)
-    rows = selected_by d all
-
     changed_side : Uuid → Pair → Pair
     changed_side u s = (s.0, finite.get now u)
 
@@ -246,11 +224,11 @@ all_apart cs all d then now distinct was h first w q apart_by = (subst (IsDistin
         → option_and_then (shown_at first w q u) (or_else (option_map (changed_side u) c) (option_map (stayed_side u) (find uuid_cmp u (unchanged cs rows)))) ≡ shown_at first w q u (before (finite.get now u) c, finite.get now u)
     by u (Some c) is r there = refl
     by u None is r there =
-        ap (λ o. option_and_then (shown_at first w q u) (option_map (stayed_side u) o)) (find-rest (is_changed cs) rows u (named_found cs u ∙ ap is_some is) ∙ find-passed test all u h.1 ∙ ap (option_and_then (λ x. cond (test (u, x)) (Some x) None)) (row_found all now h u ∙ there))
+        ap (λ o. option_and_then (shown_at first w q u) (option_map (stayed_side u) o)) (find-rest (is_changed cs) rows u (named_found cs u ∙ ap is_some is) ∙ row_found d rows now h u ∙ ap (option_and_then (λ x. cond (selects d u x) (Some x) None)) there)
         ∙ stays r
         ∙ ap (λ o. shown_at first w q u (o, o)) (sym there)
       where
-        stays : (o : Option Row) → option_and_then (shown_at first w q u) (option_map (stayed_side u) (option_and_then (λ x. cond (test (u, x)) (Some x) None) o)) ≡ shown_at first w q u (o, o)
+        stays : (o : Option Row) → option_and_then (shown_at first w q u) (option_map (stayed_side u) (option_and_then (λ x. cond (selects d u x) (Some x) None) o)) ≡ shown_at first w q u (o, o)
         stays None = refl
         stays (Some x) = at (selects d u x) refl
           where

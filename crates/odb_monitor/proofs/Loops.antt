@@ -1,5 +1,5 @@
 -- Lists that a loop makes, one round longer.
-use Rattle.std.proofs.Common.{◌≡◌, ℕ, ◌+◌, ◌++◌, ◌<◌, Bool, true, false, ◌||◌, List, [], ◌∷◌, Option, Some, None, filter_map, flat_map, option_to_list, cond, filter, get_or, length, map, take, refl, sym, ap, ◌∙◌, append_assoc}
+use Rattle.std.proofs.Common.{◌≡◌, ℕ, ◌+◌, ◌++◌, ◌<◌, Bool, true, false, ◌||◌, List, [], ◌∷◌, Option, Some, None, filter_map, flat_map, option_to_list, get_or, length, map, take, refl, sym, ap, ◌∙◌, append_assoc}
 use Rattle.std.proofs.lemmas.Grind.{flat_map-append}
 use Rattle.std.proofs.lemmas.List.{append-nil, map-append, take_more}
 use Rattle.std.specs.List.{cons_option, list_any}
@@ -53,16 +53,3 @@ kept_more g h xs i x old new inside at is more =
 pub any_mapped : {X Y : Type 0} (p : Y → Bool) (f : X → Y) (xs : List X) → list_any (λ x. p (f x)) xs ≡ list_any p (map f xs)
 any_mapped p f [] = refl
 any_mapped p f (x ∷ xs) = ap (λ b. p (f x) || b) (any_mapped p f xs)
-
-one_less : {Y : Type 0} (p : Y → Bool) (ys : List Y) (y : Y) → p y ≡ false → filter p (ys ++ y ∷ []) ≡ filter p ys
-one_less p [] y out = ap (λ b. cond b (y ∷ []) []) out
-one_less p (z ∷ zs) y out = by (p z) (one_less p zs y out)
-  where
-    by : (b : Bool) → filter p (zs ++ y ∷ []) ≡ filter p zs → cond b (z ∷ filter p (zs ++ y ∷ [])) (filter p (zs ++ y ∷ [])) ≡ cond b (z ∷ filter p zs) (filter p zs)
-    by true rest = ap (λ ws. z ∷ ws) rest
-    by false rest = rest
-
--- what passes, and one more that doesn't
-pub passed_over : {X Y : Type 0} (p : Y → Bool) (h : X → Y) (xs : List X) (i : ℕ) (x : X) (old : List Y) → i < length xs → x ≡ get_or xs i x → p (h x) ≡ false
-    → old ≡ filter p (map h (take i xs)) → old ≡ filter p (map h (take (i + 1) xs))
-passed_over p h xs i x old inside at out is = is ∙ sym (ap (λ ys. filter p (map h ys)) (one_more xs i x inside at) ∙ ap (filter p) (map-append h (take i xs) (x ∷ [])) ∙ one_less p (map h (take i xs)) (h x) out)

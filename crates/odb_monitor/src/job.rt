@@ -71,8 +71,8 @@ impl<'a> Job<'a> {
     /// Returns whether something is sent: some row is shown, or this is a reply. It stops at the first row that is
     /// shown.
     ///
-    /// O(the rows changed) where the filter stayed, and O(the table) where nothing was told yet or another filter
-    /// was asked.
+    /// O(the rows changed), and where nothing was told yet or another filter was asked also O(the rows that are asked
+    /// for, or that the filters may tell apart), and what `odb_tables::Rows::selected` costs to find them.
     pub fn has_updates(&self, alloc: Global) -> Result<bool, AllocError>
         ensures { IfOk result (λ has. has ≡ is_some (updates_of self.now)) }
     {
@@ -136,8 +136,9 @@ fn put_object(
 /// change that are switched off; `None` where nothing of them is left, but that a reply is always
 /// sent.
 ///
-/// O(the bytes printed) and, of n rows to be compared, O(n log n): the rows changed where the filter stayed, and
-/// the rows of the table where nothing was told yet or another filter was asked.
+/// O(the bytes printed) and, of n rows to be compared, O(n log n): the rows changed, and where another filter was
+/// asked also those that the two may tell apart; where nothing was told yet, the rows that are asked for.
+/// `odb_tables::Rows::selected` says what finding them costs.
 pub fn compose(alloc: Global, job: &Job<'_>) -> Result<Option<Vec<u8>>, AllocError>
     ensures { IfOk result (λ text. option_map (λ t. t.items) text ≡ option_map compact_text (updates_of job.now)) }
 {

@@ -7,7 +7,7 @@ ghost use Rattle.odb_atoms.specs.Represented.Atom.{uuid_of};
 ghost use Rattle.odb_atoms.specs.Row as model_row;
 ghost use Rattle.odb_atoms.specs.Uuid as model_uuid;
 ghost use Rattle.odb_atoms.specs.Uuid.{uuid_cmp};
-ghost use Rattle.odb_monitor.specs.Represented.Candidates.{Covers, IsListOf, ListsApart, WasSo, changed_in, fresh_in, stayed_in, unchanged};
+ghost use Rattle.odb_monitor.specs.Represented.Candidates.{Covers, ListsApart, ListsSelected, WasSo, changed_in, fresh_in, stayed_in, unchanged};
 ghost use Rattle.odb_monitor.specs.Represented.Line.{line_in};
 ghost use Rattle.odb_monitor.specs.Represented.Part.{changes_shown, is_silent, part_of, part_tokens};
 ghost use Rattle.odb_monitor.specs.Represented.Sides.{line_at, sides_in, table_then};
@@ -20,11 +20,11 @@ use crate::comparison::Comparison;
 use crate::layout::Layout;
 use crate::line::Line;
 use crate::printer::Printer;
-use crate::sides::{Sides, add_others, changed, fresh, keys_of, selected};
+use crate::sides::{Sides, add_others, changed, fresh, keys_of};
 use crate::told::Told;
 use odb_cond::Filter;
 use odb_request::{Kind, Request};
-use odb_tables::{Key, RowChange, Table, TableChange};
+use odb_tables::{Key, RowChange, Rows, TableChange};
 use std::alloc::{AllocError, Global};
 use std::marker::Model;
 use std::sync::Arc;
@@ -33,7 +33,7 @@ use std::sync::Arc;
 pub struct Part<'a> {
     request: &'a Request,
     told: Told<'a>,
-    table: &'a Table,
+    rows: Rows<'a>,
     changes: Option<Arc<TableChange>>,
 }
 
@@ -47,27 +47,27 @@ impl<'a> Model for Part<'a> {
 
     ghost coded = { part_code };
 
-    ghost view = { λ p. part_of p.request.now p.told p.table.now (option_map arc_value p.changes) };
+    ghost view = { λ p. part_of p.request.now p.told p.rows (option_map arc_value p.changes) };
 }
 
 impl<'a> Part<'a> {
-    /// Puts together what is asked of a table, what the client was told of it, the table as it is now, and how
-    /// its rows have changed since the client was told: `None` where they haven't. O(1).
+    /// Puts together what is asked of a table, what the client was told of it, its rows as they are now, and how
+    /// they have changed since the client was told: `None` where they haven't. O(1).
     ///
-    /// Of a change the old row is read, and not the new one, which is the table's. Where the client was told
+    /// Of a change the old row is read, and not the new one, which is among the rows. Where the client was told
     /// nothing, the changes aren't read at all.
     pub fn new(
         request: &'a Request,
         told: Told<'a>,
-        table: &'a Table,
+        rows: Rows<'a>,
         changes: Option<Arc<TableChange>>,
     ) -> Part<'a>
-        ensures { result ≡ part_of request.now told.entry table.now (option_map arc_value changes) }
+        ensures { result ≡ part_of request.now told.entry rows.entry (option_map arc_value changes) }
     {
         Part {
             request,
             told,
-            table,
+            rows,
             changes,
         }
     }
@@ -97,7 +97,7 @@ impl<'a> Part<'a> {
         ensures { IfOk result (λ shown. shown ≡ not (is_silent first self.now)) }
     {
         let asked = self.request.filter();
-        let sides = sides_of(alloc, self.told, asked, rows_of(&self.changes), self.table)?;
+        let sides = sides_of(alloc, self.told, asked, rows_of(&self.changes), &self.rows)?;
         let comparison = Comparison::of(alloc, first, self.told, self.request);
         Ok(has_line(&comparison, &sides))
     }
@@ -108,7 +108,7 @@ impl<'a> Part<'a> {
             ≡ (changes_shown first self.now).entries) }
     {
         let asked = self.request.filter();
-        let sides = sides_of(alloc, self.told, asked, rows_of(&self.changes), self.table)?;
+        let sides = sides_of(alloc, self.told, asked, rows_of(&self.changes), &self.rows)?;
         let comparison = Comparison::of(alloc, first, self.told, self.request);
         let mut lines = lines_of(alloc, &comparison, &sides)?;
         sort(&mut lines);
@@ -127,53 +127,58 @@ fn rows_of(changes: &Option<Arc<TableChange>>) -> &[RowChange]
     }
 }
 
-/// Returns the rows of which something may be shown, where this filter is asked.
+/// Returns the rows of which something may be shown, where this filter is asked: O(those that were changed), where
+/// it was told as well; else also O(those that are found), and what `odb_tables::Rows::selected` costs.
 fn sides_of<'a>(
     alloc: Global,
     told: Told<'a>,
     asked: &Filter,
     changes: &'a [RowChange],
-    table: &'a Table,
+    rows: &'a Rows<'a>,
 ) -> Result<Vec<Sides<'a>>, AllocError>
     requires { AreDistinct changes.now }
     ensures { IfOk result (λ sides. (first : Bool) (q : model_request.Request) (then : model_table.Table)
-        → q.filter ≡ asked.now → WasSo changes.now then table.now
-        → Covers (map sides_in sides.items) first told.entry q then table.now) }
+        → q.filter ≡ asked.now → WasSo changes.now then rows.now
+        → Covers (map sides_in sides.items) first told.entry q then rows.now) }
 {
     match told {
-        Told::Nothing => all_fresh(alloc, table),
-        Told::Asked => changed(alloc, changes, table),
-        Told::Under(filter) => told_apart(alloc, filter, asked, changes, table),
+        Told::Nothing => all_fresh(alloc, asked, rows),
+        Told::Asked => changed(alloc, changes, rows),
+        Told::Under(filter) => told_apart(alloc, filter, asked, changes, rows),
     }
 }
 
-/// Returns each row of the table, as one that comes in.
-fn all_fresh<'a>(alloc: Global, table: &'a Table) -> Result<Vec<Sides<'a>>, AllocError>
-    ensures { IfOk result (λ sides. (rows : List (model_uuid.Uuid × model_row.Row)) × IsListOf rows table.now
-        × (map sides_in sides.items ≡ map fresh_in rows)) }
+/// Returns each row that is asked for, as one that comes in. O(those), and what `odb_tables::Rows::selected` costs.
+fn all_fresh<'a>(
+    alloc: Global,
+    asked: &Filter,
+    rows: &'a Rows<'a>,
+) -> Result<Vec<Sides<'a>>, AllocError>
+    ensures { IfOk result (λ sides. (found : List (model_uuid.Uuid × model_row.Row)) × ListsSelected asked.now found rows.now
+        × (map sides_in sides.items ≡ map fresh_in found)) }
 {
-    let rows = table.list(alloc)?;
-    fresh(alloc, &rows)
+    let found = rows.selected(alloc, asked)?;
+    fresh(alloc, &found)
 }
 
-/// Returns each row that was changed, and of the others those that the filters may tell apart. O(rows of the
-/// table), times the members that only one of the filters has, and O(the members).
+/// Returns each row that was changed, and of the others those that the filters may tell apart: O(n log n) for n of
+/// both, O(the members of the filters), and what `odb_tables::Rows::selected` costs by the members that only one of
+/// them has.
 fn told_apart<'a>(
     alloc: Global,
     told: &Filter,
     asked: &Filter,
     changes: &'a [RowChange],
-    table: &'a Table,
+    rows: &'a Rows<'a>,
 ) -> Result<Vec<Sides<'a>>, AllocError>
-    ensures { IfOk result (λ sides. (rows : List (model_uuid.Uuid × model_row.Row)) × ListsApart told.now asked.now rows table.now
+    ensures { IfOk result (λ sides. (found : List (model_uuid.Uuid × model_row.Row)) × ListsApart told.now asked.now found rows.now
         × (map sides_in sides.items
-        ≡ map (changed_in table.now) changes.now ++ map stayed_in (unchanged changes.now rows))) }
+        ≡ map (changed_in rows.now) changes.now ++ map stayed_in (unchanged changes.now found))) }
 {
     let keys = keys_of(alloc, changes)?;
     let differing = told.difference(alloc, asked)?;
-    let rows = table.list(alloc)?;
-    let apart = selected(alloc, &differing, &rows)?;
-    let mut all = changed(alloc, changes, table)?;
+    let apart = rows.selected(alloc, &differing)?;
+    let mut all = changed(alloc, changes, rows)?;
     add_others(&apart, &keys, &mut all)?;
     Ok(all)
 }
@@ -235,7 +240,7 @@ impl Drop for Part<'_> {
         let Part {
             request: _,
             told: _,
-            table: _,
+            rows: _,
             changes: _,
         } = self;
     }

@@ -4,13 +4,12 @@ ghost use Rattle.std.specs.BTreeSet.{contains};
 ghost use Rattle.odb_atoms.specs.Represented.Atom.{uuid_of};
 ghost use Rattle.odb_atoms.specs.Uuid as model_uuid;
 ghost use Rattle.odb_atoms.specs.Uuid.{uuid_cmp};
-ghost use Rattle.odb_monitor.specs.Represented.Candidates.{changed_in, fresh_in, is_changed, others, selected_by, stayed_in};
+ghost use Rattle.odb_monitor.specs.Represented.Candidates.{changed_in, fresh_in, is_changed, others, stayed_in};
 ghost use Rattle.odb_monitor.specs.Represented.Sides.{sides_in};
 ghost use Rattle.odb_tables.specs.Represented.Table.{listed};
 
 use odb_atoms::Row;
-use odb_cond::Filter;
-use odb_tables::{Key, RowChange, Table};
+use odb_tables::{Key, RowChange, Rows};
 use std::alloc::{AllocError, Global};
 use std::collections::BTreeSet;
 use uuid::Uuid;
@@ -44,20 +43,20 @@ pub fn fresh<'a>(alloc: Global, rows: &[(Uuid, &'a Row)]) -> Result<Vec<Sides<'a
     Ok(all)
 }
 
-/// Returns the rows that were changed, each as it was and as the table has it.
+/// Returns the rows that were changed, each as it was and as it is now.
 pub fn changed<'a>(
     alloc: Global,
     changes: &'a [RowChange],
-    table: &'a Table,
+    rows: &'a Rows<'a>,
 ) -> Result<Vec<Sides<'a>>, AllocError>
-    ensures { IfOk result (λ sides. map sides_in sides.items ≡ map (changed_in table.now) changes.now) }
+    ensures { IfOk result (λ sides. map sides_in sides.items ≡ map (changed_in rows.now) changes.now) }
 {
     let mut all = Vec::with_capacity(alloc, changes.len())?;
     for change in changes {
         let sides = Sides {
             uuid: change.uuid(),
             old: change.old(),
-            new: table.get(change.uuid()),
+            new: rows.get(change.uuid()),
         };
         if all.push(sides).is_err() {
             return Err(AllocError);
@@ -100,26 +99,6 @@ pub fn add_others<'a>(
         }
     }
     Ok(())
-}
-
-/// Returns the rows that the filter selects. O(rows), times what `Filter::holds` costs.
-pub fn selected<'a>(
-    alloc: Global,
-    by: &Filter,
-    rows: &[(Uuid, &'a Row)],
-) -> Result<Vec<(Uuid, &'a Row)>, AllocError>
-    ensures { IfOk result (λ found. map listed found.items ≡ selected_by by.now (map listed rows.now)) }
-{
-    let mut found = Vec::new(alloc);
-    for row in rows {
-        if !by.holds(row.0, row.1) {
-            continue;
-        }
-        if found.push((row.0, row.1)).is_err() {
-            return Err(AllocError);
-        }
-    }
-    Ok(found)
 }
 
 fn is_among(keys: &BTreeSet<Key>, uuid: Uuid) -> bool

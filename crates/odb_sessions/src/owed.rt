@@ -59,12 +59,13 @@ impl<'a> Owed<'a> {
         requires { IsKnown chains.now self.now }
         ensures { IfOk result (λ part. part ≡ part_in first chains.now.db self.now) }
     {
-        let table = chains.table(self.mark);
         if first {
-            return Ok(Part::new(self.request, Told::Nothing, table, None));
+            let rows = chains.rows(self.mark);
+            return Ok(Part::new(self.request, Told::Nothing, rows, None));
         }
         let changes = changes_since(alloc, chains, self.mark)?;
-        Ok(Part::new(self.request, told_by(self.told), table, changes))
+        let rows = chains.rows(self.mark);
+        Ok(Part::new(self.request, told_by(self.told), rows, changes))
     }
 }
 
@@ -141,8 +142,8 @@ impl Watching {
         ensures { result ≡ part_again chains.now.db (filters_in told.entry) self.now request.now }
     {
         let filter = filter_under(told, &self.request);
-        let table = chains.table(&self.mark);
-        Part::new(request, Told::Under(filter), table, None)
+        let rows = chains.rows(&self.mark);
+        Part::new(request, Told::Under(filter), rows, None)
     }
 
     /// Makes the part of a job that leads a client to what the table is now which was told of it as it was so many
@@ -160,7 +161,8 @@ impl Watching {
         let table = chains.table(&self.mark);
         let changes = recent.since(ago, self.request.table(), table)?;
         let changes = Arc::new(alloc, changes)?;
-        Ok(Part::new(&self.request, Told::Asked, table, Some(changes)))
+        let rows = chains.rows(&self.mark);
+        Ok(Part::new(&self.request, Told::Asked, rows, Some(changes)))
     }
 }
 

@@ -8,12 +8,13 @@ use Rattle.std.specs.Ordering.{eq_by_cmp}
 use Rattle.odb_atoms.specs.FinMap as finite
 use Rattle.odb_atoms.specs.Row.{Row}
 use Rattle.odb_atoms.specs.Uuid.{Uuid, uuid_cmp}
-use Rattle.odb_cond.specs.Filter.{Filter, TellsApart, selects}
+use Rattle.odb_cond.specs.Filter.{Filter, TellsApart}
 use Rattle.odb_monitor.specs.Represented.Sides.{Pair, shown_at}
 use Rattle.odb_monitor.specs.declared.told.Told.{Told}
 use Rattle.odb_request.specs.Request.{Request}
 use Rattle.odb_tables.specs.Change.{before}
 use Rattle.odb_tables.specs.Database.{Table}
+use Rattle.odb_tables.specs.Matching.{selected}
 
 -- a row that comes in
 abbrev pub fresh_in : Uuid × Row → Uuid × Pair
@@ -38,17 +39,13 @@ others keys rows = filter (λ e. not (contains uuid_cmp keys e.0)) rows
 abbrev pub unchanged : List (Uuid × Pair) → List (Uuid × Row) → List (Uuid × Row)
 unchanged cs rows = filter (λ e. not (is_changed cs e.0)) rows
 
--- the rows that the filter selects
-abbrev pub selected_by : Filter → List (Uuid × Row) → List (Uuid × Row)
-selected_by d rows = filter (λ e. selects d e.0 e.1) rows
-
--- each row of the table once
-abbrev pub IsListOf : List (Uuid × Row) → Table → Type 0
-IsListOf rows t = (finite.from_entries rows ≡ t) × IsDistinct (eq_by_cmp uuid_cmp) (keys_of rows)
+-- each row of the table that the filter selects, once
+abbrev pub ListsSelected : Filter → List (Uuid × Row) → Table → Type 0
+ListsSelected f rows t = (finite.from_entries rows ≡ selected f t) × IsDistinct (eq_by_cmp uuid_cmp) (keys_of rows)
 
 -- rows of the table, each once, and of the others each is selected by both filters or by neither
 abbrev pub ListsApart : Filter → Filter → List (Uuid × Row) → Table → Type 0
-ListsApart f g rows t = (all : List (Uuid × Row)) × (d : Filter) × IsListOf all t × TellsApart d f g × (rows ≡ selected_by d all)
+ListsApart f g rows t = (d : Filter) × ListsSelected d rows t × TellsApart d f g
 
 -- what is shown of these rows is all that is shown, between the table then and the table now
 abbrev pub Covers : List (Uuid × Pair) → Bool → Told → Request → Table → Table → Type 0

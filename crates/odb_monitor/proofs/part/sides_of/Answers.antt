@@ -1,7 +1,7 @@
-use Rattle.std.proofs.Common.{◌∙◌, ◌++◌, ap, map, subst, sym}
+use Rattle.std.proofs.Common.{◌∙◌, ap, map, subst, sym}
 use Rattle.odb_cond.specs.Filter.{selects}
 use Rattle.std.proofs.lemmas.Result.{IfOk-weaker}
-use Rattle.odb_monitor.specs.Represented.Candidates.{Covers, changed_in, stayed_in, unchanged}
+use Rattle.odb_monitor.specs.Represented.Candidates.{Covers, ListsSelected}
 use Rattle.odb_monitor.specs.Represented.Sides.{sides_in}
 use Rattle.odb_monitor.specs.declared.told.Told.TheVariants.{Asked, Nothing, Under}
 use Rattle.odb_monitor.proofs.Covered.{all_apart, all_changed, all_fresh}
@@ -9,15 +9,15 @@ use Rattle.odb_monitor.proofs.part.sides_of.Goals as goal
 
 pub returns-in-Nothing : goal.returns-in-Nothing
 returns-in-Nothing c =
-    let t = c.args.table.now in
+    let t = c.args.rows.now in
     IfOk-weaker c.all_fresh.result _ _
     (λ sides h first q then asked was.
-    subst (λ w. Covers (map sides_in sides.items) first w q then t) (sym c.in-Nothing.is) (subst (λ es. Covers es first Nothing q then t) (sym h.2) (all_fresh first q h.0 then t h.1)))
+    subst (λ w. Covers (map sides_in sides.items) first w q then t) (sym c.in-Nothing.is) (subst (λ es. Covers es first Nothing q then t) (sym h.2) (all_fresh first q h.0 then t (subst (λ f. ListsSelected f h.0 t) (sym asked) h.1))))
     c.all_fresh.ensures
 
 pub returns-in-Asked : goal.returns-in-Asked
 returns-in-Asked c =
-    let t = c.args.table.now in
+    let t = c.args.rows.now in
     let cs = c.args.changes.now in
     IfOk-weaker c.changed.result _ _
     (λ sides h first q then asked was.
@@ -26,13 +26,12 @@ returns-in-Asked c =
 
 pub returns-in-Under : goal.returns-in-Under
 returns-in-Under c =
-    let t = c.args.table.now in
+    let t = c.args.rows.now in
     let cs = c.args.changes.now in
     let w = Under c.in-Under.filter in
     IfOk-weaker c.told_apart.result _ _
     (λ sides h first q then asked was.
     subst (λ w. Covers (map sides_in sides.items) first w q then t) (sym c.in-Under.is)
     (subst (λ es. Covers es first w q then t) (sym h.2)
-    (subst (λ rows. Covers (map (changed_in t) cs ++ map stayed_in (unchanged cs rows)) first w q then t) (sym h.1.4)
-    (all_apart cs h.1.0 h.1.1 then t c.requires was h.1.2 first w q (λ u r out. h.1.3 u r out ∙ ap (λ f. selects f u r) (sym asked))))))
+    (all_apart cs h.0 h.1.0 then t c.requires was h.1.1 first w q (λ u r out. h.1.2 u r out ∙ ap (λ f. selects f u r) (sym asked)))))
     c.told_apart.ensures

@@ -6,7 +6,6 @@ use Rattle.odb_monitor.proofs.part.told_apart.Goals as goal
 
 pub returns : goal.returns
 returns c =
-    let rows = map listed c.in_ok-apart.apart.items in
-    let all = map listed c.in_ok-rows.rows.items in
-    let found : map sides_in c.add_others.new.all.items ≡ map (changed_in c.args.table.now) c.args.changes.now ++ map stayed_in (unchanged c.args.changes.now rows) = search rules in
-    (rows, (all, c.in_ok-differing.differing, (search rules, search rules), c.in_ok-differing.ensures, search rules), found)
+    let found = map listed c.in_ok-apart.apart.items in
+    let all : map sides_in c.add_others.new.all.items ≡ map (changed_in c.args.rows.now) c.args.changes.now ++ map stayed_in (unchanged c.args.changes.now found) = search rules in
+    (found, (c.in_ok-differing.differing, (search rules, search rules), c.in_ok-differing.ensures), all)

@@ -16,7 +16,7 @@ pub returns : goal.returns
 returns c =
     let i = c.self.inside in
     let q = i.request.now in
-    let t = i.table.now in
+    let t = i.rows in
     let changes = option_map arc_value i.changes in
     let first = c.args.first in
     let f = line_in q.shape.columns in

@@ -18,9 +18,9 @@ returns c =
     let undos = take c.args.ago c.args.recent.now.undos in
     let now : Table = table_at db q.place in
     let then : Table = table_ago q.place undos now in
-    let table : c.table-table.result.now ≡ now = search rules in
+    let rows : c.rows-rows.result ≡ now = search rules in
     let changes : arc_value c.in_ok-changes-2.changes ≡ change then now = search rules in
-    let told : undone c.table-table.result.now (arc_value c.in_ok-changes-2.changes) ≡ then = ◌∙◌ {b = undone now (change then now)} (λ i. undone (table i) (changes i)) (undone-change then now) in
+    let told : undone c.rows-rows.result (arc_value c.in_ok-changes-2.changes) ≡ then = ◌∙◌ {b = undone now (change then now)} (λ i. undone (rows i) (changes i)) (undone-change then now) in
     c.new-2.ensures
-    ∙ (λ i. let p : Part = record { request = q; told = selected q (told i); asked = selected q (table i) } in p)
+    ∙ (λ i. let p : Part = record { request = q; told = selected q (told i); asked = selected q (rows i) } in p)
     ∙ ap (λ (w : Watched). part_since undos db w.request) c.self.view_is
