@@ -3,6 +3,7 @@
 use crate::connection::{Connection, Next, PIECE, Tools};
 use crate::daemon::Daemon;
 use crate::desk::Desk;
+use crate::log::Happened;
 use mio::net::TcpStream;
 use mio::{Events, Interest, Poll, Token};
 use odb_core::Refused;
@@ -150,7 +151,10 @@ impl<'a, L: Ledger, R: Wait + Clock> Clerk<'a, L, R> {
             Ok(opened) => opened,
             Err(why) => return Err(self.refuse(&stream, why)),
         };
-        let connection = Connection::new(daemon, stream, seat, mailbox, self.tools.moment);
+        let mut connection = Connection::new(daemon, stream, seat, mailbox, self.tools.moment);
+        if daemon.notices.has_log() {
+            connection.log_open(self.tools.rt, daemon);
+        }
         drop(self.vacant.pop());
         self.put(place, connection);
         self.enqueue(place);
@@ -162,7 +166,18 @@ impl<'a, L: Ledger, R: Wait + Clock> Clerk<'a, L, R> {
         if matches!(why, Refused::TooMany) {
             self.note_too_many(stream);
         }
+        self.log_refused(stream);
         Error::from(ErrorKind::OutOfMemory)
+    }
+
+    fn log_refused(&self, stream: &TcpStream) {
+        let daemon = self.tools.daemon;
+        if !daemon.notices.has_log() {
+            return;
+        }
+        if let Ok(client) = stream.peer_addr() {
+            daemon.log(self.tools.rt, client, Happened::Refused);
+        }
     }
 
     fn note_too_many(&self, stream: &TcpStream) {
@@ -310,8 +325,9 @@ impl<'a, L: Ledger, R: Wait + Clock> Clerk<'a, L, R> {
         let Some(connection) = at(self.connections.as_mut_slice(), place) else {
             return;
         };
-        if connection.has_expired(self.tools.daemon.patience, self.tools.moment) {
-            connection.cut_off();
+        let expired = connection.has_expired(self.tools.daemon.patience, self.tools.moment);
+        if let Some(reason) = expired {
+            connection.cut_off(reason);
         }
         self.enqueue(place);
     }

@@ -1,16 +1,17 @@
 //! A connection and its session, as the thread that serves it has them. [P 15.2]
 
 use crate::daemon::{Daemon, Patience};
+use crate::log::{Happened, Line, Reason};
 use mio::event::Event;
 use mio::net::TcpStream;
-use odb_core::Refused;
+use odb_core::{Refused, SessionId};
 use odb_hub::{Mailbox, Outbox, Seat, Submission};
 use odb_rpc::inserts;
 use odb_wire::{Framer, Message, Request, WireFault};
 use rand::rngs::StdRng;
 use std::alloc::{AllocError, Global};
 use std::io::{self, ErrorKind, Read};
-use std::net::Shutdown;
+use std::net::{Shutdown, SocketAddr};
 use std::sync::Wait;
 use std::sync::ledger::Ledger;
 use std::thread::Threads;
@@ -62,6 +63,11 @@ enum Written {
 /// A connection, with its session as long as that is open.
 pub(crate) struct Connection<L: Ledger> {
     stream: TcpStream,
+    /// Who is at its other end, where that is logged, and the session's number.
+    client: Option<SocketAddr>,
+    session: SessionId,
+    /// Why the connection is to be closed, once that is known.
+    reason: Option<Reason>,
     seat: Option<Seat<L>>,
     outbox: Outbox,
     framer: Framer,
@@ -99,6 +105,9 @@ impl<L: Ledger> Connection<L> {
         let alloc = daemon.alloc;
         Connection {
             stream,
+            client: None,
+            session: seat.session(),
+            reason: None,
             seat: Some(seat),
             outbox: Outbox::new(alloc, mailbox),
             framer: Framer::new(alloc, daemon.max_message),
@@ -121,6 +130,7 @@ impl<L: Ledger> Connection<L> {
     /// the loop learns as it asks the poll, `looks_again` or `sleeps`.
     pub(crate) fn notice(&mut self, event: &Event, moment: u64) {
         if event.is_error() || event.is_write_closed() {
+            self.end_for(Reason::Reset);
             self.is_cut_off = true;
             return;
         }
@@ -148,11 +158,14 @@ impl<L: Ledger> Connection<L> {
         &mut self,
         tools: &mut Tools<'_, L, R>,
     ) -> Next {
-        if !self.is_cut_off && !self.outbox.bell().is_given_up() {
+        if self.outbox.bell().is_given_up() {
+            self.end_for(Reason::Memory);
+        } else if !self.is_cut_off {
             match self.turn(tools) {
                 Ok(next) => return next,
-                Err(_) => self.is_cut_off = true,
+                Err(_) => self.end_for(Reason::Unwritten),
             }
+            self.is_cut_off = true;
         }
         if self.part(tools) {
             Next::Ends
@@ -161,8 +174,16 @@ impl<L: Ledger> Connection<L> {
         }
     }
 
+    /// Notes why the connection is to be closed, unless that is known.
+    fn end_for(&mut self, reason: Reason) {
+        if self.reason.is_none() {
+            self.reason = Some(reason);
+        }
+    }
+
     /// Has the session end at its next turn, and the peer learn it. Step: `cuts_off`.
-    pub(crate) fn cut_off(&mut self) {
+    pub(crate) fn cut_off(&mut self, reason: Reason) {
+        self.end_for(reason);
         self.is_cut_off = true;
         drop(self.stream.shutdown(Shutdown::Both));
     }
@@ -314,12 +335,17 @@ impl<L: Ledger> Connection<L> {
                 self.is_readable = read == tools.piece.len() || self.is_closed;
                 self.hear_peer(tools.moment);
                 if self.take_in(tools, read).is_err() {
+                    self.end_for(Reason::Memory);
                     self.stop();
                 }
             }
+            Ok(_) => self.stop(),
             Err(error) if error.kind() == ErrorKind::WouldBlock => self.is_readable = false,
             Err(error) if error.kind() == ErrorKind::Interrupted => {}
-            _ => self.stop(),
+            Err(_) => {
+                self.end_for(Reason::Reset);
+                self.stop();
+            }
         }
     }
 
@@ -352,8 +378,13 @@ impl<L: Ledger> Connection<L> {
         };
         let fed = self.framer.feed(bytes)?;
         self.reads = fed.fault.is_none();
-        if fed.fault == Some(WireFault::TooLong) {
-            self.note_too_long(tools);
+        match fed.fault {
+            Some(WireFault::TooLong) => {
+                self.end_for(Reason::TooLong);
+                self.note_too_long(tools);
+            }
+            Some(WireFault::BadStream) => self.end_for(Reason::Malformed),
+            None => {}
         }
         Ok(fed.messages)
     }
@@ -374,14 +405,17 @@ impl<L: Ledger> Connection<L> {
         match daemon.submit_turn(tools.rt, seat, &mut self.submissions) {
             Ok(()) => {}
             Err(Refused::Busy) => self.is_busy = true,
-            Err(_) => self.stop(),
+            Err(_) => {
+                self.end_for(Reason::Memory);
+                self.stop();
+            }
         }
     }
 
-    /// Returns whether the daemon's patience with the peer is at its end at this moment. Before that the peer is asked
+    /// Returns why the daemon's patience with the peer is at its end, if it is at this moment. Before that the peer is asked
     /// whether it is there, which is to be written. A peer that isn't read isn't silent, but where its request waits since it
     /// met Busy: then what arrives is noticed though it isn't read.
-    pub(crate) fn has_expired(&mut self, patience: Patience, moment: u64) -> bool {
+    pub(crate) fn has_expired(&mut self, patience: Patience, moment: u64) -> Option<Reason> {
         let Patience { probe, stall } = patience;
         if !self.may_read() && !self.is_busy || self.outbox.bell().is_held_back() {
             self.hear_peer(moment);
@@ -395,7 +429,32 @@ impl<L: Ledger> Connection<L> {
             Some(stall) => !self.is_writable && moment.saturating_sub(self.took) >= stall,
             None => false,
         };
-        is_silent || is_stalled
+        if is_silent {
+            return Some(Reason::Silent);
+        }
+        if is_stalled {
+            return Some(Reason::Stalled);
+        }
+        None
+    }
+
+    /// Has it logged that the session was opened, and remembers who is at the other end.
+    pub(crate) fn log_open<R: Wait + Clock>(&mut self, rt: &R, daemon: &Daemon<L>) {
+        self.client = self.stream.peer_addr().ok();
+        self.log(rt, daemon, Happened::Opened(self.session));
+    }
+
+    /// Has it logged what happened, where it was logged that the session was opened.
+    fn log<R: Wait + Clock>(&self, rt: &R, daemon: &Daemon<L>, happened: Happened) {
+        if let Some(client) = self.client {
+            daemon.log(rt, client, happened);
+        }
+    }
+
+    /// Has it logged that the connection is closed, and why.
+    fn log_close<R: Wait + Clock>(&self, rt: &R, daemon: &Daemon<L>) {
+        let reason = self.reason.unwrap_or(Reason::Ended);
+        self.log(rt, daemon, Happened::Closed(self.session, reason));
     }
 
     /// Returns whether a peer counts as gone that said nothing for so long; it is asked after half of that time.
@@ -409,8 +468,12 @@ impl<L: Ledger> Connection<L> {
 
     /// Closes the connection, and ends its session if that is open.
     pub(crate) fn close<R: Wait + Clock>(self, rt: &R, daemon: &Daemon<L>) {
+        self.log_close(rt, daemon);
         let Connection {
             stream,
+            client: _,
+            session: _,
+            reason: _,
             seat,
             outbox: _,
             framer: _,

@@ -1,6 +1,7 @@
 //! What all threads of the daemon share. [P 15.2]
 
 use crate::desk::Desk;
+use crate::log::{Happened, Line};
 use crate::notices::Notices;
 use crate::pace::Pace;
 use crate::serve::Terms;
@@ -8,6 +9,7 @@ use odb_core::{Core, MAX_SESSIONS, Refused, SessionId};
 use odb_hub::{Hub, Seat, Submission};
 use odb_par::{Open, Workers};
 use std::alloc::Global;
+use std::net::SocketAddr;
 use std::sync::Wait;
 use std::sync::atomic::{AtomicU64, Ordering};
 use std::sync::ledger::{Blank, Ledger};
@@ -81,7 +83,7 @@ impl<L: Ledger> Daemon<L> {
             hub: Hub::new(alloc, core, blank, seats),
             pace: Pace::new(),
             desks,
-            notices: Notices::new(terms.max_message, MAX_SESSIONS),
+            notices: Notices::new(alloc, terms.max_message, MAX_SESSIONS, terms.has_log),
             patience: terms.patience,
             max_message: terms.max_message,
             workers: terms.workers,
@@ -96,6 +98,17 @@ impl<L: Ledger> Daemon<L> {
             Ok(elapsed) => u64::try_from(elapsed.as_millis()).unwrap_or(u64::MAX),
             Err(_) => 0,
         }
+    }
+
+    /// Has it logged what happened to a client's connection now.
+    pub(crate) fn log<R: Wait + Clock>(&self, rt: &R, client: SocketAddr, happened: Happened) {
+        let moment = self.now(rt);
+        let line = Line {
+            moment,
+            client,
+            happened,
+        };
+        self.notices.add_line(rt, line);
     }
 
     /// Ends the pump, and the thread that writes notices.

@@ -13,6 +13,7 @@ mod daemon;
 mod desk;
 mod fault;
 mod load;
+mod log;
 mod notices;
 mod pace;
 mod serve;
@@ -244,6 +245,7 @@ fn serve_command<'a>(alloc: Global) -> Result<Command<'a>, Error> {
         .arg(schema_word(alloc))?
         .arg(listen_word(alloc))?
         .arg(load_word(alloc))?
+        .arg(log_word(alloc))?
         .arg(sessions_word(alloc))?
         .arg(probe_word(alloc))?
         .arg(stall_word(alloc))?
@@ -272,6 +274,13 @@ fn load_word<'a>(alloc: Global) -> Arg<'a> {
             "A file of requests that go through, one after the other, before it listens: dump-to-load and keep write such files",
         )
         .action(ArgAction::Set)
+}
+
+fn log_word<'a>(alloc: Global) -> Arg<'a> {
+    Arg::new(alloc, "log")
+        .long("log")
+        .help("Say on standard error which connections are opened and closed, and why")
+        .action(ArgAction::SetTrue)
 }
 
 fn sessions_word<'a>(alloc: Global) -> Arg<'a> {
@@ -421,6 +430,7 @@ fn terms<R: Threads>(rt: &R, words: &ArgMatches<'_>) -> Terms {
             stall: milliseconds(words, "stall"),
         },
         max_message: words.get_one("max-message").unwrap_or(MAX_MESSAGE as u64) as usize,
+        has_log: words.get_flag("log"),
         threads: threads(rt, words, "threads"),
         workers: Workers::new(threads(rt, words, "workers"), HEAVY),
     }

@@ -1,5 +1,7 @@
 //! What is said on standard error while the daemon serves. [P 15.2]
 
+use crate::log::{Line, Log};
+use std::alloc::Global;
 use std::io::{self, Eprint};
 use std::mem;
 use std::net::SocketAddr;
@@ -61,10 +63,13 @@ impl Pending {
 }
 
 /// Lines for standard error, which one thread writes, so that whoever has something to say waits for no reader of it. Of each
-/// kind at most one line is written in a second: it names the first of what happened, and says how many more there were.
+/// kind at most one line is written in a second: it names the first of what happened, and says how many more there were. Where
+/// there is a log, each line of it is written too.
 #[derive(Drop)]
 pub(crate) struct Notices {
     pending: Mutex<Pending>,
+    log: Mutex<Log>,
+    has_log: bool,
     writer: Parker,
     ended: AtomicU64,
     /// The most bytes of a message, and the most sessions, which lines name.
@@ -74,9 +79,16 @@ pub(crate) struct Notices {
 
 impl Notices {
     /// Makes notices of a daemon with these limits, of which there are none yet.
-    pub(crate) fn new(max_message: usize, max_sessions: usize) -> Notices {
+    pub(crate) fn new(
+        alloc: Global,
+        max_message: usize,
+        max_sessions: usize,
+        has_log: bool,
+    ) -> Notices {
         Notices {
             pending: Mutex::new(Pending::nothing()),
+            log: Mutex::new(Log::new(alloc)),
+            has_log,
             writer: Parker::new(),
             ended: AtomicU64::new(0),
             max_message,
@@ -105,6 +117,17 @@ impl Notices {
         self.writer.unpark();
     }
 
+    /// Returns whether there is a log.
+    pub(crate) fn has_log(&self) -> bool {
+        self.has_log
+    }
+
+    /// Adds a line to the log.
+    pub(crate) fn add_line<R: Wait>(&self, rt: &R, line: Line) {
+        self.log.lock(rt).add(line);
+        self.writer.unpark();
+    }
+
     /// Ends the thread that writes, once all that was noted is written.
     pub(crate) fn end(&self) {
         self.ended.store(1, Ordering::SeqCst);
@@ -115,13 +138,14 @@ impl Notices {
     pub(crate) fn write_all<R: Eprint + Wait + Clock>(&self, rt: &R) {
         for _ in rt.forever() {
             let is_over = self.is_ended();
-            let wrote = self.write_pending(rt);
+            let is_logged = self.write_log(rt);
+            let is_noted = self.write_pending(rt);
             if is_over {
                 return;
             }
-            if wrote {
+            if is_noted {
                 self.pause(rt);
-            } else {
+            } else if !is_logged {
                 self.writer.park(rt);
             }
         }
@@ -131,13 +155,24 @@ impl Notices {
         self.ended.load(Ordering::SeqCst) != 0
     }
 
-    fn pause<R: Wait + Clock>(&self, rt: &R) {
+    /// Pauses after a notice, and goes on with the log.
+    fn pause<R: Eprint + Wait + Clock>(&self, rt: &R) {
         for _ in 0..LOOKS {
             if self.is_ended() {
                 return;
             }
             thread::sleep(rt, Duration::from_millis(PAUSE / LOOKS));
+            self.write_log(rt);
         }
+    }
+
+    /// Writes the lines of the log that wait, and returns whether there were some.
+    fn write_log<R: Eprint + Wait>(&self, rt: &R) -> bool {
+        if !self.has_log {
+            return false;
+        }
+        let log = self.log.lock(rt).take();
+        log.write(rt)
     }
 
     /// Writes a line for each kind of things of which some happened, and returns whether there was one. Whether it could be

@@ -42,6 +42,8 @@ pub(crate) struct Terms {
     pub(crate) patience: Patience,
     /// The most bytes of a message.
     pub(crate) max_message: usize,
+    /// Whether each connection that is opened or closed is logged.
+    pub(crate) has_log: bool,
     /// How many threads serve connections.
     pub(crate) threads: usize,
     /// How many threads compose the jobs of a round.

@@ -1,0 +1,123 @@
+//! The log: which connections are opened and closed, and why. [P 15.2]
+
+use odb_core::SessionId;
+use std::alloc::Global;
+use std::io::Eprint;
+use std::mem;
+use std::net::SocketAddr;
+use thiserror::Error as ErrorText;
+
+/// How many lines wait to be written at most. Those that come then are left out, and counted.
+const MOST: usize = 4_096;
+
+/// Why a connection was closed.
+#[derive(Clone, Copy, Debug, ErrorText)]
+pub(crate) enum Reason {
+    /// The client ended its side, and has what it is owed.
+    #[error("the client ended it")]
+    Ended,
+    /// The system says that it can't be read or written any more, as where it was reset.
+    #[error("it was reset")]
+    Reset,
+    /// What came is no message.
+    #[error("what came is no message")]
+    Malformed,
+    /// A message is longer than a message may be.
+    #[error("a message is too long (--max-message)")]
+    TooLong,
+    /// Memory was refused for what the client sent, or for a second for what it is owed.
+    #[error("memory ran out")]
+    Memory,
+    /// Writing failed.
+    #[error("writing failed")]
+    Unwritten,
+    /// The client said nothing, also when it was asked whether it is there.
+    #[error("the client said nothing (--probe)")]
+    Silent,
+    /// The client took nothing.
+    #[error("the client took nothing (--stall)")]
+    Stalled,
+}
+
+/// What happened.
+#[derive(Clone, Copy)]
+pub(crate) enum Happened {
+    /// A session was opened for a connection.
+    Opened(SessionId),
+    /// The connection of a session was closed.
+    Closed(SessionId, Reason),
+    /// A connection was closed for which no session could be opened.
+    Refused,
+}
+
+/// A line of the log: what happened to a client's connection, and when, in milliseconds since the start.
+#[derive(Clone, Copy)]
+pub(crate) struct Line {
+    pub(crate) moment: u64,
+    pub(crate) client: SocketAddr,
+    pub(crate) happened: Happened,
+}
+
+impl Line {
+    /// Writes it. Whether it could be written doesn't matter.
+    fn write<R: Eprint>(&self, rt: &R) {
+        let (moment, client) = (self.moment, self.client);
+        match self.happened {
+            Happened::Opened(session) => {
+                drop(eprintln!(rt; "ovsdbd: {moment} ms: {client}: session {session} is open"));
+            }
+            Happened::Closed(session, reason) => {
+                drop(eprintln!(rt;
+                    "ovsdbd: {moment} ms: {client}: session {session} is closed: {reason}"
+                ));
+            }
+            Happened::Refused => {
+                drop(eprintln!(rt; "ovsdbd: {moment} ms: {client}: no session can be opened"));
+            }
+        }
+    }
+}
+
+/// The lines that wait to be written, and how many were left out since some were written.
+#[derive(Drop)]
+pub(crate) struct Log {
+    alloc: Global,
+    lines: Vec<Line>,
+    left_out: u64,
+}
+
+impl Log {
+    /// Makes one without lines.
+    pub(crate) fn new(alloc: Global) -> Log {
+        Log {
+            alloc,
+            lines: Vec::new(alloc),
+            left_out: 0,
+        }
+    }
+
+    /// Adds a line; it is left out where too many wait, or memory is refused.
+    pub(crate) fn add(&mut self, line: Line) {
+        if self.lines.len() >= MOST || self.lines.push(line).is_err() {
+            self.left_out = self.left_out.saturating_add(1);
+        }
+    }
+
+    /// Takes out what there is.
+    pub(crate) fn take(&mut self) -> Log {
+        let alloc = self.alloc;
+        mem::replace(self, Log::new(alloc))
+    }
+
+    /// Writes the lines, and how many were left out, and returns whether there was something.
+    pub(crate) fn write<R: Eprint>(&self, rt: &R) -> bool {
+        for line in &self.lines {
+            line.write(rt);
+        }
+        let left_out = self.left_out;
+        if left_out > 0 {
+            drop(eprintln!(rt; "ovsdbd: {left_out} lines of the log are left out"));
+        }
+        left_out > 0 || !self.lines.is_empty()
+    }
+}
