@@ -633,10 +633,11 @@ def too_little_address_space(command):
 
 
 def too_little_for_a_reply(command):
-    """The daemon has no memory for a first reply of 13 MB. Its session ends within seconds, and the others go on all the while."""
+    """The daemon has no memory for a first reply of 13 MB. Its session ends within seconds, which the log says, and the others go on all
+    the while."""
     rows = [{"op": "insert", "table": "Large", "row": {"s": ["set", [f"{number:0100}" for number in range(1_300)]]}}] * 10
     monitor = b'{"method":"monitor","params":["hst","m",{"Large":{}}],"id":1}'
-    with serving([*ONE_ARENA, *command]) as (served, witnesses):
+    with serving([*ONE_ARENA, *command], ["--log"]) as (served, witnesses):
         with Peer(served.port) as first:
             for _ in range(10):
                 first.ask("transact", "hst", *rows)
@@ -645,6 +646,10 @@ def too_little_for_a_reply(command):
             peer.say(monitor)
             if peer.rest():
                 raise Wrong("a reply of 13 MB was made with 4 MB")
+        with daemon.bounded(served.process):
+            while not (said := served.process.stderr.readline()).endswith(" is closed: memory ran out\n"):
+                if not said:
+                    raise Wrong("standard error doesn't say why")
         with Peer(served.port) as peer:
             peer.say(monitor)
             peer.half_close()
