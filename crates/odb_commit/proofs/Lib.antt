@@ -1,4 +1,3 @@
-pub mod NoFloats
 pub mod Outcomes
 pub mod Sound
 pub mod Typed

@@ -21,11 +21,10 @@ use Rattle.odb_tables.specs.Database.{Db}
 use Rattle.odb_tables.specs.Installing.{IsChangeOf}
 use Rattle.odb_tables.specs.Stamped.{stamped}
 use Rattle.odb_tables.specs.Typed.{IsTyped}
-use Rattle.serde_json.specs.declared.value.Value.{Value}
 
 module _ (s : Schema) (max_rows number : ℕ) (old now : Db) where
   -- it was settled
-  pub done : (results : Vec Value Global) (change : List Changes) (new : Db) → IsSound s old → IsTyped s now → settle s max_rows now ≡ Ok new
+  pub done : (results : Vec Data Global) (change : List Changes) (new : Db) → IsSound s old → IsTyped s now → settle s max_rows now ≡ Ok new
       → change ≡ change_between old (stamped (uuid_from number) old new) → IsChangeOf old change → all_changed_by old change ≡ stamped (uuid_from number) old new
       → Answers s old (outcome.Done results change) (model.settled number old (results_of results) (settle s max_rows now))
   done results change new h g e is of leads =
@@ -33,18 +32,18 @@ module _ (s : Schema) (max_rows number : ℕ) (old now : Db) where
       (refl, is, of, leads, settled_sound s max_rows (uuid_from number) old now new h g e)
 
   -- all operations went through
-  pub went_typed : (results : Vec Value Global) (r : ops.Ran) → answered.Answers (ran.Finished results) now r → EndsTyped s r → IsTyped s now
+  pub went_typed : (results : Vec Data Global) (r : ops.Ran) → answered.Answers (ran.Finished results) now r → EndsTyped s r → IsTyped s now
   went_typed results (ops.finished d rs) h typed = subst (IsTyped s) h.0 typed
   went_typed results (ops.failed rs) h typed = absurd h
   went_typed results (ops.waiting moment) h typed = absurd h
 
-  pub went : (results : Vec Value Global) (r : ops.Ran) → answered.Answers (ran.Finished results) now r → model.outcome s max_rows number old r ≡ model.settled number old (results_of results) (settle s max_rows now)
+  pub went : (results : Vec Data Global) (r : ops.Ran) → answered.Answers (ran.Finished results) now r → model.outcome s max_rows number old r ≡ model.settled number old (results_of results) (settle s max_rows now)
   went results (ops.finished d rs) h = λ i. model.settled number old (h.1 i) (settle s max_rows (h.0 i))
   went results (ops.failed rs) h = absurd h
   went results (ops.waiting moment) h = absurd h
 
   -- one failed, or a `wait` has to wait
-  pub failed : (results : Vec Value Global) (r : ops.Ran) → answered.Answers (ran.Failed results) now r → Answers s old (outcome.Failed results) (model.outcome s max_rows number old r)
+  pub failed : (results : Vec Data Global) (r : ops.Ran) → answered.Answers (ran.Failed results) now r → Answers s old (outcome.Failed results) (model.outcome s max_rows number old r)
   failed results (ops.finished d rs) h = absurd h
   failed results (ops.failed rs) h = h
   failed results (ops.waiting moment) h = absurd h

@@ -13,7 +13,7 @@ ghost use Rattle.odb_tables.specs.Draft.{draft_of};
 ghost use Rattle.odb_tables.specs.Typed.{IsTyped};
 
 use odb_integrity::settle;
-use odb_ops::{Context, Ran, failure, run};
+use odb_ops::{Context, OperationResult, Ran, failure, run};
 use odb_schema::Schema;
 use odb_tables::{ChangeSet, Draft};
 use serde_json::Value;
@@ -25,12 +25,12 @@ use uuid::Uuid;
 pub enum Outcome {
     /// It went through: its results, and what it changes, which may be nothing.
     Done {
-        results: Vec<Value>,
+        results: Vec<OperationResult>,
         change: ChangeSet,
     },
     /// An operation failed, or its settlement: nothing is changed.
     Failed {
-        results: Vec<Value>,
+        results: Vec<OperationResult>,
     },
     /// A `wait` isn't met, and has time until this moment, in milliseconds, or for ever; nothing is
     /// changed.
@@ -74,7 +74,7 @@ fn finish(
     alloc: Global,
     mut draft: Draft,
     schema: &Schema,
-    results: Vec<Value>,
+    results: Vec<OperationResult>,
     number: u64,
     max_rows: usize,
 ) -> Result<Outcome, AllocError>
@@ -95,8 +95,11 @@ fn finish(
 }
 
 /// Returns the results with one more.
-fn with(mut results: Vec<Value>, last: Value) -> Result<Vec<Value>, AllocError>
-    ensures { IfOk result (λ all. results_of all ≡ results_of results ++ (view last ∷ [])) }
+fn with(
+    mut results: Vec<OperationResult>,
+    last: OperationResult,
+) -> Result<Vec<OperationResult>, AllocError>
+    ensures { IfOk result (λ all. results_of all ≡ results_of results ++ (last ∷ [])) }
 {
     results.push(last)?;
     Ok(results)

@@ -1,9 +1,8 @@
 -- What a try of a transaction makes of the world, by what the transaction comes to.
-use Rattle.std.proofs.Common.{◌≡◌, ℕ, ◌+◌, Bool, false, cond, nat_lt, List, [], ◌∷◌, ◌++◌, map, Option, Some, None, refl, sym, ◌∙◌, ap, subst}
+use Rattle.std.proofs.Common.{◌≡◌, ℕ, ◌+◌, Bool, cond, nat_lt, List, [], ◌∷◌, ◌++◌, map, Option, Some, None, refl, sym, ◌∙◌, ap, subst}
 use Rattle.std.specs.Prelude.{Vec}
 use Rattle.std.specs.List.{list_any}
 use Rattle.std.specs.declared.alloc.Global.{Global}
-use Rattle.serde_json.specs.declared.value.Value.{Value}
 use Rattle.odb_atoms.specs.FinMap.{get, insert, len}
 use Rattle.odb_commit.specs.Represented.Outcome.{Answers}
 use Rattle.odb_commit.specs.Transaction as transaction
@@ -23,11 +22,7 @@ use Rattle.odb_service.specs.Service.{outcome_of}
 use Rattle.odb_service.specs.Session.{Item, Session, say, sync, to, with_content}
 use Rattle.odb_service.specs.World.{Waiting, World, asked_of, attempt, end_transaction, on_outcome, post, post_to, push}
 use Rattle.odb_core.specs.declared.submitted.Submitted.{Submitted}
-use Rattle.odb_core.specs.Represented.Waiting.{context_in, outcome_in, waiting_as}
-use Rattle.odb_commit.proofs.NoFloats.{done_whole, refused_whole}
-use Rattle.odb_rpc.specs.Message.{operations_of}
-use Rattle.serde_json.specs.Written.{has_float}
-use Rattle.odb_service.specs.Service.{max_rows}
+use Rattle.odb_core.specs.Represented.Waiting.{outcome_in, waiting_as}
 use Rattle.odb_sessions.specs.Book.{Sessions}
 use Rattle.odb_sessions.specs.Asked.{ended_in}
 use Rattle.odb_sessions.specs.Posts.{at_number}
@@ -63,10 +58,10 @@ module _ (s : Schema) (w : World) (a : Submitted) (deadline : Option ℕ) (n : �
   abbrev Tried : Type 0
   Tried = World × Option Waiting
 
-  abbrev ended_as : Vec Value Global → Option Db → Tried
+  abbrev ended_as : Vec Data Global → Option Db → Tried
   ended_as results db = (end_transaction (served_by s) a.session d (array_of (results_of results)) db w, None)
 
-  pub fails_as : (results : Vec Value Global) → Answers s w.db (outcome.Failed results) (outcome_in s w a) → attempt (served_by s) p w ≡ ended_as results None
+  pub fails_as : (results : Vec Data Global) → Answers s w.db (outcome.Failed results) (outcome_in s w a) → attempt (served_by s) p w ≡ ended_as results None
   fails_as results k = by (outcome_in s w a) k
     where
       by : (m : transaction.Outcome) → Answers s w.db (outcome.Failed results) m → on_outcome (served_by s) p (outcome_of w.db m) w ≡ ended_as results None
@@ -95,7 +90,7 @@ module _ (s : Schema) (w : World) (a : Submitted) (deadline : Option ℕ) (n : �
       ∙ ap (λ (c : Bool). let t : Tried = (end_transaction (served_by s) a.session d (array_of results) (cond c (Some new) None) w, None) in t) is
       ∙ ap (λ (db : Db). let t : Tried = (end_transaction (served_by s) a.session d (array_of results) (cond b (Some db) None) w, None) in t) (sym gives)
 
-  pub done_as : (results : Vec Value Global) (change : List Changes) (b : Bool) → has_rows change ≡ b → Answers s w.db (outcome.Done results change) (outcome_in s w a) → attempt (served_by s) p w ≡ ended_as results (cond b (Some (all_changed_by w.db change)) None)
+  pub done_as : (results : Vec Data Global) (change : List Changes) (b : Bool) → has_rows change ≡ b → Answers s w.db (outcome.Done results change) (outcome_in s w a) → attempt (served_by s) p w ≡ ended_as results (cond b (Some (all_changed_by w.db change)) None)
   done_as results change b is k = by (outcome_in s w a) k
     where
       by : (m : transaction.Outcome) → Answers s w.db (outcome.Done results change) m → on_outcome (served_by s) p (outcome_of w.db m) w ≡ ended_as results (cond b (Some (all_changed_by w.db change)) None)
@@ -104,26 +99,8 @@ module _ (s : Schema) (w : World) (a : Submitted) (deadline : Option ℕ) (n : �
       by (transaction.waiting t) k = absurd k
 
 -- what an outcome that is done says beside it
-module _ (s : Schema) (db : Db) (results : Vec Value Global) (change : List Changes) where
+module _ (s : Schema) (db : Db) (results : Vec Data Global) (change : List Changes) where
   pub done_is : (m : transaction.Outcome) → Answers s db (outcome.Done results change) m → IsChangeOf db change × IsSound s (all_changed_by db change)
   done_is (transaction.done answer new) k = (k.2, subst (IsSound s) (sym k.3) k.4)
   done_is (transaction.refused answer) k = absurd k
   done_is (transaction.waiting t) k = absurd k
-
--- results have no fractions
-module _ (s : Schema) (w : World) (a : Submitted) where
-  pub done_whole_results : (results : Vec Value Global) (change : List Changes) → Answers s w.db (outcome.Done results change) (outcome_in s w a) → has_float (array_of (results_of results)) ≡ false
-  done_whole_results results change k = by (outcome_in s w a) refl k
-    where
-      by : (m : transaction.Outcome) → outcome_in s w a ≡ m → Answers s w.db (outcome.Done results change) m → has_float (array_of (results_of results)) ≡ false
-      by (transaction.done answer new) e k = subst (λ r. has_float (array_of r) ≡ false) k.0 (done_whole s max_rows (w.commits + 1) (context_in w a) w.db (operations_of (request_data a.request)) answer new e)
-      by (transaction.refused answer) e k = absurd k
-      by (transaction.waiting t) e k = absurd k
-
-  pub refused_whole_results : (results : Vec Value Global) → Answers s w.db (outcome.Failed results) (outcome_in s w a) → has_float (array_of (results_of results)) ≡ false
-  refused_whole_results results k = by (outcome_in s w a) refl k
-    where
-      by : (m : transaction.Outcome) → outcome_in s w a ≡ m → Answers s w.db (outcome.Failed results) m → has_float (array_of (results_of results)) ≡ false
-      by (transaction.done answer new) e k = absurd k
-      by (transaction.refused answer) e k = subst (λ r. has_float (array_of r) ≡ false) k (refused_whole s max_rows (w.commits + 1) (context_in w a) w.db (operations_of (request_data a.request)) answer e)
-      by (transaction.waiting t) e k = absurd k

@@ -1,16 +1,15 @@
 -- What transactions that end one after another make of a server.
-use Rattle.std.proofs.Common.{◌≡◌, ℕ, ◌+◌, Bool, true, false, true≢false, List, [], ◌∷◌, ◌++◌, map, Option, Some, None, refl, sym, ap, subst, ◌∙◌}
+use Rattle.std.proofs.Common.{◌≡◌, ℕ, ◌+◌, Bool, true, false, true≢false, List, [], ◌∷◌, ◌++◌, Option, Some, None, refl, sym, ap, subst, ◌∙◌}
 use Rattle.std.specs.Prelude.{Vec, IfSome}
 use Rattle.std.specs.declared.alloc.Global.{Global}
 use Rattle.std.proofs.lemmas.List.Sums.{fold-append}
-use Rattle.serde_json.specs.declared.value.Value.{Value}
 use Rattle.odb_commit.specs.Sound.{IsSound}
 use Rattle.odb_ops.specs.Represented.Ran.{results_of}
 use Rattle.odb_schema.specs.Json.{Data, array_of}
 use Rattle.odb_schema.specs.Schema.{Schema}
-use Rattle.odb_service.specs.Server.{Server, served_by}
+use Rattle.odb_service.specs.Server.{Server}
 use Rattle.odb_service.specs.Session.{Item}
-use Rattle.odb_service.specs.World.{Waiting, World}
+use Rattle.odb_service.specs.World.{Waiting}
 use Rattle.odb_sessions.specs.Book.{Book}
 use Rattle.odb_sessions.specs.Committed.{AreChangesFrom, Ending, all_ended, all_left, ended_by, left_by, one_ended}
 use Rattle.odb_tables.specs.Change.{Changes, all_changed_by}
@@ -47,7 +46,7 @@ pub changes_more : (db : Db) (es : List Ending) (e : Ending) → AreChangesFrom 
 changes_more db [] e h is = (is, tt)
 changes_more db (x ∷ es) e h is = (h.0, changes_more (left_by x.1.1 db) es e h.1 is)
 
-module _ (v : Server) (es : List Ending) (ps : List Waiting) (a : Submitted) (results : Vec Value Global) where
+module _ (v : Server) (es : List Ending) (ps : List Waiting) (a : Submitted) (results : Vec Data Global) where
   abbrev u : Server
   u = after_ended v es ps
 

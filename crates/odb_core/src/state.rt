@@ -1,11 +1,8 @@
 //! The state of the service: what it does with requests, moments and sessions that close. [P 6.3, 12.1, 12.2, 12.3, 14]
 
-ghost use Rattle.std.specs.Prelude.{◌≡◌, ◌↔◌, IsOk, ◌+◌, ◌++◌, ◌==◌, [], ◌∷◌, false, flat_map, length, map, nat_lt, IfErr, IfOk, IfSome, None, Option, Some, OnErr, OnOk};
+ghost use Rattle.std.specs.Prelude.{◌≡◌, ◌↔◌, IsOk, ◌+◌, ◌++◌, ◌==◌, [], ◌∷◌, flat_map, length, map, nat_lt, IfErr, IfOk, IfSome, None, Option, Some, OnErr, OnOk};
 ghost use Rattle.std.specs.List.{list_any};
-ghost use Rattle.serde_json.specs.Written.{has_float};
 ghost use Rattle.odb_atoms.specs.FinMap as finite;
-ghost use Rattle.odb_ops.specs.Represented.Ran.{results_of};
-ghost use Rattle.odb_schema.specs.Json.{array_of};
 ghost use Rattle.odb_tables.specs.Change.{all_changed_by};
 ghost use Rattle.odb_sessions.specs.FirstTexts.{IsFirstText};
 ghost use Rattle.odb_sessions.specs.Planned.{AreOnce};
@@ -23,11 +20,11 @@ use crate::upcoming::Plan;
 use crate::waiting_list::WaitingList;
 use odb_commit::Outcome;
 use odb_locks::{Locks, SessionId};
+use odb_ops::OperationResult;
 use odb_queue::{Finished, Post, ServedSchema, replied_as};
 use odb_schema::Schema;
 use odb_sessions::{FirstText, Out, Prepared, Sessions};
 use odb_tables::{ChangeSet, Db, Draft};
-use serde_json::Value;
 use std::alloc::{AllocError, Global};
 use std::hash::RandomState;
 use std::marker::Model;
@@ -139,8 +136,7 @@ impl State {
     }
 
     /// Queues the reply of a transaction that changes nothing.
-    fn reply(&mut self, asked: &Submitted, results: Vec<Value>) -> Result<(), AllocError>
-        requires { has_float (array_of (results_of results)) ≡ false }
+    fn reply(&mut self, asked: &Submitted, results: Vec<OperationResult>) -> Result<(), AllocError>
         ensures ok { OnOk result (by_service (ends asked.now results None) self.old ≡ self.new) }
         ensures rest { OnlySessions self.old self.new }
         ensures err { OnErr result (self.new ≡ self.old) }
@@ -149,7 +145,7 @@ impl State {
             self.alloc,
             &asked.request,
             asked.id.as_slice(),
-            &Value::from(results),
+            results.as_slice(),
         )?;
         self.post(asked.session, reply)
     }
@@ -170,7 +166,7 @@ impl State {
     fn commit(
         &mut self,
         asked: &Submitted,
-        results: Vec<Value>,
+        results: Vec<OperationResult>,
         change: ChangeSet,
     ) -> Result<(), AllocError>
         requires { IsDone self.old asked.now results change }
@@ -182,7 +178,7 @@ impl State {
             self.alloc,
             &asked.request,
             asked.id.as_slice(),
-            &Value::from(results),
+            results.as_slice(),
         )?;
         let posts = Vec::new(self.alloc);
         self.sessions.commit(asked.session, reply, posts, change)?;
@@ -217,7 +213,7 @@ impl State {
     fn complete(
         &mut self,
         asked: &Submitted,
-        results: Vec<Value>,
+        results: Vec<OperationResult>,
         change: ChangeSet,
     ) -> Result<(), AllocError>
         requires tried { AreTried self.old }
@@ -242,7 +238,7 @@ impl State {
     fn commit_beside(
         &mut self,
         asked: &Submitted,
-        results: Vec<Value>,
+        results: Vec<OperationResult>,
         change: ChangeSet,
     ) -> Result<(), AllocError>
         requires tried { AreTried self.old }

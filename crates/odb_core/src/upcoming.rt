@@ -3,9 +3,6 @@
 //! before all were. [P 12.2, 12.3]
 
 ghost use Rattle.std.specs.Prelude.{◌≡◌, ◌+◌, ◌++◌, ◌==◌, ◌&&◌, ◌≤◌, ◌∷◌, [], ℕ, List, Option, None, Some, false, if◌then◌else◌, length, map, IfOk, OnOk};
-ghost use Rattle.serde_json.specs.Written.{has_float};
-ghost use Rattle.odb_ops.specs.Represented.Ran.{results_of};
-ghost use Rattle.odb_schema.specs.Json.{array_of};
 ghost use Rattle.odb_service.specs.Server.{Server};
 ghost use Rattle.odb_service.specs.World as model;
 ghost use Rattle.odb_service.specs.World.{is_untried, retry_all, try_due};
@@ -22,10 +19,10 @@ use crate::submitted::Submitted;
 use crate::waiting::{Tried, Waiting};
 use crate::waiting_list::WaitingList;
 use odb_commit::Outcome;
+use odb_ops::OperationResult;
 use odb_queue::replied_as;
 use odb_sessions::{Ended, Sessions};
 use odb_tables::{ChangeSet, Draft, Pending};
-use serde_json::Value;
 use std::alloc::{AllocError, Global};
 use std::marker::Model;
 
@@ -78,7 +75,7 @@ impl State {
     pub(crate) fn plan_commit(
         &self,
         asked: &Submitted,
-        results: Vec<Value>,
+        results: Vec<OperationResult>,
         change: ChangeSet,
     ) -> Result<Plan, AllocError>
         requires { IsDone self.now asked.now results change }
@@ -135,8 +132,7 @@ impl Upcoming<'_> {
     }
 
     /// Ends a transaction that changes nothing.
-    fn reply(&mut self, asked: &Submitted, results: Vec<Value>) -> Result<(), AllocError>
-        requires { has_float (array_of (results_of results)) ≡ false }
+    fn reply(&mut self, asked: &Submitted, results: Vec<OperationResult>) -> Result<(), AllocError>
         ensures ok { OnOk result (by_service (ends asked.now results None) self.old.next ≡ self.new.next) }
         ensures base { self.new.base ≡ self.old.base }
     {
@@ -149,7 +145,7 @@ impl Upcoming<'_> {
     fn commit(
         &mut self,
         asked: &Submitted,
-        results: Vec<Value>,
+        results: Vec<OperationResult>,
         change: ChangeSet,
     ) -> Result<(), AllocError>
         requires { IsDone self.old.next asked.now results change }
@@ -345,17 +341,16 @@ impl Upcoming<'_> {
 fn ended_with(
     alloc: Global,
     asked: &Submitted,
-    results: Vec<Value>,
+    results: Vec<OperationResult>,
     change: Option<ChangeSet>,
 ) -> Result<Ended, AllocError>
-    requires { has_float (array_of (results_of results)) ≡ false }
     ensures { IfOk result (λ ended. ending_of ended ≡ (asked.now.session, (reply_with asked.now results, change))) }
 {
     let reply = replied_as(
         alloc,
         &asked.request,
         asked.id.as_slice(),
-        &Value::from(results),
+        results.as_slice(),
     )?;
     Ok(Ended {
         session: asked.session,

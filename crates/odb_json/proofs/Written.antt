@@ -7,7 +7,6 @@ use Rattle.odb_atoms.specs.First.{Ok, Result, demand, ◌>>=◌, ◌>>◌}
 use Rattle.odb_atoms.specs.Value.{Value, size, within_limit}
 use Rattle.odb_json.specs.ColumnValue.{read_by_kind, read_value}
 use Rattle.odb_json.specs.Written.{IsWritable, ReadsBack}
-use Rattle.odb_schema.specs.Json.{Data}
 use Rattle.odb_schema.specs.Notation.{Names, write_value}
 use Rattle.odb_schema.proofs.Written.{read_any-write_value}
 
@@ -33,6 +32,5 @@ module _ (names : Option Names) (t : ColType) (v : Value) (w : IsWritable v) whe
       ap (λ r. next r (λ v. ◌>>◌ (demand (within_limit v) resources_exhausted) (◌>>◌ (demand (admits t v) constraint_violation) (Ok v)))) (read_any-write_value names t v (of_kind (has_kind t v) _ fits) w.0)
       ∙ passes (within_limit v) (admits t v) resources_exhausted constraint_violation v w.1 fits
 
-pub reads_back : (v : Value) (d : Data) → d ≡ write_value v → ReadsBack v d
-reads_back v d is = λ names t w.
-    ((λ kind one. ap (read_by_kind names t) is ∙ by_kind names t v w kind one), (λ fits. ap (read_value names t) is ∙ admitted names t v w fits))
+pub reads_back : (v : Value) → ReadsBack v (write_value v)
+reads_back v = λ names t w. (by_kind names t v w, admitted names t v w)

@@ -6,6 +6,8 @@
 //! takes no memory.
 #![tactic(auto)]
 
+ghost use Rattle.odb_json.specs.Written.{NotationIsReadBack};
+
 mod atom;
 mod clause;
 mod column;
@@ -30,4 +32,11 @@ pub use names::Names;
 pub use op::{Delete, Insert, Mutate, Op, Select, Until, Update, Wait};
 pub use operation::{is_insert, read_op};
 pub use row::{WrittenBy, read_row};
-pub use value::{read_by_kind, read_value, write_value};
+pub use value::{read_by_kind, read_value};
+
+/// States that the notation of a value (RFC 7047, section 5.1, `<value>`) is read back as the value: by
+/// [`read_by_kind`] for each type of its kind and by [`read_value`] for each type that admits it, provided that it
+/// has no more than 65,536 elements and no U+0000 in its strings. The call does nothing.
+pub fn law()
+    ensures read_back { NotationIsReadBack }
+{}

@@ -1,13 +1,12 @@
 //! Values of columns (RFC 7047, section 5.1, `<value>`). [P 2.3, 2.4, 14]
 
-ghost use Rattle.std.specs.Prelude.{◌≡◌, option_map, IfOk};
+ghost use Rattle.std.specs.Prelude.{◌≡◌, option_map};
 ghost use Rattle.serde_json.specs.View.{view};
 ghost use Rattle.odb_atoms.specs.Represented.ColType.{type_of};
 ghost use Rattle.odb_schema.specs.Notation as notation;
 ghost use Rattle.odb_json.specs.ColumnValue as model;
 ghost use Rattle.odb_json.specs.Represented.Fault.{Gives, Reads};
 ghost use Rattle.odb_json.specs.Represented.Parts.{in_limit};
-ghost use Rattle.odb_json.specs.Written.{ReadsBack};
 
 use crate::atom::SYNTAX;
 use crate::elements::read_set;
@@ -16,7 +15,7 @@ use crate::names::Names;
 use crate::pairs::{Kinds, PairReader};
 use odb_atoms::{ColType, Error};
 use serde_json::Value;
-use std::alloc::{AllocError, Global};
+use std::alloc::Global;
 
 /// How many elements or pairs a value may have.
 const MAX_ELEMENTS: usize = 65_536;
@@ -122,18 +121,4 @@ pub fn read_of_type(
     let read = read_by_kind(alloc, value, &column_type, names);
     drop(column_type);
     read
-}
-
-/// Writes the notation of a value: a set of exactly one element as the atom, any other as
-/// `["set", [atom, ..]]`, a map as `["map", [[key, value], ..]]`, with elements and keys ascending
-/// (RFC 7047, section 5.1, `<value>`).
-///
-/// It is read back as the same value, by [`read_by_kind`] for each type of its kind and by
-/// [`read_value`] for each type that admits it, provided that it has no more than 65,536 elements
-/// and no U+0000 in its strings. O(the bytes written).
-pub fn write_value(alloc: Global, value: &odb_atoms::Value) -> Result<Value, AllocError>
-    ensures written { IfOk result (λ v. view v ≡ notation.write_value value.now) }
-    ensures read_back { IfOk result (λ v. ReadsBack value.now (view v)) }
-{
-    odb_schema::write_value(alloc, value)
 }

@@ -8,7 +8,7 @@ use Rattle.serde_json.specs.Written.{compact_text, members_outline}
 use Rattle.serde_json.proofs.Texts.{print-outline}
 use Rattle.odb_monitor.specs.Job.{Job, Part, requests_of, shown_of, updates_of}
 use Rattle.odb_monitor.specs.Represented.Part.{changes_shown, is_silent, part_tokens}
-use Rattle.odb_monitor.specs.Represented.Tokens.{tokens_of}
+use Rattle.odb_print.specs.Tokens.{tokens_of}
 use Rattle.odb_monitor.specs.Update.{members, table_parts, table_update, table_updates}
 use Rattle.odb_monitor.specs.View.{delta, is_none, shown}
 use Rattle.odb_monitor.proofs.Tokens.{member_more}

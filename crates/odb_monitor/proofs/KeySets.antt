@@ -8,7 +8,8 @@ use Rattle.odb_atoms.specs.Row.{Row}
 use Rattle.odb_atoms.specs.Uuid.{Uuid, uuid_cmp}
 use Rattle.odb_monitor.specs.Represented.Candidates.{is_changed, others, unchanged}
 use Rattle.odb_monitor.specs.Represented.Sides.{Pair}
-use Rattle.odb_monitor.proofs.Loops.{any_more, one_more}
+use Rattle.odb_monitor.proofs.Loops.{any_more}
+use Rattle.odb_print.proofs.Loops.{one_more}
 use Rattle.odb_tables.specs.Represented.Key.{keys_equivalent}
 
 keys-++ : (xs ys : List (Uuid × Pair)) → keys_of (xs ++ ys) ≡ keys_of xs ++ keys_of ys

@@ -6,7 +6,7 @@ use Rattle.json.specs.Tree.{members_tokens}
 use Rattle.serde_json.specs.Written.{members_outline}
 use Rattle.odb_atoms.specs.Uuid.{Uuid, uuid_text}
 use Rattle.odb_monitor.specs.Represented.Layout.{Layout, row_tokens}
-use Rattle.odb_monitor.specs.Represented.Tokens.{member_tokens, tokens_of}
+use Rattle.odb_print.specs.Tokens.{member_tokens, tokens_of}
 use Rattle.odb_monitor.specs.Update.{row_update, row_updates, table_update}
 use Rattle.odb_monitor.specs.View.{Change}
 

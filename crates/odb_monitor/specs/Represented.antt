@@ -5,4 +5,3 @@ pub mod Layout
 pub mod Line
 pub mod Part
 pub mod Sides
-pub mod Tokens

@@ -14,11 +14,11 @@ ghost use Rattle.odb_request.specs.Represented.Select.{select_of};
 ghost use Rattle.odb_request.specs.Request as model;
 
 use crate::line::{Change, Line};
-use crate::row_cells::RowCells;
 use crate::sides::Sides;
 use crate::told::Told;
 use odb_atoms::Row;
 use odb_cond::Selector;
+use odb_print::RowCells;
 use odb_request::{Request, Select};
 use std::alloc::Global;
 use uuid::Uuid;

@@ -5,18 +5,16 @@ ghost use Rattle.json.specs.Token as token;
 ghost use Rattle.odb_atoms.specs.Value.{same_value};
 ghost use Rattle.odb_cond.specs.Represented.Clause.{selector_of};
 ghost use Rattle.odb_monitor.specs.Represented.Form.{column_tokens, difference_in, named_by};
-ghost use Rattle.odb_monitor.specs.Represented.Tokens.{member_tokens, tokens_of};
+ghost use Rattle.odb_print.specs.Tokens.{member_tokens, tokens_of};
 ghost use Rattle.odb_monitor.specs.Update.{row_object};
 ghost use Rattle.odb_request.specs.Represented.Parts.{monitored_as};
 ghost use Rattle.odb_schema.specs.Notation.{write_value};
 
 use crate::columns::Columns;
-use crate::printer::Printer;
-use crate::row_cells::RowCells;
-use crate::value::put_value;
 use json::Token;
 use odb_atoms::Value;
 use odb_cond::Selector;
+use odb_print::{Printer, RowCells, put_member};
 use std::alloc::AllocError;
 
 /// Which columns of a row are named, and what stands for each.
@@ -30,14 +28,6 @@ pub enum Form<'a> {
     Old(&'a RowCells<'a>, &'a RowCells<'a>),
     /// The differences of the columns that differ.
     Differences(&'a RowCells<'a>, &'a RowCells<'a>),
-}
-
-/// Prints a column with its value.
-fn put_member(out: &mut Printer, name: &str, value: &Value) -> Result<(), AllocError>
-    ensures { OnOk result (out.new ≡ out.old ++ token.key name.now ∷ tokens_of (write_value value.now)) }
-{
-    out.put(Token::Key(name))?;
-    put_value(out, value)
 }
 
 /// Prints a column with its value, unless that is equal to the other.

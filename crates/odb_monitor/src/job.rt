@@ -9,8 +9,8 @@ ghost use Rattle.odb_monitor.specs.Represented.Part.{is_silent, part_tokens};
 ghost use Rattle.odb_request.specs.Represented.Kind.{notation_of};
 
 use crate::part::Part;
-use crate::printer::Printer;
 use json::Token;
+use odb_print::Printer;
 use odb_request::Kind;
 use std::alloc::{AllocError, Global};
 use std::marker::Model;

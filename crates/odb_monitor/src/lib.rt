@@ -14,11 +14,8 @@ mod job;
 mod layout;
 mod line;
 mod part;
-mod printer;
-mod row_cells;
 mod sides;
 mod told;
-mod value;
 
 pub use job::{Job, compose};
 pub use part::Part;

@@ -5,9 +5,10 @@ pub mod Faults
 pub mod Fits
 pub mod Insertions
 pub mod Inserts
+pub mod Layouts
 pub mod Loops
 pub mod Mutates
-pub mod NoFloats
+pub mod Prints
 pub mod Rewrites
 pub mod RowSets
 pub mod Rows

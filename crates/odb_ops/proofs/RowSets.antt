@@ -1,12 +1,13 @@
 -- Sets of the contents of rows.
-use Rattle.std.specs.Prelude.{◌≡◌, ℕ, ◌+◌, ◌<◌, Bool, true, false, cond, not, ◌&&◌, ◌||◌, List, [], ◌∷◌, ◌++◌, filter, length}
+use Rattle.std.specs.Prelude.{◌≡◌, ℕ, ◌+◌, ◌<◌, Bool, true, false, cond, not, ◌&&◌, ◌||◌, List, [], ◌∷◌, ◌++◌, filter, length, map, Vec}
 use Rattle.std.proofs.Common.{drop, get_or}
-use Rattle.std.proofs.lemmas.List.{drop_more, map-append}
+use Rattle.std.proofs.lemmas.List.{drop_more}
 use Rattle.std.specs.BTreeSet.{BTreeSet, Updates}
 use Rattle.std.specs.Borrow.{Bor}
 use Rattle.std.specs.Cmp.Lexicographic.{slice_cmp}
 use Rattle.std.specs.List.{list_any}
 use Rattle.std.specs.Ordering.{is_eq, ordering_then}
+use Rattle.std.specs.declared.alloc.Global.{Global}
 use Rattle.std.specs.declared.cmp.Ordering.{Ordering}
 use Rattle.std.specs.declared.cmp.Ordering.TheVariants.{Less, Equal, Greater}
 use mathlib.Core.Path.{refl, sym, ap, ◌∙◌}
@@ -14,7 +15,7 @@ use Rattle.odb_atoms.specs.Members.{value_cmp}
 use Rattle.odb_atoms.specs.Value.{Value, includes_all, same_values}
 use Rattle.odb_atoms.proofs.Represented.Orders.{eq_by_cmp-value_cmp}
 use Rattle.odb_ops.specs.Execution.{distinct, each_in}
-use Rattle.odb_ops.specs.Represented.Cells.{AreFirst, IsSetOf}
+use Rattle.odb_ops.specs.Represented.Cells.{IsLentSetOf, IsSetOf}
 
 -- ---- the tests of rows
 
@@ -70,6 +71,36 @@ set-push old new row xs changed h q =
     ∙ ap (λ b. b || list_any (same_values q) xs) (same_swap row.now q)
     ∙ sym (any-push (same_values q) xs row.now)
 
+-- ---- sets of rows of which the values are lent
+
+abbrev by_values : Vec (Bor Value) Global → Vec (Bor Value) Global → Ordering
+by_values x y = slice_cmp (λ v w. value_cmp v.now w.now) x.items y.items
+
+lent_cmp : (xs ys : List (Bor Value)) → slice_cmp (λ v w. value_cmp v.now w.now) xs ys ≡ slice_cmp value_cmp (map (λ v. v.now) xs) (map (λ v. v.now) ys)
+lent_cmp [] [] = refl
+lent_cmp [] (y ∷ ys) = refl
+lent_cmp (x ∷ xs) [] = refl
+lent_cmp (x ∷ xs) (y ∷ ys) = ap (ordering_then (value_cmp x.now y.now)) (lent_cmp xs ys)
+
+any_same : {A : Type 0} (p q : A → Bool) (xs : List A) → ((x : A) → p x ≡ q x) → list_any p xs ≡ list_any q xs
+any_same p q [] h = refl
+any_same p q (x ∷ xs) h = λ i. h x i || any_same p q xs h i
+
+pub kept_by : (q : Vec (Bor Value) Global) (keys : List (Vec (Bor Value) Global)) → list_any (λ k. is_eq (by_values q k)) keys ≡ list_any (λ k. is_eq (slice_cmp value_cmp (map (λ v. v.now) q.items) (map (λ v. v.now) k.items))) keys
+kept_by q keys = any_same _ _ keys (λ k. ap is_eq (lent_cmp q.items k.items))
+
+pub lent-push : (old new : BTreeSet (Vec (Bor Value) Global)) (row : Vec (Bor Value) Global) (xs : List (List Value)) → Updates by_values old new row true → IsLentSetOf old xs → IsLentSetOf new (xs ++ map (λ v. v.now) row.items ∷ [])
+lent-push old new row xs changed h q =
+    let r : List Value = map (λ v. v.now) row.items in
+    let p : List Value = map (λ v. v.now) q.items in
+    sym (kept_by q new.keys)
+    ∙ changed.0 q
+    ∙ (λ i. cond (is_eq (lent_cmp row.items q.items i)) true (kept_by q old.keys i))
+    ∙ (λ i. cond (same_by_cmp r p i) true (h q i))
+    ∙ either_true (same_values r p) (list_any (same_values p) xs)
+    ∙ ap (λ b. b || list_any (same_values p) xs) (same_swap r p)
+    ∙ sym (any-push (same_values p) xs r)
+
 -- ---- the first of each that are equal
 
 filter-push : {A : Type 0} (p : A → Bool) (xs : List A) (x : A) → filter p (xs ++ x ∷ []) ≡ filter p xs ++ cond (p x) (x ∷ []) []
@@ -106,23 +137,6 @@ distinct-push (r ∷ rs) x =
     by true false e = ap (λ ys. r ∷ ys) (last true e ∙ nothing_more (others (distinct rs)))
     by false true e = refl
     by false false e = ap (λ ys. r ∷ ys) (last false e)
-
-module _ (kept : List (Bor (List Value))) (rows : List (List Value)) (row : Bor (List Value)) (first : AreFirst kept rows) where
-  not_seen : (b : Bool) → true ≡ not b → b ≡ false
-  not_seen true e = e
-  not_seen false e = refl
-
-  seen : (b : Bool) → false ≡ not b → b ≡ true
-  seen true e = refl
-  seen false e = e
-
-  pub first-new : true ≡ not (list_any (same_values row.now) rows) → AreFirst (kept ++ row ∷ []) (rows ++ row.now ∷ [])
-  first-new e =
-      map-append (λ r. r.now) kept (row ∷ []) ∙ ap (λ ys. ys ++ row.now ∷ []) first
-      ∙ sym (distinct-push rows row.now ∙ ap (λ b. cond b (distinct rows) (distinct rows ++ row.now ∷ [])) (not_seen (list_any (same_values row.now) rows) e))
-
-  pub first-old : false ≡ not (list_any (same_values row.now) rows) → AreFirst kept (rows ++ row.now ∷ [])
-  first-old e = first ∙ sym (distinct-push rows row.now ∙ ap (λ b. cond b (distinct rows) (distinct rows ++ row.now ∷ [])) (seen (list_any (same_values row.now) rows) e))
 
 -- ---- rows that are among others
 

@@ -1,8 +1,6 @@
 -- Operations one after another.
-use Rattle.std.proofs.Common.{◌≡◌, ℕ, List, [], ◌∷◌, ◌++◌, length, map as map_list, replicate, Option, Some, None, OnOk, Result, Ok, Err, Vec, refl, sym, ap, subst, ◌∙◌}
+use Rattle.std.proofs.Common.{◌≡◌, ℕ, List, [], ◌∷◌, ◌++◌, length, replicate, Option, Some, None, OnOk, Result, Ok, Err, Vec, refl, sym, ap, subst, ◌∙◌}
 use Rattle.std.specs.declared.alloc.Global.{Global}
-use Rattle.serde_json.specs.View.{view}
-use Rattle.serde_json.specs.declared.value.Value.{Value}
 use Rattle.odb_atoms.specs.FinMap as map
 use Rattle.odb_atoms.specs.First.{◌>>=◌}
 use Rattle.odb_atoms.specs.Uuid.{Uuid}
@@ -34,12 +32,12 @@ module _ (s : Schema) (c : Context) (names : Names) (u : Uuid) (d new : Draft) (
   reads_is e = ap (λ r. ◌>>=◌ (model.or_stop r) (λ o. perform s c u (naming named d) o)) e
 
   -- what was read is carried out
-  pub carried : (result : Result Value Stop) → read_op s names text ≡ Ok op → IsFor s op → IsTyped s d.now → AreTaken taken named
-      → Performs (λ v. (naming (named_after op named) new, view v)) result (perform s c u (naming named d) op)
+  pub carried : (result : Result Data Stop) → read_op s names text ≡ Ok op → IsFor s op → IsTyped s d.now → AreTaken taken named
+      → Performs (λ v. (naming (named_after op named) new, v)) result (perform s c u (naming named d) op)
       → OnOk result ((named : List (List ℕ)) → AreTaken taken named → AreTaken after (named_after op named))
       → Carried s result after new (read_and_perform s c names u (naming named d) text)
   carried (Ok v) e suits typed h performs claims = (
-    in_read model.Stop (λ (p : model.Draft × Data). IsTyped s p.0.db) (naming (named_after op named) new, view v) (subst (Holds (λ (p : model.Draft × Data). IsTyped s p.0.db)) performs (perform_typed s c u (naming named d) op suits typed)),
+    in_read model.Stop (λ (p : model.Draft × Data). IsTyped s p.0.db) (naming (named_after op named) new, v) (subst (Holds (λ (p : model.Draft × Data). IsTyped s p.0.db)) performs (perform_typed s c u (naming named d) op suits typed)),
     (named_after op named, claims named h, reads_is e ∙ performs),
   )
   carried (Err x) e suits typed h performs claims = subst (IsStopped (stop_of x)) (sym (reads_is e)) performs
@@ -107,13 +105,13 @@ module _ (s : Schema) (c : Context) (names : Names) where
   begins fresh taken d ops e = ([], subst (λ m. AreTaken m []) (sym e) none_taken, refl)
 
   -- one more, and what stops
-  pub goes_on : (whole : Ran) (results : List Data) (fresh : List Uuid) (taken after : Names) (d new : Draft) (op : Data) (ops : List Data) (v : Value)
+  pub goes_on : (whole : Ran) (results : List Data) (fresh : List Uuid) (taken after : Names) (d new : Draft) (op : Data) (ops : List Data) (v : Data)
       → Going s c names whole results fresh taken d (op ∷ ops)
       → ((named : List (List ℕ)) → AreTaken taken named → Carried s (Ok v) after new (read_and_perform s c names (first_fresh fresh) (naming named d) op))
-      → Going s c names whole (results ++ view v ∷ []) (fresh_after op fresh) after new ops
+      → Going s c names whole (results ++ v ∷ []) (fresh_after op fresh) after new ops
   goes_on whole results fresh taken after d new op ops v going ran =
       let done : Carried s (Ok v) after new (read_and_perform s c names (first_fresh fresh) (naming going.0 d) op) = ran going.0 going.1 in
-      (done.1.0, done.1.1, gone_on s c names whole results fresh (naming going.0 d) (naming done.1.0 new) op ops (view v) going.2 done.1.2)
+      (done.1.0, done.1.1, gone_on s c names whole results fresh (naming going.0 d) (naming done.1.0 new) op ops v going.2 done.1.2)
 
   pub stops : (whole : Ran) (results : List Data) (fresh : List Uuid) (taken after : Names) (d new : Draft) (op : Data) (ops : List Data) (e : Stop) (stop : model.Stop)
       → Going s c names whole results fresh taken d (op ∷ ops)
@@ -131,7 +129,7 @@ module _ (s : Schema) (c : Context) (names : Names) where
 -- ---- what the code answers
 
 -- all went through
-pub answers_finished : (results : Vec Value Global) (d : Draft) (whole : Ran) → ((named : List (List ℕ)) × (whole ≡ finished (naming named d) (map_list view results.items))) → Answers (ran.Finished results) d.now whole
+pub answers_finished : (results : Vec Data Global) (d : Draft) (whole : Ran) → ((named : List (List ℕ)) × (whole ≡ finished (naming named d) results.items)) → Answers (ran.Finished results) d.now whole
 answers_finished results d whole h = subst (Answers (ran.Finished results) d.now) (sym h.1) (refl, refl)
 
 -- an operation stopped

@@ -23,7 +23,7 @@ pub projected : (columns : List code.Selector) (u : Uuid) (r : Row) → map_list
 projected [] u r = refl
 projected (c ∷ cs) u r = ap (λ vs. cell u r (selector_of c) ∷ vs) (projected cs u r)
 
-in_table : (clauses : List Clause) (table : Table) (u : Uuid) (r : Row) → map.get (matching clauses table) u ≡ Some r → map.get table u ≡ Some r
+pub in_table : (clauses : List Clause) (table : Table) (u : Uuid) (r : Row) → map.get (matching clauses table) u ≡ Some r → map.get table u ≡ Some r
 in_table clauses table u r e = by (map.get table u) (sym (get-map_entries uuid_cmp_total uuid_cmp-IsAntisymmetric (λ u r. cond (holds_all clauses u r) (Some r) None) table u) ∙ e)
   where
     kept : (b : Bool) (q : Row) → cond b (Some q) None ≡ Some r → Some q ≡ Some r

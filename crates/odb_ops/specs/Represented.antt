@@ -2,7 +2,9 @@
 pub mod Cells
 pub mod Context
 pub mod Draft
+pub mod Layout
 pub mod Merged
 pub mod Parts
 pub mod Ran
+pub mod Results
 pub mod Stop

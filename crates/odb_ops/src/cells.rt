@@ -1,4 +1,4 @@
-//! Selected columns of rows (RFC 7047, sections 5.2.2 and 5.2.6).
+//! Copies of selected columns of rows (RFC 7047, section 5.2.6).
 ghost use Rattle.std.specs.Prelude.{◌≡◌, ◌++◌, IfOk, OnOk, flat_map, map, option_to_list};
 ghost use Rattle.odb_atoms.specs.Represented.Atom.{uuid_of};
 ghost use Rattle.odb_atoms.specs.Row as model_row;

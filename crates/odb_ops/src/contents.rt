@@ -1,42 +1,48 @@
 //! Rows by their contents: which are equal.
-ghost use Rattle.std.specs.Prelude.{◌≡◌, ◌++◌, ◌∷◌, [], IfOk, List, OnOk, not};
+ghost use Rattle.std.specs.Prelude.{◌≡◌, ◌++◌, ◌∷◌, [], IfOk, List, map, not};
 ghost use Rattle.std.specs.List.{list_any};
 ghost use Rattle.odb_atoms.specs.Value as model;
+ghost use Rattle.odb_cond.specs.Represented.Clause.{selector_of};
 ghost use Rattle.odb_ops.specs.Execution.{each_in};
-ghost use Rattle.odb_ops.specs.Represented.Cells.{AreFirst, IsSetOf};
+ghost use Rattle.odb_ops.specs.Represented.Cells.{IsLentSetOf, IsSetOf};
+ghost use Rattle.odb_ops.specs.Represented.Layout.{content};
 
 use crate::cells::Cells;
 use odb_atoms::Value;
+use odb_cond::Selector;
+use odb_print::RowCells;
 use std::alloc::{AllocError, Global};
 use std::collections::BTreeSet;
 
-/// Returns the rows, of each that are equal the first.
-///
-/// O(n log n) comparisons of rows for n rows.
-pub fn first_of_each(alloc: Global, rows: &[Cells]) -> Result<Vec<&Cells>, AllocError>
-    ensures { IfOk result (λ kept. AreFirst kept.items rows.now) }
+/// Returns the values of the columns of a row, lent. O(columns).
+pub fn content_of<'a>(
+    alloc: Global,
+    columns: &[Selector],
+    row: &'a RowCells<'a>,
+) -> Result<Vec<&'a Value>, AllocError>
+    ensures { IfOk result (λ values. map (λ value. value.now) values.items
+        ≡ content (map selector_of columns.now) row.now) }
 {
-    let mut seen = BTreeSet::new(alloc);
-    let mut kept = Vec::new(alloc);
-    for row in rows {
-        keep_new(&mut seen, &mut kept, row)?;
+    let mut values = Vec::with_capacity(alloc, columns.len())?;
+    for column in columns {
+        values.push(row.get(*column))?;
     }
-    Ok(kept)
+    Ok(values)
 }
 
-/// Keeps the row, unless one with its content was seen.
-fn keep_new<'a>(
-    seen: &mut BTreeSet<&'a [Value]>,
-    kept: &mut Vec<&'a Cells>,
-    row: &'a Cells,
-) -> Result<(), AllocError>
-    ensures { (rows : List (List model.Value)) → IsSetOf seen.old rows → AreFirst kept.old.items rows
-        → OnOk result (IsSetOf seen.new (rows ++ row.now ∷ []) × AreFirst kept.new.items (rows ++ row.now ∷ [])) }
+/// Adds a content, and says whether it wasn't there yet. O(log n) comparisons of rows for n contents.
+pub fn is_first<'a>(
+    seen: &mut BTreeSet<Vec<&'a Value>>,
+    content: Vec<&'a Value>,
+) -> Result<bool, AllocError>
+    ensures { (rows : List (List model.Value)) → IsLentSetOf seen.old rows
+        → IfOk result (λ added. (added ≡ not (list_any (model.same_values (map (λ value. value.now) content.entry.items)) rows))
+        × IsLentSetOf seen.new (rows ++ map (λ value. value.now) content.entry.items ∷ [])) }
 {
-    if is_new(seen, row)? {
-        kept.push(row)?;
+    match seen.insert(content) {
+        Ok(fresh) => Ok(fresh),
+        Err(_) => Err(AllocError),
     }
-    Ok(())
 }
 
 /// Adds the row's content, and says whether it wasn't there yet.

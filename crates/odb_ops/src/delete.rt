@@ -1,17 +1,15 @@
 //! `delete` (RFC 7047, section 5.2.5). [P 4.2]
 ghost use Rattle.std.specs.Prelude.{◌≡◌, ◌<◌, IfOk, OnOk, length, map};
-ghost use Rattle.serde_json.specs.View.{view};
 ghost use Rattle.odb_atoms.specs.Represented.Atom.{uuid_of};
 ghost use Rattle.odb_ops.specs.Execution.{count};
 ghost use Rattle.odb_ops.specs.Represented.Parts.{without_found, without_rows};
 ghost use Rattle.odb_tables.specs.Database.{table_at};
 ghost use Rattle.odb_tables.specs.Matching.{matching};
 
-use crate::results;
+use crate::results::{self, OperationResult};
 use odb_json::Delete;
 use odb_schema::TableId;
 use odb_tables::Draft;
-use serde_json::Value;
 use std::alloc::{AllocError, Global};
 use uuid::Uuid;
 
@@ -28,9 +26,13 @@ fn remove_all(draft: &mut Draft, table: TableId, uuids: &[Uuid]) -> Result<(), A
 }
 
 /// Takes the rows that match out of the table; the result is how many they are.
-pub fn delete(alloc: Global, draft: &mut Draft, asked: &Delete) -> Result<Value, AllocError>
+pub fn delete(
+    alloc: Global,
+    draft: &mut Draft,
+    asked: &Delete,
+) -> Result<OperationResult, AllocError>
     requires { asked.now.table < length draft.old.old }
-    ensures result { IfOk result (λ v. view v
+    ensures result { IfOk result (λ v. v
         ≡ count (matching asked.now.conditions (table_at draft.old.now asked.now.table))) }
     ensures draft { OnOk result (draft.new
         ≡ without_found asked.now.table (matching asked.now.conditions (table_at draft.old.now asked.now.table)) draft.old) }

@@ -17,7 +17,7 @@ use crate::context::{Context, Setting};
 use crate::fresh::{next_uuid, remaining_uuids};
 use crate::names::names_of;
 use crate::operation::perform;
-use crate::results;
+use crate::results::{self, OperationResult};
 use crate::stop::Stop;
 use odb_atoms::Error;
 use odb_json::{Names, read_op};
@@ -31,9 +31,9 @@ use uuid::Uuid;
 #[derive(Drop)]
 pub enum Ran {
     /// All went through.
-    Finished(Vec<Value>),
+    Finished(Vec<OperationResult>),
     /// One failed: its result names the error, and those of the later ones are null.
-    Failed(Vec<Value>),
+    Failed(Vec<OperationResult>),
     /// A `wait` isn't met, and has time until this moment, in milliseconds, or for ever.
     Waiting(Option<u64>),
 }
@@ -45,7 +45,7 @@ fn read_and_perform(
     taken: &mut Names,
     uuid: Uuid,
     operation: &Value,
-) -> Result<Value, Stop>
+) -> Result<OperationResult, Stop>
     requires tables { length draft.old.old ≡ length setting.now.schema.now.tables }
     requires typed { IsTyped setting.now.schema.now draft.old.now }
     ensures ran { (named : List (List ℕ)) → AreTaken taken.old named
@@ -60,12 +60,15 @@ fn read_and_perform(
 }
 
 /// Returns the results, and a `null` for each of the later operations.
-fn with_nulls(mut results: Vec<Value>, nulls: usize) -> Result<Vec<Value>, AllocError>
-    ensures { IfOk result (λ v. map view v.items
-        ≡ map view results.items ++ replicate nulls null) }
+fn with_nulls(
+    alloc: Global,
+    mut results: Vec<OperationResult>,
+    nulls: usize,
+) -> Result<Vec<OperationResult>, AllocError>
+    ensures { IfOk result (λ v. v.items ≡ results.items ++ replicate nulls null) }
 {
     for _ in 0..nulls {
-        results.push(Value::Null)?;
+        results.push(results::not_reached(alloc)?)?;
     }
     Ok(results)
 }
@@ -73,20 +76,25 @@ fn with_nulls(mut results: Vec<Value>, nulls: usize) -> Result<Vec<Value>, Alloc
 /// Returns the results with the error of the operation that failed, and null for each later one.
 fn with_failure(
     alloc: Global,
-    mut results: Vec<Value>,
+    mut results: Vec<OperationResult>,
     error: Error,
     later: usize,
-) -> Result<Vec<Value>, AllocError>
-    ensures { IfOk result (λ v. map view v.items
-        ≡ map view results.items ++ (model.error_result (error_of error) ∷ replicate later null)) }
+) -> Result<Vec<OperationResult>, AllocError>
+    ensures { IfOk result (λ v. v.items
+        ≡ results.items ++ (model.error_result (error_of error) ∷ replicate later null)) }
 {
     results.push(results::failure(alloc, error)?)?;
-    with_nulls(results, later)
+    with_nulls(alloc, results, later)
 }
 
 /// Returns how a transaction ends when an operation fails or must wait, with `later` operations after it.
-fn stopped(alloc: Global, results: Vec<Value>, stop: Stop, later: usize) -> Result<Ran, AllocError>
-    ensures { IfOk result (λ ran. Ends ran (map view results.items) (stop_of stop) later) }
+fn stopped(
+    alloc: Global,
+    results: Vec<OperationResult>,
+    stop: Stop,
+    later: usize,
+) -> Result<Ran, AllocError>
+    ensures { IfOk result (λ ran. Ends ran results.items (stop_of stop) later) }
 {
     match stop {
         Stop::Memory => Err(AllocError),

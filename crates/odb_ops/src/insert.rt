@@ -1,6 +1,5 @@
 //! `insert` (RFC 7047, section 5.2.1). [P 4.2]
 ghost use Rattle.std.specs.Prelude.{◌≡◌, ◌<◌, ◌||◌, IfOk, OnOk, length, map, slice_set};
-ghost use Rattle.serde_json.specs.View.{view};
 ghost use Rattle.odb_atoms.specs.ColType.{default_of};
 ghost use Rattle.odb_atoms.specs.Represented.Atom.{uuid_of};
 ghost use Rattle.odb_atoms.specs.Uuid.{zero_uuid};
@@ -10,7 +9,7 @@ ghost use Rattle.odb_ops.specs.Represented.Draft.{begun};
 ghost use Rattle.odb_ops.specs.Represented.Parts.{insert_row, with_value};
 
 use crate::context::Target;
-use crate::results;
+use crate::results::{self, OperationResult};
 use odb_atoms::{Error, Row, Value, default_of};
 use odb_json::OpFault;
 use odb_schema::{Column, ColumnId, TableId};
@@ -91,9 +90,9 @@ pub fn insert(
     draft: &mut Draft,
     uuid: Uuid,
     given: Vec<(ColumnId, Value)>,
-) -> Result<serde_json::Value, OpFault>
+) -> Result<OperationResult, OpFault>
     requires { target.now.table < length draft.old.old }
-    ensures row { Reads (λ v. (draft.new, view v)) result
+    ensures row { Reads (λ v. (draft.new, v)) result
         (insert_row target.entry.now.columns.now target.entry.now.table (uuid_of uuid) given.items draft.old) }
     ensures base { draft.new.old ≡ draft.old.old }
 {

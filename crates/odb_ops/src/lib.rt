@@ -12,6 +12,8 @@ mod delete;
 mod execution;
 mod fresh;
 mod insert;
+mod layout;
+mod meaning;
 mod merging;
 mod mutate;
 mod names;
@@ -24,4 +26,4 @@ mod wait;
 
 pub use context::Context;
 pub use execution::{Ran, run};
-pub use results::failure;
+pub use results::{OperationResult, failure};

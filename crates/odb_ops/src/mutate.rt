@@ -1,7 +1,6 @@
 //! `mutate` (RFC 7047, section 5.2.4). [P 4.2]
 ghost use Rattle.std.specs.Prelude.{◌≡◌, ◌<◌, ◌++◌, ◌∷◌, [], IfErr, IfOk, Ok, OnOk, false, length, map, option_map, option_to_list, true};
 ghost use Rattle.std.specs.Result.{result_ok};
-ghost use Rattle.serde_json.specs.View.{view};
 ghost use Rattle.odb_atoms.specs.ColType.{has_kind, scalar};
 ghost use Rattle.odb_atoms.specs.Atom.{uuids};
 ghost use Rattle.odb_atoms.specs.FinMap as finite;
@@ -27,7 +26,7 @@ ghost use Rattle.odb_tables.specs.Typed.{fits};
 use crate::context::Target;
 use crate::insert::set;
 use crate::merging::{Run, halves, one_run, runs_of, type_at};
-use crate::results;
+use crate::results::{self, OperationResult};
 use odb_atoms::{ColType, Error, Kind, Row, Value};
 use odb_json::{Mutate, OpFault};
 use odb_mutate::{Mutation, MutationFault};
@@ -311,11 +310,11 @@ pub fn mutate(
     target: &Target<'_>,
     draft: &mut Draft,
     asked: &Mutate,
-) -> Result<serde_json::Value, OpFault>
+) -> Result<OperationResult, OpFault>
     requires inside { target.now.table < length draft.old.old }
     requires fit { AllFit target.now.columns.now (table_at draft.old.now target.now.table) }
     requires suit { are_taken target.now.columns.now asked.now.mutations.items ≡ true }
-    ensures rows { Reads (λ v. (draft.new, view v)) result
+    ensures rows { Reads (λ v. (draft.new, v)) result
         (mutate_rows target.entry.now.columns.now target.entry.now.table asked.now.conditions asked.now.mutations.items draft.old) }
     ensures base { draft.new.old ≡ draft.old.old }
 {

@@ -1,7 +1,6 @@
 //! Operations (RFC 7047, section 5.2), carried out on a draft. [P 4.2]
 ghost use Rattle.std.specs.Prelude.{◌≡◌, ◌<◌, ◌++◌, List, OnOk, Some, length, map, option_map, string_bytes, unwrap_or, ℕ};
 ghost use Rattle.std.specs.List.{list_any};
-ghost use Rattle.serde_json.specs.View.{view};
 ghost use Rattle.odb_atoms.specs.Represented.Atom.{uuid_of};
 ghost use Rattle.odb_atoms.specs.Text.{same_text};
 ghost use Rattle.odb_atoms.specs.Uuid as model_uuid;
@@ -22,7 +21,7 @@ use crate::delete::delete;
 use crate::insert::insert;
 use crate::mutate::mutate;
 use crate::names::claim;
-use crate::results;
+use crate::results::{self, OperationResult};
 use crate::select::select;
 use crate::stop::Stop;
 use crate::update::update;
@@ -30,17 +29,16 @@ use crate::wait::{has_rows, is_reached};
 use odb_atoms::Error;
 use odb_json::{Insert, Names, Op, OpFault, Wait};
 use odb_tables::Draft;
-use serde_json::Value;
 use std::alloc::Global;
 use uuid::Uuid;
 
 /// Returns the result of an operation that goes on where a test holds.
-fn empty_result_if(alloc: Global, holds: bool, stop: Stop) -> Result<Value, Stop>
+fn empty_result_if(alloc: Global, holds: bool, stop: Stop) -> Result<OperationResult, Stop>
     ensures { (d : model.Draft) (s : model.Stop) → stop_of stop ≡ Some s
-        → Performs (λ v. (d, view v)) result (model.go_on holds d s) }
+        → Performs (λ v. (d, v)) result (model.go_on holds d s) }
 {
     if holds {
-        Ok(results::nothing(alloc))
+        Ok(results::nothing(alloc)?)
     } else {
         Err(stop)
     }
@@ -53,13 +51,13 @@ fn insert_named(
     taken: &mut Names,
     uuid: Uuid,
     new: Insert,
-) -> Result<Value, OpFault>
+) -> Result<OperationResult, OpFault>
     requires inside { new.table < length draft.old.old }
     requires in_schema { new.table < length setting.now.schema.now.tables }
     ensures ran { (named : List (List ℕ)) → AreTaken taken.old named
         → Reads (λ v. (
           naming (model.name_list (option_map string_bytes new.name) ++ named) draft.new,
-          view v,
+          v,
         )) result
         (model.inserted setting.entry.now.schema.now (naming named draft.old)
         (unwrap_or (option_map uuid_of new.uuid) (uuid_of uuid)) new.table new.row.items
@@ -85,8 +83,8 @@ fn wait_or_go_on(
     context: &Context,
     reached: bool,
     timeout: Option<u64>,
-) -> Result<Value, Stop>
-    ensures { (d : model.Draft) → Performs (λ v. (d, view v)) result
+) -> Result<OperationResult, Stop>
+    ensures { (d : model.Draft) → Performs (λ v. (d, v)) result
         (model.go_on reached d (model.unmet (context_of context.entry.now)
         (model.deadline (context_of context.entry.now) timeout))) }
 {
@@ -95,9 +93,9 @@ fn wait_or_go_on(
 
 /// Carries out `wait`, which goes on where the rows are as it wants them.
 #[tactic(auto, unfolding(crate::specs::Execution::perform))]
-fn wait(setting: &Setting<'_>, draft: &Draft, asked: &Wait) -> Result<Value, Stop>
+fn wait(setting: &Setting<'_>, draft: &Draft, asked: &Wait) -> Result<OperationResult, Stop>
     requires in_schema { asked.now.table < length setting.now.schema.now.tables }
-    ensures { (u : model_uuid.Uuid) (named : List (List ℕ)) → Performs (λ v. (naming named draft.now, view v)) result
+    ensures { (u : model_uuid.Uuid) (named : List (List ℕ)) → Performs (λ v. (naming named draft.now, v)) result
         (model.perform setting.entry.now.schema.now (context_of setting.entry.now.context.now) u
         (naming named draft.now) (op_of (op.Wait asked.now))) }
 {
@@ -133,12 +131,12 @@ pub fn perform(
     taken: &mut Names,
     uuid: Uuid,
     op: Op,
-) -> Result<Value, Stop>
+) -> Result<OperationResult, Stop>
     requires tables { length draft.old.old ≡ length setting.now.schema.now.tables }
     requires typed { IsTyped setting.now.schema.now draft.old.now }
     requires suits { IsFor setting.now.schema.now (op_of op) }
     ensures ran { (named : List (List ℕ)) → AreTaken taken.old named
-        → Performs (λ v. (naming (named_after (op_of op) named) draft.new, view v)) result
+        → Performs (λ v. (naming (named_after (op_of op) named) draft.new, v)) result
         (model.perform setting.entry.now.schema.now (context_of setting.entry.now.context.now) (uuid_of uuid)
         (naming named draft.old) (op_of op)) }
     ensures taken { OnOk result ((named : List (List ℕ)) → AreTaken taken.old named
@@ -159,7 +157,7 @@ pub fn perform(
             Stop::Fails(Error::NotSupported),
         ),
         Op::Abort => Err(Stop::Fails(Error::Aborted)),
-        Op::Comment => Ok(results::nothing(alloc)),
+        Op::Comment => Ok(results::nothing(alloc)?),
         Op::Assert { lock } => {
             let owns = owns(setting.context, lock.as_str());
             empty_result_if(alloc, owns, Stop::Fails(Error::NotOwner))

@@ -1,112 +1,216 @@
 //! `select` (RFC 7047, section 5.2.2). [P 4.2]
-ghost use Rattle.std.specs.Prelude.{◌≡◌, ◌∷◌, [], IfOk, OnOk, map};
-ghost use Rattle.serde_json.specs.View.{view};
+ghost use Rattle.std.specs.Prelude.{◌≡◌, ◌++◌, ◌∷◌, [], IfOk, List, OnOk, flat_map, map, option_to_list};
+ghost use Rattle.std.specs.List.{list_any};
+ghost use Rattle.odb_atoms.specs.FinMap as finite;
+ghost use Rattle.odb_atoms.specs.Represented.Atom.{uuid_of};
+ghost use Rattle.odb_atoms.specs.Row as model_row;
+ghost use Rattle.odb_atoms.specs.Value as model;
+ghost use Rattle.odb_cond.specs.Condition.{Clause};
 ghost use Rattle.odb_cond.specs.Represented.Clause.{selector_of};
-ghost use Rattle.odb_ops.specs.Execution.{distinct, rows_result, selected, write_cells};
-ghost use Rattle.odb_ops.specs.Represented.Cells.{written};
-ghost use Rattle.odb_schema.specs.Json.{array_of};
-ghost use Rattle.odb_schema.specs.Represented.Members.{onto};
-ghost use Rattle.odb_schema.specs.Schema.{selector_name};
+ghost use Rattle.odb_ops.specs.Execution.{distinct, rows_result, selected};
+ghost use Rattle.odb_ops.specs.Represented.Cells.{IsLentSetOf, given_once};
+ghost use Rattle.odb_ops.specs.Represented.Layout.{content, entry_at, row_tokens, tokens_at};
+ghost use Rattle.odb_print.specs.Tokens.{tokens_of};
 ghost use Rattle.odb_tables.specs.Database.{table_at};
 ghost use Rattle.odb_tables.specs.Matching.{matching};
 
-use crate::cells::{Cells, selected};
-use crate::contents::first_of_each;
+use crate::contents::{content_of, is_first};
 use crate::context::Target;
-use crate::results;
+use crate::layout::{Layout, put_row};
+use crate::meaning::Rows;
+use crate::results::OperationResult;
+use json::Token;
+use odb_atoms::Value;
 use odb_cond::Selector;
-use odb_json::{Select, write_value};
-use odb_schema::{Column, Object};
+use odb_json::Select;
+use odb_print::{Printer, RowCells};
 use odb_tables::Draft;
-use serde_json::Value;
 use std::alloc::{AllocError, Global};
+use std::collections::BTreeSet;
+use uuid::Uuid;
 
 /// Returns the result of `select`: these columns of the rows that match, each of the rows that come out equal once,
-/// in the order of the least identifier with that content.
+/// in the order of the least identifier with that content. It is printed as the rows are read: nothing of
+/// them is copied.
 ///
-/// What `Draft::matching` costs, and O(n log n) comparisons of rows for the n that match.
-pub fn select(target: &Target<'_>, draft: &Draft, asked: &Select) -> Result<Value, AllocError>
-    ensures { IfOk result (λ rows. view rows
+/// What `Draft::matching` costs, the bytes of the text, and, unless `_uuid` is among the columns, O(n log n) comparisons
+/// of rows for the n that match.
+pub fn select(
+    target: &Target<'_>,
+    draft: &Draft,
+    asked: &Select,
+) -> Result<OperationResult, AllocError>
+    ensures { IfOk result (λ r. r
         ≡ rows_result target.entry.now.columns.now (map selector_of asked.now.columns.items)
         (distinct (selected (map selector_of asked.now.columns.items)
         (matching asked.now.conditions (table_at draft.now.now target.entry.now.table))))) }
 {
-    let columns = asked.columns.as_slice();
-    let rows = selected(
-        target.alloc,
+    let mut out = Printer::new(target.alloc);
+    let layout = Layout::new(target, asked.columns.as_slice())?;
+    put_result(&mut out, &layout, draft, asked)?;
+    let rows = Rows {
+        declared: target.columns,
+        table: target.table,
         draft,
-        target.table,
-        &asked.conditions,
-        columns,
-    )?;
-    let kept = first_of_each(target.alloc, &rows)?;
-    let rows = write_rows(target.alloc, target.columns, columns, &kept)?;
-    results::rows(target.alloc, rows)
+        asked,
+    };
+    Ok(OperationResult::of_rows(out.finish(), &rows))
 }
 
-/// Writes the rows as JSON.
-fn write_rows(
-    alloc: Global,
-    declared: &[Column],
-    columns: &[Selector],
-    rows: &[&Cells],
-) -> Result<Value, AllocError>
-    ensures { IfOk result (λ json. view json
-        ≡ array_of (map (λ row. write_cells declared.now (map selector_of columns.now) row.now) rows.now)) }
-{
-    let mut items = Vec::with_capacity(alloc, rows.len())?;
-    for row in rows {
-        items.push(write_row(alloc, declared, columns, row)?)?;
-    }
-    Ok(Value::from(items))
-}
-
-/// Writes a row as JSON: an object with the value of each column under its name.
-fn write_row(
-    alloc: Global,
-    declared: &[Column],
-    columns: &[Selector],
-    row: &Cells,
-) -> Result<Value, AllocError>
-    ensures { IfOk result (λ json. view json ≡ write_cells declared.now (map selector_of columns.now) row.now) }
-{
-    let mut object = Object::new(alloc);
-    put_all(alloc, &mut object, declared, columns, row.values())?;
-    Ok(object.into_value())
-}
-
-/// Puts the value of each column into the object, under the column's name.
-fn put_all(
-    alloc: Global,
-    object: &mut Object,
-    declared: &[Column],
-    columns: &[Selector],
-    values: &[odb_atoms::Value],
+/// Prints the result: an object with an array of the rows.
+fn put_result(
+    out: &mut Printer,
+    layout: &Layout<'_>,
+    draft: &Draft,
+    asked: &Select,
 ) -> Result<(), AllocError>
-    ensures { OnOk result (object.new
-        ≡ onto (written declared.now (map selector_of columns.now) values.now) object.old) }
+    ensures { OnOk result (out.new ≡ out.old ++ tokens_of (rows_result layout.entry.now.declared.now
+        (map selector_of layout.entry.now.columns.now)
+        (distinct (selected (map selector_of layout.entry.now.columns.now)
+        (matching asked.now.conditions (table_at draft.now.now layout.entry.now.table)))))) }
 {
-    let [column, columns @ ..] = columns else {
-        return Ok(());
-    };
-    let [value, values @ ..] = values else {
-        return Ok(());
-    };
-    put_all(alloc, object, declared, columns, values)?;
-    let value = write_value(alloc, value)?;
-    object.put(name_of(declared, *column), value)
+    let uuids = draft.matching(layout.table, &asked.conditions)?;
+    out.put(Token::BeginObject)?;
+    out.put(Token::Key("rows"))?;
+    out.put(Token::BeginArray)?;
+    put_found(out, layout, draft, &uuids)?;
+    out.put(Token::EndArray)?;
+    out.put(Token::EndObject)
 }
 
-/// Returns the name of a column; of one that isn't there it is empty.
-fn name_of(declared: &[Column], column: Selector) -> &str
-    ensures { result.now ≡ selector_name declared.now (selector_of column) }
+/// Prints the rows with these identifiers, which are those of the rows that match; of several with one content the
+/// first.
+fn put_found(
+    out: &mut Printer,
+    layout: &Layout<'_>,
+    draft: &Draft,
+    uuids: &[Uuid],
+) -> Result<(), AllocError>
+    ensures { (clauses : List Clause)
+        → map uuid_of uuids.now ≡ finite.keys (matching clauses (table_at draft.now.now layout.entry.now.table))
+        → OnOk result (out.new ≡ out.old ++ flat_map
+        (row_tokens layout.entry.now.declared.now (map selector_of layout.entry.now.columns.now))
+        (distinct (selected (map selector_of layout.entry.now.columns.now)
+        (matching clauses (table_at draft.now.now layout.entry.now.table))))) }
 {
-    match column {
-        Selector::Uuid => "_uuid",
-        Selector::Version => "_version",
-        Selector::Declared(place) => match declared.get(place) {
-            Some(column) => column.name(),
-            None => "",
-        },
+    // Then each row is the only one with its content.
+    if has_column(layout.columns, Selector::Uuid) {
+        return put_each(out, layout, draft, uuids);
     }
+    let rows = rows_of(layout, draft, uuids)?;
+    put_distinct(out, layout, &rows)
+}
+
+/// Returns whether the column is among the columns.
+fn has_column(columns: &[Selector], column: Selector) -> bool
+    ensures { result ≡ list_any (λ other. model_row.same_selector (selector_of column) (selector_of other)) columns.now }
+{
+    columns.iter().any(|other| column == *other)
+}
+
+/// Prints the rows with these identifiers, one after the other.
+fn put_each(
+    out: &mut Printer,
+    layout: &Layout<'_>,
+    draft: &Draft,
+    uuids: &[Uuid],
+) -> Result<(), AllocError>
+    ensures { OnOk result (out.new ≡ out.old ++ flat_map
+        (tokens_at layout.entry.now.declared.now (map selector_of layout.entry.now.columns.now)
+        (table_at draft.now.now layout.entry.now.table)) (map uuid_of uuids.now)) }
+{
+    for uuid in uuids {
+        put_at(out, layout, draft, *uuid)?;
+    }
+    Ok(())
+}
+
+/// Prints the row with the identifier, if there is one.
+fn put_at(
+    out: &mut Printer,
+    layout: &Layout<'_>,
+    draft: &Draft,
+    uuid: Uuid,
+) -> Result<(), AllocError>
+    ensures { OnOk result (out.new ≡ out.old
+        ++ tokens_at layout.entry.now.declared.now (map selector_of layout.entry.now.columns.now)
+        (table_at draft.now.now layout.entry.now.table) (uuid_of uuid)) }
+{
+    match draft.get(layout.table, uuid) {
+        Some(row) => put_row(out, layout, &RowCells::new(layout.alloc, uuid, row)),
+        None => Ok(()),
+    }
+}
+
+/// Returns the rows with these identifiers.
+fn rows_of<'a>(
+    layout: &Layout<'_>,
+    draft: &'a Draft,
+    uuids: &[Uuid],
+) -> Result<Vec<RowCells<'a>>, AllocError>
+    ensures { IfOk result (λ rows. rows.items
+        ≡ flat_map (entry_at (table_at draft.now.now layout.entry.now.table)) (map uuid_of uuids.now)) }
+{
+    let mut rows = Vec::with_capacity(layout.alloc, uuids.len())?;
+    for uuid in uuids {
+        add(&mut rows, row_at(layout, draft, *uuid))?;
+    }
+    Ok(rows)
+}
+
+/// Returns the row with the identifier, if there is one.
+fn row_at<'a>(layout: &Layout<'_>, draft: &'a Draft, uuid: Uuid) -> Option<RowCells<'a>>
+    ensures { option_to_list result
+        ≡ entry_at (table_at draft.now.now layout.entry.now.table) (uuid_of uuid) }
+{
+    match draft.get(layout.table, uuid) {
+        Some(row) => Some(RowCells::new(layout.alloc, uuid, row)),
+        None => None,
+    }
+}
+
+fn add<'a>(rows: &mut Vec<RowCells<'a>>, row: Option<RowCells<'a>>) -> Result<(), AllocError>
+    ensures { OnOk result (rows.new.items ≡ rows.old.items ++ option_to_list row.entry) }
+{
+    if let Some(row) = row {
+        rows.push(row)?;
+    }
+    Ok(())
+}
+
+/// Prints the rows, of several with one content the first.
+fn put_distinct(
+    out: &mut Printer,
+    layout: &Layout<'_>,
+    rows: &[RowCells<'_>],
+) -> Result<(), AllocError>
+    ensures { OnOk result (out.new ≡ out.old ++ flat_map
+        (row_tokens layout.entry.now.declared.now (map selector_of layout.entry.now.columns.now))
+        (distinct (map (content (map selector_of layout.entry.now.columns.now)) rows.now))) }
+{
+    let mut seen = BTreeSet::new(layout.alloc);
+    for row in rows {
+        put_first(out, layout, &mut seen, row)?;
+    }
+    Ok(())
+}
+
+/// Prints the row, unless one with its content was seen.
+fn put_first<'a>(
+    out: &mut Printer,
+    layout: &Layout<'_>,
+    seen: &mut BTreeSet<Vec<&'a Value>>,
+    row: &'a RowCells<'a>,
+) -> Result<(), AllocError>
+    ensures { (rows : List (List model.Value)) → IsLentSetOf seen.old rows → OnOk result (
+        IsLentSetOf seen.new (rows ++ content (map selector_of layout.entry.now.columns.now) row.now ∷ [])
+        × (out.new ≡ out.old ++ flat_map
+        (row_tokens layout.entry.now.declared.now (map selector_of layout.entry.now.columns.now))
+        (given_once rows (content (map selector_of layout.entry.now.columns.now) row.now)))) }
+{
+    let content = content_of(layout.alloc, layout.columns, row)?;
+    if is_first(seen, content)? {
+        put_row(out, layout, row)?;
+    }
+    Ok(())
 }

@@ -1,6 +1,5 @@
 //! `update` (RFC 7047, section 5.2.3). [P 4.2]
 ghost use Rattle.std.specs.Prelude.{◌≡◌, ◌<◌, IfOk, OnOk, Some, length, map};
-ghost use Rattle.serde_json.specs.View.{view};
 ghost use Rattle.odb_atoms.specs.Represented.Atom.{uuid_of};
 ghost use Rattle.odb_ops.specs.Execution.{count, on_matching, replaced};
 ghost use Rattle.odb_ops.specs.Represented.Parts.{all_rewritten, rewritten, with_rows};
@@ -8,7 +7,7 @@ ghost use Rattle.odb_tables.specs.Database.{table_at};
 ghost use Rattle.odb_tables.specs.Matching.{matching};
 
 use crate::insert::set;
-use crate::results;
+use crate::results::{self, OperationResult};
 use odb_atoms::{Row, Value};
 use odb_json::Update;
 use odb_schema::{ColumnId, TableId};
@@ -72,9 +71,9 @@ pub fn update(
     alloc: Global,
     draft: &mut Draft,
     asked: &Update,
-) -> Result<serde_json::Value, AllocError>
+) -> Result<OperationResult, AllocError>
     requires { asked.now.table < length draft.old.old }
-    ensures result { IfOk result (λ v. view v
+    ensures result { IfOk result (λ v. v
         ≡ count (matching asked.now.conditions (table_at draft.old.now asked.now.table))) }
     ensures draft { OnOk result (draft.new
         ≡ with_rows asked.now.table

@@ -1,1 +1,2 @@
 pub mod MonitorCalls
+pub mod ResultTexts

@@ -2,3 +2,4 @@ pub mod Answer
 pub mod Item
 pub mod Post
 pub mod Printed
+pub mod Results

@@ -15,13 +15,16 @@ ghost use Rattle.odb_rpc.specs.Message as message;
 ghost use Rattle.odb_rpc.specs.Represented.Call.{call_view, called};
 ghost use Rattle.odb_rpc.specs.Represented.Failure.{failure_of};
 ghost use Rattle.odb_rpc.specs.Represented.Printable.{printable_data};
+ghost use Rattle.odb_schema.specs.Json.{array_of};
 ghost use Rattle.odb_schema.specs.SchemaText.{write_schema};
 
 use crate::finished::Finished;
-use crate::meaning::{Meaning, Printed};
+use crate::meaning::{Meaning, Printed, Transacted};
 use crate::post::Post;
+use crate::results::results_text;
 use crate::served_schema::ServedSchema;
 use odb_locks::Notice;
+use odb_ops::OperationResult;
 use odb_rpc::{
     Call, CallFault, Failure, Printable, array_of_one, failure, reply, reply_id, reply_printed,
 };
@@ -112,27 +115,32 @@ pub fn replied(alloc: Global, request: &Request, value: &Value) -> Result<Finish
         ≡ say (to (request_data request.now)) (message.reply (id_of (request_data request.now)) (view value.now))) }
 {
     let id = reply_id(request).to_vec(alloc)?;
-    replied_as(alloc, request, id.as_slice(), value)
-}
-
-/// Returns the same, where the request's id is printed already, as compact text. O(n) for a text of n bytes.
-pub fn replied_as(
-    alloc: Global,
-    request: &Request,
-    id: &[u8],
-    value: &Value,
-) -> Result<Finished, AllocError>
-    requires printed { id.now ≡ compact_text (id_of (request_data request.now)) }
-    requires value { has_float (view value.now) ≡ false }
-    ensures { IfOk result (λ item. item_of item
-        ≡ say (to (request_data request.now)) (message.reply (id_of (request_data request.now)) (view value.now))) }
-{
     let printed = value.to_vec(alloc)?;
-    let text = reply_printed(alloc, id, printed.as_slice())?;
+    let text = reply_printed(alloc, id.as_slice(), printed.as_slice())?;
     Ok(Finished {
         text,
         is_reply: true,
         meaning: Meaning::of(&Printed::Success(request, value)),
+    })
+}
+
+/// Returns the reply of a transaction with these results (RFC 7047, section 4.1.3), where the request's id is printed
+/// already, as compact text. Each result's text is copied once. O(n) for a text of n bytes.
+pub fn replied_as(
+    alloc: Global,
+    request: &Request,
+    id: &[u8],
+    results: &[OperationResult],
+) -> Result<Finished, AllocError>
+    requires printed { id.now ≡ compact_text (id_of (request_data request.now)) }
+    ensures { IfOk result (λ item. item_of item
+        ≡ say (to (request_data request.now)) (message.reply (id_of (request_data request.now)) (array_of results.now))) }
+{
+    let text = results_text(alloc, id, results)?;
+    Ok(Finished {
+        text,
+        is_reply: true,
+        meaning: Meaning::of_results(&Transacted { request, results }),
     })
 }
 

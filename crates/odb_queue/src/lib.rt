@@ -9,6 +9,7 @@ mod answer;
 mod finished;
 mod meaning;
 mod post;
+mod results;
 mod served_schema;
 
 pub use answer::{answer_at_once, failed, notices, replied, replied_as};

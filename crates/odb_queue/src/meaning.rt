@@ -5,9 +5,10 @@ ghost use Rattle.serde_json.specs.Data.{Data};
 ghost use Rattle.odb_service.specs.Session.{Answers};
 ghost use Rattle.odb_service.specs.WorldCode.{answers_code};
 ghost use Rattle.odb_schema.specs.JsonCode.{data_code};
-ghost use Rattle.odb_queue.specs.Represented.Printed.{out_of};
+ghost use Rattle.odb_queue.specs.Represented.Printed.{out_of, reply_of};
 
 use odb_locks::Notice;
+use odb_ops::OperationResult;
 use odb_rpc::Failure;
 use odb_schema::Schema;
 use odb_wire::Request;
@@ -25,6 +26,13 @@ pub(crate) enum Printed<'a> {
     Failure(&'a Request, &'a Failure),
     /// A notice of locks, which replies to no request.
     Notice(&'a Notice),
+}
+
+/// What the reply of a transaction is printed from.
+#[derive(Drop)]
+pub(crate) struct Transacted<'a> {
+    pub request: &'a Request,
+    pub results: &'a [OperationResult],
 }
 
 /// Which request a message replies to, and the message as data.
@@ -46,6 +54,14 @@ impl Meaning {
     pub(crate) fn of(_printed: &Printed<'_>) -> Meaning
         ensures { (result.answers ≡ (out_of _printed.now).answers)
             × (result.message ≡ (out_of _printed.now).message) }
+    {
+        Meaning {}
+    }
+
+    /// Returns the meaning of the reply of a transaction.
+    pub(crate) fn of_results(_transacted: &Transacted<'_>) -> Meaning
+        ensures { (result.answers ≡ (reply_of _transacted.entry.now).answers)
+            × (result.message ≡ (reply_of _transacted.entry.now).message) }
     {
         Meaning {}
     }

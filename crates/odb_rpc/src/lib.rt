@@ -17,6 +17,8 @@ pub use error::Failure;
 pub use monitor::{MonitorCall, MonitorChange, MonitorStart};
 pub use odb_atoms::Error;
 pub use printable::Printable;
-pub use shared::{after_result, after_updates, before_result, before_updates};
+pub use shared::{
+    after_result, after_updates, before_result, before_result_printed, before_updates,
+};
 pub use since::{before_since, before_update3};
 pub use text::{array_of_one, failure, notice, reply, reply_printed};

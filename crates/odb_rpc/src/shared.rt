@@ -23,8 +23,16 @@ pub fn before_result(alloc: Global, id: Printable<'_>) -> Result<Vec<u8>, AllocE
         → text.items ++ (compact_text d ++ after_result) ≡ compact_text (reply (printable_data id.entry) d)) }
 {
     let id_text = id.to_vec(alloc)?;
+    before_result_printed(alloc, id_text.as_slice())
+}
+
+/// Returns the same, for an id that is printed already: as compact text. O(n) for an id of n bytes.
+pub fn before_result_printed(alloc: Global, id: &[u8]) -> Result<Vec<u8>, AllocError>
+    ensures { IfOk result (λ text. (i d : Data) → id.now ≡ compact_text i
+        → text.items ++ (compact_text d ++ after_result) ≡ compact_text (reply i d)) }
+{
     let mut text = Vec::from_slice(alloc, b"{\"error\":null,\"id\":")?;
-    text.extend_from_slice(id_text.as_slice())?;
+    text.extend_from_slice(id)?;
     text.extend_from_slice(b",\"result\":")?;
     Ok(text)
 }

@@ -1,7 +1,6 @@
 -- What the transactions of the code stand for.
 use Rattle.std.specs.Prelude.{ℕ, ◌+◌, ◌==◌, ◌&&◌, Bool, List, bytes_eq, map, Option, Some, None, Vec}
 use Rattle.std.specs.declared.alloc.Global.{Global}
-use Rattle.serde_json.specs.declared.value.Value.{Value}
 use Rattle.odb_commit.specs.Represented.Outcome.{Answers}
 use Rattle.odb_commit.specs.declared.transaction.Outcome.{Outcome}
 use Rattle.odb_commit.specs.declared.transaction.Outcome.TheVariants as outcome
@@ -14,7 +13,7 @@ use Rattle.odb_locks.specs.Locks.{Locks, owns}
 use Rattle.odb_ops.specs.Execution.{Context}
 use Rattle.odb_rpc.specs.Message.{operations_of, reply}
 use Rattle.odb_ops.specs.Represented.Ran.{results_of}
-use Rattle.odb_schema.specs.Json.{array_of}
+use Rattle.odb_schema.specs.Json.{Data, array_of}
 use Rattle.odb_schema.specs.Schema.{Schema}
 use Rattle.odb_tables.specs.Database.{Db}
 use Rattle.odb_wire.specs.Message.{id_of}
@@ -37,7 +36,7 @@ abbrev pub is_named : ℕ → List ℕ → model.Waiting → Bool
 is_named s text p = (p.session == s) && bytes_eq text (compact_text (id_of p.request))
 
 -- the reply of a transaction with these results
-abbrev pub reply_with : Submitted → Vec Value Global → Item
+abbrev pub reply_with : Submitted → Vec Data Global → Item
 reply_with a results = say (to (request_data a.request)) (reply (id_of (request_data a.request)) (array_of (results_of results)))
 
 -- what the world gives a transaction
@@ -62,11 +61,11 @@ abbrev pub IsOutcome : Server → Submitted → Outcome → Type 0
 IsOutcome v a o = Answers v.schema v.world.db o (outcome_in v.schema v.world a)
 
 -- it goes through with these results and this change
-abbrev pub IsDone : Server → Submitted → Vec Value Global → List Changes → Type 0
+abbrev pub IsDone : Server → Submitted → Vec Data Global → List Changes → Type 0
 IsDone v a results change = IsOutcome v a (outcome.Done results change)
 
 -- how a service ends it, with these results and this database, or with the database left
-abbrev pub ends : Submitted → Vec Value Global → Option Db → Service → World → World
+abbrev pub ends : Submitted → Vec Data Global → Option Db → Service → World → World
 ends a results db h w = end_transaction h a.session (request_data a.request) (array_of (results_of results)) db w
 
 -- how a service runs it

@@ -6,7 +6,7 @@ use Rattle.odb_atoms.specs.Difference.{difference}
 use Rattle.odb_atoms.specs.Row.{Row, cell}
 use Rattle.odb_atoms.specs.Uuid.{Uuid}
 use Rattle.odb_atoms.specs.Value.{Value, same_value}
-use Rattle.odb_monitor.specs.Represented.Tokens.{member_tokens}
+use Rattle.odb_print.specs.Tokens.{member_tokens}
 use Rattle.odb_monitor.specs.declared.form.Form.{Form}
 use Rattle.odb_monitor.specs.declared.form.Form.TheVariants.{All, Differences, Old, Set}
 use Rattle.odb_request.specs.Request.{Column}

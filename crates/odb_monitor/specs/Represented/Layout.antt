@@ -4,7 +4,7 @@ use Rattle.std.specs.Coded.{Coded, code_by, coded×, coded_bool, coded_list}
 use Rattle.json.specs.Token.{Token, key}
 use Rattle.odb_atoms.specs.Uuid.{Uuid, uuid_text}
 use Rattle.serde_json.specs.Data.{Data, member, no_members, object}
-use Rattle.odb_monitor.specs.Represented.Tokens.{tokens_of}
+use Rattle.odb_print.specs.Tokens.{tokens_of}
 use Rattle.odb_monitor.specs.Update.{row_update}
 use Rattle.odb_monitor.specs.View.{Change}
 use Rattle.odb_request.specs.Represented.Codes.{column_code, notation_code}

@@ -8,7 +8,7 @@ use Rattle.odb_atoms.specs.Uuid.{uuid_cmp, uuid_code}
 use Rattle.odb_atoms.specs.Value.{value_code}
 use Rattle.odb_monitor.specs.Job.{Job, Part}
 use Rattle.odb_monitor.specs.Represented.Sides.{table_then, told_in}
-use Rattle.odb_monitor.specs.Represented.Tokens.{member_tokens}
+use Rattle.odb_print.specs.Tokens.{member_tokens}
 use Rattle.odb_monitor.specs.Update.{table_update}
 use Rattle.odb_monitor.specs.View.{Change, Contents, change, is_empty, is_shown, selected}
 use Rattle.odb_monitor.specs.declared.told.Told.{Told}

@@ -1,20 +1,19 @@
 -- Selected columns of rows, and sets of them.
-use Rattle.std.specs.Prelude.{◌≡◌, ℕ, Bool, List, find, unwrap_or, map as map_list, option_to_list, option_map, zip}
+use Rattle.std.specs.Prelude.{◌≡◌, Bool, cond, List, [], ◌∷◌, find, unwrap_or, map as map_list, option_to_list, option_map, Vec}
 use Rattle.std.specs.BTreeSet.{BTreeSet}
 use Rattle.std.specs.Borrow.{Bor}
 use Rattle.std.specs.Cmp.Lexicographic.{slice_cmp}
 use Rattle.std.specs.List.{list_any}
 use Rattle.std.specs.Ordering.{is_eq}
+use Rattle.std.specs.declared.alloc.Global.{Global}
 use Rattle.odb_atoms.specs.FinMap as map
 use Rattle.odb_atoms.specs.Row.{Selector, same_selector}
 use Rattle.odb_atoms.specs.ColType.{default_of}
 use Rattle.odb_atoms.specs.Uuid.{Uuid}
 use Rattle.odb_atoms.specs.Value.{Value, same_values}
 use Rattle.odb_atoms.specs.Members.{value_cmp}
-use Rattle.odb_ops.specs.Execution.{distinct, project}
-use Rattle.odb_schema.specs.Json.{Data}
-use Rattle.odb_schema.specs.Notation.{write_value}
-use Rattle.odb_schema.specs.Schema.{Column, selector_name, selector_type}
+use Rattle.odb_ops.specs.Execution.{project}
+use Rattle.odb_schema.specs.Schema.{Column, selector_type}
 use Rattle.odb_tables.specs.Database.{Table}
 
 -- the columns of the row of an identifier, if there is one
@@ -29,13 +28,17 @@ content_in set q = list_any (λ k. is_eq (slice_cmp value_cmp q k.now)) set.keys
 abbrev pub IsSetOf : BTreeSet (Bor (List Value)) → List (List Value) → Type 0
 IsSetOf set rows = (q : List Value) → content_in set q ≡ list_any (same_values q) rows
 
--- the first of each of these rows that are equal
-abbrev pub AreFirst : List (Bor (List Value)) → List (List Value) → Type 0
-AreFirst kept rows = map_list (λ row. row.now) kept ≡ distinct rows
+-- one of the contents, which are lent by their values, is this one
+abbrev pub lent_in : BTreeSet (Vec (Bor Value) Global) → Vec (Bor Value) Global → Bool
+lent_in set q = list_any (λ k. is_eq (slice_cmp value_cmp (map_list (λ v. v.now) q.items) (map_list (λ v. v.now) k.items))) set.keys
 
--- the values under their columns' names
-abbrev pub written : List Column → List Selector → List Value → List (List ℕ × Data)
-written cs columns vs = map_list (λ e. (selector_name cs e.0, write_value e.1)) (zip columns vs)
+-- the contents of these rows, lent by their values
+abbrev pub IsLentSetOf : BTreeSet (Vec (Bor Value) Global) → List (List Value) → Type 0
+IsLentSetOf set rows = (q : Vec (Bor Value) Global) → lent_in set q ≡ list_any (same_values (map_list (λ v. v.now) q.items)) rows
+
+-- the row, unless it is among these
+abbrev pub given_once : List (List Value) → List Value → List (List Value)
+given_once rows row = cond (list_any (same_values row) rows) [] (row ∷ [])
 
 -- the value given for the column, or its default
 abbrev pub value_in : List Column → List (Selector × Value) → Selector → Value

@@ -1,8 +1,6 @@
 -- When the code's answer is the one of the definitions.
-use Rattle.std.specs.Prelude.{◌≡◌, ℕ, List, ◌∷◌, ◌++◌, map, replicate, Option, Some, Vec}
+use Rattle.std.specs.Prelude.{◌≡◌, ℕ, List, ◌∷◌, ◌++◌, replicate, Option, Some, Vec}
 use Rattle.std.specs.declared.alloc.Global.{Global}
-use Rattle.serde_json.specs.View.{view}
-use Rattle.serde_json.specs.declared.value.Value.{Value}
 use Rattle.odb_ops.specs.Execution as model
 use Rattle.odb_ops.specs.Execution.{error_result}
 use Rattle.odb_ops.specs.declared.execution.Ran.{Ran}
@@ -10,8 +8,8 @@ use Rattle.odb_ops.specs.declared.execution.Ran.TheVariants as ran
 use Rattle.odb_schema.specs.Json.{Data, null}
 use Rattle.odb_tables.specs.Database.{Db}
 
-abbrev pub results_of : Vec Value Global → List Data
-results_of results = map view results.items
+abbrev pub results_of : Vec Data Global → List Data
+results_of results = results.items
 
 -- the same results, and where all went through the database as the operations left it
 abbrev pub Answers : Ran → Db → model.Ran → Type 0

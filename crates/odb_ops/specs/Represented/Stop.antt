@@ -16,8 +16,6 @@ use Rattle.odb_schema.specs.Notation.{Names}
 use Rattle.odb_schema.specs.Schema.{Schema}
 use Rattle.odb_tables.specs.Draft.{Draft}
 use Rattle.odb_tables.specs.Typed.{IsTyped}
-use Rattle.serde_json.specs.View.{view}
-use Rattle.serde_json.specs.declared.value.Value.{Value}
 
 -- a fault of a part of an operation stops the operation
 abbrev pub IsOfFault : OpFault → Stop → Type 0
@@ -45,6 +43,6 @@ named_after (insert t given name own) named = name_list name ++ named
 named_after op named = named
 
 -- an operation that went through: its result, and the draft, of the schema, with some names that inserts have had
-abbrev pub Carried : Schema → Result Value Stop → Names → Draft → Result (model.Draft × Data) model.Stop → Type 0
-Carried s (Ok v) taken d r = IsTyped s d.now × ((named : List (List ℕ)) × AreTaken taken named × (r ≡ Ok (naming named d, view v)))
+abbrev pub Carried : Schema → Result Data Stop → Names → Draft → Result (model.Draft × Data) model.Stop → Type 0
+Carried s (Ok v) taken d r = IsTyped s d.now × ((named : List (List ℕ)) × AreTaken taken named × (r ≡ Ok (naming named d, v)))
 Carried s (Err e) taken d r = IsStopped (stop_of e) r

@@ -2,7 +2,8 @@ use Rattle.std.proofs.Common.{rules, ◌≡◌, ◌∙◌, ◌++◌, ◌∷◌, 
 use Rattle.std.proofs.lemmas.Result.{on_ok_weaker}
 use Rattle.json.specs.Token.{begin_object, end_object}
 use Rattle.odb_monitor.specs.Represented.Form.{column_tokens, named_by}
-use Rattle.odb_monitor.proofs.Tokens.{around, object_tokens}
+use Rattle.odb_print.proofs.Tokens.{around}
+use Rattle.odb_monitor.proofs.Tokens.{object_tokens}
 use Rattle.odb_request.specs.Represented.Parts.{monitored_as}
 use Rattle.odb_monitor.proofs.form.put_object.Goals as goal
 

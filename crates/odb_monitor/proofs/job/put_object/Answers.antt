@@ -1,7 +1,7 @@
 use Rattle.std.proofs.Common.{rules, ◌≡◌, ◌∙◌, ◌++◌, ◌∷◌, [], flat_map}
 use Rattle.json.specs.Token.{begin_object, end_object}
 use Rattle.odb_monitor.specs.Represented.Part.{part_tokens}
-use Rattle.odb_monitor.proofs.Tokens.{around}
+use Rattle.odb_print.proofs.Tokens.{around}
 use Rattle.odb_request.specs.Represented.Kind.{notation_of}
 use Rattle.odb_monitor.proofs.job.put_object.Goals as goal
 

@@ -1,5 +1,5 @@
 use Rattle.std.proofs.Common.{rules, ◌≡◌, ◌+◌, ◌-◌, ◌<◌, ◌≤◌, arith, ℕ, List, [], ◌∷◌, ◌++◌, drop, get_or, length, map, Ok, Err, refl, sym, ap, subst, ◌∙◌}
-use Rattle.std.proofs.lemmas.List.{drop_all, drop_more, length-drop, length-map, map-append}
+use Rattle.std.proofs.lemmas.List.{drop_all, drop_more, length-drop, length-map}
 use Rattle.std.proofs.lemmas.Result.{IfOk-weaker}
 use Rattle.serde_json.specs.View.{view}
 use Rattle.serde_json.specs.declared.value.Value.{Value}
@@ -33,7 +33,7 @@ loop-place-init c =
     record {
       base = refl;
       typed = c.requires.typed;
-      going = subst (λ (vs : List Value). Going s ctx names whole (map view vs) fresh taken d ops) (sym none) (begins s ctx names fresh taken d ops c.new-taken.ensures);
+      going = subst (λ (vs : List Data). Going s ctx names whole vs fresh taken d ops) (sym none) (begins s ctx names fresh taken d ops c.new-taken.ensures);
     }
 
 pub loop-place-preserved : goal.loop-place-preserved
@@ -49,8 +49,8 @@ loop-place-preserved c =
     let taken : Names = c.loop-place.taken in
     let after : Names = c.read_and_perform.new.taken in
     let left : List Uuid = map uuid_of c.loop-place.left.now in
-    let results : List Data = map view c.loop-place.results.items in
-    let v : Value = c.in-Ok.result in
+    let results : List Data = c.loop-place.results.items in
+    let v : Data = c.in-Ok.result in
     let whole : Ran = model.run_from s ctx names (map uuid_of c.args.setting.now.context.now.fresh.now) (begun c.args.draft.now) (map view ops) in
     let rest : List Data = map view (drop (i + 1) ops) in
     let inside : i < length ops = search rules in
@@ -62,13 +62,12 @@ loop-place-preserved c =
     let going : Going s ctx names whole results left taken d (view op ∷ rest) = subst (Going s ctx names whole results left taken d) split c.loop-place.invariant.going in
     let ran : (named : List (List ℕ)) → AreTaken taken named → Carried s (Ok v) after new (model.read_and_perform s ctx names (model.first_fresh left) (naming named d) (view op))
     = λ named h. subst (λ (u : Uuid). Carried s (Ok v) after new (model.read_and_perform s ctx names u (naming named d) (view op))) first (c.in-Ok.ensures.ran named h) in
-    let more : Going s ctx names whole (results ++ view v ∷ []) (model.fresh_after (view op) left) after new rest = goes_on s ctx names whole results left taken after d new (view op) rest v going ran in
-    let listed : map view c.push.new.self.items ≡ results ++ view v ∷ [] = ap (map view) pushed ∙ map-append view c.loop-place.results.items (v ∷ []) in
+    let more : Going s ctx names whole (results ++ v ∷ []) (model.fresh_after (view op) left) after new rest = goes_on s ctx names whole results left taken after d new (view op) rest v going ran in
     record {
       base = c.in-Ok.ensures.base ∙ c.loop-place.invariant.base;
       typed = (ran going.0 going.1).0;
-      going = subst (λ (us : List Uuid). Going s ctx names whole (map view c.push.new.self.items) us after new rest) (sym behind)
-          (subst (λ (rs : List Data). Going s ctx names whole rs (model.fresh_after (view op) left) after new rest) (sym listed) more);
+      going = subst (λ (us : List Uuid). Going s ctx names whole c.push.new.self.items us after new rest) (sym behind)
+          (subst (λ (rs : List Data). Going s ctx names whole rs (model.fresh_after (view op) left) after new rest) (sym pushed) more);
     }
 
 pub returns-in-Err-clause-ran : goal.returns-in-Err-clause-ran
@@ -84,7 +83,7 @@ returns-in-Err-clause-ran c =
     let taken : Names = c.loop-place.taken in
     let after : Names = c.read_and_perform.new.taken in
     let left : List Uuid = map uuid_of c.loop-place.left.now in
-    let results : List Data = map view c.loop-place.results.items in
+    let results : List Data = c.loop-place.results.items in
     let stop = c.in-Err.stop in
     let whole : Ran = model.run_from s ctx names (map uuid_of c.args.setting.now.context.now.fresh.now) (begun c.args.draft.now) (map view ops) in
     let rest : List Data = map view (drop (i + 1) ops) in
@@ -110,7 +109,7 @@ returns-clause-ran c =
     let d : Draft = c.loop-place.draft in
     let taken : Names = c.loop-place.taken in
     let left : List Uuid = map uuid_of c.loop-place.left.now in
-    let results : List Data = map view c.loop-place.results.items in
+    let results : List Data = c.loop-place.results.items in
     let whole : Ran = model.run_from s ctx names (map uuid_of c.args.setting.now.context.now.fresh.now) (begun c.args.draft.now) (map view ops) in
     let past : length ops ≤ i = search rules in
     let done : map view (drop i ops) ≡ [] = ap (map view) (drop_all i ops past) in

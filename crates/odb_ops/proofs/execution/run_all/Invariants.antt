@@ -13,5 +13,5 @@ invariant-loop-place l = record {
   base : l.draft.old ≡ l.fn.draft.old;
   typed : IsTyped l.setting.schema.now l.draft.now;
   going : Going l.setting.schema.now (context_of l.setting.context.now) l.setting.names.now (model.run_from l.setting.schema.now (context_of l.setting.context.now) l.setting.names.now (map uuid_of l.setting.context.now.fresh.now) (begun l.fn.draft) (map view l.operations))
-      (map view l.results.items) (map uuid_of l.left) l.taken l.draft (map view (drop l.place l.operations));
+      l.results.items (map uuid_of l.left) l.taken l.draft (map view (drop l.place l.operations));
 }

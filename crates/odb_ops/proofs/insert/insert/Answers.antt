@@ -1,5 +1,4 @@
 use Rattle.std.proofs.Common.{rules, ◌≡◌, ◌∷◌, [], true, false, codes}
-use Rattle.serde_json.specs.View.{view}
 use Rattle.odb_atoms.specs.Represented.Atom.{uuid_of}
 use Rattle.odb_ops.specs.Execution as model
 use Rattle.odb_ops.specs.Represented.Draft.{begun}
@@ -20,5 +19,5 @@ returns-clause-row c =
     let is : r ≡ model.new_row cs c.args.given.items = search rules in
     let admitted : model.all_admit cs r.columns ≡ true = search rules in
     let put : c.put.new.self ≡ with_row t u r d = search rules in
-    let made : view c.in_ok-inserted.field-0 ≡ object_of ((codes "uuid", write_uuid u) ∷ []) = search rules in
-    insert_row_is cs t u c.args.given.items d c.put.new.self r (view c.in_ok-inserted.field-0) unused is admitted put made
+    let made : c.in_ok-inserted.field-0 ≡ object_of ((codes "uuid", write_uuid u) ∷ []) = search rules in
+    insert_row_is cs t u c.args.given.items d c.put.new.self r c.in_ok-inserted.field-0 unused is admitted put made

@@ -1,5 +1,4 @@
 use Rattle.std.proofs.Common.{rules, ◌≡◌, List, None, Some, map, option_map, sym, ap, ◌∙◌}
-use Rattle.serde_json.specs.View.{view}
 use Rattle.odb_atoms.specs.FinMap as finite
 use Rattle.odb_atoms.specs.Represented.Atom.{uuid_of}
 use Rattle.odb_atoms.specs.Represented.Error as error
@@ -31,7 +30,7 @@ returns-in-None-clause-rows c =
     let answered : option_map error_of c.in_ok-mutate_all.field-0 ≡ first_fault (all_faults (mutated cs ms) t us d) = c.in_ok-mutate_all.ensures.fault ∙ (λ i. first_fault (all_faults (mutated cs (whole i)) t (map uuid_of (slice i)) d)) in
     let none : None ≡ first_fault (all_faults (mutated cs ms) t us d) = ap (option_map error_of) (sym c.in-None.is) ∙ answered in
     let all : new ≡ all_rewritten (made cs ms) t us d = search rules in
-    let many : view c.in_ok-count-in-None.field-0 ≡ count found = search rules in
+    let many : c.in_ok-count-in-None.field-0 ≡ count found = search rules in
     let faultless : first_fault (faults cs ms found) ≡ None = ap first_fault (sym (faults_at_once cs t cl ms d)) ∙ ap (λ vs. first_fault (all_faults (mutated cs ms) t vs d)) (sym keys) ∙ sym none in
     let rows : with_rows t (on_matching cl (mutated_or_same cs ms) (table_at d.now t)) d ≡ new = sym (all ∙ ap (λ vs. all_rewritten (made cs ms) t vs d) keys ∙ rewritten_at_once (made cs ms) t cl d) in
     λ i. or_error (faultless i) (rows i, sym many i)

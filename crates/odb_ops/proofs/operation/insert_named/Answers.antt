@@ -1,5 +1,4 @@
 use Rattle.std.proofs.Common.{rules, ◌≡◌, ◌++◌, List, ℕ, Ok, Option, Result, option_map, string_bytes, unwrap_or, sym, ap, subst, ◌∙◌}
-use Rattle.serde_json.specs.View.{view}
 use Rattle.odb_atoms.specs.Error.{Error}
 use Rattle.odb_atoms.specs.Represented.Atom.{uuid_of}
 use Rattle.odb_json.specs.Represented.Fault.{Reads}
@@ -30,9 +29,9 @@ returns-clause-ran c = λ named h.
     let columns : c.target.result.columns.now ≡ columns_at s t = c.target.ensures.columns in
     let free = claimed_free taken after named name u d h claim in
     let named_after = model.name_list name ++ named in
-    let reads = reads_renamed named_after (λ v. (new, view v)) c.insert.result (insert_row c.target.result.columns.now c.target.result.table u given d) c.insert.ensures.row in
+    let reads = reads_renamed named_after (λ v. (new, v)) c.insert.result (insert_row c.target.result.columns.now c.target.result.table u given d) c.insert.ensures.row in
     let same : renamed named_after (insert_row c.target.result.columns.now c.target.result.table u given d) ≡ model.inserted s (naming named d) (unwrap_or own (uuid_of c.args.uuid)) t given name = (λ i. renamed named_after (insert_row (columns i) (c.target.ensures.table i) u given d)) ∙ sym (inserted_is s d named u t given name free.0) ∙ ap (λ x. model.inserted s (naming named d) x t given name) taken_as in
-    subst (λ (r : Result (model.Draft × Data) Error). Reads (λ v. (naming named_after new, view v)) c.insert.result r) same reads
+    subst (λ (r : Result (model.Draft × Data) Error). Reads (λ v. (naming named_after new, v)) c.insert.result r) same reads
 
 pub returns-clause-taken : goal.returns-clause-taken
 returns-clause-taken c =

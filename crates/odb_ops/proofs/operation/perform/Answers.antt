@@ -1,5 +1,4 @@
 use Rattle.std.proofs.Common.{ap, subst, sym}
-use Rattle.serde_json.specs.View.{view}
 use Rattle.odb_atoms.specs.Represented.Atom.{uuid_of}
 use Rattle.odb_json.specs.Operation as json
 use Rattle.odb_json.specs.Represented.Operation.{op_of}
@@ -16,4 +15,4 @@ returns-in-Wait-clause-ran c = λ named h.
     let ctx = context_of c.args.setting.now.context.now in
     let u = uuid_of c.args.uuid in
     let d : Draft = c.args.draft.now in
-    subst (λ (o : json.Op). Performs (λ v. (naming (named_after o named) d, view v)) c.wait.result (model.perform s ctx u (naming named d) o)) (sym (ap op_of c.in-Wait.is)) (c.wait.ensures u named)
+    subst (λ (o : json.Op). Performs (λ v. (naming (named_after o named) d, v)) c.wait.result (model.perform s ctx u (naming named d) o)) (sym (ap op_of c.in-Wait.is)) (c.wait.ensures u named)

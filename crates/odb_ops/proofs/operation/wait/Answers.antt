@@ -1,5 +1,4 @@
 use Rattle.std.proofs.Common.{rules, ◌≡◌, Bool, map, ap, subst, ◌∙◌}
-use Rattle.serde_json.specs.View.{view}
 use Rattle.odb_cond.specs.Represented.Clause.{selector_of}
 use Rattle.odb_json.specs.Represented.Operation.{until_of}
 use Rattle.odb_json.specs.Represented.Row.{cells_of}
@@ -26,4 +25,4 @@ returns c = λ u named.
     let same = c.in_ok-same.ensures ∙ (λ i. model.same_rows (model.selected columns (matching asked.conditions (table_at d.now (table i)))) (map (model.expected (cs i) columns) (map cells_of asked.rows.items))) in
     let reached = c.is_reached.ensures ∙ ap (model.is_reached (until_of asked.until)) same in
     let stop = model.unmet ctx (model.deadline ctx asked.timeout) in
-    subst (λ (b : Bool). Performs (λ v. (naming named d, view v)) result (model.go_on b (naming named d) stop)) reached (c.wait_or_go_on.ensures (naming named d))
+    subst (λ (b : Bool). Performs (λ v. (naming named d, v)) result (model.go_on b (naming named d) stop)) reached (c.wait_or_go_on.ensures (naming named d))

@@ -1,22 +1,26 @@
-use Rattle.std.proofs.Common.{rules, ◌≡◌, [], ◌∷◌, List, Bor, codes, map, ap, ◌∙◌}
-use Rattle.std.proofs.lemmas.Result.{IfOk-weaker}
+use Rattle.std.proofs.Common.{rules, ◌≡◌, ◌∙◌, List, ap, map}
+use Rattle.json.specs.Print.{print}
+use Rattle.serde_json.specs.Written.{compact_text}
+use Rattle.serde_json.proofs.Texts.{print-outline}
 use Rattle.odb_atoms.specs.Row.{Selector}
-use Rattle.odb_atoms.specs.Value as model
 use Rattle.odb_cond.specs.Represented.Clause.{selector_of}
-use Rattle.odb_ops.specs.Execution.{distinct, selected, write_cells}
-use Rattle.odb_ops.proofs.Written.{through}
-use Rattle.odb_ops.proofs.select.select.Goals as goal
-use Rattle.odb_schema.specs.Json.{array_of, object_of}
-use Rattle.odb_tables.specs.Database.{table_at}
+use Rattle.odb_ops.specs.Execution.{distinct, rows_result, selected}
+use Rattle.odb_print.specs.Tokens.{tokens_of}
+use Rattle.odb_schema.specs.Json.{Data}
+use Rattle.odb_schema.specs.Schema.{Column}
+use Rattle.odb_tables.specs.Database.{Table, table_at}
 use Rattle.odb_tables.specs.Matching.{matching}
-use Rattle.serde_json.specs.View.{view}
+use Rattle.odb_ops.proofs.select.select.Goals as goal
 
-pub returns : goal.returns
-returns c =
-    let columns : List Selector = map selector_of c.args.asked.now.columns.items in
-    let found : List (List model.Value) = selected columns (matching c.args.asked.now.conditions (table_at c.args.draft.now.now c.args.target.now.table)) in
-    let kept : List (Bor (List model.Value)) = c.deref-2.result.now in
-    let first : map (λ row. row.now) kept ≡ distinct found = search rules in
-    let rows : view c.in_ok-rows-2.rows ≡ array_of (map (λ row. write_cells c.args.target.now.columns.now columns row.now) kept) = search rules in
-    IfOk-weaker c.rows.result _ _ (λ v h.
-    h ∙ ap (λ d. object_of ((codes "rows", d) ∷ [])) (rows ∙ ap array_of (through (write_cells c.args.target.now.columns.now columns) (λ (row : Bor (List model.Value)). row.now) kept ∙ ap (map (write_cells c.args.target.now.columns.now columns)) first))) c.rows.ensures
+pub of_rows-requires : goal.of_rows-requires
+of_rows-requires c =
+    let l = c.in_ok-layout.layout in
+    let target = c.args.target.now in
+    let asked = c.args.asked.now in
+    let result : List Column → List Selector → Table → Data = λ cs columns table. rows_result cs columns (distinct (selected columns (matching asked.conditions table))) in
+    let columns : l.columns.now ≡ asked.columns.items = c.in_ok-layout.ensures.columns ∙ c.as_slice.ensures.value in
+    let same : result l.declared.now (map selector_of l.columns.now) (table_at c.args.draft.now.now l.table) ≡ result target.columns.now (map selector_of asked.columns.items) (table_at c.args.draft.now.now target.table) =
+    λ i. result (c.in_ok-layout.ensures.declared i) (map selector_of (columns i)) (table_at c.args.draft.now.now (c.in_ok-layout.ensures.table i)) in
+    let tokens : c.put_result.new.out ≡ tokens_of (result l.declared.now (map selector_of l.columns.now) (table_at c.args.draft.now.now l.table)) = search rules in
+    let text : c.finish.result.items ≡ print c.put_result.new.out = search rules in
+    text ∙ ap print tokens ∙ print-outline (result l.declared.now (map selector_of l.columns.now) (table_at c.args.draft.now.now l.table)) ∙ ap compact_text same

@@ -1,4 +1,4 @@
-use Rattle.std.proofs.Common.{rules, ◌≡◌, ◌+◌, List, [], map, ap, sym, ◌∙◌, subst, false}
+use Rattle.std.proofs.Common.{rules, ◌≡◌, ◌+◌, List, [], map, ap, sym, ◌∙◌, subst}
 use Rattle.odb_ops.specs.Represented.Ran.{results_of}
 use Rattle.odb_rpc.specs.Message.{reply}
 use Rattle.odb_schema.specs.Json.{array_of}
@@ -14,12 +14,11 @@ use Rattle.odb_sessions.specs.Asked.{ended_in}
 use Rattle.odb_sessions.specs.Book.{Book}
 use Rattle.odb_sessions.specs.Committed.{ended_with}
 use Rattle.odb_sessions.specs.Posts.{at_number}
-use Rattle.odb_core.proofs.Attempts.{commit_as, done_is, done_whole_results}
+use Rattle.odb_core.proofs.Attempts.{commit_as, done_is}
 use Rattle.odb_core.proofs.ServerSteps.{placed}
 use Rattle.odb_commit.specs.Sound.{IsSound}
 use Rattle.odb_tables.specs.Installing.{IsChangeOf}
 use Rattle.odb_core.specs.Represented.Waiting.{outcome_in}
-use Rattle.serde_json.specs.Written.{has_float}
 use Rattle.odb_core.proofs.state.State.commit.Goals as goal
 
 pub returns-clause-ok : goal.returns-clause-ok
@@ -44,12 +43,6 @@ returns-clause-ok c =
       world = record { db = (sym told i).db; commits = (sym told i).commits; earlier = (sym told i).earlier; now = (sym c.self.view_is i).world.now; waiting = (sym c.self.view_is i).world.waiting; locks = (sym c.self.view_is i).world.locks; sessions = (sym told i).sessions };
       opened = (sym c.self.view_is i).opened;
     })
-
-pub replied_as-requires-clause-value : goal.replied_as-requires-clause-value
-replied_as-requires-clause-value c =
-    let v : Server = c.args.self.now in
-    let whole : has_float (array_of (results_of c.args.results)) ≡ false = done_whole_results v.schema v.world c.args.asked.now c.args.results c.args.change c.requires in
-    search (rules, whole)
 
 pub commit-requires : goal.commit-requires
 commit-requires c =

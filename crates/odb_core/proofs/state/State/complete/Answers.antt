@@ -8,13 +8,10 @@ use Rattle.odb_service.specs.Server.{Server, served_by}
 use Rattle.odb_service.specs.World.{Waiting, World, attempt, end_transaction, is_untried, split_first, untried}
 use Rattle.odb_core.specs.Represented.Steps.{by_service}
 use Rattle.odb_core.specs.Represented.Waiting.{ends, waiting_as}
-use Rattle.odb_core.proofs.Attempts.{done_as, done_whole_results, has_rows}
+use Rattle.odb_core.proofs.Attempts.{done_as, has_rows}
 use Rattle.odb_core.proofs.HandledRequests.{runs_alone, runs_ended}
 use Rattle.odb_core.proofs.ServerSteps.{framed, placed}
 use Rattle.odb_core.proofs.state.State.complete.Goals as goal
-
-pub reply-requires : goal.reply-requires
-reply-requires c = done_whole_results c.args.self.now.schema c.args.self.now.world c.args.asked.now c.args.results c.args.change c.requires.outcome
 
 pub returns-then-not-changes_rows-clause-tried : goal.returns-then-not-changes_rows-clause-tried
 returns-then-not-changes_rows-clause-tried c = λ h. ap (λ (u : Server). untried h u.world) c.reply.ensures.rest ∙ c.requires.tried h

@@ -7,17 +7,12 @@ use Rattle.odb_service.specs.Server.{Server, served_by}
 use Rattle.odb_service.specs.World.{Waiting, World, is_untried, untried}
 use Rattle.odb_core.specs.Represented.Steps.{by_service, let_wait}
 use Rattle.odb_core.specs.Represented.Waiting.{ends, outcome_in, runs, waiting_as}
-use Rattle.odb_core.proofs.Attempts.{fails_as, refused_whole_results, waits_as}
+use Rattle.odb_core.proofs.Attempts.{fails_as, waits_as}
 use Rattle.odb_core.proofs.ClosedSessions.{none_pushed}
 use Rattle.odb_core.proofs.HandledRequests.{runs_alone, runs_waiting}
 use Rattle.odb_service.proofs.Results.{either_way, ok_together}
 use Rattle.odb_core.proofs.ServerSteps.{framed, placed}
 use Rattle.odb_core.proofs.state.State.transact.Goals as goal
-
-pub reply-ended-requires : goal.reply-ended-requires
-reply-ended-requires c =
-    let failed : Answers c.args.self.now.schema c.args.self.now.world.db (outcome.Failed c.in-Ok-Failed.results) (outcome_in c.args.self.now.schema c.args.self.now.world c.args.asked) = search rules in
-    refused_whole_results c.args.self.now.schema c.args.self.now.world c.args.asked c.in-Ok-Failed.results failed
 
 pub returns-in-Ok-Waiting-clause-ok : goal.returns-in-Ok-Waiting-clause-ok
 returns-in-Ok-Waiting-clause-ok c =

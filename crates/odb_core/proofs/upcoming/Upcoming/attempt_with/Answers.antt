@@ -4,21 +4,9 @@ use Rattle.odb_commit.specs.declared.transaction.Outcome.TheVariants as outcome
 use Rattle.odb_core.specs.Represented.Waiting.{outcome_in}
 use Rattle.odb_service.specs.Server.{Server}
 use Rattle.odb_service.specs.World.{Waiting, World}
-use Rattle.odb_core.proofs.Attempts.{done_as, done_whole_results, fails_as, has_rows, refused_whole_results}
+use Rattle.odb_core.proofs.Attempts.{done_as, fails_as, has_rows}
 use Rattle.odb_core.proofs.ServerSteps.{placed}
 use Rattle.odb_core.proofs.upcoming.Upcoming.attempt_with.Goals as goal
-
-pub reply-requires : goal.reply-requires
-reply-requires c =
-    let w = c.args.self.now.next.world in
-    let done : Answers c.args.self.now.next.schema w.db (outcome.Done c.in-Done.results c.in-Done.change) (outcome_in c.args.self.now.next.schema w c.args.asked.now) = search rules in
-    done_whole_results c.args.self.now.next.schema w c.args.asked.now c.in-Done.results c.in-Done.change done
-
-pub reply-requires-in-Failed : goal.reply-requires-in-Failed
-reply-requires-in-Failed c =
-    let w = c.args.self.now.next.world in
-    let failed : Answers c.args.self.now.next.schema w.db (outcome.Failed c.in-Failed.results) (outcome_in c.args.self.now.next.schema w c.args.asked.now) = search rules in
-    refused_whole_results c.args.self.now.next.schema w c.args.asked.now c.in-Failed.results failed
 
 pub returns-in_ok-reply-in-Done-clause-tried : goal.returns-in_ok-reply-in-Done-clause-tried
 returns-in_ok-reply-in-Done-clause-tried c = λ deadline n.

@@ -1,20 +1,17 @@
-use Rattle.std.proofs.Common.{rules, ◌≡◌, ℕ, ◌+◌, List, [], ◌∷◌, ◌++◌, false, true, map, Some, refl, sym, ap, subst, ◌∙◌}
+use Rattle.std.proofs.Common.{rules, ◌≡◌, ℕ, ◌+◌, List, [], ◌∷◌, ◌++◌, false, map, Some, sym, ap, subst, ◌∙◌}
 use Rattle.odb_commit.specs.Sound.{IsSound}
-use Rattle.odb_ops.specs.Represented.Ran.{results_of}
-use Rattle.odb_schema.specs.Json.{array_of}
 use Rattle.odb_service.specs.Server.{Server}
 use Rattle.odb_sessions.specs.Committed.{Ending, all_ended}
 use Rattle.odb_sessions.specs.Represented.Ended.{ending_of}
 use Rattle.odb_tables.specs.Change.{all_changed_by}
 use Rattle.odb_tables.specs.Database.{Db}
 use Rattle.odb_tables.specs.Installing.{IsChangeOf}
-use Rattle.serde_json.specs.Written.{has_float}
 use Rattle.odb_core.specs.Represented.Steps.{by_service}
 use Rattle.odb_core.specs.Represented.Upcoming.{Agrees, Upcoming, after_ended, server_with}
 use Rattle.odb_core.specs.Represented.Waiting.{ends, outcome_in, reply_with}
-use Rattle.odb_core.proofs.Attempts.{done_is, done_whole_results}
+use Rattle.odb_core.proofs.Attempts.{done_is}
 use Rattle.std.proofs.lemmas.List.{map-append}
-use Rattle.odb_core.proofs.Upcomings.{broken, changed, commit_next, is_put}
+use Rattle.odb_core.proofs.Upcomings.{changed, commit_next, is_put}
 use Rattle.odb_core.proofs.upcoming.Upcoming.commit.Goals as goal
 
 pub returns-clause-ok : goal.returns-clause-ok
@@ -41,11 +38,6 @@ add-requires c =
     let whole : i.is_spoilt ≡ false = search rules in
     let is : IsChangeOf v.world.db c.args.change × IsSound v.schema (all_changed_by v.world.db c.args.change) = done_is v.schema v.world.db c.args.results c.args.change (outcome_in v.schema v.world c.args.asked.now) c.requires in
     subst (λ (db : Db). IsChangeOf db c.args.change) (sym (is_put s i.sessions.now i.is_spoilt i.pending i.commits es c.self.invariant whole ∙ ap (λ (u : Upcoming). u.next.world.db) c.self.view_is)) is.0
-
-pub ended_with-requires : goal.ended_with-requires
-ended_with-requires c =
-    let v : Server = c.args.self.now.next in
-    done_whole_results v.schema v.world c.args.asked.now c.args.results c.args.change c.requires
 
 pub invariant_of-self-2 : goal.invariant_of-self-2
 invariant_of-self-2 c =

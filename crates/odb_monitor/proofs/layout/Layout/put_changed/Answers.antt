@@ -3,8 +3,8 @@ use Rattle.odb_atoms.specs.Represented.Atom.{uuid_of}
 use Rattle.odb_atoms.specs.Value.{Value}
 use Rattle.odb_monitor.specs.Represented.Form.{all_in, old_in}
 use Rattle.odb_monitor.specs.Represented.Layout.{new_and_old}
-use Rattle.odb_monitor.specs.Represented.Tokens.{tokens_of}
-use Rattle.odb_monitor.specs.Update.{one, row_object}
+use Rattle.odb_print.specs.Tokens.{tokens_of}
+use Rattle.odb_monitor.specs.Update.{row_object}
 use Rattle.odb_monitor.proofs.Forms.{all_cut, old_cut}
 use Rattle.odb_monitor.proofs.layout.Layout.put_changed.Goals as goal
 

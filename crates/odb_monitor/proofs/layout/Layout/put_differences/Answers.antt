@@ -1,7 +1,7 @@
 use Rattle.std.proofs.Common.{rules, ◌≡◌, ◌++◌, OnOk, codes, map, subst, sym}
 use Rattle.odb_atoms.specs.Represented.Atom.{uuid_of}
 use Rattle.odb_monitor.specs.Represented.Form.{difference_in}
-use Rattle.odb_monitor.specs.Represented.Tokens.{tokens_of}
+use Rattle.odb_print.specs.Tokens.{tokens_of}
 use Rattle.odb_monitor.specs.Update.{one, row_object}
 use Rattle.odb_monitor.proofs.Forms.{differences_cut}
 use Rattle.odb_monitor.proofs.layout.Layout.put_differences.Goals as goal

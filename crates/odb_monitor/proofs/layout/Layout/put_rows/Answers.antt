@@ -1,6 +1,6 @@
 use Rattle.odb_monitor.specs.Represented.Layout.{row_tokens}
 use Rattle.odb_monitor.specs.Represented.Line.{line_in}
-use Rattle.odb_monitor.proofs.Loops.{printed_more}
+use Rattle.odb_print.proofs.Loops.{printed_more}
 use Rattle.odb_monitor.proofs.layout.Layout.put_rows.Goals as goal
 
 pub loop-line-preserved : goal.loop-line-preserved

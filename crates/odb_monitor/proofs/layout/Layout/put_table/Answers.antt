@@ -4,7 +4,7 @@ use Rattle.json.specs.Token.{begin_object, end_object, key}
 use Rattle.odb_monitor.specs.Represented.Layout.{row_tokens}
 use Rattle.odb_monitor.specs.Represented.Line.{line_in}
 use Rattle.odb_monitor.proofs.TableTexts.{table_tokens}
-use Rattle.odb_monitor.proofs.Tokens.{around_named}
+use Rattle.odb_print.proofs.Tokens.{around_named}
 use Rattle.odb_monitor.proofs.layout.Layout.put_table.Goals as goal
 
 pub returns : goal.returns

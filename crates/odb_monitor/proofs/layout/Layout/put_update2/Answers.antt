@@ -1,7 +1,7 @@
 use Rattle.std.proofs.Common.{◌≡◌, ◌++◌, OnOk, subst, sym}
 use Rattle.odb_atoms.specs.Represented.Atom.{uuid_of}
 use Rattle.odb_monitor.specs.Represented.Line.{change_in}
-use Rattle.odb_monitor.specs.Represented.Tokens.{tokens_of}
+use Rattle.odb_print.specs.Tokens.{tokens_of}
 use Rattle.odb_monitor.specs.Update.{row_update}
 use Rattle.odb_monitor.specs.declared.line.Change.{Change}
 use Rattle.odb_request.specs.Request.{update2}
