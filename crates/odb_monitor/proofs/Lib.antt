@@ -16,5 +16,6 @@ pub mod SameCells
 pub mod Seen
 pub mod Shapes
 pub mod TableTexts
+pub mod Soughts
 pub mod Tokens
 pub mod Views

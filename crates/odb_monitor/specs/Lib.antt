@@ -6,3 +6,4 @@ pub mod Names
 pub mod Reading
 pub mod Fold
 pub mod Law
+pub mod Walk

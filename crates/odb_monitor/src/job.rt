@@ -14,6 +14,7 @@ use odb_print::Printer;
 use odb_request::Kind;
 use std::alloc::{AllocError, Global};
 use std::marker::Model;
+use std::mem;
 
 /// What is owed to the client of a monitor: the difference between what it was told and what is asked, table
 /// by table, in the order of the parts.
@@ -64,6 +65,26 @@ impl<'a> Job<'a> {
             kind,
             first: false,
             reply: true,
+            parts,
+        }
+    }
+
+    /// Takes the parts out, and leaves none. O(1).
+    pub fn take_parts(&mut self, alloc: Global) -> Vec<Part<'a>>
+        ensures parts { result.items ≡ self.old.parts }
+        ensures rest { self.new ≡ record self.old { parts = [] } }
+    {
+        mem::replace(&mut self.parts, Vec::new(alloc))
+    }
+
+    /// Returns the job with these parts in place of its own. O(1), and O(n) for n parts of its own.
+    pub fn with_parts(self, parts: Vec<Part<'a>>) -> Job<'a>
+        ensures { result ≡ record self.entry { parts = parts.entry.items } }
+    {
+        Job {
+            kind: self.kind,
+            first: self.first,
+            reply: self.reply,
             parts,
         }
     }

@@ -7,6 +7,7 @@
 
 ghost use Rattle.odb_monitor.specs.Law.{DifferenceLeads, FirstReplyGives, NoOtherLeads};
 
+mod bare;
 mod columns;
 mod comparison;
 mod form;
@@ -14,12 +15,17 @@ mod job;
 mod layout;
 mod line;
 mod part;
+mod search;
 mod sides;
+mod sought;
 mod told;
+mod walk;
 
 pub use job::{Job, compose};
 pub use part::Part;
+pub use sought::Sought;
 pub use told::Told;
+pub use walk::Walk;
 
 /// States what a strict client makes of the messages of a monitor. The call does nothing.
 pub fn law()

@@ -1,53 +1,60 @@
 //! One table of a job: what the client was told of it, what is asked, and how they differ. [P 9.2]
-ghost use Rattle.std.specs.Prelude.{◌≡◌, ◌++◌, Bool, IfOk, IsPermutation, List, OnOk, filter_map, is_some, map, not, option_map, option_to_list};
+ghost use Rattle.std.specs.Prelude.{◌≡◌, ◌++◌, Bool, IfOk, IfSome, IsPermutation, OnOk, filter_map, is_some, map, not, option_map, option_to_list};
 ghost use Rattle.std.specs.Arc.{arc_value};
 ghost use Rattle.std.specs.List.{list_any};
 ghost use Rattle.std.specs.List.Sorted.{IsSortedByKey};
 ghost use Rattle.odb_atoms.specs.Represented.Atom.{uuid_of};
-ghost use Rattle.odb_atoms.specs.Row as model_row;
-ghost use Rattle.odb_atoms.specs.Uuid as model_uuid;
 ghost use Rattle.odb_atoms.specs.Uuid.{uuid_cmp};
-ghost use Rattle.odb_monitor.specs.Represented.Candidates.{Covers, ListsApart, ListsSelected, WasSo, changed_in, fresh_in, stayed_in, unchanged};
+ghost use Rattle.odb_monitor.specs.Represented.Bare.{part_bare};
+ghost use Rattle.odb_monitor.specs.Represented.Candidates.{Covers, WasSo, changed_in, stayed_in, unchanged};
 ghost use Rattle.odb_monitor.specs.Represented.Line.{line_in};
 ghost use Rattle.odb_monitor.specs.Represented.Part.{changes_shown, is_silent, part_of, part_tokens};
 ghost use Rattle.odb_monitor.specs.Represented.Sides.{line_at, sides_in, table_then};
+ghost use Rattle.odb_monitor.specs.Represented.Sought.{AreSought};
 ghost use Rattle.odb_request.specs.Represented.Kind.{notation_of};
 ghost use Rattle.odb_request.specs.Request as model_request;
 ghost use Rattle.odb_tables.specs.Database as model_table;
+ghost use Rattle.odb_tables.specs.Represented.Table.{listed};
 ghost use Rattle.odb_tables.specs.Represented.TableChange.{AreDistinct};
 
+use crate::bare::Bare;
 use crate::comparison::Comparison;
 use crate::layout::Layout;
 use crate::line::Line;
+use crate::search::sought;
 use crate::sides::{Sides, add_others, changed, fresh, keys_of};
 use crate::told::Told;
-use odb_cond::Filter;
+use odb_atoms::Row;
 use odb_print::Printer;
 use odb_request::{Kind, Request};
 use odb_tables::{Key, RowChange, Rows, TableChange};
 use std::alloc::{AllocError, Global};
 use std::marker::Model;
 use std::sync::Arc;
+use uuid::Uuid;
 
-/// One table of a job: what the client was told of its rows, and what is asked.
+/// One table of a job: what the client was told of its rows, and what is asked; and the rows that are looked for in it,
+/// once they were found.
 pub struct Part<'a> {
-    request: &'a Request,
-    told: Told<'a>,
-    rows: Rows<'a>,
-    changes: Option<Arc<TableChange>>,
+    bare: Bare<'a>,
+    found: Option<Vec<(Uuid, &'a Row)>>,
 }
 
 impl<'a> Model for Part<'a> {
-    ghost use Rattle.std.specs.Prelude.{option_map};
-    ghost use Rattle.std.specs.Arc.{arc_value};
+    ghost use Rattle.std.specs.Prelude.{IfSome, map};
     ghost use Rattle.odb_monitor.specs.Job as model;
-    ghost use Rattle.odb_monitor.specs.Represented.Part.{part_code, part_of};
+    ghost use Rattle.odb_monitor.specs.Represented.Bare.{part_bare};
+    ghost use Rattle.odb_monitor.specs.Represented.Part.{part_code};
+    ghost use Rattle.odb_monitor.specs.Represented.Sought.{AreSought};
+    ghost use Rattle.odb_tables.specs.Represented.Table.{listed};
 
     ghost Value = { model.Part };
 
     ghost coded = { part_code };
 
-    ghost view = { λ p. part_of p.request.now p.told p.rows (option_map arc_value p.changes) };
+    ghost view = { λ p. part_bare p.bare };
+
+    ghost invariant = { λ p. IfSome p.found (λ rows. AreSought p.bare.told p.bare.request.now.filter (map listed rows.items) p.bare.rows) };
 }
 
 impl<'a> Part<'a> {
@@ -64,12 +71,39 @@ impl<'a> Part<'a> {
     ) -> Part<'a>
         ensures { result ≡ part_of request.now told.entry rows.entry (option_map arc_value changes) }
     {
-        Part {
+        let bare = Bare {
             request,
             told,
             rows,
             changes,
+        };
+        Part::without(bare)
+    }
+
+    /// Puts a part together of which it is known that these rows are looked for. O(1).
+    pub(crate) fn knowing(bare: Bare<'a>, found: Vec<(Uuid, &'a Row)>) -> Part<'a>
+        requires { AreSought bare.told bare.request.now.filter (map listed found.items) bare.rows }
+        ensures { result ≡ part_bare bare.entry }
+    {
+        Part {
+            bare,
+            found: Some(found),
         }
+    }
+
+    /// Puts a part together of which it isn't known which rows are looked for. O(1).
+    pub(crate) fn without(bare: Bare<'a>) -> Part<'a>
+        ensures { result ≡ part_bare bare.entry }
+    {
+        Part { bare, found: None }
+    }
+
+    /// Returns what it is made of, without what was found in it. O(1).
+    pub(crate) fn into_bare(self) -> Bare<'a>
+        ensures { part_bare result ≡ self.entry }
+    {
+        let Part { bare, found: _ } = self;
+        bare
     }
 
     /// Prints the table's name and the rows that are shown, and says whether there are some.
@@ -84,7 +118,7 @@ impl<'a> Part<'a> {
         ensures shown { IfOk result (λ shown. shown ≡ not (is_silent first self.now)) }
     {
         let lines = self.lines(alloc, first)?;
-        let shape = self.request.shape();
+        let shape = self.bare.request.shape();
         let layout = Layout::of(alloc, shape, kind, first);
         let put = layout.put_table(out, shape.table_schema().name(), &lines);
         drop(layout);
@@ -96,9 +130,14 @@ impl<'a> Part<'a> {
     pub(crate) fn has_lines(&self, alloc: Global, first: bool) -> Result<bool, AllocError>
         ensures { IfOk result (λ shown. shown ≡ not (is_silent first self.now)) }
     {
-        let asked = self.request.filter();
-        let sides = sides_of(alloc, self.told, asked, rows_of(&self.changes), &self.rows)?;
-        let comparison = Comparison::of(alloc, first, self.told, self.request);
+        let comparison = Comparison::of(alloc, first, self.bare.told, self.bare.request);
+        let sides = sides_of(
+            alloc,
+            &comparison,
+            &self.found,
+            rows_of(&self.bare.changes),
+            &self.bare.rows,
+        )?;
         Ok(has_line(&comparison, &sides))
     }
 
@@ -107,9 +146,14 @@ impl<'a> Part<'a> {
         ensures { IfOk result (λ lines. map (line_in self.now.request.shape.columns) lines.items
             ≡ (changes_shown first self.now).entries) }
     {
-        let asked = self.request.filter();
-        let sides = sides_of(alloc, self.told, asked, rows_of(&self.changes), &self.rows)?;
-        let comparison = Comparison::of(alloc, first, self.told, self.request);
+        let comparison = Comparison::of(alloc, first, self.bare.told, self.bare.request);
+        let sides = sides_of(
+            alloc,
+            &comparison,
+            &self.found,
+            rows_of(&self.bare.changes),
+            &self.bare.rows,
+        )?;
         let mut lines = lines_of(alloc, &comparison, &sides)?;
         sort(&mut lines);
         Ok(lines)
@@ -127,59 +171,65 @@ fn rows_of(changes: &Option<Arc<TableChange>>) -> &[RowChange]
     }
 }
 
-/// Returns the rows of which something may be shown, where this filter is asked: O(those that were changed), where
-/// it was told as well; else also O(those that are found), and what `odb_tables::Rows::selected` costs.
+/// Returns the rows of which something may be shown, where these are those that are looked for, if they were found: O(those
+/// that were changed and those that are looked for), and where these weren't found what `odb_tables::Rows::selected`
+/// costs.
 fn sides_of<'a>(
     alloc: Global,
-    told: Told<'a>,
-    asked: &Filter,
+    comparison: &Comparison<'_>,
+    found: &'a Option<Vec<(Uuid, &'a Row)>>,
+    changes: &'a [RowChange],
+    rows: &'a Rows<'a>,
+) -> Result<Vec<Sides<'a>>, AllocError>
+    requires distinct { AreDistinct changes.now }
+    requires found { IfSome found.now (λ list. AreSought comparison.now.told comparison.now.request.now.filter (map listed list.items) rows.now) }
+    ensures { IfOk result (λ sides. (then : model_table.Table) → WasSo changes.now then rows.now
+        → Covers (map sides_in sides.items) comparison.now.first comparison.now.told comparison.now.request.now then rows.now) }
+{
+    match found {
+        Some(found) => sides_by(alloc, comparison.told, found, changes, rows),
+        None => {
+            let found = sought(alloc, comparison.told, comparison.request, rows)?;
+            sides_by(alloc, comparison.told, &found, changes, rows)
+        }
+    }
+}
+
+/// Returns the rows of which something may be shown, where these are those that are looked for: O(those that were changed),
+/// where the filter that is asked was told; O(those that are looked for), where nothing was; else O(n log n) for n of
+/// both.
+fn sides_by<'a>(
+    alloc: Global,
+    told: Told<'_>,
+    found: &[(Uuid, &'a Row)],
     changes: &'a [RowChange],
     rows: &'a Rows<'a>,
 ) -> Result<Vec<Sides<'a>>, AllocError>
     requires { AreDistinct changes.now }
     ensures { IfOk result (λ sides. (first : Bool) (q : model_request.Request) (then : model_table.Table)
-        → q.filter ≡ asked.now → WasSo changes.now then rows.now
+        → AreSought told.entry q.filter (map listed found.now) rows.now → WasSo changes.now then rows.now
         → Covers (map sides_in sides.items) first told.entry q then rows.now) }
 {
     match told {
-        Told::Nothing => all_fresh(alloc, asked, rows),
+        Told::Nothing => fresh(alloc, found),
         Told::Asked => changed(alloc, changes, rows),
-        Told::Under(filter) => told_apart(alloc, filter, asked, changes, rows),
+        Told::Under(_) => told_apart(alloc, found, changes, rows),
     }
 }
 
-/// Returns each row that is asked for, as one that comes in. O(those), and what `odb_tables::Rows::selected` costs.
-fn all_fresh<'a>(
-    alloc: Global,
-    asked: &Filter,
-    rows: &'a Rows<'a>,
-) -> Result<Vec<Sides<'a>>, AllocError>
-    ensures { IfOk result (λ sides. (found : List (model_uuid.Uuid × model_row.Row)) × ListsSelected asked.now found rows.now
-        × (map sides_in sides.items ≡ map fresh_in found)) }
-{
-    let found = rows.selected(alloc, asked)?;
-    fresh(alloc, &found)
-}
-
-/// Returns each row that was changed, and of the others those that the filters may tell apart: O(n log n) for n of
-/// both, O(the members of the filters), and what `odb_tables::Rows::selected` costs by the members that only one of
-/// them has.
+/// Returns each row that was changed, and of these the others, as ones that stayed: O(n log n) for n of both.
 fn told_apart<'a>(
     alloc: Global,
-    told: &Filter,
-    asked: &Filter,
+    found: &[(Uuid, &'a Row)],
     changes: &'a [RowChange],
     rows: &'a Rows<'a>,
 ) -> Result<Vec<Sides<'a>>, AllocError>
-    ensures { IfOk result (λ sides. (found : List (model_uuid.Uuid × model_row.Row)) × ListsApart told.now asked.now found rows.now
-        × (map sides_in sides.items
-        ≡ map (changed_in rows.now) changes.now ++ map stayed_in (unchanged changes.now found))) }
+    ensures { IfOk result (λ sides. map sides_in sides.items
+        ≡ map (changed_in rows.now) changes.now ++ map stayed_in (unchanged changes.now (map listed found.now))) }
 {
     let keys = keys_of(alloc, changes)?;
-    let differing = told.difference(alloc, asked)?;
-    let apart = rows.selected(alloc, &differing)?;
     let mut all = changed(alloc, changes, rows)?;
-    add_others(&apart, &keys, &mut all)?;
+    add_others(found, &keys, &mut all)?;
     Ok(all)
 }
 
@@ -237,11 +287,6 @@ fn sort(lines: &mut Vec<Line<'_>>)
 // Written, and not derived, so that each end of a scope is one call to prove.
 impl Drop for Part<'_> {
     fn drop(self) {
-        let Part {
-            request: _,
-            told: _,
-            rows: _,
-            changes: _,
-        } = self;
+        let Part { bare: _, found: _ } = self;
     }
 }

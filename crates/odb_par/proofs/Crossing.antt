@@ -1,4 +1,4 @@
--- Jobs may be lent to another thread: chains, a monitor with its marks, and the ways in which something is composed.
+-- Jobs, and what was found for them, may be lent to another thread: chains, a monitor with its marks, and the ways in which something is composed.
 use denote.Param.Send.{IsSend, IsSync, owning_send, part_keyless, sendable}
 use denote.Ref.{NamedLft}
 use Rattle.std.proofs.Crossing as heap
@@ -8,6 +8,9 @@ use Rattle.odb_chain.specs.contracts.content.Content as Content
 use Rattle.odb_chain.specs.contracts.mark.Mark as Mark
 use Rattle.odb_cond.proofs.filter.Filter.TheSendSync as filter
 use Rattle.odb_cond.specs.contracts.filter.Filter as Filter
+use Rattle.odb_monitor.proofs.job.Job.TheSendSync as found
+use Rattle.odb_monitor.specs.contracts.job.Job as Found
+use Rattle.odb_par.specs.contracts.picked.Picked as Picked
 use Rattle.odb_recent.proofs.Crossing.{Recent-sync}
 use Rattle.odb_request.proofs.request.Request.TheSendSync as request
 use Rattle.odb_request.specs.contracts.change.Change as Change
@@ -72,7 +75,13 @@ Under-sync κ = search (Changes-sync, sendable, heap.crosses) depth 20
 Way-sync : (κ : NamedLft) → IsSync (Way.the_field κ).row
 Way-sync κ = search (Under-sync, Recent-sync, sendable, heap.crosses) depth 20
 
-pub Job-sync : (κ : NamedLft) → IsSync (Job.the_field κ).row
+Job-sync : (κ : NamedLft) → IsSync (Job.the_field κ).row
 Job-sync κ = search (Chains-sync, Monitor-sync, Way-sync, Request-sync, sendable, heap.crosses) depth 20
 
-pub ruleset crosses = (Job-sync, sendable, heap.crosses)
+Found-sync : (κ : NamedLft) → IsSync (Found.the_field κ).row
+Found-sync κ = found.the_sync κ
+
+pub Picked-sync : (κ κ' : NamedLft) → IsSync (Picked.the_field κ κ').row
+Picked-sync κ κ' = search (Job-sync, Found-sync, sendable, heap.crosses) depth 20
+
+pub ruleset crosses = (Picked-sync, sendable, heap.crosses)

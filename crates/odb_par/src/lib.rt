@@ -6,9 +6,14 @@
 mod composing;
 mod dealing;
 mod gate;
+mod picked;
+mod picking;
+mod scan;
 mod worker;
 mod workers;
 
 pub use composing::compose_all;
 pub use gate::{Gate, Open};
+pub use picked::Picked;
+pub use picking::pick;
 pub use workers::Workers;

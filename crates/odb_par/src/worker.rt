@@ -5,17 +5,17 @@ ghost use Rattle.odb_sessions.specs.Jobs.{composition};
 ghost use Rattle.odb_sessions.specs.Represented.Composed.{bytes_in};
 
 use crate::gate::Gate;
-use odb_sessions::Job;
+use crate::picked::Picked;
 use std::alloc::{AllocError, Global};
 use std::sync::Arc;
 
 /// What a worker composed of its jobs, in their order, unless memory was refused.
 pub(crate) type Share = Result<Vec<Option<Arc<Vec<u8>>>>, AllocError>;
 
-/// Composes the jobs at `first`, `first + workers` and so on. The costs are those of `Job::compose` for each of them.
+/// Composes the jobs at `first`, `first + workers` and so on. The costs are those of `Picked::compose` for each of them.
 pub(crate) fn own_bodies<G: Gate>(
     alloc: Global,
-    jobs: &[Job<'_>],
+    jobs: &[Picked<'_, '_>],
     first: usize,
     workers: usize,
     gate: &G,
@@ -36,7 +36,7 @@ pub(crate) fn own_bodies<G: Gate>(
 /// Composes the job at this place, with the gate before and after it.
 fn composed<G: Gate>(
     alloc: Global,
-    job: &Job<'_>,
+    job: &Picked<'_, '_>,
     place: usize,
     gate: &G,
 ) -> Result<Option<Arc<Vec<u8>>>, AllocError>

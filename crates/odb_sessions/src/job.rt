@@ -21,9 +21,11 @@ use crate::planning::parts_under;
 use crate::under::{Under, requests_under};
 use crate::way::Way;
 use odb_chain::Chains;
+use odb_cond::Filter;
 use odb_monitor::compose;
 use odb_recent::Recent;
 use odb_request::Request;
+use odb_tables::Rows;
 use std::alloc::{AllocError, Global};
 use std::marker::Model;
 use std::sync::Arc;
@@ -31,7 +33,8 @@ use std::sync::Arc;
 /// From how many bytes on the text of a first reply is kept: a shorter one is composed as fast as it is found.
 const LEAST_KEPT: usize = 4096;
 
-/// As how many rows a job weighs that tells of what changed: about as many as change at once.
+/// As how many rows a job weighs that tells of what changed: about as many as change at once, and as a member of a filter
+/// finds.
 const FEW_ROWS: usize = 8;
 
 /// What is to be composed for the client of a monitor, and its text where that is kept. Contracts see the job of
@@ -128,20 +131,21 @@ impl<'a> Job<'a> {
             return Ok(Some(text.clone()?));
         }
         let job = self.differences(alloc)?;
-        let Some(text) = compose(alloc, &job)? else {
-            return Ok(None);
-        };
-        Ok(Some(Arc::new(alloc, text)?))
+        compose_over(alloc, &job)
     }
 
-    /// Says about how many rows are looked at to compose it, at least 1. O(n) for n tables. No contract speaks of it.
-    pub(crate) fn weight(&self) -> usize {
+    /// Says about how many tests of a member of a filter it takes to compose it, at least 1. O(members of the filters), for
+    /// each facet that is kept. No contract speaks of it.
+    pub fn weight(&self) -> usize {
         if self.text.is_some() {
             return 1;
         }
         match self.way {
+            Way::First => self.monitor.tests(self.chains),
             Way::Asked => FEW_ROWS,
-            _ => self.monitor.rows(self.chains),
+            Way::Changed(_) => tests_apart(self.chains, &self.requests),
+            Way::Again(_, _) => tests_apart(self.chains, &self.requests),
+            Way::Since(_, _) => self.monitor.rows(self.chains),
         }
     }
 
@@ -188,8 +192,9 @@ impl<'a> Job<'a> {
         }
     }
 
-    /// Returns the job, with the tables as they are now and how they changed.
-    fn differences(&self, alloc: Global) -> Result<odb_monitor::Job<'_>, AllocError>
+    /// Returns the job, with the tables as they are now and how they changed. It costs what `odb_chain::Chains::since` does,
+    /// for each table.
+    pub fn differences(&self, alloc: Global) -> Result<odb_monitor::Job<'_>, AllocError>
         ensures { IfOk result (λ job. job ≡ self.now) }
     {
         let chains = self.chains;
@@ -203,6 +208,41 @@ impl<'a> Job<'a> {
             Way::Since(recent, ago) => monitor.resumed_job(alloc, chains, recent, ago),
         }
     }
+}
+
+/// Composes the text of the table updates of this job, without the monitor's id; `None` where nothing is sent. The costs
+/// are those of `odb_monitor::compose`.
+pub fn compose_over(
+    alloc: Global,
+    job: &odb_monitor::Job<'_>,
+) -> Result<Option<Arc<Vec<u8>>>, AllocError>
+    ensures { IfOk result (λ body. bytes_in body ≡ composition job.now) }
+{
+    let Some(text) = compose(alloc, job)? else {
+        return Ok(None);
+    };
+    Ok(Some(Arc::new(alloc, text)?))
+}
+
+/// Says about how many tests of a member it takes to find the rows that a filter of so many selects. Where what the
+/// database keeps tells them, each member is taken to find a few.
+fn tests_of(rows: &Rows<'_>, filter: &Filter, members: usize) -> usize {
+    let members = members.max(1);
+    if rows.is_walked(filter) {
+        return rows.len().saturating_mul(members);
+    }
+    rows.len().min(members.saturating_mul(FEW_ROWS))
+}
+
+/// Adds up about how many tests of a member it takes to find what is told where these are asked in place of others: filters
+/// change by a member or two.
+fn tests_apart(chains: &Chains, requests: &[Request]) -> usize {
+    let mut tests: usize = 1;
+    for request in requests {
+        let rows = chains.db().rows(request.table());
+        tests = tests.saturating_add(tests_of(&rows, &**request.filter(), 1));
+    }
+    tests
 }
 
 /// Counts the rows of the table that is watched.
@@ -231,6 +271,18 @@ impl Monitor {
             rows = rows.saturating_add(rows_of(chains, table));
         }
         rows
+    }
+
+    /// Adds up about how many tests of a member of its filters it takes to find all that it selects, and 1.
+    fn tests(&self, chains: &Chains) -> usize {
+        let mut tests: usize = 1;
+        for table in &self.tables {
+            let filter = table.request.filter();
+            let rows = chains.db().rows(table.request.table());
+            let found = tests_of(&rows, &**filter, filter.members().len());
+            tests = tests.saturating_add(found);
+        }
+        tests
     }
 
     /// Returns the job of its first reply, or of what its client lacks.

@@ -172,8 +172,9 @@ impl<'a> Jobs<'a> {
         compose_all(self.alloc, self.jobs.as_slice())
     }
 
-    /// Adds up about how many rows are looked at to compose the jobs, at least 1 for each; more than 2^64-1 count as so
-    /// many. O(n) for n tables of all jobs. No contract speaks of it.
+    /// Adds up about how many tests of a member of a filter it takes to compose the jobs, at least 1 for each; more than
+    /// 2^64-1 count as so many. O(n) for n members of the filters of all jobs, and each facet that is kept. No contract
+    /// speaks of it.
     pub fn weight(&self) -> usize {
         let mut weight: usize = 0;
         for job in &self.jobs {

@@ -50,7 +50,7 @@ pub use ended::Ended;
 pub use first_texts::FirstText;
 pub use id::Id;
 pub use item::Changes;
-pub use job::Job;
+pub use job::{Job, compose_over};
 pub use jobs::{Jobs, Prepared};
 pub use named::Named;
 pub use out::Out;

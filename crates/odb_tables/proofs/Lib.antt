@@ -17,7 +17,7 @@ mod Mentions
 mod Overlays
 mod PairSets
 mod PutChanges
-mod Selected
+pub mod Selected
 mod Steps
 mod SameValues
 mod Stamps

@@ -121,6 +121,16 @@ impl Db {
         Ok(None)
     }
 
+    /// Returns whether something is kept that tells the table's rows that may pass the test. O(what is kept).
+    pub(crate) fn tells<T: Test>(&self, table: TableId, test: &T) -> bool {
+        for kept in &self.kept {
+            if kept.table == table.place() && kept.tells(test) {
+                return true;
+            }
+        }
+        false
+    }
+
     /// Returns by what its tables hash. O(1).
     pub(crate) fn hashing(&self) -> RandomState {
         self.hashing

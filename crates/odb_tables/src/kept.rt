@@ -93,6 +93,11 @@ impl Kept {
         cut(&self.facet, &mut self.pairs, change, side);
     }
 
+    /// Returns whether the facet tells the rows that may pass the test. O(1).
+    pub(crate) fn tells<T: Test>(&self, test: &T) -> bool {
+        test.tag(&self.facet).is_some()
+    }
+
     /// Returns the keys of the rows that may pass the test, each of them once, if the facet tells them. O(log n) for n
     /// pairs, and O(the keys).
     pub(crate) fn candidates<T: Test>(

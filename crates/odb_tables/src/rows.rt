@@ -62,6 +62,52 @@ impl<'a> Rows<'a> {
         self.db.get(self.table, uuid)
     }
 
+    /// Returns how many rows there are. O(1).
+    pub fn len(&self) -> usize
+        ensures { result ≡ finite.len self.now }
+    {
+        match self.db.table(self.table) {
+            Some(table) => table.len(),
+            None => 0,
+        }
+    }
+
+    /// Returns each of the rows once, with its identifier, in no order that is told. O(rows of the table).
+    pub fn list(&self, alloc: Global) -> Result<Vec<(Uuid, &'a Row)>, AllocError>
+        ensures rows { IfOk result (λ rows. finite.from_entries (map listed rows.items) ≡ self.entry.now) }
+        ensures distinct { IfOk result (λ rows. IsDistinct (eq_by_cmp uuid_cmp) (keys_of (map listed rows.items))) }
+    {
+        let Some(table) = self.db.table(self.table) else {
+            return Ok(Vec::new(alloc));
+        };
+        table.list(alloc)
+    }
+
+    /// Returns whether `selected` tests each row of the table, whatever the rows are: there are no members, or what the
+    /// database keeps doesn't tell the rows of one of them. O(members of the filter), for each facet that is kept. No
+    /// contract speaks of it.
+    pub fn is_walked(&self, filter: &Filter) -> bool {
+        if filter.members().is_empty() {
+            return true;
+        }
+        for member in filter.members() {
+            if !self.tells(member) {
+                return true;
+            }
+        }
+        false
+    }
+
+    /// Returns whether something tells the rows of which the member holds.
+    fn tells(&self, member: &Member) -> bool {
+        match member {
+            Member::Always(always) => !*always,
+            Member::When(condition) => {
+                named_by(condition).is_some() || self.db.tells(self.table, condition)
+            }
+        }
+    }
+
     /// Returns each of the rows that the filter selects once, with its identifier, in no order that is told.
     ///
     /// Rows are found by what the database keeps beside them (`Db::for_schema`) where each member of the filter is `false`, or

@@ -12,6 +12,8 @@ mod refusals;
 #[cfg(test)]
 mod requests;
 #[cfg(test)]
+mod scans;
+#[cfg(test)]
 mod sharing;
 #[cfg(test)]
 mod sizes;

@@ -4,15 +4,18 @@ use Rattle.std.specs.Coded.{Coded, code_by, coded×, coded_list}
 use Rattle.json.specs.Token.{Token}
 use Rattle.odb_atoms.specs.FinMap as finite
 use Rattle.odb_atoms.specs.FinMap.{FinMap, combine, map_entries}
-use Rattle.odb_atoms.specs.Uuid.{uuid_cmp, uuid_code}
+use Rattle.odb_atoms.specs.Row.{Row, row_code}
+use Rattle.odb_atoms.specs.Uuid.{Uuid, uuid_cmp, uuid_code}
 use Rattle.odb_atoms.specs.Value.{value_code}
+use Rattle.odb_cond.specs.Filter.{Filter}
 use Rattle.odb_monitor.specs.Job.{Job, Part}
 use Rattle.odb_monitor.specs.Represented.Sides.{table_then, told_in}
 use Rattle.odb_print.specs.Tokens.{member_tokens}
 use Rattle.odb_monitor.specs.Update.{table_update}
 use Rattle.odb_monitor.specs.View.{Change, Contents, change, is_empty, is_shown, selected}
+use Rattle.odb_monitor.specs.Walk.{Walk}
 use Rattle.odb_monitor.specs.declared.told.Told.{Told}
-use Rattle.odb_request.specs.Represented.Codes.{notation_code, request_code}
+use Rattle.odb_request.specs.Represented.Codes.{filter_code, notation_code, request_code}
 use Rattle.odb_request.specs.Request.{Notation, Request}
 use Rattle.odb_tables.specs.Change.{Changes}
 use Rattle.odb_tables.specs.Database.{Table}
@@ -30,6 +33,11 @@ abbrev pub job_code : Coded Job
 job_code =
     code_by (Notation × (Bool × (Bool × List Part))) (coded× notation_code (coded× coded_bool (coded× coded_bool (coded_list part_code))))
     (λ j. (j.notation, (j.first, (j.reply, j.parts)))) (λ p. record { notation = p.0; first = p.1.0; reply = p.1.1.0; parts = p.1.1.1 }) (λ j. refl)
+
+abbrev pub walk_code : Coded Walk
+walk_code =
+    code_by (Part × (Filter × List (Uuid × Row))) (coded× part_code (coded× filter_code (coded_list (coded× uuid_code row_code))))
+    (λ w. (w.part, (w.filter, w.rows))) (λ p. record { part = p.0; filter = p.1.0; rows = p.1.1 }) (λ w. refl)
 
 -- of a table with these rows, which changed so since the client was told
 abbrev pub part_of : Request → Told → Table → Option Changes → Part

@@ -1,37 +1,24 @@
-use Rattle.std.proofs.Common.{◌∙◌, ap, map, subst, sym}
-use Rattle.odb_cond.specs.Filter.{selects}
+use Rattle.std.proofs.Common.{IfSome, map, subst, sym}
 use Rattle.std.proofs.lemmas.Result.{IfOk-weaker}
-use Rattle.odb_monitor.specs.Represented.Candidates.{Covers, ListsSelected}
-use Rattle.odb_monitor.specs.Represented.Sides.{sides_in}
-use Rattle.odb_monitor.specs.declared.told.Told.TheVariants.{Asked, Nothing, Under}
-use Rattle.odb_monitor.proofs.Covered.{all_apart, all_changed, all_fresh}
+use Rattle.odb_monitor.specs.Represented.Sought.{AreSought}
+use Rattle.odb_tables.specs.Represented.Table.{listed}
 use Rattle.odb_monitor.proofs.part.sides_of.Goals as goal
 
-pub returns-in-Nothing : goal.returns-in-Nothing
-returns-in-Nothing c =
+pub returns-in-Some : goal.returns-in-Some
+returns-in-Some c =
+    let k = c.args.comparison.now in
+    let f = k.request.now.filter in
     let t = c.args.rows.now in
-    IfOk-weaker c.all_fresh.result _ _
-    (λ sides h first q then asked was.
-    subst (λ w. Covers (map sides_in sides.items) first w q then t) (sym c.in-Nothing.is) (subst (λ es. Covers es first Nothing q then t) (sym h.2) (all_fresh first q h.0 then t (subst (λ f. ListsSelected f h.0 t) (sym asked) h.1))))
-    c.all_fresh.ensures
+    let found : AreSought k.told f (map listed c.in-Some.found.items) t = subst (λ o. IfSome o (λ list. AreSought k.told f (map listed list.items) t)) c.in-Some.is c.requires.found in
+    IfOk-weaker c.sides_by.result _ _
+    (λ sides h then was. h k.first k.request.now then (subst (λ rows. AreSought k.told f (map listed rows) t) (sym c.deref.ensures.value) found) was)
+    c.sides_by.ensures
 
-pub returns-in-Asked : goal.returns-in-Asked
-returns-in-Asked c =
+pub returns-in_ok-found-in-None : goal.returns-in_ok-found-in-None
+returns-in_ok-found-in-None c =
+    let k = c.args.comparison.now in
+    let f = k.request.now.filter in
     let t = c.args.rows.now in
-    let cs = c.args.changes.now in
-    IfOk-weaker c.changed.result _ _
-    (λ sides h first q then asked was.
-    subst (λ w. Covers (map sides_in sides.items) first w q then t) (sym c.in-Asked.is) (subst (λ es. Covers es first Asked q then t) (sym h) (all_changed cs then t c.requires was first q)))
-    c.changed.ensures
-
-pub returns-in-Under : goal.returns-in-Under
-returns-in-Under c =
-    let t = c.args.rows.now in
-    let cs = c.args.changes.now in
-    let w = Under c.in-Under.filter in
-    IfOk-weaker c.told_apart.result _ _
-    (λ sides h first q then asked was.
-    subst (λ w. Covers (map sides_in sides.items) first w q then t) (sym c.in-Under.is)
-    (subst (λ es. Covers es first w q then t) (sym h.2)
-    (all_apart cs h.0 h.1.0 then t c.requires was h.1.1 first w q (λ u r out. h.1.2 u r out ∙ ap (λ f. selects f u r) (sym asked)))))
-    c.told_apart.ensures
+    IfOk-weaker c.sides_by-in-None.result _ _
+    (λ sides h then was. h k.first k.request.now then (subst (λ rows. AreSought k.told f (map listed rows) t) (sym c.deref-in-None.ensures.value) c.in_ok-found-in-None.ensures) was)
+    c.sides_by-in-None.ensures
