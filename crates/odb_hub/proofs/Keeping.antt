@@ -8,13 +8,15 @@ use borrow.Author.Tests.{eq-eqb}
 use Rattle.serde_json.specs.Data.{Data}
 use Rattle.odb_atoms.specs.FinMap.{empty, get, insert, remove}
 use Rattle.odb_atoms.specs.Uuid.{Uuid}
-use Rattle.odb_hub.specs.Kept.{AreOpen, AreTold, AreUnused, EndsWith, IsKept, counted, Kept, Takes, TakesRound, is_in, text_of}
+use Rattle.odb_hub.specs.Kept.{AreOpen, AreSent, AreTold, AreUnused, EndsWith, IsKept, IsNew, counted, Kept, Takes, TakesRound, is_in, text_of}
 use Rattle.odb_hub.specs.Rings.{HandsOver, HasRoom, IsFlushedAt, IsServed, Ring, Rings, Text, free_of, is_free_at, room_of, texts, texts_to}
 use Rattle.odb_hub.proofs.Free.{listed, rising}
 use Rattle.odb_hub.proofs.HandingOver.{flushed_texts, served, still_texts}
-use Rattle.odb_hub.proofs.Stepping.{IsTold, history_begins, history_on, ends_nothing, open_closed, open_opened, open_round, open_submitted, open_ticked, ok_is, served_with, step_of, told_on}
+use Rattle.odb_hub.proofs.Stepping.{IsTold, sent_on, history_begins, history_on, ends_nothing, open_closed, open_opened, open_round, open_submitted, open_ticked, ok_is, served_with, step_of, told_on}
 use Rattle.odb_hub.proofs.Takings.{most_given, texts_printed}
-use Rattle.odb_service.proofs.SessionMaps.{get-empty, get-insert, get-remove, same_key, same_map}
+use Rattle.odb_core.specs.Represented.Core.{new_server}
+use Rattle.odb_service.proofs.SessionMaps.{get-empty, get-insert, get-remove, other, same_key, same_map}
+use Rattle.odb_schema.specs.Schema.{Schema}
 use Rattle.odb_service.specs.History.{IsHistory}
 use Rattle.odb_service.specs.Run.{Event, Sent, closed, given_after, once, opened, opens, round, sent_to, step, submitted, take_each, ticked}
 use Rattle.odb_service.specs.Server.{Server, opened_after, printed, serve, served_by}
@@ -41,7 +43,12 @@ kept_on e old new outs kept takes told opens_so =
     let mid : Kept = record { server = (served_with e old.server r).0; base = old.base; events = old.events ++ e ∷ []; rings = new.rings } in
     let history : IsHistory (served_by old.server.schema) old.base (old.events ++ e ∷ []) r.0 given = history_on (served_by old.server.schema) old.base old.server.world old.events kept.0.0 e r kept.0.1 went in
     let tells : AreTold new.rings given = told_on old.rings new.rings kept.0.0 e r.1 kept.0.2 (subst (Tellings e old.rings new.rings) (sym (ap (λ (p : Server × List (ℕ × List ℕ)). p.1) is)) told) in
-    let done : IsKept mid = ((given, history, tells), opens_so r went kept.1) in
+    let whole = kept.2 in
+    let all_given : ℕ → List Out = given_after e r.1 whole.3 in
+    let start : World = (new_server whole.0 whole.1 old.server.schema).world in
+    let all : IsHistory (served_by old.server.schema) start (whole.2 ++ e ∷ []) r.0 all_given = history_on (served_by old.server.schema) start old.server.world whole.2 whole.3 e r whole.4 went in
+    let sent : AreSent new.rings all_given = sent_on old.rings new.rings whole.3 e r.1 whole.5 (subst (Tellings e old.rings new.rings) (sym (ap (λ (p : Server × List (ℕ × List ℕ)). p.1) is)) told) in
+    let done : IsKept mid = ((given, history, tells), opens_so r went kept.1, (whole.0, whole.1, whole.2 ++ e ∷ [], all_given, all, sent)) in
     subst IsKept (λ i. let k : Kept = record { server = (is i).0; base = sym takes.2 i; events = sym takes.1 i; rings = new.rings } in k) done
 
 -- ---- a ring that was sent this beside
@@ -86,14 +93,18 @@ module _ (old new : Kept) (kept : IsKept old) where
       told : Tellings (closed s) old.rings (remove old.rings s) []
       told t r is = (r, there t r (eq_by_cmp nat_cmp t s) (sym (get-remove old.rings s t) ∙ is), sym (append-nil (texts r)))
 
-  pub opened_kept : (s : ℕ) (x : Ring) → Takes (opened s) old new [] → new.rings ≡ insert old.rings s x → IsKept new
-  opened_kept s x takes same =
+  pub opened_kept : (s : ℕ) (x : Ring) → texts x ≡ [] → Takes (opened s) old new [] → new.rings ≡ insert old.rings s x → IsKept new
+  opened_kept s x nothing takes same =
       let e : Event = opened s in
       kept_on e old new [] kept takes (subst (λ (m : Rings). Tellings e old.rings m []) (sym same) told)
       (subst (λ (m : Rings). Openings e old m) (sym same) (λ r went opens_so. open_opened (served_by old.server.schema) old.rings x old.server.world s r went opens_so))
     where
+      same_ring : (a b : Ring) → (let o : Option Ring = Some a in o) ≡ Some b → a ≡ b
+      same_ring a b e = cc
+
       by : (t : ℕ) (r : Ring) (b c : Bool) → (s == t) ≡ b → eq_by_cmp nat_cmp t s ≡ c → cond c (Some x) (get old.rings t) ≡ Some r → IsTold b [] (get old.rings t) r
-      by t r true c e f is = tt
+      by t r true true e f is = ap texts (sym (same_ring x r is)) ∙ nothing
+      by t r true false e f is = absurd (true≢false (sym e ∙ other t s f))
       by t r false true e f is = absurd (true≢false (sym (eq-eqb s t (sym (same_key t s f))) ∙ e))
       by t r false false e f is = (r, is, sym (append-nil (texts r)))
 
@@ -156,11 +167,20 @@ round_taken old new mid outs flushed takes over = (
 
 -- ---- the beginning, and a new base
 
-pub begins : (s : Server) → s.world.sessions ≡ empty → IsKept (record { server = s; base = s.world; events = []; rings = empty })
-begins s none = ((λ t. [], history_begins (served_by s.schema) s.world, λ t r is. ends_nothing (texts r)), λ t. ap is_some (get-empty t) ∙ sym (ap (λ m. is_some (get m t)) none ∙ ap is_some (get-empty t)))
+pub new_is : (v : Server) (word most : ℕ) (s : Schema) → v ≡ new_server word most s → IsNew v
+new_is v word most s e = (word, most, e ∙ ap (new_server word most) (sym (ap (λ (x : Server). x.schema) e)))
+
+pub begins : (s : Server) → IsNew s → IsKept (record { server = s; base = s.world; events = []; rings = empty })
+begins s new =
+    let none : s.world.sessions ≡ empty = ap (λ (v : Server). v.world.sessions) new.2 in
+    let start : s.world ≡ (new_server new.0 new.1 s.schema).world = ap (λ (v : Server). v.world) new.2 in (
+      (λ t. [], history_begins (served_by s.schema) s.world, λ t r is. ends_nothing (texts r)),
+      λ t. ap is_some (get-empty t) ∙ sym (ap (λ m. is_some (get m t)) none ∙ ap is_some (get-empty t)),
+      (new.0, new.1, [], λ t. [], subst (λ (w : World). IsHistory (served_by s.schema) w [] s.world (λ t. [])) start (history_begins (served_by s.schema) s.world), λ t r is. absurd (true≢false (sym (ap is_some (sym (get-empty t) ∙ is))))),
+    )
 
 pub settles : (k : Kept) → IsKept k → IsKept (record k { base = k.server.world; events = [] })
-settles k kept = ((λ t. [], history_begins (served_by k.server.schema) k.server.world, λ t r is. ends_nothing (texts r)), kept.1)
+settles k kept = ((λ t. [], history_begins (served_by k.server.schema) k.server.world, λ t r is. ends_nothing (texts r)), kept.1, kept.2)
 
 -- ---- numbers that are still to be given
 
@@ -202,7 +222,8 @@ taken_out m n x none = same_map _ _ (λ q. get-remove (insert m n x) n q ∙ ap 
 -- nothing is sent, and no event is taken
 pub grown_kept : (old new : Kept) → IsKept old → new.server ≡ old.server → new.base ≡ old.base → new.events ≡ old.events → ((s : ℕ) → Grows [] (get old.rings s) (get new.rings s)) → IsKept new
 grown_kept old new kept server base events grows =
-    let done : IsKept (record old { rings = new.rings }) = ((kept.0.0, kept.0.1, told), λ s. same (get old.rings s) (get new.rings s) (grows s) ∙ kept.1 s) in
+    let whole = kept.2 in
+    let done : IsKept (record old { rings = new.rings }) = ((kept.0.0, kept.0.1, told), λ s. same (get old.rings s) (get new.rings s) (grows s) ∙ kept.1 s, (whole.0, whole.1, whole.2, whole.3, whole.4, sent)) in
     subst IsKept (λ i. let k : Kept = record { server = sym server i; base = sym base i; events = sym events i; rings = new.rings } in k) done
   where
     same : (o p : Option Ring) → Grows [] o p → is_some p ≡ is_some o
@@ -211,6 +232,13 @@ grown_kept old new kept server base events grows =
 
     same_ring : (a b : Ring) → (let o : Option Ring = Some a in o) ≡ Some b → a ≡ b
     same_ring a b e = cc
+
+    sent_by : (s : ℕ) (r : Ring) (o p : Option Ring) → get old.rings s ≡ o → Grows [] o p → p ≡ Some r → texts r ≡ map text_of (kept.2.3 s)
+    sent_by s r None p at e there = absurd (true≢false (sym (sym (ap is_some e) ∙ ap is_some there)))
+    sent_by s r (Some a) p at e there = ap texts (sym (same_ring e.0 r (sym e.1 ∙ there))) ∙ e.2 ∙ append-nil (texts a) ∙ kept.2.5 s a at
+
+    sent : AreSent new.rings kept.2.3
+    sent s r there = sent_by s r (get old.rings s) (get new.rings s) refl (grows s) there
 
     by : (s : ℕ) (r : Ring) (o p : Option Ring) → get old.rings s ≡ o → Grows [] o p → p ≡ Some r → EndsWith (texts r) (map text_of (kept.0.0 s))
     by s r None p at e there = absurd (true≢false (sym (sym (ap is_some e) ∙ ap is_some there)))
@@ -228,6 +256,12 @@ flushed_kept k m kept flushed = grown_kept k (record k { rings = m }) kept refl 
     grows : (o p : Option Ring) → IsFlushedAt o p → Grows [] o p
     grows None p e = e
     grows (Some a) p e = (e.0, e.1, flushed_texts a e.0 e.2 ∙ sym (append-nil (texts a)))
+
+-- a flush alone, which takes no event
+pub flushed_state : (k : Kept) (m : Rings) (v : Server) (count : ℕ) → v ≡ k.server → ((s : ℕ) → IsFlushedAt (get k.rings s) (get m s)) → IsKept k → AreUnused k.rings k.server.opened → count ≡ counted k.events
+    → IsKept (record k { server = v; rings = m }) × AreUnused m v.opened × (count ≡ counted k.events)
+flushed_state k m v count same flushed kept unused counts =
+    subst (λ (u : Server). IsKept (record k { server = u; rings = m }) × AreUnused m u.opened × (count ≡ counted k.events)) (sym same) (flushed_kept k m kept flushed, unused_flushed k.rings m k.server.opened flushed unused, counts)
 
 -- ---- numbers
 

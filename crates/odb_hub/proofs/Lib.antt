@@ -5,6 +5,7 @@ pub mod Free
 pub mod FreeAmong
 pub mod Given
 pub mod HandingOver
+pub mod Inboxes
 pub mod Keeping
 pub mod OwnRounds
 pub mod Putting

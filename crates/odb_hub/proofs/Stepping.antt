@@ -8,7 +8,7 @@ use Rattle.serde_json.specs.Data.{Data}
 use Rattle.odb_atoms.specs.FinMap.{get, insert, len, remove}
 use Rattle.odb_atoms.specs.Uuid.{Uuid}
 use Rattle.odb_rpc.specs.Message.{call_of, has_reply}
-use Rattle.odb_hub.specs.Kept.{AreOpen, AreTold, EndsWith, text_of}
+use Rattle.odb_hub.specs.Kept.{AreOpen, AreSent, AreTold, EndsWith, text_of}
 use Rattle.odb_hub.specs.Rings.{Ring, Rings, Text, texts, texts_to}
 use Rattle.odb_hub.proofs.Takings.{texts_printed}
 use Rattle.odb_service.proofs.OnlyPosts.{Rest, takes_each}
@@ -80,7 +80,7 @@ ends_nothing a = (a, sym (append-nil a))
 
 -- the ring of a session after an event: it was opened just now, or its ring was sent this beside
 abbrev pub IsTold : Bool → List Text → Option Ring → Ring → Type 0
-IsTold true outs o new = Unit {0}
+IsTold true outs o new = texts new ≡ []
 IsTold false outs o new = (old : Ring) × (o ≡ Some old) × (texts new ≡ texts old ++ outs)
 
 pub told_on : (old new : Rings) (given : ℕ → List Out) (e : Event) (outs : List Sent) → AreTold old given
@@ -95,6 +95,18 @@ told_on old new given e outs told is s r there = by (opens e s) (is s r there)
         subst (λ ts. EndsWith ts (map text_of (given s ++ sent_to s outs))) (sym k.2)
         (subst (λ ts. EndsWith (texts k.0 ++ more) ts) (sym (map-append text_of (given s) (sent_to s outs) ∙ ap (λ ts. map text_of (given s) ++ ts) (sym (texts_printed s outs))))
         (ends_on (texts k.0) (map text_of (given s)) more (told s k.0 k.1)))
+
+-- the same of just what they were sent
+pub sent_on : (old new : Rings) (given : ℕ → List Out) (e : Event) (outs : List Sent) → AreSent old given
+    → ((s : ℕ) (r : Ring) → get new s ≡ Some r → IsTold (opens e s) (texts_to s (map printed outs)) (get old s) r)
+    → AreSent new (given_after e outs given)
+sent_on old new given e outs sent is s r there = by (opens e s) (is s r there)
+  where
+    by : (b : Bool) → IsTold b (texts_to s (map printed outs)) (get old s) r → texts r ≡ map text_of (cond b [] (given s ++ sent_to s outs))
+    by true k = k
+    by false k =
+        k.2 ∙ ap (λ ts. ts ++ texts_to s (map printed outs)) (sent s k.0 k.1) ∙ ap (λ ts. map text_of (given s) ++ ts) (texts_printed s outs)
+        ∙ sym (map-append text_of (given s) (sent_to s outs))
 
 -- ---- who is opens_so
 

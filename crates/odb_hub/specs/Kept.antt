@@ -9,6 +9,7 @@ use Rattle.odb_service.specs.Server.{Server, serve, served_by, server_code}
 use Rattle.odb_service.specs.Session.{Out, Session, take}
 use Rattle.odb_service.specs.World.{World, revision_of}
 use Rattle.odb_service.specs.WorldCode.{world_code}
+use Rattle.odb_core.specs.Represented.Core.{new_server}
 use Rattle.odb_hub.specs.EventCode.{events_code}
 use Rattle.odb_hub.specs.Rings.{IsServed, Ring, Rings, Text, rings_code, texts, texts_to}
 use Rattle.std.specs.List.{list_any}
@@ -42,9 +43,21 @@ AreTold rings given = (s : ℕ) (r : Ring) → get rings s ≡ Some r → EndsWi
 abbrev pub AreOpen : Rings → World → Type 0
 AreOpen rings w = (s : ℕ) → is_some (get rings s) ≡ is_some (get w.sessions s)
 
--- base and events are a legal history that ends in the server's state, and the rings end with what it gives
+-- empty tables, no commit and no session, in some run
+abbrev pub IsNew : Server → Type 0
+IsNew v = (word : ℕ) × (most : ℕ) × (v ≡ new_server word most v.schema)
+
+-- the rings were sent just what the history gives their sessions, in order, each once
+abbrev pub AreSent : Rings → (ℕ → List Out) → Type 0
+AreSent rings given = (s : ℕ) (r : Ring) → get rings s ≡ Some r → texts r ≡ map text_of (given s)
+
+-- Some events lead from a new server of the schema to the server's state; and each ring was sent, since its session was opened, just what they give that.
+abbrev pub IsWhole : Kept → Type 0
+IsWhole k = (word : ℕ) × (most : ℕ) × (events : List Event) × (given : ℕ → List Out) × IsHistory (served_by k.server.schema) ((new_server word most k.server.schema).world) events k.server.world given × AreSent k.rings given
+
+-- base and events are a legal history that ends in the server's state, and the rings end with what it gives; and since the server was new the rings were sent just what its history gives
 abbrev pub IsKept : Kept → Type 0
-IsKept k = ((given : ℕ → List Out) × IsHistory (served_by k.server.schema) k.base k.events k.server.world given × AreTold k.rings given) × AreOpen k.rings k.server.world
+IsKept k = ((given : ℕ → List Out) × IsHistory (served_by k.server.schema) k.base k.events k.server.world given × AreTold k.rings given) × AreOpen k.rings k.server.world × IsWhole k
 
 -- a taking of an open session gives nothing and changes nothing
 abbrev pub IsQuiet : Server → Type 0

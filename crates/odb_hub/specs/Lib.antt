@@ -1,6 +1,7 @@
 pub mod Batch
 pub mod Counted
 pub mod EventCode
+pub mod Inbox
 pub mod Kept
 pub mod Outbox
 pub mod Own

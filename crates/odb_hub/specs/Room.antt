@@ -10,7 +10,7 @@ abbrev pub total : List ℕ → ℕ
 total [] = 0
 total (size ∷ sizes) = size + total sizes
 
--- there is room for a message of so many bytes beside those that may be in the ring still: always where there are none, and else for 64 messages, and for 512 KiB of text
+-- there is room for a message of so many bytes beside those that may be in the ring still: always where there are none, and else for 64 messages, and for 256 KiB of text
 abbrev pub has_room : List ℕ → ℕ → Bool
 has_room [] size = true
 has_room (x ∷ xs) size = nat_lt (length (x ∷ xs)) 64 && nat_le (total (x ∷ xs) + size) 262144

@@ -79,15 +79,15 @@ impl<L: Ledger> Counted<L> {
     ghost use Rattle.odb_core.specs.Represented.Reason.{IsReason};
     ghost use Rattle.odb_hub.specs.Batch.{IsSome, IsTurn, Submits, is_sooner};
     ghost use Rattle.odb_hub.specs.Counted.{Closes, IsCounted, SameCount, submits};
-    ghost use Rattle.odb_hub.specs.Kept.{IsQuiet, Takes, TakesRound, counted};
+    ghost use Rattle.odb_hub.specs.Kept.{IsNew, IsQuiet, Takes, TakesRound, counted};
     ghost use Rattle.odb_hub.specs.Own.{GivesOwn, GivesTo, IsGiven};
     ghost use Rattle.odb_hub.specs.Represented.Mailbox.{name_of, taken};
     ghost use Rattle.odb_hub.specs.Represented.Submission.{events_of};
     ghost use Rattle.odb_hub.specs.Rings.{fresh_ring, IsFlushedAt};
 
-    /// Makes a hub's state over a core without sessions, of which so many seats may be given at once.
+    /// Makes a hub's state over a new core, which has empty tables, no commit and no session, of which so many seats may be given at once.
     pub fn new(alloc: Global, core: Core, blank: Blank, seats: u64) -> Counted<L>
-        requires core { (core.world.sessions ≡ empty) × (core.opened ≡ 0) }
+        requires core { IsNew core }
         requires ledger { (blank.name ≡ L.name) × (blank.parts ≡ L.parts) }
         requires parts { blank.parts ≡ seats + 1 }
         ensures { result ≡ record { kept = record { server = core; base = core.world; events = []; rings = empty }; settled = 0; answered = 0 } }

@@ -8,8 +8,8 @@ use std::sync::ledger::{Blank, Ledger};
 use std::sync::{Mutex, MutexGuard, Wait};
 
 /// A server that many threads share: what the lock guards is a [`Counted`]. Of a value under a lock only the facts of its
-/// type are known before a call, here that the journal is a legal history, that the rings were sent what it gives, and that
-/// its submits are those that the seats were answered ([`Counted::state`]). Messages are taken out of a
+/// type are known before a call, here that the state is one to which a new server comes, that the rings were sent just what
+/// that gives, and that the submits are those that the seats were answered ([`Counted::state`]). Messages are taken out of a
 /// [`Mailbox`](crate::Mailbox) without the lock.
 ///
 /// A thread comes to the lock by a door, where one waits at a time: whoever had the lock finds the door shut while another
@@ -21,11 +21,11 @@ pub struct Hub<L: Ledger> {
 }
 
 impl<L: Ledger> Hub<L> {
-    ghost use Rattle.odb_atoms.specs.FinMap.{empty};
+    ghost use Rattle.odb_hub.specs.Kept.{IsNew};
 
-    /// Makes a hub over a core without sessions, of which so many seats may be given at once.
+    /// Makes a hub over a new core, which has empty tables, no commit and no session, of which so many seats may be given at once.
     pub fn new(alloc: Global, core: Core, blank: Blank, seats: u64) -> Hub<L>
-        requires core { (core.world.sessions ≡ empty) × (core.opened ≡ 0) }
+        requires core { IsNew core }
         requires ledger { (blank.name ≡ L.name) × (blank.parts ≡ L.parts) }
         requires parts { blank.parts ≡ seats + 1 }
     {

@@ -47,7 +47,7 @@ impl RingLoad {
     }
 
     /// Returns whether there is room for a message of so many bytes: one always fits into a ring that is empty, which
-    /// has room for 64 of them, and for 512 KiB of text.
+    /// has room for 64 of them, and for 256 KiB of text.
     pub(crate) fn has_room(&self, size: usize) -> bool
         ensures { result ≡ has_room self.now size }
     {

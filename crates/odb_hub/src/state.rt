@@ -28,8 +28,8 @@ const FEW: usize = 32;
 
 /// A server, the events that it took since a base state, and the rings of its sessions. Each call is one event of the
 /// service machine: where it succeeds the journal grows by that event, and where it is refused nothing changes. What
-/// is always so (`IsKept`): base and journal are a legal history that ends in the server's state, and each ring was
-/// sent, last, what that history gives its session.
+/// is always so (`IsKept`): base and journal are a legal history that ends in the server's state; and some events lead to
+/// it from a new server, by which each ring was sent just what they give its session since that was opened.
 ///
 /// In the costs below `n` sessions are open. The journal takes no memory.
 pub struct HubState {
@@ -58,15 +58,16 @@ impl HubState {
     ghost use Rattle.odb_service.specs.Server.{serve};
     ghost use Rattle.odb_core.specs.Represented.Reason.{IsReason};
     ghost use Rattle.odb_hub.specs.Batch.{IsSome, IsTurn, RefusesFirst, TakesUpTo};
-    ghost use Rattle.odb_hub.specs.Kept.{IsKept, IsQuiet, Takes, TakesRound, counted};
+    ghost use Rattle.odb_hub.specs.Kept.{IsKept, IsNew, IsQuiet, Takes, TakesRound, counted};
     ghost use Rattle.odb_hub.specs.Own.{FlushesOwn, GivesOwn, GivesTo, IsGiven, IsOwedNothing, TakesOwnRound};
     ghost use Rattle.odb_hub.specs.Represented.Submission.{events_of};
     ghost use Rattle.odb_hub.specs.Represented.Mailbox.{name_of, taken};
     ghost use Rattle.odb_hub.specs.Rings.{AreShort, fresh_ring, IsFlushedAt};
 
-    /// Makes a core without sessions, with the state that it is in for base, and no event.
+    /// Makes the state of a new core, which has empty tables, no commit and no session; its own state is the base, and there is
+    /// no event.
     pub fn new(alloc: Global, core: Core) -> HubState
-        requires { (core.world.sessions ≡ empty) × (core.opened ≡ 0) }
+        requires { IsNew core }
         ensures { result ≡ record { server = core; base = core.world; events = []; rings = empty } }
     {
         HubState {

@@ -6,11 +6,13 @@ pub mod BroughtToNow
 pub mod GrantedMonitors
 pub mod ToldBeforeReply
 pub mod RefusedEvents
+pub mod NamedCommits
 pub mod OwedByRounds
 pub mod PictureLookups
 pub mod RepliesAtOnce
 pub mod ReplyOrder
 pub mod RequestNames
+pub mod SentIntoRings
 pub mod SentTexts
 pub mod Rounds
 pub mod HeadlineRuns

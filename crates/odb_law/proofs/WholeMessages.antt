@@ -29,7 +29,7 @@ use Rattle.odb_request.specs.Request.{Request}
 use Rattle.odb_tables.specs.Database.{Db}
 use Rattle.odb_service.proofs.Each.{Each}
 
-cancel_append : {A : Type 0} (xs ys zs : List A) → xs ++ ys ≡ xs ++ zs → ys ≡ zs
+pub cancel_append : {A : Type 0} (xs ys zs : List A) → xs ++ ys ≡ xs ++ zs → ys ≡ zs
 cancel_append [] ys zs e = e
 cancel_append (x ∷ xs) ys zs e = cancel_append xs ys zs (cc)
 
@@ -191,12 +191,12 @@ module _ (h : Service) where
 
   -- ---- events
 
-  no_message : (a : List Out) (o : Out) (b : List Out) → [] ≡ a ++ o ∷ b → ⊥
+  pub no_message : (a : List Out) (o : Out) (b : List Out) → [] ≡ a ++ o ∷ b → ⊥
   no_message [] o b e = cc
   no_message (x ∷ a) o b e = cc
 
   -- at most one message
-  only : (p : Option Out) (a : List Out) (o : Out) (b : List Out) → option_to_list p ≡ a ++ o ∷ b → (a ≡ []) × (b ≡ []) × (p ≡ Some o)
+  pub only : (p : Option Out) (a : List Out) (o : Out) (b : List Out) → option_to_list p ≡ a ++ o ∷ b → (a ≡ []) × (b ≡ []) × (p ≡ Some o)
   only None a o b e = absurd (no_message a o b e)
   only (Some x) [] o b e = (refl, cc, cc)
   only (Some x) (y ∷ a) o b e = absurd (no_message a o b (cc))

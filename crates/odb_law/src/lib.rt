@@ -8,7 +8,9 @@ ghost use Rattle.odb_schema.specs.Schema.{Schema};
 ghost use Rattle.odb_law.specs.Headline.{BringsWhole, HoldsAlways, IsBroughtToNow, IsChangedWhole, IsDroppedWhole, IsKnown, IsMinimal};
 ghost use Rattle.odb_law.specs.Kinds.{SendsKinds};
 ghost use Rattle.odb_law.specs.Law.{AllAreTried, IsAnsweredOnce, IsCommitted, IsCounted, IsFoundAgain, IsGranted, IsToldBefore, OwedIsTaken, RoundsTake, TakesEvents};
+ghost use Rattle.odb_law.specs.Named.{IsHeldByName};
 ghost use Rattle.odb_law.specs.Replies.{KeepsOrder, RepliesAtOnce};
+ghost use Rattle.odb_law.specs.Rings.{HoldsOfRings};
 ghost use Rattle.odb_law.specs.Sent.{HoldsOfTexts, IsRun, RepliesAreWhole, TextsBringWhole};
 ghost use Rattle.odb_service.specs.Server.{served_by};
 ghost use Rattle.odb_service.specs.Service.{service_of};
@@ -48,6 +50,8 @@ pub fn law()
     ensures committed { (serves : List ℕ → Bool) (s : Schema) → IsCommitted (service_of serves s) }
     // What is found for a commit is the database as it was after it.
     ensures found_again { (serves : List ℕ → Bool) (s : Schema) → IsFoundAgain (service_of serves s) }
+    // A message that names a commit names one for which is found what its client then has of the monitor, as the filters select.
+    ensures held_by_name { (serves : List ℕ → Bool) (s : Schema) → IsHeldByName (service_of serves s) }
     // What a transaction changed is told before its reply, which has its results.
     ensures told_before { (serves : List ℕ → Bool) (s : Schema) → IsToldBefore (service_of serves s) }
     // Each request is answered once, is owed its answer, or waits.
@@ -80,4 +84,22 @@ pub fn law_of_texts()
     ensures replies_at_once { (s : Schema) (word most : ℕ) → RepliesAreWhole s word most }
     // Texts come by rounds alone, one at most to a session, and each brings the monitor that it is about whole to its taking.
     ensures bring_whole { (s : Schema) (word most : ℕ) → TextsBringWhole s word most }
+{}
+
+/// States the monitor law of what a hub's rings were sent: of the state that its lock guards, whenever that is free
+/// (`odb_hub`, `HubState::since_base`), for whatever events its threads brought, in any interleaving. Of what a ring was sent,
+/// with the message that is held back for it, the clauses hold with the server's database. The call does nothing.
+pub fn law_of_rings()
+    // A client that takes these, and then what it is still owed, has just what its newest filters select from the server's database.
+    ensures brought_to_now { HoldsOfRings (λ s. IsBroughtToNow (served_by s)) }
+    // The monitors that it then has are those that it asked for.
+    ensures known { HoldsOfRings (λ s. IsKnown (served_by s)) }
+    // A strict client refuses none of them: each is non-empty and names only what differs.
+    ensures minimal { HoldsOfRings (λ s. IsMinimal (served_by s)) }
+    // A monitor goes when its client has what the filters select.
+    ensures dropped_whole { HoldsOfRings (λ s. IsDroppedWhole (served_by s)) }
+    // New filters hold when its client has what they select.
+    ensures changed_whole { HoldsOfRings (λ s. IsChangedWhole (served_by s)) }
+    // Each request is answered once, is owed its answer, or waits.
+    ensures answered_once { HoldsOfRings (λ s. IsAnsweredOnce (served_by s)) }
 {}

@@ -1,7 +1,7 @@
 //! A session whose messages nobody takes: how many submits its seat is answered, what its ring gives then, what it still gives
 //! once the session has ended, and what another session is sent meanwhile.
 ghost use Rattle.std.specs.Prelude.{◌≡◌};
-ghost use Rattle.odb_atoms.specs.FinMap.{empty};
+ghost use Rattle.odb_hub.specs.Kept.{IsNew};
 
 use crate::requests::{NET, core, note, request};
 use odb_core::{Core, Out, Refused};
@@ -225,7 +225,7 @@ fn trial<L: Ledger, R: Threads + Wait + Clock + Sync>(
     blank: Blank,
     is_asked: bool,
 ) -> Result<(SessionsFound, [u64; 3]), AllocError>
-    requires core { (core.world.sessions ≡ empty) × (core.opened ≡ 0) }
+    requires core { IsNew core }
     requires ledger { (blank.name ≡ L.name) × (blank.parts ≡ L.parts) }
     requires parts { blank.parts ≡ 3 }
 {
@@ -259,7 +259,7 @@ fn alone<L: Ledger, R: Threads + Wait + Clock + Sync>(
     core: Core,
     blank: Blank,
 ) -> Result<Vec<u8>, AllocError>
-    requires core { (core.world.sessions ≡ empty) × (core.opened ≡ 0) }
+    requires core { IsNew core }
     requires ledger { (blank.name ≡ L.name) × (blank.parts ≡ L.parts) }
     requires parts { blank.parts ≡ 3 }
 {

@@ -1,6 +1,6 @@
 //! Cores, requests and messages for trials.
-ghost use Rattle.std.specs.Prelude.{◌≡◌, IfOk};
-ghost use Rattle.odb_atoms.specs.FinMap.{empty};
+ghost use Rattle.std.specs.Prelude.{IfOk};
+ghost use Rattle.odb_hub.specs.Kept.{IsNew};
 
 use odb_core::{Core, Out};
 use odb_hub::Submission;
@@ -17,7 +17,7 @@ pub(crate) const NET: &[u8] =
 
 /// Returns a core of the schema, without sessions.
 pub(crate) fn core(alloc: Global, hashing: RandomState, schema: &[u8]) -> Result<Core, AllocError>
-    ensures { IfOk result (λ core. (core.world.sessions ≡ empty) × (core.opened ≡ 0)) }
+    ensures { IfOk result (λ core. IsNew core) }
 {
     let Ok(schema) = Schema::read(alloc, schema) else {
         return Err(AllocError);

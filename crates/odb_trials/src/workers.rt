@@ -1,7 +1,6 @@
 //! Rounds whose jobs two workers compose, where neither may go on before the other has begun: they run side by side, and the
 //! texts are those that one worker composes.
-ghost use Rattle.std.specs.Prelude.{◌≡◌};
-ghost use Rattle.odb_atoms.specs.FinMap.{empty};
+ghost use Rattle.odb_hub.specs.Kept.{IsNew};
 
 use crate::mailboxes::bell;
 use crate::requests::{NET, core, note, request};
@@ -103,7 +102,7 @@ fn sent<R: Threads + Sync, G: Gate + Sync>(
     workers: Workers,
     gate: &G,
 ) -> Result<Vec<u8>, AllocError>
-    requires { (core.world.sessions ≡ empty) × (core.opened ≡ 0) }
+    requires { IsNew core }
 {
     let mut state = HubState::new(alloc, core);
     let mut mailboxes = Vec::new(alloc);

@@ -1,7 +1,7 @@
 //! Writers that take a byte a call and, at each place in turn of what an outbox gives, fail, or take none; and good ones, to
 //! which it is written on.
 ghost use Rattle.std.specs.Prelude.{◌≡◌};
-ghost use Rattle.odb_atoms.specs.FinMap.{empty};
+ghost use Rattle.odb_hub.specs.Kept.{IsNew};
 
 use crate::mailboxes::{open, part, submit};
 use crate::requests::{core, note};
@@ -221,7 +221,7 @@ fn trial<L: Ledger, R: Wait + Clock>(
     blank: Blank,
     sizes: Sizes,
 ) -> Result<Option<usize>, AllocError>
-    requires core { (core.world.sessions ≡ empty) × (core.opened ≡ 0) }
+    requires core { IsNew core }
     requires ledger { (blank.name ≡ L.name) × (blank.parts ≡ L.parts) }
     requires parts { blank.parts ≡ 3 }
 {

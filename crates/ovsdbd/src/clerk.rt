@@ -1,6 +1,6 @@
 //! A thread that serves connections, by events. [P 15.2]
 
-use crate::connection::{Connection, Next, PIECE, Tools};
+use crate::connection::{Connection, Next, PIECE, RandomIdentifiers, Tools};
 use crate::daemon::Daemon;
 use crate::desk::Desk;
 use crate::log::Happened;
@@ -60,7 +60,7 @@ pub(crate) fn serve_desk<L: Ledger, R: Threads + Wait + Clock + RandomSource + S
             rt,
             daemon,
             piece,
-            rng: make_rng(rt)?,
+            identifiers: RandomIdentifiers { rng: make_rng(rt)? },
             moment: daemon.now(rt),
         },
         desk,
@@ -90,7 +90,7 @@ impl<'a, L: Ledger, R: Threads + Wait + Clock + RandomSource + Sync> Clerk<'a, L
                 rt,
                 daemon,
                 piece: _,
-                rng: _,
+                identifiers: _,
                 moment: _,
             },
             desk: _,

@@ -5,11 +5,9 @@ use crate::log::{Happened, Line, Reason};
 use mio::event::Event;
 use mio::net::TcpStream;
 use odb_core::{Refused, SessionId};
-use odb_hub::{Mailbox, Outbox, Seat, Submission};
-use odb_rpc::inserts;
-use odb_wire::{Framer, Message, Request, WireFault};
+use odb_hub::{Identifiers, Inbox, Mailbox, Outbox, Seat};
+use odb_wire::WireFault;
 use rand::rngs::StdRng;
-use std::alloc::{AllocError, Global};
 use std::io::{self, ErrorKind, Read};
 use std::net::{Shutdown, SocketAddr};
 use std::sync::Wait;
@@ -28,13 +26,25 @@ const PAUSE: u64 = 1;
 /// How often what is held back is sent for, before other connections have their turn.
 const REFILLS: usize = 8;
 
+/// Random identifiers (RFC 4122, 4.4).
+#[derive(Drop)]
+pub(crate) struct RandomIdentifiers {
+    pub(crate) rng: StdRng,
+}
+
+impl Identifiers for RandomIdentifiers {
+    fn next(&mut self) -> Uuid {
+        Uuid::new_v4(&mut self.rng)
+    }
+}
+
 /// What a thread that serves connections has for each of them in turn.
 pub(crate) struct Tools<'a, L: Ledger, R> {
     pub(crate) rt: &'a R,
     pub(crate) daemon: &'a Daemon<L>,
     /// Where bytes are read.
     pub(crate) piece: Vec<u8>,
-    pub(crate) rng: StdRng,
+    pub(crate) identifiers: RandomIdentifiers,
     /// The milliseconds since the start, where the daemon's patience has an end.
     pub(crate) moment: u64,
 }
@@ -69,12 +79,8 @@ pub(crate) struct Connection<L: Ledger> {
     /// Why the connection is to be closed, once that is known.
     reason: Option<Reason>,
     seat: Option<Seat<L>>,
+    inbox: Inbox,
     outbox: Outbox,
-    framer: Framer,
-    /// The requests that were read and aren't submitted yet, the first of them last.
-    submissions: Vec<Submission>,
-    /// Whether more is read once these are submitted.
-    reads: bool,
     is_readable: bool,
     is_writable: bool,
     /// Whether the peer sends no more than what there is to read.
@@ -109,10 +115,8 @@ impl<L: Ledger> Connection<L> {
             session: seat.session(),
             reason: None,
             seat: Some(seat),
+            inbox: Inbox::new(alloc, daemon.max_message),
             outbox: Outbox::new(alloc, mailbox),
-            framer: Framer::new(alloc, daemon.max_message),
-            submissions: Vec::new(alloc),
-            reads: true,
             is_readable: true,
             is_writable: true,
             is_closed: false,
@@ -215,7 +219,7 @@ impl<L: Ledger> Connection<L> {
             if self.may_read() && self.is_readable {
                 self.read(tools);
             }
-            if !self.submissions.is_empty() {
+            if self.inbox.pending() > 0 {
                 self.submit(tools);
                 written = self.write(tools)?;
             }
@@ -231,12 +235,12 @@ impl<L: Ledger> Connection<L> {
 
     /// Returns whether more may be read: all that was read was submitted.
     fn may_read(&self) -> bool {
-        self.reads && self.submissions.is_empty() && self.may_submit()
+        self.inbox.is_open() && self.inbox.pending() == 0 && self.may_submit()
     }
 
     /// Returns whether there are requests to submit, or bytes to read.
     pub(crate) fn has_requests(&self) -> bool {
-        !self.submissions.is_empty() || self.reads && self.is_readable
+        self.inbox.pending() > 0 || self.inbox.is_open() && self.is_readable
     }
 
     /// Notes that the peer sent something, or couldn't.
@@ -259,7 +263,7 @@ impl<L: Ledger> Connection<L> {
 
     /// Returns whether all that is read of it was submitted.
     fn has_read_all(&self) -> bool {
-        !self.reads && self.submissions.is_empty()
+        !self.inbox.is_open() && self.inbox.pending() == 0
     }
 
     /// Returns whether the peer ended its side while a request waits that met Busy, and nothing was given to the session
@@ -283,7 +287,7 @@ impl<L: Ledger> Connection<L> {
         if self.outbox.bell().is_held_back() {
             return Next::Rests;
         }
-        self.stop();
+        self.inbox.stop();
         self.part(tools);
         Next::GoesOn
     }
@@ -334,51 +338,28 @@ impl<L: Ledger> Connection<L> {
             Ok(read) if read > 0 => {
                 self.is_readable = read == tools.piece.len() || self.is_closed;
                 self.hear_peer(tools.moment);
-                if self.take_in(tools, read).is_err() {
-                    self.end_for(Reason::Memory);
-                    self.stop();
-                }
+                self.take_in(tools, read);
             }
-            Ok(_) => self.stop(),
+            Ok(_) => self.inbox.stop(),
             Err(error) if error.kind() == ErrorKind::WouldBlock => self.is_readable = false,
             Err(error) if error.kind() == ErrorKind::Interrupted => {}
             Err(_) => {
                 self.end_for(Reason::Reset);
-                self.stop();
+                self.inbox.stop();
             }
         }
     }
 
-    /// Reads and submits nothing more.
-    fn stop(&mut self) {
-        self.reads = false;
-        self.submissions.clear();
-    }
-
-    /// Finds the requests among so many bytes that were read.
-    fn take_in<R: Wait>(
-        &mut self,
-        tools: &mut Tools<'_, L, R>,
-        read: usize,
-    ) -> Result<(), AllocError> {
-        let messages = self.feed(tools, read)?;
-        let alloc = tools.daemon.alloc;
-        self.submissions = submissions_of(alloc, messages, &mut tools.rng)?;
-        Ok(())
-    }
-
-    /// Finds the messages that end in these bytes. A fault that comes after them stops the reading.
-    fn feed<R: Wait>(
-        &mut self,
-        tools: &Tools<'_, L, R>,
-        read: usize,
-    ) -> Result<Vec<Message>, AllocError> {
+    /// Takes in so many bytes that were read. A fault that comes after the requests in them stops the reading.
+    fn take_in<R: Wait>(&mut self, tools: &mut Tools<'_, L, R>, read: usize) {
         let Some(bytes) = tools.piece.get(..read) else {
-            return Ok(Vec::new(tools.daemon.alloc));
+            return;
         };
-        let fed = self.framer.feed(bytes)?;
-        self.reads = fed.fault.is_none();
-        match fed.fault {
+        if self.inbox.take_in(bytes, &mut tools.identifiers).is_err() {
+            self.end_for(Reason::Memory);
+            return;
+        }
+        match self.inbox.fault() {
             Some(WireFault::TooLong) => {
                 self.end_for(Reason::TooLong);
                 self.note_too_long(tools);
@@ -386,7 +367,6 @@ impl<L: Ledger> Connection<L> {
             Some(WireFault::BadStream) => self.end_for(Reason::Malformed),
             None => {}
         }
-        Ok(fed.messages)
     }
 
     /// Has it said that the connection is closed for a message that is too long.
@@ -402,12 +382,12 @@ impl<L: Ledger> Connection<L> {
             return;
         };
         let daemon = tools.daemon;
-        match daemon.submit_turn(tools.rt, seat, &mut self.submissions) {
+        match daemon.submit_turn(tools.rt, seat, &mut self.inbox) {
             Ok(()) => {}
             Err(Refused::Busy) => self.is_busy = true,
             Err(_) => {
                 self.end_for(Reason::Memory);
-                self.stop();
+                self.inbox.stop();
             }
         }
     }
@@ -475,10 +455,8 @@ impl<L: Ledger> Connection<L> {
             session: _,
             reason: _,
             seat,
+            inbox: _,
             outbox: _,
-            framer: _,
-            submissions: _,
-            reads: _,
             is_readable: _,
             is_writable: _,
             is_closed: _,
@@ -508,38 +486,4 @@ pub(crate) fn part_at_last<L: Ledger, R: Wait + Clock>(rt: &R, daemon: &Daemon<L
         thread::sleep(rt, Duration::from_millis(PAUSE));
     }
     unreachable!()
-}
-
-/// Returns the requests among the messages, the first of them last.
-fn submissions_of(
-    alloc: Global,
-    messages: Vec<Message>,
-    rng: &mut StdRng,
-) -> Result<Vec<Submission>, AllocError> {
-    let mut submissions = Vec::with_capacity(alloc, messages.len())?;
-    for message in messages {
-        match message {
-            Message::Request(request) => submissions.push(submission_of(alloc, request, rng)?)?,
-            Message::Notification(request) => submissions.push(submission_of(
-                alloc, request, rng,
-            )?)?,
-            Message::Response(response) => drop(response),
-        }
-    }
-    submissions.reverse();
-    Ok(submissions)
-}
-
-/// Returns what is submitted for a request: it, with a random identifier for each of its inserts.
-pub(crate) fn submission_of(
-    alloc: Global,
-    request: Request,
-    rng: &mut StdRng,
-) -> Result<Submission, AllocError> {
-    let count = inserts(&request);
-    let mut fresh = Vec::with_capacity(alloc, count)?;
-    for made in 0..count {
-        fresh.push(Uuid::new_v4(rng))?;
-    }
-    Ok(Submission::new(request, fresh))
 }

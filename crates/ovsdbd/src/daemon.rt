@@ -6,7 +6,7 @@ use crate::notices::Notices;
 use crate::pace::Pace;
 use crate::serve::Terms;
 use odb_core::{Core, MAX_SESSIONS, Refused, SessionId};
-use odb_hub::{Hub, Seat, Submission};
+use odb_hub::{Hub, Inbox, Seat};
 use odb_par::{Open, Workers};
 use std::alloc::Global;
 use std::net::SocketAddr;
@@ -63,7 +63,7 @@ pub(crate) struct Daemon<L: Ledger> {
 
 impl<L: Ledger> Daemon<L> {
     ghost use Rattle.std.specs.Prelude.{◌≡◌, ◌+◌};
-    ghost use Rattle.odb_atoms.specs.FinMap.{empty};
+    ghost use Rattle.odb_hub.specs.Kept.{IsNew};
 
     /// Makes a daemon over a core without sessions.
     pub(crate) fn new(
@@ -73,7 +73,7 @@ impl<L: Ledger> Daemon<L> {
         desks: Vec<Desk>,
         terms: Terms,
     ) -> Daemon<L>
-        requires core { (begun.core.world.sessions ≡ empty) × (begun.core.opened ≡ 0) }
+        requires core { IsNew begun.core }
         requires ledger { (blank.name ≡ L.name) × (blank.parts ≡ L.parts) }
         requires parts { blank.parts ≡ seats + 1 }
     {
@@ -132,17 +132,19 @@ impl<L: Ledger> Daemon<L> {
         }
     }
 
-    /// Submits a turn of the requests, gives their session what it is owed, and tells the other sessions.
+    /// Submits a turn of what is pending, gives their session what it is owed, and tells the other sessions.
     pub(crate) fn submit_turn<R: Threads + Wait + Clock + Sync>(
         &self,
         rt: &R,
         seat: &mut Seat<L>,
-        submissions: &mut Vec<Submission>,
+        inbox: &mut Inbox,
     ) -> Result<(), Refused> {
-        let before = submissions.len();
+        let before = inbox.pending();
         let now = self.now(rt);
-        let submitted = self.hub.enter(rt).submit_turn(rt, seat, submissions, now);
-        let taken = before.saturating_sub(submissions.len());
+        let mut hub = self.hub.enter(rt);
+        let submitted = inbox.submit_turn(rt, &mut *hub, seat, now);
+        drop(hub);
+        let taken = before.saturating_sub(inbox.pending());
         if submitted.due_sooner {
             self.pace.wake();
         }

@@ -1,13 +1,12 @@
 //! A file of messages, which is submitted before the daemon listens. [P 15.2]
 
-use crate::connection::{part_at_last, submission_of};
+use crate::connection::{RandomIdentifiers, part_at_last};
 use crate::daemon::Daemon;
 use crate::fault::{LoadFault, ProgramFault};
-use odb_hub::{Bell, Calls, Outbox, Seat, Submission};
+use odb_hub::{Bell, Calls, Outbox, Seat, Submission, submission_of};
 use odb_script::RunFault;
 use odb_wire::{Framer, Message, Request, Response, WireFault};
 use rand::make_rng;
-use rand::rngs::StdRng;
 use serde_json::Value;
 use std::alloc::{AllocError, Global};
 use std::fs::File;
@@ -33,7 +32,7 @@ struct Loader<'a, L: Ledger, R> {
     outbox: Outbox,
     framer: Framer,
     replies: Framer,
-    rng: StdRng,
+    identifiers: RandomIdentifiers,
     /// How many messages were submitted.
     count: u64,
 }
@@ -60,7 +59,7 @@ pub(crate) fn load_file<L: Ledger, R: Files + Wait + Clock + RandomSource>(
         outbox: Outbox::new(daemon.alloc, mailbox),
         framer: Framer::new(daemon.alloc, daemon.max_message),
         replies: Framer::new(daemon.alloc, usize::MAX),
-        rng,
+        identifiers: RandomIdentifiers { rng },
         count: 0,
     };
     let loaded = loader.load_all(&mut file);
@@ -78,7 +77,7 @@ impl<'a, L: Ledger, R> Drop for Loader<'a, L, R> {
             outbox: _,
             framer: _,
             replies: _,
-            rng: _,
+            identifiers: _,
             count: _,
         } = self;
     }
@@ -125,7 +124,7 @@ impl<'a, L: Ledger, R: Wait + Clock> Loader<'a, L, R> {
 
     /// Submits a request, and reads its reply.
     fn submit(&mut self, request: Request) -> Result<(), ProgramFault> {
-        let mut batch = batch_of(self.daemon.alloc, request, &mut self.rng)?;
+        let mut batch = batch_of(self.daemon.alloc, request, &mut self.identifiers)?;
         let now = self.daemon.now(self.rt);
         let mut hub = self.daemon.hub.enter(self.rt);
         let submitted = hub.submit_turn(self.rt, self.seat, &mut batch, now);
@@ -191,10 +190,10 @@ fn silent_bell(alloc: Global) -> Result<Bell, AllocError> {
 fn batch_of(
     alloc: Global,
     request: Request,
-    rng: &mut StdRng,
+    identifiers: &mut RandomIdentifiers,
 ) -> Result<Vec<Submission>, AllocError> {
     let mut batch = Vec::with_capacity(alloc, 1)?;
-    batch.push(submission_of(alloc, request, rng)?)?;
+    batch.push(submission_of(alloc, request, identifiers)?)?;
     Ok(batch)
 }
 

@@ -1,7 +1,7 @@
 //! The daemon: it listens, and serves the connections by a few threads, each many of them. [P 15.2]
 
 ghost use Rattle.std.specs.Prelude.{◌≡◌, IfOk};
-ghost use Rattle.odb_atoms.specs.FinMap.{empty};
+ghost use Rattle.odb_hub.specs.Kept.{IsNew};
 
 use crate::clerk::serve_desk;
 use crate::daemon::{Begun, Daemon, Patience};
@@ -76,7 +76,7 @@ pub(crate) fn begin<R: Clock>(
     hashing: RandomState,
     memory: Memory,
 ) -> Result<Begun, RunFault>
-    ensures { IfOk result (λ begun. (begun.core.world.sessions ≡ empty) × (begun.core.opened ≡ 0)) }
+    ensures { IfOk result (λ begun. IsNew begun.core) }
 {
     let Ok(core) = Core::with_run(alloc, schema, hashing, memory.run, memory.kept) else {
         return Err(RunFault::Memory);
@@ -100,7 +100,7 @@ pub(crate) fn serve_all<
         + Eprint
         + Sync,
 >(rt: &R, begun: Begun, start: Start<'_>, terms: Terms) -> Result<(), ProgramFault>
-    requires { (begun.core.world.sessions ≡ empty) × (begun.core.opened ≡ 0) }
+    requires { IsNew begun.core }
 {
     serve_under::<Brand, R>(rt, begun, Blank::new(SEATS + 1), start, terms)
 }
@@ -118,7 +118,7 @@ fn serve_under<
         + Eprint
         + Sync,
 >(rt: &R, begun: Begun, blank: Blank, start: Start<'_>, terms: Terms) -> Result<(), ProgramFault>
-    requires core { (begun.core.world.sessions ≡ empty) × (begun.core.opened ≡ 0) }
+    requires core { IsNew begun.core }
     requires ledger { (blank.name ≡ L.name) × (blank.parts ≡ L.parts) }
     requires parts { blank.parts ≡ 4098 }
 {

@@ -1,5 +1,6 @@
 -- The law holds of any service whose requests name each table and column once; those of a schema do.
 use Rattle.odb_service.specs.Service.{service_of}
+use Rattle.odb_law.proofs.NamedCommits.{is_held_by_name}
 use Rattle.odb_law.proofs.RequestNames.{reads_named}
 use Rattle.odb_law.proofs.HeadlineRuns as runs
 use Rattle.odb_law.proofs.BroughtToNow as dropped
@@ -56,6 +57,9 @@ returns-clause-found_again c = λ serves s. found.is_found_again (service_of ser
 
 pub returns-clause-told_before : goal.returns-clause-told_before
 returns-clause-told_before c = λ serves s. last.told_before (service_of serves s) (reads_named serves s)
+
+pub returns-clause-held_by_name : goal.returns-clause-held_by_name
+returns-clause-held_by_name c = λ serves s. is_held_by_name (service_of serves s) (reads_named serves s)
 
 pub returns-clause-answered_once : goal.returns-clause-answered_once
 returns-clause-answered_once c = λ serves s. busy.answered_once (service_of serves s)

@@ -1,6 +1,6 @@
 //! Cores and requests for what is played. Where memory is refused they are made once more.
-ghost use Rattle.std.specs.Prelude.{◌≡◌, IfOk};
-ghost use Rattle.odb_atoms.specs.FinMap.{empty};
+ghost use Rattle.std.specs.Prelude.{IfOk};
+ghost use Rattle.odb_hub.specs.Kept.{IsNew};
 
 use crate::refusals::scripts::NET;
 use odb_core::Core;
@@ -29,7 +29,7 @@ fn read_schema(alloc: Global) -> Result<Schema, AllocError> {
 
 /// Returns a core of the schema without sessions. Where memory is refused it is made of what came back.
 pub(crate) fn core(alloc: Global, hashing: RandomState) -> Result<Core, AllocError>
-    ensures { IfOk result (λ core. (core.world.sessions ≡ empty) × (core.opened ≡ 0)) }
+    ensures { IfOk result (λ core. IsNew core) }
 {
     let (schema, hashing) = match Core::new(alloc, schema(alloc)?, hashing) {
         Ok(core) => return Ok(core),

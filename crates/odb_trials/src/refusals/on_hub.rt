@@ -1,6 +1,6 @@
 //! Scripts that are played to a hub. What a session is sent while it is held isn't taken out of its mailbox.
 ghost use Rattle.std.specs.Prelude.{◌≡◌};
-ghost use Rattle.odb_atoms.specs.FinMap.{empty};
+ghost use Rattle.odb_hub.specs.Kept.{IsNew};
 
 use crate::mailboxes::open;
 use crate::refusals::made::submission;
@@ -223,7 +223,7 @@ pub(crate) fn play_to_hub<L: Ledger, R: Threads + Wait + Clock + Sync>(
     blank: Blank,
     script: &[&str],
 ) -> Result<Sent, AllocError>
-    requires core { (core.world.sessions ≡ empty) × (core.opened ≡ 0) }
+    requires core { IsNew core }
     requires ledger { (blank.name ≡ L.name) × (blank.parts ≡ L.parts) }
     requires parts { blank.parts ≡ 3 }
 {

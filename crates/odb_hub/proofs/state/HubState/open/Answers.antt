@@ -1,4 +1,4 @@
-use Rattle.std.proofs.Common.{rules, ◌≡◌, ℕ, ◌+◌, [], ◌∷◌, ◌++◌, Ok, sym, ap, subst, ◌∙◌, arith}
+use Rattle.std.proofs.Common.{rules, ◌≡◌, ℕ, ◌+◌, [], ◌∷◌, ◌++◌, Ok, refl, sym, ap, subst, ◌∙◌, arith}
 use Rattle.odb_atoms.specs.FinMap.{insert, remove}
 use Rattle.odb_service.specs.Run.{Event, opened}
 use Rattle.odb_service.specs.Server.{Server, serve}
@@ -23,7 +23,7 @@ invariant_of-self-in-Ok c =
     let base : n.base ≡ k.base = search rules in
     let added : rings ≡ insert i.rings i.core.opened ring = search rules in
     let takes : Takes e k n [] = (went, events, base) in (
-      opened_kept k n c.self.invariant.0 s ring takes (added ∙ ap (λ m. insert i.rings m ring) (sym number)),
+      opened_kept k n c.self.invariant.0 s ring refl takes (added ∙ ap (λ m. insert i.rings m ring) (sym number)),
       subst (AreUnused rings) (sym (same_opened e i.core c.open.new.self [] went)) (subst (λ (m : Rings). AreUnused m (i.core.opened + 1)) (sym added) (unused_opened i.rings i.core.opened ring c.self.invariant.1)),
       c.saturating_add-self-inside.ensures ∙ counted_more i.since_base k.events n.events e c.self.invariant.2 events,
     )

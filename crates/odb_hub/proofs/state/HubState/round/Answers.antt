@@ -8,7 +8,7 @@ use Rattle.odb_service.specs.Run.{round}
 use Rattle.odb_service.specs.Server.{serve}
 use Rattle.odb_hub.specs.Kept.{AreUnused, Kept, Takes, TakesRound}
 use Rattle.odb_hub.specs.Rings.{Rings, Text, free_of}
-use Rattle.odb_hub.proofs.Keeping.{counted_more, rooms, round_taken, same_opened, takes_round_kept, unused_round}
+use Rattle.odb_hub.proofs.Keeping.{counted_more, flushed_state, rooms, round_taken, same_opened, takes_round_kept, unused_round}
 use Rattle.odb_hub.proofs.state.HubState.round.Goals as goal
 
 pub hand_over-requires : goal.hand_over-requires
@@ -56,3 +56,10 @@ returns-clause-ok g c =
     let items : c.len-count.result ≡ length c.in_ok-outs.outs.items = search rules in
     let count : c.len-count.result ≡ length outs = items ∙ sym (length-map c.in_ok-outs.outs.items sent_in) in
     subst (λ (old : Kept). TakesRound c.len-count.result old n) c.self.view_is (subst (λ q. TakesRound q k n) (sym count) t)
+
+pub invariant_of-self-in_err-outs : goal.invariant_of-self-in_err-outs
+invariant_of-self-in_err-outs g c =
+    let i = c.self.inside in
+    let k : Kept = record { server = i.core; base = i.journal.base; events = i.journal.events; rings = i.rings } in
+    let same : c.round_by.new.core ≡ i.core = search rules in
+    flushed_state k c.ready.new.self c.round_by.new.core i.since_base same c.ready.ensures.flushed c.self.invariant.0 c.self.invariant.1 c.self.invariant.2

@@ -7,7 +7,7 @@ use Rattle.odb_service.specs.Server.{serve}
 use Rattle.odb_hub.specs.Kept.{AreUnused, Kept, Takes}
 use Rattle.odb_hub.specs.Own.{FlushesOwn, TakesOwnRound}
 use Rattle.odb_hub.specs.Rings.{Rings, Text, is_free_at, texts_to}
-use Rattle.odb_hub.proofs.Keeping.{counted_more, same_opened, unused_grown}
+use Rattle.odb_hub.proofs.Keeping.{counted_more, flushed_state, same_opened, unused_grown}
 use Rattle.odb_hub.proofs.OwnRounds.{own_grown, own_kept, own_rooms, own_round, own_waits}
 use Rattle.odb_hub.proofs.state.HubState.round_for.Goals as goal
 
@@ -68,3 +68,16 @@ returns-then-not-ready-clause-ok c =
     let flushed : FlushesOwn s k n = (refl, refl, refl, c.ready_for.ensures.flushed s, c.ready_for.ensures.others) in
     let holds : is_free_at (get n.rings s) ≡ false = search rules in
     subst (λ (old : Kept). TakesOwnRound s 0 old n) c.self.view_is (own_waits s k n flushed holds)
+
+pub invariant_of-self : goal.invariant_of-self
+invariant_of-self c =
+    let i = c.self.inside in
+    let k : Kept = record { server = i.core; base = i.journal.base; events = i.journal.events; rings = i.rings } in
+    flushed_state k c.ready_for.new.self i.core i.since_base refl c.ready_for.ensures.flushed c.self.invariant.0 c.self.invariant.1 c.self.invariant.2
+
+pub invariant_of-self-in_err-outs : goal.invariant_of-self-in_err-outs
+invariant_of-self-in_err-outs c =
+    let i = c.self.inside in
+    let k : Kept = record { server = i.core; base = i.journal.base; events = i.journal.events; rings = i.rings } in
+    let same : c.round.new.self ≡ i.core = search rules in
+    flushed_state k c.ready_for.new.self c.round.new.self i.since_base same c.ready_for.ensures.flushed c.self.invariant.0 c.self.invariant.1 c.self.invariant.2
