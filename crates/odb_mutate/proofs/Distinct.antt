@@ -1,5 +1,5 @@
 -- Lists in which no atom stands twice, and lists of one kind: those that make a value.
-use Rattle.std.specs.Prelude.{◌≡◌, ℕ, suc, ◌+◌, ◌≤◌, Bool, true, false, cond, not, ◌&&◌, ◌||◌, ◌==◌, nat_lt, T, List, [], ◌∷◌, ◌++◌, length, map, filter, Some, None}
+use Rattle.std.specs.Prelude.{◌≡◌, ℕ, suc, ◌+◌, ◌≤◌, Bool, true, false, cond, not, ◌&&◌, ◌||◌, ◌==◌, nat_lt, T, List, [], ◌∷◌, length, map, filter, Some, None}
 use Rattle.std.specs.List.{list_all, list_any}
 use Rattle.std.specs.Ordering.{is_eq, is_lt}
 use Rattle.std.specs.FinMap.Entries.{below_all, is_sorted, length-put}
@@ -92,23 +92,6 @@ module _ {X : Type 0} (f : X → Atom) where
   distinct-filter p (x ∷ xs) h =
       let rest = distinct-filter p xs h.1 in
       elim (p x) as (λ b. IsDistinct (map f (cond b (x ∷ filter p xs) (filter p xs)))) [ true ↦ (none-filter p (f x) xs h.0, rest) | false ↦ rest ]
-
-  any-++ : (q : Atom → Bool) (xs : List X) (others : List Atom) → list_any q (map f xs) ≡ false → list_any q others ≡ false → list_any q (map f xs ++ others) ≡ false
-  any-++ q [] others h k = k
-  any-++ q (x ∷ xs) others h k = by (q (f x)) refl h (any-++ q xs others)
-    where
-      by : (b : Bool) → q (f x) ≡ b → (b || list_any q (map f xs)) ≡ false → (list_any q (map f xs) ≡ false → list_any q others ≡ false → list_any q (map f xs ++ others) ≡ false) → (q (f x) || list_any q (map f xs ++ others)) ≡ false
-      by true e none rest = absurd (subst T none tt)
-      by false e none rest = (λ i. e i || rest none k i)
-
-  -- those that aren't among the others, and then these
-  pub distinct-joined : (xs : List X) (others : List Atom) → IsDistinct (map f xs) → IsDistinct others → IsDistinct (map f (filter (λ x. not (list_any (same_atom (f x)) others)) xs) ++ others)
-  distinct-joined [] others h k = k
-  distinct-joined (x ∷ xs) others h k = by (filter (λ y. not (list_any (same_atom (f y)) others)) xs) (none-filter (λ y. not (list_any (same_atom (f y)) others)) (f x) xs h.0) (list_any (same_atom (f x)) others) refl (distinct-joined xs others h.1 k)
-    where
-      by : (kept : List X) → list_any (same_atom (f x)) (map f kept) ≡ false → (b : Bool) → list_any (same_atom (f x)) others ≡ b → IsDistinct (map f kept ++ others) → IsDistinct (map f (cond (not b) (x ∷ kept) kept) ++ others)
-      by kept none true e rest = rest
-      by kept none false e rest = (any-++ (same_atom (f x)) kept others none e, rest)
 
 -- ---- kinds
 

@@ -1,7 +1,8 @@
 -- What holds of each of a list, and what is made of it one by one, from the front.
-use Rattle.std.specs.Prelude.{◌≡◌, ℕ, ◌<◌, ◌+◌, Bool, true, false, cond, ◌&&◌, filter, List, [], ◌∷◌, ◌++◌, length, map, take, drop, get_or, Result, Ok, Err}
-use Rattle.std.proofs.lemmas.List.{drop_more, map-append, take-append-drop, take_more}
-use Rattle.std.specs.List.{list_all}
+use Rattle.std.specs.Prelude.{◌≡◌, ℕ, ◌<◌, ◌+◌, Bool, true, false, cond, ◌&&◌, filter, filter_map, List, [], ◌∷◌, ◌++◌, length, map, take, drop, get_or, Option, Some, None, option_to_list, Result, Ok, Err}
+use Rattle.std.proofs.lemmas.List.{append_assoc, drop_more, map-append, take-append-drop, take_more}
+use Rattle.std.proofs.lemmas.List.Elements.{filter_map-append}
+use Rattle.std.specs.List.{cons_option, list_all}
 use Rattle.odb_atoms.proofs.Lists.{both}
 use mathlib.Core.Path.{refl, sym, ap, ◌∙◌}
 use Rattle.odb_atoms.specs.First.{each, ◌>>=◌}
@@ -26,6 +27,18 @@ filter-map f p [] = refl
 filter-map f p (x ∷ xs) =
     let rest = filter-map f p xs in
     elim (p (f x)) as (λ b. map f (cond b (x ∷ filter (λ y. p (f y)) xs) (filter (λ y. p (f y)) xs)) ≡ cond b (f x ∷ filter p (map f xs)) (filter p (map f xs))) [ true ↦ ap (λ ys. f x ∷ ys) rest | false ↦ rest ]
+
+module _ {X A B : Type 0} (g : X → A) (f : A → Option B) where
+  lone : (o : Option B) → cons_option o [] ≡ option_to_list o
+  lone None = refl
+  lone (Some y) = refl
+
+  -- what f makes of one more
+  pub found-more : (old now all : List B) (xs : List X) (i : ℕ) (x : X) → i < length xs → x ≡ get_or xs i x → old ≡ all ++ filter_map f (map g (take i xs)) → now ≡ old ++ option_to_list (f (g x)) → now ≡ all ++ filter_map f (map g (take (i + 1) xs))
+  found-more old now all xs i x low at before more =
+      more ∙ ap (λ ys. ys ++ option_to_list (f (g x))) before ∙ append_assoc all _ _
+      ∙ ap (λ ys. all ++ ys) (sym (filter_map-append f (map g (take i xs)) (g x ∷ []) ∙ ap (λ ys. filter_map f (map g (take i xs)) ++ ys) (lone (f (g x))))
+      ∙ ap (filter_map f) (sym (map-append g (take i xs) (x ∷ [])) ∙ ap (map g) (ap (λ y. take i xs ++ y ∷ []) at ∙ sym (take_more xs i x low))))
 
 module _ {B E : Type 0} where
   abbrev joined : Result (List B) E → Result (List B) E → Result (List B) E

@@ -5,10 +5,11 @@ use mathlib.Core.Path.{refl, sym, ap, ◌∙◌}
 use mathlib.Core.Bool.{xor}
 use Rattle.odb_atoms.specs.FinMap as finite
 use Rattle.odb_atoms.specs.FinSet as set
-use Rattle.odb_atoms.specs.Atom.{Atom, atom_cmp}
+use Rattle.odb_atoms.specs.Atom.{Atom}
+use Rattle.odb_atoms.specs.ColType.{is_a}
 use Rattle.odb_atoms.specs.Difference.{changed, changed_pair, changed_pairs}
 use Rattle.odb_atoms.specs.Error.{Error}
-use Rattle.odb_atoms.specs.Members.{has}
+use Rattle.odb_atoms.specs.Members.{has, map_fault, set_fault}
 use Rattle.odb_atoms.specs.Value.{Atoms, Pairs, Value, atoms, map_of, set_of}
 use Rattle.odb_atoms.specs.Represented.Atom.{atom_of}
 use Rattle.odb_atoms.specs.Represented.AtomOrder.{atom_cmp_total}
@@ -19,7 +20,9 @@ use Rattle.odb_atoms.proofs.Atoms.{atom_cmp-IsAntisymmetric}
 use Rattle.odb_atoms.proofs.FinMaps.{contains_key-keys, get-combine, get-entries, same_map}
 use Rattle.odb_atoms.proofs.FinSets.{contains-from_list, contains-symmetric_difference, contains-union, same_set}
 use Rattle.odb_mutate.specs.Mutation.{first_of, insert, insert_pairs, result_of}
-use Rattle.odb_mutate.proofs.Listed.{kept_list, left_listed}
+use Rattle.odb_mutate.specs.Represented.Kinds.{HasKinds}
+use Rattle.odb_mutate.proofs.Each.{all-filter}
+use Rattle.odb_mutate.proofs.Listed.{kept_elements, kept_pairs, some_elements, some_pairs}
 use Rattle.odb_mutate.proofs.Maps.{find-keys, get-from_entries}
 use Rattle.odb_mutate.proofs.Sets.{any-filter}
 
@@ -55,14 +58,27 @@ lacking-pairs m n =
     by None (Some b) = refl
     by (Some a) y = refl
 
+pub elements_fault : (s t : Bor (List (code.Atom))) (v w : Value) (once : List (code.Atom)) → Lists (entries.Set s) v → Lists (entries.Set t) w → HasKinds w → map atom_of once ≡ map atom_of (filter (λ x. not (has v (atom_of x))) t.now) → set_fault (map atom_of once) ≡ None
+elements_fault s t (set_of a) (set_of b) once in_s in_t of one =
+    let p : Atom → Bool = λ x. not (set.contains a x) in
+    ap set_fault (kept_elements t b p once in_t one) ∙ some_elements of.0 p b (all-filter (is_a of.0) p (set.items b) of.2)
+elements_fault s t (set_of a) (map_of n) once in_s in_t of one = absurd in_t
+elements_fault s t (map_of m) w once in_s in_t of one = absurd in_s
+
+pub pairs_fault : (t : Bor (List (code.Atom × code.Atom))) (v w : Value) (once : List (code.Atom × code.Atom)) → Lists (entries.Map t) w → HasKinds w → map pair_of once ≡ map pair_of (filter (λ p. not (has v (atom_of p.0))) t.now) → map_fault (map pair_of once) ≡ None
+pairs_fault t v (map_of n) once in_t of one =
+    let p : Atom × Atom → Bool = λ e. not (has v e.0) in
+    ap map_fault (kept_pairs t n p once in_t one) ∙ some_pairs of.0 of.1 p n (all-filter (λ e. is_a of.0 e.0 && is_a of.1 e.1) p n.entries of.2)
+pairs_fault t v (set_of b) once in_t of one = absurd in_t
+
 pub elements_inserted : (s t : Bor (List (code.Atom))) (v w : Value) (once : List (code.Atom)) → Lists (entries.Set s) v → Lists (entries.Set t) w → map atom_of once ≡ map atom_of (filter (λ x. not (has v (atom_of x))) t.now) → ◌≡◌ {A = Result Value Error} (Ok (changed v (set_of (atoms (map atom_of once))))) (result_of insert v w)
 elements_inserted s t (set_of a) (set_of b) once in_s in_t one =
-    ap (λ zs. let r : Result Value Error = Ok (set_of (set.symmetric_difference a (atoms zs))) in r) (left_listed t b a once in_t one) ∙ ap (λ x. Ok (set_of x)) (lacking-elements a b)
+    ap (λ zs. let r : Result Value Error = Ok (set_of (set.symmetric_difference a (atoms zs))) in r) (kept_elements t b (λ x. not (set.contains a x)) once in_t one) ∙ ap (λ x. Ok (set_of x)) (lacking-elements a b)
 elements_inserted s t (set_of a) (map_of n) once in_s in_t one = absurd in_t
 elements_inserted s t (map_of m) w once in_s in_t one = absurd in_s
 
 pub pairs_inserted : (s t : Bor (List (code.Atom × code.Atom))) (v w : Value) (once : List (code.Atom × code.Atom)) → Lists (entries.Map s) v → Lists (entries.Map t) w → map pair_of once ≡ map pair_of (filter (λ p. not (has v (atom_of p.0))) t.now) → ◌≡◌ {A = Result Value Error} (Ok (changed v (map_of (finite.from_entries (map pair_of once))))) (result_of insert v w)
 pairs_inserted s t (map_of m) (map_of n) once in_s in_t one =
-    ap (λ es. let r : Result Value Error = Ok (map_of (changed_pairs m (finite.from_entries es))) in r) (kept_list t n (λ e. not (finite.contains_key m e.0)) once in_t one) ∙ ap (λ x. Ok (map_of x)) (lacking-pairs m n)
+    ap (λ es. let r : Result Value Error = Ok (map_of (changed_pairs m (finite.from_entries es))) in r) (kept_pairs t n (λ e. not (finite.contains_key m e.0)) once in_t one) ∙ ap (λ x. Ok (map_of x)) (lacking-pairs m n)
 pairs_inserted s t (map_of m) (set_of b) once in_s in_t one = absurd in_t
 pairs_inserted s t (set_of a) w once in_s in_t one = absurd in_s

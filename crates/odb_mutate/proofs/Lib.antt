@@ -1,3 +1,4 @@
+pub mod Deleted
 pub mod Distinct
 pub mod Each
 pub mod Inserted

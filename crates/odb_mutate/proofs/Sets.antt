@@ -1,14 +1,10 @@
--- The union and the difference of two sets, by lists of their elements.
-use Rattle.std.specs.Prelude.{◌≡◌, Bool, true, false, cond, not, ◌&&◌, ◌||◌, List, [], ◌∷◌, ◌++◌, filter}
+-- What is among some elements of a list.
+use Rattle.std.specs.Prelude.{◌≡◌, Bool, true, false, cond, ◌&&◌, ◌||◌, List, [], ◌∷◌, filter}
 use Rattle.std.specs.List.{list_any}
 use mathlib.Core.Path.{refl, sym, ap, ◌∙◌}
-use Rattle.odb_atoms.specs.FinSet as set
 use Rattle.odb_atoms.specs.Atom.{Atom, same_atom}
-use Rattle.odb_atoms.specs.Value.{Atoms, atoms}
 use Rattle.odb_atoms.proofs.Atoms.{atom_cmp-IsAntisymmetric}
-use Rattle.odb_atoms.specs.Represented.AtomOrder.{atom_cmp_total}
-use Rattle.odb_atoms.proofs.FinMaps.{contains_key-keys, same_key}
-use Rattle.odb_atoms.proofs.FinSets.{contains-difference, contains-from_list, contains-union, same_set}
+use Rattle.odb_atoms.proofs.FinMaps.{same_key}
 
 pub any-filter : (p : Atom → Bool) (q : Atom) (xs : List Atom) → list_any (same_atom q) (filter p xs) ≡ (list_any (same_atom q) xs && p q)
 any-filter p q [] = refl
@@ -27,12 +23,3 @@ any-filter p q (x ∷ xs) = by (same_atom q x) refl (p x) refl (any-filter p q x
         rest ∙ ap (λ b. list_any (same_atom q) xs && b) here ∙ none (list_any (same_atom q) xs) ∙ sym here
     by false t true e rest = ap (λ b. b || list_any (same_atom q) (filter p xs)) t ∙ rest
     by false t false e rest = rest
-
--- those of s that t doesn't have
-pub difference-listed : (s t : Atoms) → atoms (filter (λ a. not (set.contains t a)) (set.items s)) ≡ set.difference s t
-difference-listed s t =
-    same_set atom_cmp_total atom_cmp-IsAntisymmetric _ (set.difference s t) (λ q.
-    contains-from_list atom_cmp_total (filter (λ a. not (set.contains t a)) (set.items s)) q
-    ∙ any-filter (λ a. not (set.contains t a)) q (set.items s)
-    ∙ ap (λ b. b && not (set.contains t q)) (sym (contains_key-keys s q))
-    ∙ sym (contains-difference atom_cmp_total atom_cmp-IsAntisymmetric s t q))

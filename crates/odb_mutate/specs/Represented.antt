@@ -1,4 +1,3 @@
 -- What the types of the code stand for.
 pub mod Kinds
-pub mod Lack
 pub mod Mutation

@@ -53,6 +53,27 @@ pub fn append_others(
     Ok(())
 }
 
+/// Adds to the list copies of those elements that the value has. O(log n) comparisons for each of
+/// them, for a value of n elements or keys.
+pub fn append_common(
+    alloc: Global,
+    elements: &[Atom],
+    value: &Value,
+    list: &mut Vec<Atom>,
+) -> Result<(), AllocError>
+    ensures { OnOk result
+        (map atom_of list.new.items
+        ≡ map atom_of list.old.items
+        ++ map atom_of (filter (λ a. has value.now (atom_of a)) elements.now)) }
+{
+    for element in elements {
+        if value.contains(element) {
+            list.push(element.try_copy(alloc)?)?;
+        }
+    }
+    Ok(())
+}
+
 /// Makes the set of distinct elements of one kind.
 pub fn set_of(elements: Vec<Atom>) -> Value
     requires { set_fault (map atom_of elements.items) ≡ None }

@@ -14,7 +14,6 @@ ghost use Rattle.odb_mutate.specs.Represented.Mutation.{answered, mutator_of, op
 ghost use Rattle.odb_mutate.specs.MutationTyping.{takes};
 
 use crate::operator::Operator;
-use crate::pairs::Lack;
 use crate::{elements, pairs};
 use odb_atoms::{Atom, ColType, Entries, Value, changed};
 use std::alloc::{AllocError, Global};
@@ -108,9 +107,9 @@ impl Mutation {
     ///
     /// The value has to be of the type's kind, and the mutation has to suit the type.
     ///
-    /// `insert` and `delete` cost O(m + n log n) comparisons for m elements or pairs of the value and n
-    /// of the operand, `delete` O(m log n), arithmetic O(m log m), and the bytes copied; an error of the
-    /// outer result says that there was no memory.
+    /// For m elements or pairs of the value and n of the operand, `insert` and `delete` cost O(n log m)
+    /// comparisons and the entries copied, arithmetic O(m log m) comparisons. An error of the outer
+    /// result says that there was no memory.
     pub fn on(
         &self,
         alloc: Global,
@@ -192,7 +191,7 @@ fn insert(alloc: Global, value: &Value, added: &Value) -> Result<Value, AllocErr
         }
         (Entries::Map(pairs), Entries::Map(others)) => {
             let mut new = Vec::new(alloc);
-            pairs::append_others(alloc, others, value, Lack::Key, &mut new)?;
+            pairs::append_others(alloc, others, value, &mut new)?;
             let lacking = pairs::map_of(new);
             changed(alloc, value, &lacking)
         }
@@ -207,20 +206,23 @@ fn delete(alloc: Global, value: &Value, deleted: &Value) -> Result<Value, AllocE
     ensures { IfOk result (λ new. Ok new ≡ result_of model.delete value.now deleted.now) }
 {
     match (value.entries(), deleted.entries()) {
-        (Entries::Set(elements), Entries::Set(_)) => {
-            let mut left = Vec::new(alloc);
-            elements::append_others(alloc, elements, deleted, &mut left)?;
-            Ok(elements::set_of(left))
+        (Entries::Set(_), Entries::Set(elements)) => {
+            let mut common = Vec::new(alloc);
+            elements::append_common(alloc, elements, value, &mut common)?;
+            let present = elements::set_of(common);
+            changed(alloc, value, &present)
         }
-        (Entries::Map(pairs), Entries::Set(_)) => {
-            let mut left = Vec::new(alloc);
-            pairs::append_others(alloc, pairs, deleted, Lack::Key, &mut left)?;
-            Ok(pairs::map_of(left))
+        (Entries::Map(_), Entries::Set(keys)) => {
+            let mut common = Vec::new(alloc);
+            pairs::append_at(alloc, keys, value, &mut common)?;
+            let present = pairs::map_of(common);
+            changed(alloc, value, &present)
         }
-        (Entries::Map(pairs), Entries::Map(_)) => {
-            let mut left = Vec::new(alloc);
-            pairs::append_others(alloc, pairs, deleted, Lack::Pair, &mut left)?;
-            Ok(pairs::map_of(left))
+        (Entries::Map(_), Entries::Map(pairs)) => {
+            let mut common = Vec::new(alloc);
+            pairs::append_common(alloc, pairs, value, &mut common)?;
+            let present = pairs::map_of(common);
+            changed(alloc, value, &present)
         }
         _ => unreachable!(),
     }

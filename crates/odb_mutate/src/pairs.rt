@@ -1,55 +1,92 @@
 //! Lists of pairs that become maps. [P 3.3]
 
-ghost use Rattle.std.specs.Prelude.{◌≡◌, ◌++◌, map, filter, None, IfOk, OnOk};
+ghost use Rattle.std.specs.Prelude.{◌≡◌, ◌++◌, map, filter, filter_map, not, option_to_list, None, IfOk, OnOk};
 ghost use Rattle.odb_atoms.specs.FinMap as finite;
-ghost use Rattle.odb_atoms.specs.Members.{map_fault};
+ghost use Rattle.odb_atoms.specs.Members.{has, map_fault};
+ghost use Rattle.odb_atoms.specs.Represented.Atom.{atom_of};
 ghost use Rattle.odb_atoms.specs.Represented.Value.{pair_of};
 ghost use Rattle.odb_atoms.specs.Value as model;
-ghost use Rattle.odb_mutate.specs.Represented.Kinds.{has_at};
-ghost use Rattle.odb_mutate.specs.Represented.Lack.{lacks};
+ghost use Rattle.odb_mutate.specs.Represented.Kinds.{has_at, pair_at};
 
 use odb_atoms::{Atom, Value};
 use std::alloc::{AllocError, Global};
 
-/// What of a pair a value may lack.
-#[derive(Clone, Copy)]
-pub enum Lack {
-    /// Its key, whatever the value at it.
-    Key,
-    /// The pair.
-    Pair,
-}
-
-/// Adds copies of the pairs that the value lacks to the list. O(log n) comparisons for each of them, for a
-/// value of n elements or keys.
+/// Adds copies of the pairs whose key the value doesn't have to the list. O(log n) comparisons for
+/// each of them, for a value of n elements or keys.
 pub fn append_others(
     alloc: Global,
     pairs: &[(Atom, Atom)],
     value: &Value,
-    lack: Lack,
     list: &mut Vec<(Atom, Atom)>,
 ) -> Result<(), AllocError>
     ensures { OnOk result
         (map pair_of list.new.items
         ≡ map pair_of list.old.items
-        ++ map pair_of (filter (λ p. lacks lack value.now (pair_of p)) pairs.now)) }
+        ++ map pair_of (filter (λ p. not (has value.now (atom_of p.0))) pairs.now)) }
 {
     for pair in pairs {
-        if lacks(value, lack, pair) {
+        if !value.contains(&pair.0) {
             list.push(copy_of(alloc, pair)?)?;
         }
     }
     Ok(())
 }
 
-/// Returns whether the value lacks the pair, or its key.
-fn lacks(value: &Value, lack: Lack, pair: &(Atom, Atom)) -> bool
-    ensures { result ≡ lacks lack value.now (pair_of pair.now) }
+/// Adds to the list copies of those pairs that the map has. O(log n) comparisons for each of them,
+/// for a map of n pairs.
+pub fn append_common(
+    alloc: Global,
+    pairs: &[(Atom, Atom)],
+    value: &Value,
+    list: &mut Vec<(Atom, Atom)>,
+) -> Result<(), AllocError>
+    ensures { OnOk result
+        (map pair_of list.new.items
+        ≡ map pair_of list.old.items
+        ++ map pair_of (filter (λ p. has_at value.now (pair_of p)) pairs.now)) }
 {
-    match lack {
-        Lack::Key => !value.contains(&pair.0),
-        Lack::Pair => !has_pair(value, pair),
+    for pair in pairs {
+        if has_pair(value, pair) {
+            list.push(copy_of(alloc, pair)?)?;
+        }
     }
+    Ok(())
+}
+
+/// Adds to the list copies of the map's own pairs at the keys. O(log n) comparisons for each key, for
+/// a map of n pairs.
+pub fn append_at(
+    alloc: Global,
+    keys: &[Atom],
+    value: &Value,
+    list: &mut Vec<(Atom, Atom)>,
+) -> Result<(), AllocError>
+    ensures { OnOk result
+        (map pair_of list.new.items
+        ≡ map pair_of list.old.items ++ filter_map (pair_at value.now) (map atom_of keys.now)) }
+{
+    for key in keys {
+        append_one_at(alloc, key, value, list)?;
+    }
+    Ok(())
+}
+
+/// Adds to the list a copy of the map's own pair at the key, if there is one.
+fn append_one_at(
+    alloc: Global,
+    key: &Atom,
+    value: &Value,
+    list: &mut Vec<(Atom, Atom)>,
+) -> Result<(), AllocError>
+    ensures { OnOk result
+        (map pair_of list.new.items
+        ≡ map pair_of list.old.items ++ option_to_list (pair_at value.now (atom_of key.now))) }
+{
+    let Some(at_key) = value.get(key) else {
+        return Ok(());
+    };
+    list.push((key.try_copy(alloc)?, at_key.try_copy(alloc)?))?;
+    Ok(())
 }
 
 /// Returns whether the map has the pair.

@@ -1,5 +1,5 @@
 -- Values whose atoms are of one kind each: the elements or keys of the one, the values of a map of the other.
-use Rattle.std.specs.Prelude.{◌≡◌, Bool, IsTrue, List, [], false}
+use Rattle.std.specs.Prelude.{◌≡◌, Bool, IsTrue, List, [], false, Option, option_map}
 use Rattle.odb_atoms.specs.FinSet as set
 use Rattle.odb_atoms.specs.Atom.{Atom, Kind, integers}
 use Rattle.odb_atoms.specs.ColType.{is_a}
@@ -31,3 +31,7 @@ HasOneElement v = (is_map v ≡ false) × (size v ≡ 1)
 -- the map has the pair; a set has none
 abbrev pub has_at : Value → Atom × Atom → Bool
 has_at v p = is_atom (value_at v p.0) p.1
+
+-- the pair that the map has at the key; a set has none
+abbrev pub pair_at : Value → Atom → Option (Atom × Atom)
+pair_at v k = option_map (λ a. (k, a)) (value_at v k)
