@@ -5,10 +5,12 @@ pub mod Equal
 pub mod Examples
 pub mod FinMaps
 pub mod FinSets
+pub mod Free
 pub mod Lists
 pub mod Merges
 pub mod Represented
 pub mod Rising
+pub mod Runs
 pub mod Sorts
 pub mod TextMaps
 pub mod Types

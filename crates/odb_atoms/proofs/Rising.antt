@@ -66,7 +66,7 @@ module _ {K V : Type 0} {R : K → K → Ordering} (o : IsTotalOrder R) where
 
   module _ {X : Type 0} (f : X → K × V) where
     -- an element that ties is not below all of the list that it stands in
-    not_below_tied : (q k : K) (xs : List X) (i : ℕ) (d : X) → i < length xs → R (f (get_or xs i d)).0 q ≡ Equal → T (below_all R k (map f xs)) → R k q ≡ Less
+    pub not_below_tied : (q k : K) (xs : List X) (i : ℕ) (d : X) → i < length xs → R (f (get_or xs i d)).0 q ≡ Equal → T (below_all R k (map f xs)) → R k q ≡ Less
     not_below_tied q k [] i d low at h = absurd (omega arith)
     not_below_tied q k (x ∷ xs) zero d low at h = sym (alike_right o (f x).0 q k at) ∙ less _ (first _ _ h)
     not_below_tied q k (x ∷ xs) (suc i) d low at h = not_below_tied q k xs i d (omega arith) at (second _ _ h)

@@ -58,6 +58,10 @@ in_bounds b (boolean x) = true
 in_bounds b (text s) = at_least int_le b.min_length (pos (length (chars s))) && at_most int_le b.max_length (pos (length (chars s)))
 in_bounds b (uuid u) = true
 
+-- there is neither an `enum` nor a bound
+abbrev pub is_free : Base → Bool
+is_free b = is_none b.enum && is_none b.min_integer && is_none b.max_integer && is_none b.min_length && is_none b.max_length
+
 abbrev pub meets : Base → Atom → Bool
 meets b a = in_enum b.enum a && in_bounds b a
 

@@ -11,6 +11,7 @@ ghost use Rattle.odb_atoms.specs.Represented.AtomOrder.{atoms_partially_equivale
 
 use std::alloc::{AllocError, Global};
 use std::cmp::Ordering;
+use std::sync::ArcStr;
 use uuid::Uuid;
 
 /// A scalar (RFC 7047, section 5.1, `<atom>`), of one of the kinds that this server has: all of the
@@ -26,6 +27,8 @@ pub enum Atom {
     Boolean(bool),
     /// A string.
     Text(String),
+    /// A string that copies of the atom share.
+    SharedText(ArcStr),
     /// An identifier of 128 bits.
     Uuid(Uuid),
 }
@@ -65,6 +68,7 @@ impl Atom {
             Atom::Integer(_) => Kind::Integer,
             Atom::Boolean(_) => Kind::Boolean,
             Atom::Text(_) => Kind::Text,
+            Atom::SharedText(_) => Kind::Text,
             Atom::Uuid(_) => Kind::Uuid,
         }
     }
@@ -84,6 +88,21 @@ impl Atom {
             Atom::Integer(integer) => Atom::Integer(*integer),
             Atom::Boolean(boolean) => Atom::Boolean(*boolean),
             Atom::Text(text) => Atom::Text(String::from_str(alloc, text.as_str())?),
+            Atom::SharedText(text) => Atom::SharedText(text.clone()?),
+            Atom::Uuid(uuid) => Atom::Uuid(*uuid),
+        })
+    }
+
+    /// Makes an equal atom, whose text is shared with copies of it. A text takes memory, O(its length), unless it is
+    /// shared already.
+    pub fn shared_copy(&self, alloc: Global) -> Result<Atom, AllocError>
+        ensures { IfOk result (λ copy. atom_of copy ≡ atom_of self.now) }
+    {
+        Ok(match self {
+            Atom::Integer(integer) => Atom::Integer(*integer),
+            Atom::Boolean(boolean) => Atom::Boolean(*boolean),
+            Atom::Text(text) => Atom::SharedText(ArcStr::from_str(alloc, text.as_str())?),
+            Atom::SharedText(text) => Atom::SharedText(text.clone()?),
             Atom::Uuid(uuid) => Atom::Uuid(*uuid),
         })
     }
@@ -103,6 +122,9 @@ impl Ord for Atom {
             (Atom::Integer(x), Atom::Integer(y)) => x.cmp(y),
             (Atom::Boolean(x), Atom::Boolean(y)) => x.cmp(y),
             (Atom::Text(x), Atom::Text(y)) => x.as_str().cmp(y.as_str()),
+            (Atom::SharedText(x), Atom::SharedText(y)) => x.as_str().cmp(y.as_str()),
+            (Atom::SharedText(x), Atom::Text(y)) => x.as_str().cmp(y.as_str()),
+            (Atom::Text(x), Atom::SharedText(y)) => x.as_str().cmp(y.as_str()),
             (Atom::Uuid(x), Atom::Uuid(y)) => cmp_uuids(*x, *y),
             _ => self.kind().cmp(&other.kind()),
         }
@@ -116,9 +138,9 @@ fn cmp_uuids(x: Uuid, y: Uuid) -> Ordering
     number_of(x).cmp(&number_of(y))
 }
 
-/// Returns the identifier as a number, the highest byte first. It is read as two words, where `Uuid::as_u128` reads it
-/// byte by byte: most of what a commit compares are identifiers.
-fn number_of(uuid: Uuid) -> u128
+/// Returns the identifier as a number, the highest byte first (RFC 4122, section 4.1.2). It is read as two words, where
+/// `Uuid::as_u128` reads it byte by byte: most of what a commit compares are identifiers. O(1).
+pub fn number_of(uuid: Uuid) -> u128
     ensures { result ≡ from_be_bytes w128 uuid }
 {
     let b = uuid.into_bytes();
@@ -143,7 +165,13 @@ impl PartialEq for Atom {
     ghost laws = { atoms_partially_equivalent };
 
     fn eq(&self, other: &Atom) -> bool {
-        self.cmp(other) == Ordering::Equal
+        match (self, other) {
+            (Atom::Integer(x), Atom::Integer(y)) => *x == *y,
+            (Atom::Uuid(x), Atom::Uuid(y)) => number_of(*x) == number_of(*y),
+            (Atom::Text(x), Atom::Text(y)) => x.as_str() == y.as_str(),
+            (Atom::SharedText(x), Atom::SharedText(y)) => x.as_str() == y.as_str(),
+            _ => self.cmp(other) == Ordering::Equal,
+        }
     }
 }
 
@@ -158,6 +186,7 @@ impl Drop for Atom {
             Atom::Integer(_) => {}
             Atom::Boolean(_) => {}
             Atom::Text(_) => {}
+            Atom::SharedText(_) => {}
             Atom::Uuid(_) => {}
         }
     }

@@ -158,6 +158,17 @@ impl Base {
         self.enumerates(atom) && self.bounds(atom)
     }
 
+    /// Returns whether each atom meets the constraints, as there is neither an `enum` nor a bound. O(1).
+    fn is_free(&self) -> bool
+        ensures { result ≡ model.is_free (base_of self.now) }
+    {
+        self.allowed.is_none()
+            && self.min_integer.is_none()
+            && self.max_integer.is_none()
+            && self.min_length.is_none()
+            && self.max_length.is_none()
+    }
+
     fn enumerates(&self, atom: &Atom) -> bool
         ensures { result ≡ model.in_enum (base_of self.now).enum (atom_of atom.now) }
     {
@@ -177,6 +188,7 @@ impl Base {
                 i128::from(*integer),
             ),
             Atom::Text(text) => self.bounds_length(text.as_str()),
+            Atom::SharedText(text) => self.bounds_length(text.as_str()),
             Atom::Boolean(_) | Atom::Uuid(_) => true,
         }
     }
@@ -350,6 +362,9 @@ pub fn default_of(alloc: Global, column: &ColType) -> Result<Value, AllocError>
 fn all_meet(elements: &[Atom], base: &Base) -> bool
     ensures { result ≡ each_element (model.meets (base_of base.now)) elements.now }
 {
+    if base.is_free() {
+        return true;
+    }
     elements.iter().all(|atom| base.meets(atom))
 }
 
@@ -357,6 +372,9 @@ fn all_pairs_meet(pairs: &[(Atom, Atom)], key: &Base, value: &Base) -> bool
     ensures { result
         ≡ each_pair (model.meets (base_of key.now)) (model.meets (base_of value.now)) pairs.now }
 {
+    if key.is_free() && value.is_free() {
+        return true;
+    }
     pairs
         .iter()
         .all(|pair| key.meets(&pair.0) && value.meets(&pair.1))

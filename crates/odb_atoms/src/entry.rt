@@ -1,6 +1,6 @@
 //! What sets and maps have in common: entries in the order of their keys, searched and merged.
 
-ghost use Rattle.std.specs.Prelude.{◌≡◌, Bool, not, map, ◌++◌, option_map, Option, Some, None};
+ghost use Rattle.std.specs.Prelude.{◌≡◌, ◌<◌, ◌≤◌, Bool, not, length, map, take, ◌++◌, option_map, Option, Some, None};
 ghost use Rattle.std.specs.Prelude.{IfOk, OnOk, IsTrue, IsPermutation};
 ghost use Rattle.std.specs.FinMap.Entries.{is_sorted};
 ghost use Rattle.std.specs.List.{list_all};
@@ -9,11 +9,14 @@ ghost use Rattle.odb_atoms.specs.Atom.{atom_cmp};
 ghost use Rattle.odb_atoms.specs.Members.{repeats};
 ghost use Rattle.odb_atoms.specs.Represented.Atom.{atom_of};
 ghost use Rattle.odb_atoms.specs.Represented.Entry.{alike, entry_at, has_entry, keys_of};
-ghost use Rattle.odb_atoms.specs.Represented.Entry.{IsChange, IsRising};
+ghost use Rattle.odb_atoms.specs.Represented.Entry.{AreBefore, CopiesRun, IsChange, IsFirstBefore, IsRising};
 
 use crate::atom::Atom;
 use std::alloc::{AllocError, Global};
 use std::cmp::Ordering;
+
+/// From how many entries on equal values that were copied from each other have them in common, or their texts.
+pub(crate) const SHARED: usize = 16;
 
 /// An entry of a value: an element of a set, which is its own key, or a pair of a map.
 pub trait Entry: Drop {
@@ -29,6 +32,10 @@ pub trait Entry: Drop {
 
     /// Makes an equal entry.
     fn try_copy(&self, alloc: Global) -> Result<Self, AllocError>
+        ensures { IfOk result (λ copy. entry copy ≡ entry self.now) };
+
+    /// Makes an equal entry, whose texts are shared with copies of it.
+    fn shared_copy(&self, alloc: Global) -> Result<Self, AllocError>
         ensures { IfOk result (λ copy. entry copy ≡ entry self.now) };
 }
 
@@ -46,6 +53,10 @@ impl Entry for Atom {
     fn try_copy(&self, alloc: Global) -> Result<Atom, AllocError> {
         Atom::try_copy(self, alloc)
     }
+
+    fn shared_copy(&self, alloc: Global) -> Result<Atom, AllocError> {
+        Atom::shared_copy(self, alloc)
+    }
 }
 
 impl Entry for (Atom, Atom) {
@@ -61,6 +72,10 @@ impl Entry for (Atom, Atom) {
 
     fn try_copy(&self, alloc: Global) -> Result<(Atom, Atom), AllocError> {
         Ok((self.0.try_copy(alloc)?, self.1.try_copy(alloc)?))
+    }
+
+    fn shared_copy(&self, alloc: Global) -> Result<(Atom, Atom), AllocError> {
+        Ok((self.0.shared_copy(alloc)?, self.1.shared_copy(alloc)?))
     }
 }
 
@@ -189,8 +204,47 @@ fn excludes_by_pass<E: Entry>(entries: &[E], unwanted: &[E]) -> bool
     true
 }
 
+/// Returns how many entries at the front are copied at once, of which each has a key less than this one: all those
+/// where the others are few, else the first. O(log n) comparisons.
+fn run_before<E: Entry>(entries: &[E], key: &Atom, others: usize) -> usize
+    requires rising { IsRising (map E.entry entries.now) }
+    requires first { IsFirstBefore (map E.entry entries.now) (atom_of key.now) }
+    ensures some { 1 ≤ result }
+    ensures within { result ≤ length entries.now }
+    ensures before { AreBefore (take result (map E.entry entries.now)) (atom_of key.now) }
+{
+    if !are_few(others, entries.len()) {
+        return 1;
+    }
+    match entries.binary_search_by(|entry| entry.key().cmp(key)) {
+        Ok(place) => place,
+        Err(place) => place,
+    }
+}
+
+/// Appends copies of entries at the front whose keys are less than this one, of the first at least, and returns the
+/// entries after them. O(log n) comparisons, and what is copied.
+fn copy_run<'a, E: Entry>(
+    alloc: Global,
+    entries: &'a [E],
+    key: &Atom,
+    others: usize,
+    change: &mut Vec<E>,
+) -> Result<&'a [E], AllocError>
+    requires rising { IsRising (map E.entry entries.now) }
+    requires first { IsFirstBefore (map E.entry entries.now) (atom_of key.now) }
+    ensures run { IfOk result (λ left. CopiesRun (atom_of key.now) (map E.entry entries.now) (map E.entry left.now)
+        (map E.entry change.old.items) (map E.entry change.new.items)) }
+    ensures fewer { IfOk result (λ left. length left.now < length entries.now) }
+{
+    let run = run_before(entries, key, others);
+    append_copies(alloc, &entries[..run], change)?;
+    Ok(&entries[run..])
+}
+
 /// Returns the entries by which two lists differ: those whose key one alone has, and where both have the
-/// key with other values, those of `new`. One pass over both.
+/// key with other values, those of `new`. One pass over both; where one is less than a sixteenth of the other a search in
+/// that for each of its entries, and what is copied.
 pub fn changed<E: Entry>(alloc: Global, old: &[E], new: &[E]) -> Result<Vec<E>, AllocError>
     requires old_rising { IsRising (map E.entry old.now) }
     requires new_rising { IsRising (map E.entry new.now) }
@@ -207,12 +261,10 @@ pub fn changed<E: Entry>(alloc: Global, old: &[E], new: &[E]) -> Result<Vec<E>, 
         };
         match first.key().cmp(next.key()) {
             Ordering::Less => {
-                change.push(first.try_copy(alloc)?)?;
-                old_left = rest;
+                old_left = copy_run(alloc, old_left, next.key(), new_left.len(), &mut change)?;
             }
             Ordering::Greater => {
-                change.push(next.try_copy(alloc)?)?;
-                new_left = later;
+                new_left = copy_run(alloc, new_left, first.key(), old_left.len(), &mut change)?;
             }
             Ordering::Equal => {
                 if !first.is_alike(next) {
@@ -246,8 +298,21 @@ fn append_copies<E: Entry>(
         (map E.entry copies.new.items
         ≡ map E.entry copies.old.items ++ map E.entry entries.now) }
 {
+    copies.reserve(entries.len())?;
+    let shares = entries.len() >= SHARED;
     for entry in entries {
-        copies.push(entry.try_copy(alloc)?)?;
+        copies.push(copy_of(alloc, entry, shares)?)?;
     }
     Ok(())
+}
+
+/// Makes an equal entry, whose texts are shared with copies of it where that is wanted.
+fn copy_of<E: Entry>(alloc: Global, entry: &E, shares: bool) -> Result<E, AllocError>
+    ensures { IfOk result (λ copy. E.entry copy ≡ E.entry entry.now) }
+{
+    if shares {
+        entry.shared_copy(alloc)
+    } else {
+        entry.try_copy(alloc)
+    }
 }

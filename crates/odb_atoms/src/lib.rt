@@ -13,7 +13,7 @@ mod row;
 mod update;
 mod value;
 
-pub use atom::{Atom, Kind};
+pub use atom::{Atom, Kind, number_of};
 pub use column_type::{Admit, Base, ColType, Enumeration, Reference, default_of};
 pub use error::Error;
 pub use row::Row;

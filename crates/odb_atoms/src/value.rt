@@ -20,16 +20,13 @@ ghost use Rattle.odb_atoms.specs.Represented.ValueOrder.{values_equivalent, valu
 ghost use Rattle.odb_atoms.specs.Represented.ValueOrder.{values_partially_equivalent, values_total};
 
 use crate::atom::{Atom, Kind};
-use crate::entry;
+use crate::entry::{self, SHARED};
 use std::alloc::{AllocError, Global};
 use std::cmp::Ordering;
 use std::marker::Model;
 use std::slice;
 use std::sync::Arc;
 use thiserror::Error;
-
-/// From how many entries on equal values that were copied from each other have them in common.
-const SHARED: usize = 16;
 
 /// A value of a column (RFC 7047, section 5.1, `<value>`): a finite set of atoms, or a finite map
 /// from atoms to atoms. A scalar is a set of one atom.
@@ -353,7 +350,11 @@ impl PartialEq for Value {
         ensures value { result ≡ eq_by_cmp value_cmp self.now other.now }
         ensures same { result ≡ model.same_value self.now other.now }
     {
-        self.cmp(other) == Ordering::Equal
+        match (self.entries(), other.entries()) {
+            (Entries::Set(left), Entries::Set(right)) => left == right,
+            (Entries::Map(left), Entries::Map(right)) => left == right,
+            _ => false,
+        }
     }
 }
 

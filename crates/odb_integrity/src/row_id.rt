@@ -5,6 +5,7 @@ ghost use Rattle.odb_atoms.specs.Represented.Atom.{uuid_of};
 ghost use Rattle.odb_integrity.specs.Represented.RowId.{row_id_cmp, row_ids_equivalent, row_ids_partial};
 ghost use Rattle.odb_integrity.specs.Represented.RowId.{row_ids_partially_equivalent, row_ids_total};
 
+use odb_atoms::number_of;
 use odb_schema::TableId;
 use std::cmp::Ordering;
 use std::marker::Model;
@@ -44,7 +45,7 @@ impl RowId {
     {
         RowId {
             table,
-            number: uuid.as_u128(),
+            number: number_of(uuid),
         }
     }
 

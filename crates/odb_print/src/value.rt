@@ -54,6 +54,7 @@ fn put_atom(out: &mut Printer, atom: &Atom) -> Result<(), AllocError>
         Atom::Integer(integer) => out.integer(*integer),
         Atom::Boolean(boolean) => out.put(Token::Bool(*boolean)),
         Atom::Text(text) => out.put(Token::String(text.as_str())),
+        Atom::SharedText(text) => out.put(Token::String(text.as_str())),
         Atom::Uuid(uuid) => put_uuid(out, *uuid),
     }
 }

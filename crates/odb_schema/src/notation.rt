@@ -93,6 +93,7 @@ fn write_atom(alloc: Global, atom: &Atom) -> Result<Value, AllocError>
         Atom::Integer(integer) => Ok(Value::from(*integer)),
         Atom::Boolean(boolean) => Ok(Value::from(*boolean)),
         Atom::Text(text) => Value::try_from_str(alloc, text.as_str()),
+        Atom::SharedText(text) => Value::try_from_str(alloc, text.as_str()),
         Atom::Uuid(uuid) => write_uuid(alloc, *uuid),
     }
 }

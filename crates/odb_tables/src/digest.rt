@@ -108,6 +108,7 @@ fn feed_atom(state: &mut DefaultHasher, atom: &Atom)
         Atom::Integer(integer) => integer.hash(state),
         Atom::Boolean(boolean) => boolean.hash(state),
         Atom::Text(text) => text.as_str().hash(state),
+        Atom::SharedText(text) => text.as_str().hash(state),
         Atom::Uuid(uuid) => Key::of(*uuid).hash(state),
     }
 }

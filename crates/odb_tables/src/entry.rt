@@ -52,6 +52,7 @@ pub(crate) fn key_of(atom: &Atom) -> Option<Key>
         Atom::Integer(_) => None,
         Atom::Boolean(_) => None,
         Atom::Text(_) => None,
+        Atom::SharedText(_) => None,
         Atom::Uuid(uuid) => Some(Key::of(*uuid)),
     }
 }

@@ -7,6 +7,7 @@ ghost use Rattle.odb_atoms.specs.Uuid as model_uuid;
 ghost use Rattle.odb_atoms.specs.Uuid.{uuid_cmp, uuid_from};
 ghost use Rattle.odb_tables.specs.Represented.Key.{keys_alike, keys_equivalent, keys_partial, keys_partially_equivalent, uuid_cmp_total};
 
+use odb_atoms::number_of;
 use std::cmp::Ordering;
 use std::hash::{Hash, Hasher};
 use std::marker::Model;
@@ -43,7 +44,7 @@ impl Key {
         ensures { result ≡ uuid_of uuid }
     {
         Key {
-            number: uuid.as_u128(),
+            number: number_of(uuid),
         }
     }
 

@@ -1,6 +1,8 @@
 -- The entries of a value: the elements of a set, which have no value, and the pairs of a map.
-use Rattle.std.specs.Prelude.{◌≡◌, Bool, true, false, cond, T, List, map, Option, Some, None}
+use Rattle.std.specs.Prelude.{◌≡◌, ◌≤◌, Bool, true, false, cond, T, List, ◌++◌, length, map, take, Option, Some, None}
 use Rattle.std.specs.FinMap.Entries.{find, is_sorted}
+use Rattle.std.specs.List.{list_all}
+use Rattle.std.specs.Ordering.{is_lt}
 use Rattle.odb_atoms.specs.Atom.{Atom, atom_cmp, same_atom}
 
 -- a key, and the value that a map has there
@@ -10,6 +12,21 @@ Entry = Atom × Option Atom
 -- the keys strictly rise
 abbrev pub IsRising : List Entry → Type 0
 IsRising es = T (is_sorted atom_cmp es)
+
+-- each key is less than this one
+abbrev pub AreBefore : List Entry → Atom → Type 0
+AreBefore es k = T (list_all (λ e. is_lt (atom_cmp e.0 k)) es)
+
+-- there is a first one, and its key is less than this one
+abbrev pub IsFirstBefore : List Entry → Atom → Type 0
+IsFirstBefore es k = AreBefore (take 1 es) k × (1 ≤ length es)
+
+-- a run of the entries at the front, whose keys are less than this one, is appended to the list, and these are left
+pub record CopiesRun (k : Atom) (entries left before after : List Entry) : Type 0 where
+  pub run : List Entry
+  pub front : entries ≡ run ++ left
+  pub less : AreBefore run k
+  pub appended : after ≡ before ++ run
 
 -- what stands at a key, if there is an entry
 abbrev pub entry_at : List Entry → Atom → Option (Option Atom)
