@@ -1,5 +1,5 @@
 //! Where the requests of a session's client come in, and wait until they are submitted. [P 7.1, 15.2]
-ghost use Rattle.std.specs.Prelude.{◌≡◌, ◌+◌, ◌-◌, ◌++◌, ◌∷◌, [], All, length, map, true, false, option_map, option_to_list, IfOk, OnErr, OnOk};
+ghost use Rattle.std.specs.Prelude.{◌≡◌, ◌+◌, ◌-◌, ◌++◌, ◌∷◌, ◌&&◌, [], All, is_none, length, map, not, true, false, option_map, option_to_list, IfOk, OnErr, OnOk};
 ghost use Rattle.odb_wire.specs.Feeding.{fault_of};
 ghost use Rattle.odb_wire.specs.Shown.{IsOfItsKind, message_data, request_data};
 ghost use Rattle.odb_wire.specs.Stream.{messages};
@@ -62,6 +62,8 @@ impl Inbox {
     ghost use Rattle.odb_core.specs.Deadlines.{earliest};
     ghost use Rattle.odb_hub.specs.Batch.{IsSome, IsTurn, is_sooner};
     ghost use Rattle.odb_hub.specs.Inbox.{IsInOrder, MovesOn, Stops, SubmitsFrom, TakesIn};
+    ghost use Rattle.odb_hub.specs.Kept.{IsQuiet};
+    ghost use Rattle.odb_hub.specs.Own.{IsGiven};
 
     /// Makes that of a stream of which nothing was read, whose messages have at most `most` bytes.
     pub fn new(alloc: Global, most: usize) -> Inbox
@@ -94,7 +96,7 @@ impl Inbox {
 
     /// Returns whether more may come of the stream: it is at no fault, and its rest wasn't given up. O(1).
     pub fn is_open(&self) -> bool
-        ensures { result ≡ true → self.now.is_stopped ≡ false }
+        ensures { result ≡ (not self.now.is_stopped && is_none (fault_of (messages self.now.most self.now.bytes).1)) }
     {
         !self.is_stopped && self.fault.is_none()
     }
@@ -133,7 +135,7 @@ impl Inbox {
 
     /// Gives up what is pending, and the rest of the stream. O(requests pending).
     pub fn stop(&mut self)
-        ensures { Stops self.old self.new }
+        ensures { self.new ≡ record self.old { pending = []; is_stopped = true } }
     {
         self.batch.clear();
         self.is_stopped = true;
@@ -151,8 +153,12 @@ impl Inbox {
         ensures submits { SubmitsFrom result.owes seat.old.session now self.old self.new hub.old.kept hub.new.kept }
         ensures most { IsTurn (length self.old.pending) (length self.new.pending) }
         ensures some { OnOk result.owes (IsSome (length self.old.pending) (length self.new.pending)) }
+        ensures given { OnOk result.given (IsGiven seat.old.session hub.new.kept) }
+        ensures quiet { IfOk result.owes (λ owes. owes ≡ false → IsQuiet hub.new.kept.server) }
         ensures sooner { result.due_sooner ≡ is_sooner (earliest hub.new.kept.server.world.waiting) (earliest hub.old.kept.server.world.waiting) }
         ensures seat { seat.new ≡ record { session = seat.old.session; answered = seat.old.answered + (length self.old.pending - length self.new.pending) } }
+        ensures answered { hub.new.answered ≡ hub.old.answered + (length self.old.pending - length self.new.pending) }
+        ensures settled { hub.new.settled ≡ hub.old.settled }
     {
         let before = Snapshot::of(&self.batch);
         let outcome = hub.submit_turn(rt, seat, &mut self.batch, now);
