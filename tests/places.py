@@ -14,6 +14,12 @@ FOLDER = os.path.join(CACHE, "ovsdbd", re.sub(r"\W+", "-", ROOT).strip("-"))  # 
 GENERATED = ("declared", "contracts")  # what the toolchain makes of code, below a crate's specs
 
 
+def service_environment():
+    """The variables by which the Debian package's service has freed memory go back to the system (mallopt(3))."""
+    with open(os.path.join(ROOT, "packaging", "ovsdbd@.service"), encoding="utf-8") as file:
+        return dict(re.findall(r"(MALLOC_\w+)=(\d+)", file.read()))
+
+
 def build():
     """Proves and builds the program where that is due. Where it can't be, this ends with status 1."""
     if subprocess.run([os.path.join(ROOT, "ovsdbd"), "--help"], stdout=subprocess.DEVNULL, check=False).returncode:
