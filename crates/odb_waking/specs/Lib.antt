@@ -1,2 +1,4 @@
 pub mod Loop
 pub mod Pump
+pub mod Teller
+pub mod Represented

@@ -53,6 +53,10 @@ pump_at lies_down b p = record p { place = looks_again; awake = false }
 pump_at looks_again b p = record p { place = if p.told then begins else sleeps }
 pump_at sleeps b p = if p.token then record p { place = begins; token = false } else record p { place = if b then begins else sleeps }
 
+-- where the pump goes on, where it was told something or wasn't, and b is as above
+abbrev pub next_place : Bool → Bool → Place → Place
+next_place told b x = (pump_at x b (record begun { place = x; told = told })).place
+
 abbrev pub told_by : ℕ → Pump → Pump
 told_by zero p = p
 told_by (suc n) p = record p { told = true; telling = n; looking = suc p.looking }

@@ -1,8 +1,14 @@
-//! How the threads of a server wake each other, as machines over atomic steps, beside the program. [P 15.2]
+//! How the threads of a server wake each other, as machines over atomic steps, and what the pump sleeps by. [P 15.2]
 #![tactic(auto)]
 
 ghost use Rattle.odb_waking.specs.Loop.{NoEndIsLeft, NoMessageIsLeft, NoRequestIsLeft, NoSocketIsLeft};
 ghost use Rattle.odb_waking.specs.Pump.{NoPumpOversleeps};
+
+mod alarm;
+mod place;
+
+pub use alarm::{Alarm, CALLED};
+pub use place::{LoopPlace, PumpPlace, RouserPlace};
 
 /// States that no wake-up and no end of a connection is lost, whatever the threads do and in which order. The call does nothing.
 pub fn law()

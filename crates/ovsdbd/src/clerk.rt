@@ -1,4 +1,6 @@
 //! A thread that serves connections, by events. [P 15.2]
+ghost use Rattle.std.specs.Prelude.{◌≡◌};
+ghost use Rattle.odb_waking.specs.Loop as loops;
 
 use crate::connection::{Connection, Next, PIECE, RandomIdentifiers, Tools};
 use crate::daemon::Daemon;
@@ -8,6 +10,7 @@ use mio::net::TcpStream;
 use mio::{Events, Interest, Poll, Token};
 use odb_core::Refused;
 use odb_hub::{Bell, Calls};
+use odb_waking::LoopPlace;
 use rand::make_rng;
 use std::alloc::{AllocError, Global};
 use std::collections::VecDeque;
@@ -79,8 +82,9 @@ pub(crate) fn serve_desk<L: Ledger, R: Threads + Wait + Clock + RandomSource + S
 impl<'a, L: Ledger, R: Threads + Wait + Clock + RandomSource + Sync> Clerk<'a, L, R> {
     fn run(self, events: &mut Events) {
         let mut clerk = self;
+        let mut place = LoopPlace::new();
         for _ in clerk.tools.rt.forever() {
-            clerk.turn(events);
+            clerk.turn(events, &mut place);
             if clerk.is_over() {
                 break;
             }
@@ -106,15 +110,18 @@ impl<'a, L: Ledger, R: Threads + Wait + Clock + RandomSource + Sync> Clerk<'a, L
     }
 
     /// Serves some of those that were called or have events, and sleeps where nothing is left to do.
-    fn turn(&mut self, events: &mut Events) {
+    fn turn(&mut self, events: &mut Events, place: &mut LoopPlace)
+        requires { place.old ≡ loops.begins }
+        ensures { place.new ≡ loops.begins }
+    {
         self.take_connections();
         self.hear_calls();
         self.serve_some();
         // What was given by this very turn.
         self.hear_calls();
-        let wait = self.wait_for();
-        drop(self.poll.poll(events, wait));
-        self.desk.gets_up();
+        place.served();
+        self.wait(events, place);
+        self.desk.gets_up(place);
         self.notice(events);
         self.look_at_all();
     }
@@ -273,12 +280,35 @@ impl<'a, L: Ledger, R: Wait + Clock> Clerk<'a, L, R> {
         !self.asking.is_empty() || !self.queue.is_empty()
     }
 
-    /// Returns for how long to wait for events: not at all where some have a turn next.
-    fn wait_for(&mut self) -> Option<Duration> {
-        if self.has_next() || self.is_over() || !self.desk.lies_down() {
-            return Some(Duration::ZERO);
+    /// Waits for events: not at all where some have a turn next.
+    fn wait(&mut self, events: &mut Events, place: &mut LoopPlace)
+        requires { place.old ≡ loops.lies_down }
+        ensures { place.new ≡ loops.rises }
+    {
+        if self.has_next() || self.is_over() {
+            place.stayed_up();
+            return self.ask(events);
         }
-        self.interval()
+        if self.desk.lies_down(place) {
+            self.sleep(events, place);
+        } else {
+            self.ask(events);
+        }
+    }
+
+    /// Takes the events that are there.
+    fn ask(&mut self, events: &mut Events) {
+        drop(self.poll.poll(events, Some(Duration::ZERO)));
+    }
+
+    /// Sleeps until there are events, or it is to look whether the daemon's patience is at its end.
+    fn sleep(&mut self, events: &mut Events, place: &mut LoopPlace)
+        requires { place.old ≡ loops.sleeps }
+        ensures { place.new ≡ loops.rises }
+    {
+        let interval = self.interval();
+        drop(self.poll.poll(events, interval));
+        place.slept();
     }
 
     /// Learns what the poll tells.

@@ -8,6 +8,7 @@ use crate::serve::Terms;
 use odb_core::{Core, MAX_SESSIONS, Refused, SessionId};
 use odb_hub::{Hub, Inbox, Seat};
 use odb_par::{Open, Workers};
+use odb_waking::PumpPlace;
 use std::alloc::Global;
 use std::net::SocketAddr;
 use std::sync::Wait;
@@ -18,9 +19,6 @@ use std::time::{Clock, Duration, Instant};
 
 /// After how many turns of the pump the journal begins anew.
 const SETTLES: u64 = 65_536;
-
-/// For how many milliseconds the pump rests after a round for which memory was refused.
-const REFUSED: u64 = 3;
 
 /// A core for the schema, with empty tables, and the moment from which moments are counted.
 #[derive(Drop)]
@@ -64,6 +62,7 @@ pub(crate) struct Daemon<L: Ledger> {
 impl<L: Ledger> Daemon<L> {
     ghost use Rattle.std.specs.Prelude.{◌≡◌, ◌+◌};
     ghost use Rattle.odb_hub.specs.Kept.{IsNew};
+    ghost use Rattle.odb_waking.specs.Pump.{begins};
 
     /// Makes a daemon over a core without sessions.
     pub(crate) fn new(
@@ -114,7 +113,7 @@ impl<L: Ledger> Daemon<L> {
     /// Ends the pump, and the thread that writes notices.
     pub(crate) fn end(&self) {
         self.ended.store(1, Ordering::SeqCst);
-        self.pace.wake();
+        self.pace.alarm.call();
         self.notices.end();
     }
 
@@ -146,7 +145,7 @@ impl<L: Ledger> Daemon<L> {
         drop(hub);
         let taken = before.saturating_sub(inbox.pending());
         if submitted.due_sooner {
-            self.pace.wake();
+            self.pace.alarm.call();
         }
         self.wake_called();
         if !is_quiet(&submitted.owes) {
@@ -160,7 +159,7 @@ impl<L: Ledger> Daemon<L> {
         let parted = self.hub.enter(rt).part(seat);
         match parted {
             Ok(()) => {
-                self.pace.tell(1);
+                self.pace.alarm.tell(1);
                 Ok(())
             }
             Err(back) => Err(back),
@@ -172,7 +171,7 @@ impl<L: Ledger> Daemon<L> {
     pub(crate) fn refill<R: Wait>(&self, rt: &R, session: SessionId) -> bool {
         let given = self.hub.enter(rt).rounds_for(session).is_ok();
         if !given {
-            self.pace.tell(1);
+            self.pace.alarm.tell(1);
         }
         given
     }
@@ -191,12 +190,13 @@ impl<L: Ledger> Daemon<L> {
                 }
             }
         }
-        self.pace.tell(requests);
+        self.pace.alarm.tell(requests);
     }
 
     /// Pumps until the daemon ends.
     pub(crate) fn pump<R: Threads + Wait + Clock + Sync>(&self, rt: &R) {
         let mut turns: u64 = 0;
+        let mut place = PumpPlace::new();
         for _ in rt.forever() {
             if self.ended.load(Ordering::SeqCst) != 0 {
                 return;
@@ -206,23 +206,28 @@ impl<L: Ledger> Daemon<L> {
                 self.hub.enter(rt).settle();
                 turns = 0;
             }
-            self.turn(rt);
+            self.turn(rt, &mut place);
         }
     }
 
     /// Tries the transactions that are due, gives each session its next message, and pauses: it rests where more may come,
     /// and sleeps where nothing is owed until something may be, or a transaction may be due.
-    fn turn<R: Threads + Wait + Clock + Sync>(&self, rt: &R) {
-        self.pace.begin();
+    fn turn<R: Threads + Wait + Clock + Sync>(&self, rt: &R, place: &mut PumpPlace)
+        requires { place.old ≡ begins }
+        ensures { place.new ≡ begins }
+    {
+        self.pace.alarm.begin(place);
         let now = self.now(rt);
         drop(self.hub.enter(rt).tick(now));
         let round = self.hub.enter(rt).round(rt, self.workers, &Open);
         self.wake_called();
         match round {
-            Ok(round) => self.pace.pause(rt, round, self.left(rt, round.deadline)),
+            Ok(round) => self
+                .pace
+                .pause(rt, round, self.left(rt, round.deadline), place),
             Err(_) => {
                 self.give_each(rt, now);
-                self.pace.rest(rt, Duration::from_millis(REFUSED), None);
+                self.pace.pause_after_refusal(rt, place);
             }
         }
     }

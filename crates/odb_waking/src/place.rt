@@ -1,0 +1,288 @@
+//! Before which of their steps the pump and a thread that wakes it are, for contracts. Nothing reads it when the program
+//! runs.
+ghost use Rattle.std.specs.Prelude.{◌≡◌, false, true, if◌then◌else◌};
+ghost use Rattle.odb_waking.specs.Loop as loops;
+ghost use Rattle.odb_waking.specs.Pump.{begins, gives, next_place, rests};
+ghost use Rattle.odb_waking.specs.Teller.{calls, done, ended, flags, rouses, swaps, tells};
+
+use std::marker::Model;
+
+/// The steps of the pump.
+#[derive(Clone, Copy)]
+pub(crate) enum PumpStep {
+    Begins,
+    Forgets,
+    Gives,
+    Decides,
+    Rests,
+    LiesDown,
+    LooksAgain,
+    Sleeps,
+}
+
+/// The steps of a thread that wakes the pump.
+#[derive(Clone, Copy)]
+pub(crate) enum TellerStep {
+    Tells,
+    Looks,
+    Calls,
+    Wakes,
+    Done,
+}
+
+/// The place of the pump among its steps: the next one.
+#[derive(Drop)]
+pub struct PumpPlace {
+    pub(crate) next: PumpStep,
+}
+
+impl Model for PumpPlace {
+    ghost use Rattle.odb_waking.specs.Pump as pump;
+    ghost use Rattle.odb_waking.specs.Represented.{place_of};
+
+    ghost Value = { pump.Place };
+
+    ghost view = { λ p. place_of p.next };
+}
+
+impl PumpPlace {
+    /// Makes the place of a pump that begins its first turn.
+    pub fn new() -> PumpPlace
+        ensures { result ≡ begins }
+    {
+        PumpPlace {
+            next: PumpStep::Begins,
+        }
+    }
+
+    /// Goes on after a round that gave something, or for which memory was refused.
+    pub fn gave(&mut self)
+        requires { self.old ≡ gives }
+        ensures { self.new ≡ next_place false true self.old }
+    {
+        self.next = PumpStep::Rests;
+    }
+
+    /// Goes on after a round that gave nothing.
+    pub fn gave_nothing(&mut self)
+        requires { self.old ≡ gives }
+        ensures { self.new ≡ next_place false false self.old }
+    {
+        self.next = PumpStep::Decides;
+    }
+
+    /// Goes on after a rest.
+    pub fn rested(&mut self)
+        requires { self.old ≡ rests }
+        ensures { self.new ≡ next_place false true self.old }
+    {
+        self.next = PumpStep::Begins;
+    }
+}
+
+/// The place of a thread that wakes the pump. It can't be let go of before the thread has done so.
+pub(crate) struct TellerPlace {
+    pub(crate) next: TellerStep,
+}
+
+impl Model for TellerPlace {
+    ghost use Rattle.odb_waking.specs.Represented.{teller_of};
+    ghost use Rattle.odb_waking.specs.Teller as teller;
+
+    ghost Value = { teller.Teller };
+
+    ghost view = { λ t. teller_of t.next };
+}
+
+impl TellerPlace {
+    /// Makes the place of a thread that made something owed.
+    pub(crate) fn of_what_is_owed() -> TellerPlace
+        ensures { result ≡ tells }
+    {
+        TellerPlace {
+            next: TellerStep::Tells,
+        }
+    }
+
+    /// Makes the place of a thread that made something due sooner.
+    pub(crate) fn of_what_is_due() -> TellerPlace
+        ensures { result ≡ calls }
+    {
+        TellerPlace {
+            next: TellerStep::Calls,
+        }
+    }
+
+    /// Ends where nothing is left to be done.
+    pub(crate) fn end(self)
+        requires { self ≡ done }
+    {
+        let TellerPlace { next: _ } = self;
+    }
+}
+
+/// The steps of a loop between two turns of its sessions.
+#[derive(Clone, Copy)]
+pub(crate) enum LoopStep {
+    Begins,
+    LiesDown,
+    LooksAgain,
+    Sleeps,
+    Rises,
+}
+
+/// The steps of a thread that wakes a loop.
+#[derive(Clone, Copy)]
+pub(crate) enum RouserStep {
+    Flags,
+    Swaps,
+    Rouses,
+    Ended,
+}
+
+/// The place of a loop among its steps: the next one. What a loop does with its sessions is left out.
+#[derive(Drop)]
+pub struct LoopPlace {
+    next: LoopStep,
+}
+
+impl Model for LoopPlace {
+    ghost use Rattle.odb_waking.specs.Loop as loops;
+    ghost use Rattle.odb_waking.specs.Represented.{turn_of};
+
+    ghost Value = { loops.Place };
+
+    ghost view = { λ p. turn_of p.next };
+}
+
+impl LoopPlace {
+    /// Makes the place of a loop that begins its first turn.
+    pub fn new() -> LoopPlace
+        ensures { result ≡ loops.begins }
+    {
+        LoopPlace {
+            next: LoopStep::Begins,
+        }
+    }
+
+    /// Goes on once those that were called and reported had their turn.
+    pub fn served(&mut self)
+        requires { self.old ≡ loops.begins }
+        ensures { self.new ≡ loops.lies_down }
+    {
+        self.next = LoopStep::LiesDown;
+    }
+
+    /// Goes on where some have a turn next: the loop asks its poll, and doesn't sleep in it.
+    pub fn stayed_up(&mut self)
+        requires { self.old ≡ loops.lies_down }
+        ensures { self.new ≡ loops.rises }
+    {
+        self.next = LoopStep::Rises;
+    }
+
+    /// Goes on as the loop counts as asleep.
+    pub fn lay_down(&mut self)
+        requires { self.old ≡ loops.lies_down }
+        ensures { self.new ≡ loops.looks_again }
+    {
+        self.next = LoopStep::LooksAgain;
+    }
+
+    /// Goes on once the loop has looked whether it was told something: then it doesn't sleep.
+    pub fn looked(&mut self, is_told: bool)
+        requires { self.old ≡ loops.looks_again }
+        ensures { self.new ≡ (if is_told then loops.rises else loops.sleeps) }
+    {
+        self.next = if is_told {
+            LoopStep::Rises
+        } else {
+            LoopStep::Sleeps
+        };
+    }
+
+    /// Goes on after a sleep in the poll.
+    pub fn slept(&mut self)
+        requires { self.old ≡ loops.sleeps }
+        ensures { self.new ≡ loops.rises }
+    {
+        self.next = LoopStep::Rises;
+    }
+
+    /// Goes on as the loop counts as awake.
+    pub fn rose(&mut self)
+        requires { self.old ≡ loops.rises }
+        ensures { self.new ≡ loops.begins }
+    {
+        self.next = LoopStep::Begins;
+    }
+}
+
+/// The place of a thread that wakes a loop. It can't be let go of before the thread has done so.
+pub struct RouserPlace {
+    next: RouserStep,
+}
+
+impl Model for RouserPlace {
+    ghost use Rattle.odb_waking.specs.Represented.{rouser_of};
+    ghost use Rattle.odb_waking.specs.Teller as teller;
+
+    ghost Value = { teller.Rouser };
+
+    ghost view = { λ r. rouser_of r.next };
+}
+
+impl RouserPlace {
+    /// Makes the place of a thread that gave a loop something, and is to say so.
+    pub fn of_what_came() -> RouserPlace
+        ensures { result ≡ flags }
+    {
+        RouserPlace {
+            next: RouserStep::Flags,
+        }
+    }
+
+    /// Makes the place of a thread that found that a loop was called.
+    pub fn of_a_call() -> RouserPlace
+        ensures { result ≡ swaps }
+    {
+        RouserPlace {
+            next: RouserStep::Swaps,
+        }
+    }
+
+    /// Goes on once it was said that something came.
+    pub fn flagged(&mut self)
+        requires { self.old ≡ flags }
+        ensures { self.new ≡ swaps }
+    {
+        self.next = RouserStep::Swaps;
+    }
+
+    /// Goes on once it was found whether the loop counts as asleep.
+    pub fn swapped(&mut self, is_asleep: bool)
+        requires { self.old ≡ swaps }
+        ensures { self.new ≡ (if is_asleep then rouses else ended) }
+    {
+        self.next = if is_asleep {
+            RouserStep::Rouses
+        } else {
+            RouserStep::Ended
+        };
+    }
+
+    /// Goes on as the loop was woken.
+    pub fn roused(&mut self)
+        requires { self.old ≡ rouses }
+        ensures { self.new ≡ ended }
+    {
+        self.next = RouserStep::Ended;
+    }
+
+    /// Ends where nothing is left to be done.
+    pub fn end(self)
+        requires { self ≡ ended }
+    {
+        let RouserPlace { next: _ } = self;
+    }
+}
