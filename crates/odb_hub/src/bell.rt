@@ -1,11 +1,15 @@
 //! How the thread that serves a session learns that something was given to it.
+ghost use Rattle.std.specs.Prelude.{◌≡◌};
+ghost use Rattle.odb_waking.specs.Loop as loops;
 
 use crate::calls::Calls;
+use odb_waking::GiverPlace;
 use std::sync::Arc;
 use std::sync::atomic::{AtomicU64, Ordering};
 
-/// By what the thread that serves a session is called when something is given to it. No contract speaks of it. What is done
-/// with it are steps of the loop of `odb_waking`, which loses no call: `Ring::put` and the thread are to keep their order.
+/// By what the thread that serves a session is called when something is given to it. What is done with it are steps of the
+/// loop of `odb_waking`, which loses no call: contracts say before which step the thread is that gives. That the thread which
+/// serves the session looks in its turn is said nowhere.
 #[derive(Drop)]
 pub struct Bell {
     calls: Arc<Calls>,
@@ -43,8 +47,10 @@ impl Bell {
 
     /// Calls the thread that serves the session, since something was given to it. Whoever gave it wakes the thread, once the
     /// lock is free.
-    pub(crate) fn ring(&self) {
-        self.calls.call(self.place);
+    pub(crate) fn ring(&self, place: GiverPlace)
+        requires { place ≡ loops.calls }
+    {
+        self.calls.call(self.place, place);
     }
 
     /// Returns whether the thread that serves the session was called since it last heard that.
@@ -70,7 +76,7 @@ impl Bell {
         let long = moment.saturating_sub(self.refused.load(Ordering::SeqCst));
         if before >= REFUSALS && long >= PATIENCE {
             self.given_up.store(1, Ordering::SeqCst);
-            self.ring();
+            self.ring(GiverPlace::of_a_call());
         }
     }
 
@@ -85,15 +91,31 @@ impl Bell {
     }
 
     /// Says that a message is held back, since the ring has no room for it.
-    pub(crate) fn hold(&self) {
+    pub(crate) fn hold(&self, place: &mut GiverPlace)
+        requires { place.old ≡ loops.refused }
+        ensures { place.new ≡ loops.marked }
+    {
         self.holds.store(1, Ordering::SeqCst);
+        place.marked();
     }
 
-    /// Says that nothing is held back.
-    pub(crate) fn let_go(&self) {
+    /// Says that nothing is held back, and calls the thread.
+    pub(crate) fn let_go(&self, place: GiverPlace)
+        requires { place ≡ loops.sent }
+    {
+        let mut place = place;
+        self.say_that_none_is_held(&mut place);
+        self.ring(place);
+    }
+
+    fn say_that_none_is_held(&self, place: &mut GiverPlace)
+        requires { place.old ≡ loops.sent }
+        ensures { place.new ≡ loops.calls }
+    {
         if self.is_held_back() {
             self.holds.store(0, Ordering::SeqCst);
         }
+        place.let_go();
     }
 
     /// Returns whether a message is held back.

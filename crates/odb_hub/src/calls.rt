@@ -1,6 +1,9 @@
 //! At which sessions a thread is to look.
+ghost use Rattle.std.specs.Prelude.{◌≡◌, if◌then◌else◌};
+ghost use Rattle.odb_waking.specs.Loop as loops;
 
 use odb_core::MAX_SESSIONS;
+use odb_waking::{GiverPlace, LoopPlace};
 use std::alloc::{AllocError, Global};
 use std::sync::atomic::{AtomicU64, Ordering};
 
@@ -8,8 +11,8 @@ use std::sync::atomic::{AtomicU64, Ordering};
 const WORD: usize = 64;
 
 /// The places of a thread's sessions at which it is to look, since something was given to them. Any thread may call; the one
-/// whose sessions they are hears. No contract speaks of it. What is done with it are steps of the loop of `odb_waking`, which
-/// loses no call: each method names its own, and they are to stay in this order.
+/// whose sessions they are hears. What is done with it are steps of the loop of `odb_waking`, which loses no call: contracts say
+/// before which step the loop is, and whoever calls.
 #[derive(Drop)]
 pub struct Calls {
     any: AtomicU64,
@@ -34,13 +37,31 @@ impl Calls {
         place < MAX_SESSIONS
     }
 
-    /// Calls for a look at the session at this place; of a place that isn't one nothing is called. O(1). Steps: those of
-    /// `giver_goes_on` at `calls` and `tells`.
-    pub fn call(&self, place: usize) {
-        if let Some(word) = self.words.get(place / WORD) {
-            set(word, 1u64 << (place % WORD));
-            self.any.store(1, Ordering::SeqCst);
+    /// Calls for a look at the session at this place; of a place that isn't one nothing is called. O(1).
+    pub(crate) fn call(&self, session: usize, place: GiverPlace)
+        requires { place ≡ loops.calls }
+    {
+        let mut place = place;
+        self.set(session, &mut place);
+        self.tell(place);
+    }
+
+    fn set(&self, session: usize, place: &mut GiverPlace)
+        requires { place.old ≡ loops.calls }
+        ensures { place.new ≡ loops.tells }
+    {
+        if let Some(word) = self.words.get(session / WORD) {
+            set(word, 1u64 << (session % WORD));
         }
+        place.called();
+    }
+
+    /// Tells the loop that a session was called.
+    fn tell(&self, place: GiverPlace)
+        requires { place ≡ loops.tells }
+    {
+        self.any.store(1, Ordering::SeqCst);
+        place.told();
     }
 
     /// Returns whether the session at this place was called and not heard since. O(1).
@@ -57,9 +78,13 @@ impl Calls {
     }
 
     /// Returns whether something was called since the last time, which it forgets: then all words are to be heard.
-    /// Step: `begins`.
-    pub fn begin(&self) -> bool {
-        self.any.swap(0, Ordering::SeqCst) != 0
+    pub fn begin(&self, place: &mut LoopPlace) -> bool
+        requires { place.old ≡ loops.begins }
+        ensures { place.new ≡ (if result then loops.collects else loops.lies_down) }
+    {
+        let is_any = self.any.swap(0, Ordering::SeqCst) != 0;
+        place.began(is_any);
+        is_any
     }
 
     /// Returns how many words there are to hear, each of 64 places.
@@ -68,8 +93,9 @@ impl Calls {
     }
 
     /// Hears what was called in a word of places since the last time: a bit for each of its places, the first the lowest.
-    /// Step: `collects`.
-    pub fn hear(&self, word: usize) -> u64 {
+    pub fn hear(&self, word: usize, _place: &LoopPlace) -> u64
+        requires { _place.now ≡ loops.collects }
+    {
         match self.words.get(word) {
             Some(word) if word.load(Ordering::SeqCst) != 0 => word.swap(0, Ordering::SeqCst),
             _ => 0,

@@ -2,11 +2,13 @@
 ghost use Rattle.std.specs.Prelude.{◌≡◌, [], Some, None, IfErr, IfOk, OnErr, OnOk, is_some};
 ghost use Rattle.odb_sessions.specs.Represented.Out.{text_of_out};
 ghost use Rattle.odb_hub.specs.Room as room;
+ghost use Rattle.odb_waking.specs.Loop as loops;
 
 use crate::bell::Bell;
 use crate::load::{ROOM, RingLoad};
 use crate::mailbox::Mailbox;
 use odb_core::Out;
+use odb_waking::GiverPlace;
 use rtrb::{Producer, RingBuffer};
 use std::alloc::{AllocError, Global};
 use std::marker::Model;
@@ -85,29 +87,49 @@ impl Ring {
         self.put(out);
     }
 
-    /// Sends a message, or holds it back where the ring has no room, and calls the thread that serves the session. Of the
-    /// loop of `odb_waking` these are the steps `puts` and `giver_goes_on`: all that the thread does which has the lock.
+    /// Sends a message, or holds it back where the ring has no room, and calls the thread that serves the session: the steps
+    /// of the thread that has the lock, in the loop of `odb_waking`.
     pub(crate) fn put(&mut self, out: Out)
         requires { self.old.held ≡ None }
         ensures { IsPut (text_of_out out) self.old self.new }
     {
+        let mut place = GiverPlace::of_a_message();
         match self.send(out) {
-            Ok(()) => self.bell.let_go(),
-            Err(out) => self.put_again(out),
+            Ok(()) => {
+                place.sent();
+                self.bell.let_go(place);
+            }
+            Err(out) => self.put_again(out, place),
         }
-        self.bell.ring();
     }
 
     /// Tells the thread that takes messages out that one is held back. It may have made room before, so the ring is tried again.
-    fn put_again(&mut self, out: Out)
-        requires { self.old.held ≡ None }
+    fn put_again(&mut self, out: Out, place: GiverPlace)
+        requires held { self.old.held ≡ None }
+        requires place { place ≡ loops.idle }
         ensures { IsPut (text_of_out out) self.old self.new }
     {
-        self.bell.hold();
+        let mut place = place;
+        place.was_refused();
+        self.bell.hold(&mut place);
         match self.send(out) {
-            Ok(()) => self.bell.let_go(),
-            Err(out) => self.held = Some(out),
+            Ok(()) => {
+                place.sent_again();
+                self.bell.let_go(place);
+            }
+            Err(out) => self.hold_back(out, place),
         }
+    }
+
+    /// Holds a message back, of which it is said that one is held back, and calls the thread.
+    fn hold_back(&mut self, out: Out, place: GiverPlace)
+        requires { place ≡ loops.marked }
+        ensures { self.new ≡ record (self.old) { held = Some (text_of_out out) } }
+    {
+        let mut place = place;
+        self.held = Some(out);
+        place.held();
+        self.bell.ring(place);
     }
 
     /// Sends a message, if the ring has room for it; else it comes back.

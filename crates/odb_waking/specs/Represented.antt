@@ -2,6 +2,8 @@
 use Rattle.odb_waking.specs.Loop as loop
 use Rattle.odb_waking.specs.Pump as pump
 use Rattle.odb_waking.specs.Teller as teller
+use Rattle.odb_waking.specs.declared.place.GiverStep.{GiverStep}
+use Rattle.odb_waking.specs.declared.place.GiverStep.TheVariants as giver_at
 use Rattle.odb_waking.specs.declared.place.LoopStep.{LoopStep}
 use Rattle.odb_waking.specs.declared.place.LoopStep.TheVariants as loop_at
 use Rattle.odb_waking.specs.declared.place.PumpStep.{PumpStep}
@@ -30,6 +32,7 @@ teller_of teller_at.Done = teller.done
 
 abbrev pub turn_of : LoopStep → loop.Place
 turn_of loop_at.Begins = loop.begins
+turn_of loop_at.Collects = loop.collects
 turn_of loop_at.LiesDown = loop.lies_down
 turn_of loop_at.LooksAgain = loop.looks_again
 turn_of loop_at.Sleeps = loop.sleeps
@@ -40,3 +43,11 @@ rouser_of rouser_at.Flags = teller.flags
 rouser_of rouser_at.Swaps = teller.swaps
 rouser_of rouser_at.Rouses = teller.rouses
 rouser_of rouser_at.Ended = teller.ended
+
+abbrev pub giver_of : GiverStep → loop.Giver
+giver_of giver_at.Idle = loop.idle
+giver_of giver_at.Refused = loop.refused
+giver_of giver_at.Marked = loop.marked
+giver_of giver_at.Sent = loop.sent
+giver_of giver_at.Calls = loop.calls
+giver_of giver_at.Tells = loop.tells

@@ -8,7 +8,7 @@ mod alarm;
 mod place;
 
 pub use alarm::{Alarm, CALLED};
-pub use place::{LoopPlace, PumpPlace, RouserPlace};
+pub use place::{GiverPlace, LoopPlace, PumpPlace, RouserPlace};
 
 /// States that no wake-up and no end of a connection is lost, whatever the threads do and in which order. The call does nothing.
 pub fn law()

@@ -125,10 +125,22 @@ impl TellerPlace {
 #[derive(Clone, Copy)]
 pub(crate) enum LoopStep {
     Begins,
+    Collects,
     LiesDown,
     LooksAgain,
     Sleeps,
     Rises,
+}
+
+/// The steps of a thread that has the lock and puts a message.
+#[derive(Clone, Copy)]
+pub(crate) enum GiverStep {
+    Idle,
+    Refused,
+    Marked,
+    Sent,
+    Calls,
+    Tells,
 }
 
 /// The steps of a thread that wakes a loop.
@@ -165,12 +177,32 @@ impl LoopPlace {
         }
     }
 
-    /// Goes on once those that were called and reported had their turn.
-    pub fn served(&mut self)
+    /// Goes on once the loop forgot whether one was called: if one was, it takes the calls.
+    pub fn began(&mut self, is_any: bool)
         requires { self.old ≡ loops.begins }
+        ensures { self.new ≡ (if is_any then loops.collects else loops.lies_down) }
+    {
+        self.next = if is_any {
+            LoopStep::Collects
+        } else {
+            LoopStep::LiesDown
+        };
+    }
+
+    /// Goes on once the loop took the calls.
+    pub fn collected(&mut self)
+        requires { self.old ≡ loops.collects }
         ensures { self.new ≡ loops.lies_down }
     {
         self.next = LoopStep::LiesDown;
+    }
+
+    /// Begins again in place of lying down, for what was called meanwhile.
+    pub fn stays(&mut self)
+        requires { self.old ≡ loops.lies_down }
+        ensures { self.new ≡ loops.begins }
+    {
+        self.next = LoopStep::Begins;
     }
 
     /// Goes on where some have a turn next: the loop asks its poll, and doesn't sleep in it.
@@ -215,6 +247,104 @@ impl LoopPlace {
         ensures { self.new ≡ loops.begins }
     {
         self.next = LoopStep::Begins;
+    }
+}
+
+/// The place of a thread that has the lock and puts a message, or calls a session for another reason. It can't be let go of
+/// before the session is called.
+pub struct GiverPlace {
+    next: GiverStep,
+}
+
+impl Model for GiverPlace {
+    ghost use Rattle.odb_waking.specs.Loop as loops;
+    ghost use Rattle.odb_waking.specs.Represented.{giver_of};
+
+    ghost Value = { loops.Giver };
+
+    ghost view = { λ g. giver_of g.next };
+}
+
+impl GiverPlace {
+    /// Makes the place of a thread that is to put a message.
+    pub fn of_a_message() -> GiverPlace
+        ensures { result ≡ loops.idle }
+    {
+        GiverPlace {
+            next: GiverStep::Idle,
+        }
+    }
+
+    /// Makes the place of a thread that is to call a session.
+    pub fn of_a_call() -> GiverPlace
+        ensures { result ≡ loops.calls }
+    {
+        GiverPlace {
+            next: GiverStep::Calls,
+        }
+    }
+
+    /// Goes on where the ring had no room.
+    pub fn was_refused(&mut self)
+        requires { self.old ≡ loops.idle }
+        ensures { self.new ≡ loops.refused }
+    {
+        self.next = GiverStep::Refused;
+    }
+
+    /// Goes on once it was said that a message is held back: then it is tried once more.
+    pub fn marked(&mut self)
+        requires { self.old ≡ loops.refused }
+        ensures { self.new ≡ loops.marked }
+    {
+        self.next = GiverStep::Marked;
+    }
+
+    /// Goes on where the message was sent at once.
+    pub fn sent(&mut self)
+        requires { self.old ≡ loops.idle }
+        ensures { self.new ≡ loops.sent }
+    {
+        self.next = GiverStep::Sent;
+    }
+
+    /// Goes on where the message was sent after it was said that one is held back.
+    pub fn sent_again(&mut self)
+        requires { self.old ≡ loops.marked }
+        ensures { self.new ≡ loops.sent }
+    {
+        self.next = GiverStep::Sent;
+    }
+
+    /// Goes on where the message is held back.
+    pub fn held(&mut self)
+        requires { self.old ≡ loops.marked }
+        ensures { self.new ≡ loops.calls }
+    {
+        self.next = GiverStep::Calls;
+    }
+
+    /// Goes on once it was said that nothing is held back.
+    pub fn let_go(&mut self)
+        requires { self.old ≡ loops.sent }
+        ensures { self.new ≡ loops.calls }
+    {
+        self.next = GiverStep::Calls;
+    }
+
+    /// Goes on as the session was called.
+    pub fn called(&mut self)
+        requires { self.old ≡ loops.calls }
+        ensures { self.new ≡ loops.tells }
+    {
+        self.next = GiverStep::Tells;
+    }
+
+    /// Ends as the loop was told that a session was called.
+    pub fn told(self)
+        requires { self ≡ loops.tells }
+    {
+        let GiverPlace { next: _ } = self;
     }
 }
 

@@ -115,11 +115,11 @@ impl<'a, L: Ledger, R: Threads + Wait + Clock + RandomSource + Sync> Clerk<'a, L
         ensures { place.new ≡ loops.begins }
     {
         self.take_connections();
-        self.hear_calls();
+        self.hear_calls(place);
         self.serve_some();
         // What was given by this very turn.
-        self.hear_calls();
-        place.served();
+        place.stays();
+        self.hear_calls(place);
         self.wait(events, place);
         self.desk.gets_up(place);
         self.notice(events);
@@ -239,14 +239,23 @@ impl<'a, L: Ledger, R: Wait + Clock> Clerk<'a, L, R> {
         };
     }
 
-    /// Has those served next to whose sessions something was given. Steps: `begins`, `collects`.
-    fn hear_calls(&mut self) {
-        if !self.desk.calls.begin() {
-            return;
+    /// Has those served next to whose sessions something was given.
+    fn hear_calls(&mut self, place: &mut LoopPlace)
+        requires { place.old ≡ loops.begins }
+        ensures { place.new ≡ loops.lies_down }
+    {
+        if self.desk.calls.begin(place) {
+            self.hear_words(place);
+            place.collected();
         }
+    }
+
+    fn hear_words(&mut self, place: &LoopPlace)
+        requires { place.now ≡ loops.collects }
+    {
         let mut first: usize = 0;
         for word in 0..self.desk.calls.words() {
-            self.hear_word(first, self.desk.calls.hear(word));
+            self.hear_word(first, self.desk.calls.hear(word, place));
             first = first.saturating_add(u64::BITS as usize);
         }
     }
