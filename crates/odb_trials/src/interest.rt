@@ -132,3 +132,22 @@ fn a_row_that_is_renamed_concerns_two_of_a_thousand(rt: HostRuntime) -> Result<(
     assert_eq!(rt; found, wanted);
     Ok(())
 }
+
+/// Returns how many sessions may be owed something before and after one is closed that watches and wasn't given its reply.
+fn close_one(alloc: Global, core: &mut Core) -> Result<[usize; 2], AllocError> {
+    let session = open(core)?;
+    submit(alloc, core, session, watch(alloc, 1)?.as_slice())?;
+    let before = core.owed().len();
+    match core.close(session) {
+        Ok(()) => Ok([before, core.owed().len()]),
+        Err(_) => Err(AllocError),
+    }
+}
+
+#[test]
+fn a_session_that_is_closed_is_owed_nothing(rt: HostRuntime) -> Result<(), Fail> {
+    let mut core = core(rt.alloc(), RandomState::new(&rt)?, NAMES)?;
+    let found = close_one(rt.alloc(), &mut core)?;
+    assert_eq!(rt; found, [1, 0]);
+    Ok(())
+}

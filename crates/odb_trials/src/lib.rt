@@ -4,6 +4,8 @@
 #[cfg(test)]
 mod calls;
 #[cfg(test)]
+mod firsts;
+#[cfg(test)]
 mod interest;
 #[cfg(test)]
 mod mailboxes;
