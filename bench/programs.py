@@ -7,6 +7,7 @@ Usage: bench/programs.py --check [NAME..]    compiles the programs (all if none 
                                              of each whether that goes; the last line is 'N passed, M failed'
 """
 
+import argparse
 import contextlib
 import os
 import re
@@ -75,14 +76,16 @@ def compiles(name):
     return is_well
 
 
-def main(words):
-    if words[:1] != ["--check"]:
-        sys.exit(__doc__)
+def main():
+    parser = argparse.ArgumentParser(description=__doc__, formatter_class=argparse.RawDescriptionHelpFormatter)
+    parser.add_argument("--check", action="store_true", required=True, help="says of each program whether it compiles")
+    parser.add_argument("names", metavar="NAME", nargs="*", help="these programs alone")
+    names = parser.parse_args().names or uses()
     with ThreadPoolExecutor(len(os.sched_getaffinity(0))) as pool:
-        results = list(pool.map(compiles, words[1:] or uses()))
+        results = list(pool.map(compiles, names))
     print(f"{results.count(True)} passed, {results.count(False)} failed")
     sys.exit(False in results)
 
 
 if __name__ == "__main__":
-    main(sys.argv[1:])
+    main()

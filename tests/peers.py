@@ -14,6 +14,7 @@ Transcripts that hold back what a session is sent (`!hold`), wait for longer tha
 than A, B and C or a fault of the schema are left out, and counted: nothing of the other server corresponds to them.
 """
 
+import argparse
 import json
 import re
 import select
@@ -256,19 +257,22 @@ def is_there():
 
 def main():
     sys.stdout.reconfigure(errors="backslashreplace")
-    words = [word for word in sys.argv[1:] if word != "--all"]
+    parser = argparse.ArgumentParser(description=__doc__, formatter_class=argparse.RawDescriptionHelpFormatter)
+    parser.add_argument("--all", action="store_true", help="what is the same is printed too")
+    parser.add_argument("word", metavar="WORD", nargs="?", default="", help="the transcripts alone that have it in their titles")
+    words = parser.parse_args()
     if not is_there():
         return
     counts = {"same": 0, "words": 0, "differs": 0}
     theirs, found = Theirs(), store()
     alike = [it for it in found if is_alike(it)]
     for transcript in alike:
-        if words and words[0] not in transcript.title:
+        if words.word not in transcript.title:
             continue
         sides = ours(transcript), theirs.play(transcript)
         kind = compare(*sides)
         counts[kind] += 1
-        if kind == "differs" or "--all" in sys.argv:
+        if kind == "differs" or words.all:
             print("%s: %s (%s)" % (kind, transcript.title, transcript.section))
             show(*sides)
     print("%d left out" % (len(found) - len(alike)))

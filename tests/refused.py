@@ -10,6 +10,7 @@ what was refused is taken out and the rest is looked at again. The last line is 
 failed.
 """
 
+import argparse
 import glob
 import os
 import re
@@ -69,6 +70,7 @@ def looked_at(kit, modules):
 
 
 def main():
+    argparse.ArgumentParser(description=__doc__, formatter_class=argparse.RawDescriptionHelpFormatter).parse_args()
     kit, modules = places.kit(), dict(cases())
     left, failed = dict(modules), []
     while True:
@@ -87,4 +89,4 @@ def main():
     sys.exit(bool(failed))
 
 
-main() if len(sys.argv) == 1 else sys.exit(__doc__)
+main()
