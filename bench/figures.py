@@ -5,6 +5,8 @@
     figures.keep(words.json, "serve", results) writes the file, where one was named; results are {server: {what: figures}}
 """
 
+from __future__ import annotations
+
 import argparse
 import datetime
 import json
@@ -12,24 +14,29 @@ import os
 import shlex
 import subprocess
 import sys
+from collections.abc import Mapping, Sequence
+from typing import Any, Union
 
 sys.path.insert(0, os.path.join(os.path.dirname(os.path.dirname(os.path.realpath(__file__))), "tests"))
 from daemon import SERVER
 from places import PROGRAM, ROOT
 
 
-def word(parser):
+Figures = Union[float, Sequence[float]]
+
+
+def word(parser: argparse.ArgumentParser) -> None:
     parser.add_argument("--json", metavar="FILE", help="writes what was measured there, for bench/plot")
 
 
-def words_of(doc):
+def words_of(doc: str) -> argparse.Namespace:
     parser = argparse.ArgumentParser(description=doc.split("\n", maxsplit=1)[0])
     parser.add_argument("program", metavar="PROGRAM", nargs="?", default=PROGRAM)
     word(parser)
     return parser.parse_args()
 
 
-def said(*words):
+def said(*words: str) -> str:
     """The first line that a command prints, '' where it isn't there or fails."""
     try:
         return subprocess.run(words, cwd=ROOT, capture_output=True, text=True, check=True).stdout.partition("\n")[0].strip()
@@ -37,7 +44,7 @@ def said(*words):
         return ""
 
 
-def machine():
+def machine() -> dict[str, Any]:
     with open("/proc/cpuinfo") as file:
         names = [line.partition(":")[2].strip() for line in file if line.startswith("model name")]
     with open("/proc/meminfo") as file:
@@ -45,7 +52,7 @@ def machine():
     return {"processor": names[0] if names else "unknown", "cores": len(os.sched_getaffinity(0)), "memory": f"{memory / 1048576:.0f} GiB", "kernel": os.uname().release}
 
 
-def versions():
+def versions() -> dict[str, str]:
     changed = said("git", "status", "--porcelain", "crates")
     found = {"ovsdbd": said("git", "rev-parse", "--short", "HEAD") + (" with changes" if changed else "")}
     if SERVER:
@@ -53,12 +60,15 @@ def versions():
     return found
 
 
-def keep(path, bench, results):
+def numbers(given: Figures) -> list[float]:
+    return list(given) if isinstance(given, Sequence) else [given]
+
+
+def keep(path: str | None, bench: str, results: Mapping[str, Mapping[str, Figures]]) -> None:
     """Writes what was measured. How busy the machine was stands beside it: it was busy with the bench itself too."""
     if not path:
         return
     whats = dict.fromkeys(what for result in results.values() for what in result)
-    numbers = lambda given: list(given) if isinstance(given, (list, tuple)) else [given]
     data = {
         "bench": bench,
         "command": shlex.join([os.path.relpath(os.path.realpath(sys.argv[0]), ROOT), *sys.argv[1:]]),

@@ -6,6 +6,9 @@ for 5 seconds whether it is there, and leaves it after 10; so it does where it w
 keeps it as busy measures `Patient`, which doesn't ask.
 """
 
+from __future__ import annotations
+
+import argparse
 import json
 import multiprocessing
 import os
@@ -14,17 +17,20 @@ import shlex
 import subprocess
 import sys
 import time
+from collections.abc import Iterable, Sequence
+from multiprocessing.synchronize import Event, Semaphore
+from typing import Any, Union
 
 import figures  # which finds tests/
 import daemon
 from daemon import SERVER, TOOL
 from places import PROGRAM
 
-SCHEMA = {"name": "bench", "version": "1.0.0", "tables": {"T": {"columns": {"k": {"type": "integer"}, "v": {"type": "integer"}}, "isRoot": True}}}
+SCHEMA: dict[str, Any] = {"name": "bench", "version": "1.0.0", "tables": {"T": {"columns": {"k": {"type": "integer"}, "v": {"type": "integer"}}, "isRoot": True}}}
 WINDOW = 32
 
 
-def schema_in(folder):
+def schema_in(folder: str) -> str:
     path = os.path.join(folder, "schema.json")
     with open(path, "w") as file:
         json.dump(SCHEMA, file)
@@ -32,12 +38,12 @@ def schema_in(folder):
 
 
 class Ours(daemon.Daemon):
-    def __init__(self, folder, command, words=()):
+    def __init__(self, folder: str, command: Sequence[str], words: Sequence[str] = ()) -> None:
         super().__init__(command, schema_in(folder), words=words)
 
 
 class Theirs(daemon.OvsdbServer):
-    def __init__(self, folder, _command, words=()):
+    def __init__(self, folder: str, _command: Sequence[str], words: Sequence[str] = ()) -> None:
         super().__init__(schema_in(folder))
 
 
@@ -54,7 +60,7 @@ REMOTES = {
 class Patient(Theirs):
     """ovsdb-server, which doesn't ask its clients whether they are there: a second database says how it listens."""
 
-    def listening(self):
+    def listening(self) -> list[str]:
         schema, database = (os.path.join(self.folder.name, name) for name in ("remotes.json", "remotes"))
         with open(schema, "w") as file:
             json.dump(REMOTES, file)
@@ -65,7 +71,10 @@ class Patient(Theirs):
         return ["--remote=db:Remotes,All,remotes", database]
 
 
-def kinds(theirs=Theirs):
+Kind = Union[type[Ours], type[Theirs]]
+
+
+def kinds(theirs: type[Theirs] = Theirs) -> list[Kind]:
     """The servers that are there. Where ovsdb-server isn't, it says so."""
     if SERVER and TOOL:
         return [Ours, theirs]
@@ -73,7 +82,7 @@ def kinds(theirs=Theirs):
     return [Ours]
 
 
-def words(parser):
+def words(parser: argparse.ArgumentParser) -> argparse.Namespace:
     """Reads the words of a bench, with `--command COMMAND` and `--json FILE`; the command is given as its words. As many
     connections may be open as the system lets a process have."""
     parser.add_argument("--command", help="measures this command in the place of the built program")
@@ -88,12 +97,12 @@ def words(parser):
 class Client(daemon.Client):
     """A connection that counts replies, without reading what they say."""
 
-    def __init__(self, port):
+    def __init__(self, port: int) -> None:
         super().__init__(port)
         self.socket.settimeout(None)
         self.deep = 0
 
-    def ended(self, data):
+    def ended(self, data: bytes) -> int:
         """How many messages end in this piece. What is measured has no brackets in its texts."""
         count = 0
         for byte in data:
@@ -104,37 +113,38 @@ class Client(daemon.Client):
                 count += self.deep == 0
         return count
 
-    def ask(self, data):
+    def ask(self, data: bytes) -> None:  # type: ignore[override]
         """Sends a request, and waits for the end of the next message."""
         self.send(data)
         count = 0
         while not count:
             count += self.ended(self.socket.recv(65536))
 
-    def reply(self, data):
+    def reply(self, data: bytes) -> Any:
         """The reply, where ovsdb-server may ask in between whether the client is there."""
         self.send(data)
         return self.message()
 
 
-def request(number, method, params):
+def request(number: Any, method: str, params: Any) -> bytes:
     return json.dumps({"id": number, "method": method, "params": params}).encode()
 
 
-def rows(port, count):
+def rows(port: int, count: int) -> list[str]:
     """Puts rows into the table, and returns their identifiers."""
-    client, found = Client(port), []
+    client = Client(port)
+    found: list[str] = []
     for start in range(0, count, 100):
         inserts = [{"op": "insert", "table": "T", "row": {"k": k}} for k in range(start, min(count, start + 100))]
         found += [one["uuid"][1] for one in client.reply(request(1, "transact", ["bench", *inserts]))["result"]]
     return found
 
 
-def update(number, row):
+def update(number: int, row: str) -> bytes:
     return request(number, "transact", ["bench", {"op": "update", "table": "T", "where": [["_uuid", "==", ["uuid", row]]], "row": {"v": number}}])
 
 
-def load(port, row, count, ready, start):
+def load(port: int, row: str, count: int, ready: Semaphore, start: Event) -> None:
     """Updates a row so many times, 32 of them in flight."""
     client = Client(port)
     data = [update(number, row) for number in range(count)]
@@ -150,7 +160,7 @@ def load(port, row, count, ready, start):
             sent += more
 
 
-def throughput(port, ids, clients, count):
+def throughput(port: int, ids: Sequence[str], clients: int, count: int) -> float:
     ready, start = multiprocessing.Semaphore(0), multiprocessing.Event()
     them = [multiprocessing.Process(target=load, args=(port, ids[n % len(ids)], count // clients, ready, start)) for n in range(clients)]
     for one in them:
@@ -164,7 +174,7 @@ def throughput(port, ids, clients, count):
     return clients * (count // clients) / (time.time() - begun)
 
 
-def latency(client, data):
+def latency(client: Client, data: Iterable[bytes]) -> tuple[float, float]:
     times = []
     for each in data:
         begun = time.perf_counter()
@@ -174,22 +184,22 @@ def latency(client, data):
     return 1e6 * times[len(times) // 2], 1e6 * times[len(times) * 99 // 100]
 
 
-def status(pid):
+def status(pid: int) -> tuple[float, int]:
     """Seconds of processor and bytes of resident memory."""
     with open(f"/proc/{pid}/stat") as file:
         parts = file.read().rsplit(")", 1)[1].split()
     return (int(parts[11]) + int(parts[12])) / os.sysconf("SC_CLK_TCK"), int(parts[21]) * os.sysconf("SC_PAGE_SIZE")
 
 
-def idle(pid, seconds):
+def idle(pid: int, seconds: float) -> float:
     before = status(pid)[0]
     time.sleep(seconds)
     return 100 * (status(pid)[0] - before) / seconds
 
 
-class Found(dict):
+class Found(dict[str, Sequence[float]]):
     """What was measured, which is said at once, as a run takes minutes."""
 
-    def __setitem__(self, name, figures):
+    def __setitem__(self, name: str, figures: Sequence[float]) -> None:
         super().__setitem__(name, figures)
         print(f"{name}: {', '.join(f'{figure:.1f}' for figure in figures)}", file=sys.stderr, flush=True)

@@ -5,6 +5,8 @@ OVSDB_CLIENT names ovsdb-client where it isn't in the path; the other programs a
 so that unpacked packages do. OVSDB_SERVER and OVSDB_TOOL name those two programs.
 """
 
+from __future__ import annotations
+
 import codecs
 import contextlib
 import json
@@ -18,6 +20,8 @@ import subprocess
 import tempfile
 import threading
 import time
+from collections.abc import Callable, Collection, Iterator, Mapping, Sequence
+from typing import Any, TypeVar
 
 from places import NET, PROGRAM
 
@@ -27,27 +31,29 @@ PLACES = [os.path.join(USR, place) for place in ("bin", "sbin", os.path.join("li
 PATH = os.pathsep.join([*PLACES, os.environ.get("PATH", ""), "/usr/sbin"])
 SHARE = os.path.join(USR, "share")
 PATIENCE = 20
+S = TypeVar("S", bound="Served")
+C = TypeVar("C", bound="Client")
 
 
 class Wrong(Exception):
     """What isn't as it should be."""
 
 
-def found(program):
+def found(program: str) -> str | None:
     """Where a program is, or None."""
     return shutil.which(program, path=PATH)
 
 
-SERVER = os.environ.get("OVSDB_SERVER") or found("ovsdb-server")
-TOOL = os.environ.get("OVSDB_TOOL") or found("ovsdb-tool")
+SERVER = os.environ.get("OVSDB_SERVER") or found("ovsdb-server") or ""
+TOOL = os.environ.get("OVSDB_TOOL") or found("ovsdb-tool") or ""
 
 
-def lacking(packages):
+def lacking(packages: Mapping[str, Collection[str]]) -> list[str]:
     """The packages, by name, of whose programs and files some aren't there."""
     return [name for name, needed in packages.items() if not all(os.path.exists(it) if "/" in it else found(it) for it in needed)]
 
 
-def free_ports(count):
+def free_ports(count: int) -> list[int]:
     """So many ports of the loopback that nobody has."""
     held = [socket.create_server(("127.0.0.1", 0)) for _ in range(count)]
     ports = [each.getsockname()[1] for each in held]
@@ -56,7 +62,7 @@ def free_ports(count):
     return ports
 
 
-def until(is_so, what):
+def until(is_so: Callable[[], object], what: str) -> None:
     """Waits until it is so, for a bounded time."""
     end = time.monotonic() + PATIENCE
     while not is_so():
@@ -65,7 +71,7 @@ def until(is_so, what):
         time.sleep(0.02)
 
 
-def is_running(pid):
+def is_running(pid: int) -> bool:
     try:
         with open(f"/proc/{pid}/stat") as file:
             return file.read().rpartition(")")[2].split()[0] not in "ZX"
@@ -73,7 +79,7 @@ def is_running(pid):
         return False
 
 
-def end(pid):
+def end(pid: int) -> None:
     """Ends a process that isn't a child of this one, and waits until it is gone."""
     for number in (signal.SIGTERM, signal.SIGKILL):
         for _ in range(100):
@@ -85,7 +91,7 @@ def end(pid):
 
 
 @contextlib.contextmanager
-def bounded(process):
+def bounded(process: subprocess.Popen[Any]) -> Iterator[None]:
     """Ends a process that takes too long to say what is waited for."""
     timer = threading.Timer(2 * PATIENCE, process.kill)
     timer.start()
@@ -96,29 +102,29 @@ def bounded(process):
 
 
 class Served:
-    """A process that serves on a port of the loopback, and is ended with what is done in it."""
+    """A process that serves on a port of the loopback (0: not yet), and is ended with what is done in it."""
 
-    def __init__(self, process):
-        self.process, self.port = process, None
+    def __init__(self, process: subprocess.Popen[Any]) -> None:
+        self.process, self.port = process, 0
 
-    def __enter__(self):
+    def __enter__(self: S) -> S:
         return self
 
-    def __exit__(self, *_):
+    def __exit__(self, *_: object) -> None:
         self.end()
 
     @property
-    def address(self):
+    def address(self) -> str:
         return f"127.0.0.1:{self.port}"
 
     @property
-    def remote(self):
+    def remote(self) -> str:
         return f"tcp:{self.address}"
 
-    def connect(self):
+    def connect(self) -> Client:
         return Client(self.port)
 
-    def end(self):
+    def end(self) -> None:
         self.process.terminate()
         self.process.communicate()
 
@@ -128,11 +134,12 @@ class Daemon(Served):
 
     name = "ovsdbd"
 
-    def __init__(self, command=(PROGRAM,), schema=NET, port=0, words=()):
-        words = [*command, "serve", "--schema", schema, "--listen", f"127.0.0.1:{port}", *words]
-        super().__init__(subprocess.Popen(words, stdout=subprocess.PIPE, stderr=subprocess.PIPE, text=True))
+    def __init__(self, command: Sequence[str] = (PROGRAM,), schema: str = NET, port: int = 0, words: Sequence[str] = ()) -> None:
+        started = [*command, "serve", "--schema", schema, "--listen", f"127.0.0.1:{port}", *words]
+        super().__init__(subprocess.Popen(started, stdout=subprocess.PIPE, stderr=subprocess.PIPE, text=True))
+        assert self.process.stdout
         with bounded(self.process):
-            self.line = self.process.stdout.readline().rstrip("\n")
+            self.line: str = self.process.stdout.readline().rstrip("\n")
         address = re.fullmatch(r"listening 127\.0\.0\.1:(\d+)", self.line)
         if not address:
             self.process.kill()
@@ -145,7 +152,7 @@ class OvsdbServer(Served):
 
     name = "ovsdb-server"
 
-    def __init__(self, schema=NET):
+    def __init__(self, schema: str = NET) -> None:
         self.folder = tempfile.TemporaryDirectory()
         database, log = (os.path.join(self.folder.name, name) for name in ("db", "log"))
         made = subprocess.run(self.made(database, schema), capture_output=True, text=True, check=False)
@@ -160,22 +167,22 @@ class OvsdbServer(Served):
             self.end()
             raise
 
-    def made(self, database, schema):
+    def made(self, database: str, schema: str) -> list[str]:
         """The command that makes the file of the database."""
         return [TOOL, "create", database, schema]
 
-    def listening(self):
+    def listening(self) -> list[str]:
         """The words by which it listens."""
         return ["--remote=ptcp:0:127.0.0.1"]
 
-    def listens(self, log):
+    def listens(self, log: str) -> bool:
         if os.path.exists(log):
             with open(log, errors="replace") as file:
                 port = re.search(r"listening on port (\d+)", file.read())
-            self.port = int(port[1]) if port else None
-        return self.port is not None
+            self.port = int(port[1]) if port else 0
+        return self.port != 0
 
-    def end(self):
+    def end(self) -> None:
         super().end()
         self.folder.cleanup()
 
@@ -183,35 +190,36 @@ class OvsdbServer(Served):
 class Client:
     """A connection by TCP to a port, or to a Unix socket by its path, and what came that wasn't looked at yet."""
 
-    def __init__(self, place):
+    def __init__(self, place: int | str) -> None:
         self.socket = socket.socket(socket.AF_UNIX if isinstance(place, str) else socket.AF_INET)
         self.socket.settimeout(PATIENCE)
         self.socket.connect(place if isinstance(place, str) else ("127.0.0.1", place))
         if not isinstance(place, str):
             self.socket.setsockopt(socket.IPPROTO_TCP, socket.TCP_NODELAY, 1)
         self.bytes, self.text = codecs.getincrementaldecoder("utf-8")("surrogateescape"), ""
-        self.numbers, self.syncs, self.notified = 0, 0, []
+        self.numbers, self.syncs = 0, 0
+        self.notified: list[Any] = []
 
-    def __enter__(self):
+    def __enter__(self: C) -> C:
         return self
 
-    def __exit__(self, *_):
+    def __exit__(self, *_: object) -> None:
         self.socket.close()
 
-    def send(self, data):
+    def send(self, data: Any) -> None:
         """Sends bytes as they are, and all else as JSON."""
         self.socket.sendall(data if isinstance(data, bytes) else json.dumps(data).encode())
 
-    def request(self, method, params, number):
+    def request(self, method: str, params: Any, number: Any) -> None:
         self.send({"method": method, "params": params, "id": number})
 
-    def more(self):
+    def more(self) -> bool:
         """Takes in what comes next, and says whether the stream goes on."""
         got = self.socket.recv(65536)
         self.text += self.bytes.decode(got)
         return bool(got)
 
-    def message(self):
+    def message(self) -> Any:
         """The next message that is no echo request, which is answered."""
         while True:
             try:
@@ -228,7 +236,7 @@ class Client:
                 return came
             self.send({"id": came["id"], "error": None, "result": came["params"]})
 
-    def ask(self, method, *params):
+    def ask(self, method: str, *params: Any) -> Any:
         """The result of a request. Notifications that come before it are kept."""
         self.numbers += 1
         self.request(method, list(params), self.numbers)
@@ -240,10 +248,10 @@ class Client:
                 return came["result"]
             self.notified.append(came)
 
-    def notification(self):
+    def notification(self) -> Any:
         return self.notified.pop(0) if self.notified else self.message()
 
-    def sync(self):
+    def sync(self) -> None:
         """What was sent before has been taken in, and nothing but what was looked at came."""
         self.syncs += 1
         self.request("echo", [], f"sync {self.syncs}")
@@ -251,7 +259,7 @@ class Client:
         if came != {"error": None, "id": f"sync {self.syncs}", "result": []}:
             raise Wrong(f"it isn't expected: {json.dumps(came)}")
 
-    def at_end(self):
+    def at_end(self) -> bool:
         """Whether the server closes the connection, and sends nothing before."""
         try:
             while self.more():
@@ -262,14 +270,14 @@ class Client:
             return False
         return not self.text
 
-    def end(self):
+    def end(self) -> None:
         """Ends the stream, and waits until the server has ended the session."""
         self.socket.shutdown(socket.SHUT_WR)
         if not self.at_end():
             raise Wrong(f"the end: {self.text!r}")
         self.socket.close()
 
-    def reset(self):
+    def reset(self) -> None:
         """Ends the connection at once, as when the process of a client is killed."""
         self.socket.setsockopt(socket.SOL_SOCKET, socket.SO_LINGER, struct.pack("ii", 1, 0))
         self.socket.close()

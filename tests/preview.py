@@ -5,6 +5,8 @@ opens it for reading is the program, and waits for what nobody writes. What that
 copied, and `rt try` is ended.
 """
 
+from __future__ import annotations
+
 import contextlib
 import errno
 import fcntl
@@ -16,6 +18,8 @@ import subprocess
 import sys
 import tempfile
 import time
+from collections.abc import Iterator
+from typing import Any
 
 from places import FOLDER, ROOT, below, copy_crates, crates, sources
 
@@ -24,7 +28,7 @@ PROGRAM = os.path.join(KEPT, "ovsdbd")
 NOTE = os.path.join(KEPT, "note.json")  # of what the program was made, and the words in front of it
 
 
-def of_sources(root):
+def of_sources(root: str) -> str:
     """The sum of the kit's version, of what each crate stands on, and of all code that the program is compiled from."""
     version, names = subprocess.Popen(["rt", "version"], stdout=subprocess.PIPE), below("ovsdbd")
     whole = hashlib.sha256(repr([(name, crates()[name]) for name in names]).encode())
@@ -36,7 +40,7 @@ def of_sources(root):
     return whole.hexdigest()
 
 
-def command():
+def command() -> list[str]:
     """The words that start the preview. Where it isn't compiled of the sources as they are, it is now; where it can't be, this
     ends with status 1."""
     os.makedirs(KEPT, exist_ok=True)
@@ -48,14 +52,14 @@ def command():
     return [*note["before"], PROGRAM]
 
 
-def noted():
+def noted() -> dict[str, Any]:
     """What is noted of the program that is kept, {} where none is."""
     with contextlib.suppress(OSError, ValueError), open(NOTE) as file:
-        return json.load(file) if os.path.exists(PROGRAM) else {}
+        return dict(json.load(file)) if os.path.exists(PROGRAM) else {}
     return {}
 
 
-def compiled():
+def compiled() -> dict[str, Any]:
     """Compiles a copy of the sources and keeps the program, and returns what is noted of it."""
     sys.stderr.write("ovsdbd: a preview: compiled with checks, once, which takes 3 to 5 minutes; nothing is proved\n")
     with contextlib.suppress(FileNotFoundError):
@@ -69,13 +73,13 @@ def compiled():
     return note
 
 
-def tried(crate, room):
+def tried(crate: str, room: str) -> list[str]:
     """Lets `rt try` run the program until that waits, copies it, and returns the words in front of it."""
     pipe = os.path.join(room, "schema")
     os.mkfifo(pipe)
     asked = ["script", "--schema", pipe]
     with tempfile.TemporaryFile("w+", errors="replace") as said:
-        how = {"cwd": crate, "stdin": subprocess.DEVNULL, "stdout": said, "stderr": subprocess.STDOUT}
+        how: dict[str, Any] = {"cwd": crate, "stdin": subprocess.DEVNULL, "stdout": said, "stderr": subprocess.STDOUT}
         trying = subprocess.Popen(["rt", "try", "--", *asked], **how)
         try:
             with writer(pipe, trying):
@@ -89,7 +93,7 @@ def tried(crate, room):
 
 
 @contextlib.contextmanager
-def writer(pipe, trying):
+def writer(pipe: str, trying: subprocess.Popen[bytes]) -> Iterator[None]:
     """An end of the pipe for writing, from when a process has opened the other for reading."""
     while True:
         try:
@@ -105,7 +109,7 @@ def writer(pipe, trying):
         os.close(end)
 
 
-def reader(pipe, trying):
+def reader(pipe: str, trying: subprocess.Popen[bytes]) -> str:
     """The folder in /proc of the process that has the pipe open for reading."""
     while trying.poll() is None:
         for process in filter(str.isdigit, os.listdir("/proc")):
@@ -117,7 +121,7 @@ def reader(pipe, trying):
     raise LookupError
 
 
-def copied(process, asked):
+def copied(process: str, asked: list[str]) -> list[str]:
     """Copies the program of a process that was started with the words asked for, and returns the words in front of it."""
     with open(f"{process}/cmdline") as file:
         words = file.read().split("\0")[:-1]

@@ -13,10 +13,14 @@ and that are printed (`< `). Keys of the head:
 Bytes that are no UTF-8 stand as they are.
 """
 
+from __future__ import annotations
+
 import json
 import os
 import re
 import sys
+from collections.abc import Sequence
+from typing import NoReturn
 
 from places import ROOT
 
@@ -26,7 +30,7 @@ NAMED_ALONE = ("unknown method", "unknown database", "unknown monitor", "cancele
 OPENED = ["!open A", "!open B", "!open C"]
 
 
-def read_text(path):
+def read_text(path: str) -> str:
     with open(path, encoding="utf-8", errors="surrogateescape", newline="") as file:
         return file.read()
 
@@ -34,7 +38,7 @@ def read_text(path):
 class Transcript:
     """A file of the store. `lines` are those after its head, of which `first` is the number of the first."""
 
-    def __init__(self, path):
+    def __init__(self, path: str) -> None:
         self.path = os.path.relpath(path)
         self.name = os.path.basename(path)[: -len(".txt")]
         head, _, body = read_text(path).partition("\n\n")
@@ -43,16 +47,16 @@ class Transcript:
         self.first = head.count("\n") + 3
         self.check(body)
 
-    def wrong(self, why, line=1):
+    def wrong(self, why: str, line: int = 1) -> NoReturn:
         sys.exit(f"{self.path}:{line}: {why}")
 
-    def pair(self, line):
+    def pair(self, line: str) -> tuple[str, str]:
         key, colon, value = line.partition(": ")
         if not colon or key not in KEYS:
             self.wrong(f"a line of the head is 'key: value', with a key of {', '.join(KEYS)}: {line}")
         return key, value
 
-    def check(self, body):
+    def check(self, body: str) -> None:
         for key in ("title", "schema", "section"):
             if key not in self.head:
                 self.wrong(f"the head has no {key}")
@@ -66,30 +70,50 @@ class Transcript:
             if line[:2] not in ("> ", "< "):
                 self.wrong("a line goes in (`> `) or is printed (`< `)", number)
 
-    title = property(lambda self: self.head["title"])
-    schema = property(lambda self: self.head["schema"])
-    section = property(lambda self: self.head["section"])
-    fault = property(lambda self: self.head.get("fault"))
-    is_served = property(lambda self: self.head.get("served") != "no")
-    is_computed = property(lambda self: not self.head.get("computed", "").startswith("no"))
-    schema_path = property(lambda self: os.path.join(STORE, "schemas", self.schema + ".json"))
+    @property
+    def title(self) -> str:
+        return self.head["title"]
 
     @property
-    def database(self):
-        return json.loads(read_text(self.schema_path))["name"]
+    def schema(self) -> str:
+        return self.head["schema"]
 
-    def whole(self):
+    @property
+    def section(self) -> str:
+        return self.head["section"]
+
+    @property
+    def fault(self) -> str | None:
+        return self.head.get("fault")
+
+    @property
+    def is_served(self) -> bool:
+        return self.head.get("served") != "no"
+
+    @property
+    def is_computed(self) -> bool:
+        return not self.head.get("computed", "").startswith("no")
+
+    @property
+    def schema_path(self) -> str:
+        return os.path.join(STORE, "schemas", self.schema + ".json")
+
+    @property
+    def database(self) -> str:
+        return str(json.loads(read_text(self.schema_path))["name"])
+
+    def whole(self) -> list[str]:
         """The lines in full, each with its first two characters."""
         database = self.database
         return [line[:2] + (command(database, line[2:]) if line[0] == ">" else printed(line[2:])) for line in self.lines]
 
 
-def chapters(section):
+def chapters(section: str) -> list[int]:
     """A key to sort sections by."""
     return [int(part) for part in section.split(".")]
 
 
-def store(names=(), section=None):
+def store(names: Sequence[str] = (), section: str | None = None) -> list[Transcript]:
     """The transcripts of the store, or those that are named, or those of a section and of the ones below it."""
     paths = names or [os.path.join(STORE, name) for name in os.listdir(STORE) if name.endswith(".txt")]
     found = [Transcript(path) for path in paths]
@@ -101,17 +125,17 @@ def store(names=(), section=None):
 # ---- the notation
 
 
-def in_full(line):
+def in_full(line: str) -> str:
     """A line with its identifiers in full."""
     line = re.sub(r'"U(\d+)"', lambda found: f'"00000000-0000-4000-8000-{int(found[1]):012x}"', line)
     return re.sub(r'"V(\d+)"', lambda found: f'"00000000-0000-0000-0000-{int(found[1]):012x}"', line)
 
 
-def is_word(text):
+def is_word(text: str) -> bool:
     return re.match(r"[A-Za-z]", text) is not None
 
 
-def command(database, line):
+def command(database: str, line: str) -> str:
     """A line that goes in, in full, from its short form."""
     line = in_full(line)
     session, _, rest = line.partition(" ")
@@ -124,7 +148,7 @@ def command(database, line):
     return f'{session} {{"method":"{method}","params":{params},"id":{number}}}'
 
 
-def printed(line):
+def printed(line: str) -> str:
     """A line that is printed, in full, from its short form."""
     line = in_full(line)
     session, _, rest = line.partition(" ")
@@ -140,7 +164,7 @@ def printed(line):
     return line
 
 
-def in_short(line):
+def in_short(line: str) -> str:
     """A printed line in its short form, where it has one."""
     line = re.sub(r'"00000000-0000-4000-8000-([0-9a-f]{12})"', lambda found: f'"U{int(found[1], 16)}"', line)
     line = re.sub(r'"00000000-0000-0000-0000-([0-9a-f]{12})"', lambda found: f'"V{int(found[1], 16)}"', line)

@@ -4,6 +4,8 @@ The copy is folded from `monitor_cond` of every table (ovsdb-server(7), 4.1.12).
 fit: a table, column or row that it doesn't know, a row that it has already. Then it begins anew, and says why.
 """
 
+from __future__ import annotations
+
 import collections
 import json
 import os
@@ -12,17 +14,20 @@ import re
 import socket
 import threading
 import time
+from typing import Any, Union
 
 PATIENCE = 10
 PAUSES = (0.5, 1, 2, 4)
 MARKS = re.compile(rb'["\\{}]')
+Place = Union[str, tuple[str, int]]
+Events = queue.Queue[tuple[str, Any]]
 
 
 class Fault(Exception):
     """What is wrong, in words for whoever looks."""
 
 
-def address(remote):
+def address(remote: str) -> tuple[socket.AddressFamily, Place]:
     """A socket's family and address of `tcp:HOST:PORT`, `tcp:[HOST]:PORT` or `unix:PATH`."""
     tcp = re.fullmatch(r"tcp:(?:\[([^\]]+)\]|([^:\[\]]+)):(\d{1,5})", remote)
     if tcp and int(tcp[3]) < 65536:
@@ -32,7 +37,7 @@ def address(remote):
     raise Fault(f"{remote!r} is no server: tcp:HOST:PORT, or unix:/PATH")
 
 
-def connect(remote):
+def connect(remote: str) -> socket.socket:
     family, place = address(remote)
     found = socket.socket(family)
     found.settimeout(PATIENCE)
@@ -49,13 +54,14 @@ def connect(remote):
 class Framer:
     """Cuts a stream into messages, each from its `{` to its `}`."""
 
-    def __init__(self):
+    def __init__(self) -> None:
         self.data, self.looked, self.deep, self.in_text = bytearray(), 0, 0, False
 
-    def feed(self, more):
+    def feed(self, more: bytes) -> list[bytes]:
         """The messages that are whole now."""
         self.data += more
-        found, start, place = [], 0, self.looked
+        found: list[bytes] = []
+        start, place = 0, self.looked
         while True:
             mark = MARKS.search(self.data, place)
             if not mark:
@@ -82,26 +88,27 @@ class Framer:
 class Connection:
     """A connection to a server. Each message comes with its text."""
 
-    def __init__(self, remote):
+    def __init__(self, remote: str) -> None:
         self.remote, self.socket = remote, connect(remote)
-        self.framer, self.ready, self.numbers = Framer(), collections.deque(), 0
+        self.framer, self.numbers = Framer(), 0
+        self.ready: collections.deque[bytes] = collections.deque()
 
-    def __enter__(self):
+    def __enter__(self) -> Connection:
         return self
 
-    def __exit__(self, *_):
+    def __exit__(self, *_: object) -> None:
         self.close()
 
-    def close(self):
+    def close(self) -> None:
         self.socket.close()
 
-    def send(self, message):
+    def send(self, message: Any) -> None:
         try:
             self.socket.sendall(json.dumps(message, separators=(",", ":")).encode())
         except OSError as wrong:
             raise Fault(f"{self.remote}: {wrong.strerror or wrong}") from None
 
-    def receive(self, seconds=PATIENCE):
+    def receive(self, seconds: float = PATIENCE) -> tuple[Any, str] | None:
         """The next message and its text; None where none comes in time. Echo requests are answered."""
         self.socket.settimeout(seconds)
         while True:
@@ -124,7 +131,7 @@ class Connection:
                 return message, text
             self.send({"id": message.get("id"), "error": None, "result": message.get("params")})
 
-    def ask(self, method, *params):
+    def ask(self, method: str, *params: Any) -> tuple[Any, str]:
         """The reply's result and text. Notifications that come before it are dropped."""
         self.numbers += 1
         self.send({"id": self.numbers, "method": method, "params": list(params)})
@@ -138,7 +145,7 @@ class Connection:
                     raise Fault(f"{method}: {json.dumps(message['error'])}")
                 return message.get("result"), text
 
-    def schema(self, database=None):
+    def schema(self, database: str | None = None) -> Any:
         """The schema of the database, or of the first one that isn't the server's own."""
         if database is None:
             names = [name for name in self.ask("list_dbs")[0] if not name.startswith("_")]
@@ -151,37 +158,39 @@ class Connection:
 # ---- values
 
 
-def base(column):
+def base(column: Any) -> tuple[Any, Any, float]:
     """The type of a column: its key, its value or None, and the most elements that it has."""
     kind = column["type"] if isinstance(column["type"], dict) else {"key": column["type"]}
     most = kind.get("max", 1)
     return kind["key"], kind.get("value"), float("inf") if most == "unlimited" else most
 
 
-def default(column):
+def default(column: Any) -> Any:
     """The value of a column that nobody gave (RFC 7047, 5.2.1)."""
     key, value, _ = base(column)
     kind = column["type"] if isinstance(column["type"], dict) else {}
-    atoms = {"integer": 0, "real": 0.0, "boolean": False, "string": "", "uuid": ["uuid", "00000000-0000-0000-0000-000000000000"]}
-    atom = lambda of: atoms[of["type"] if isinstance(of, dict) else of]
+    atoms: dict[str, Any] = {"integer": 0, "real": 0.0, "boolean": False, "string": "", "uuid": ["uuid", "00000000-0000-0000-0000-000000000000"]}
+
+    def atom(of: Any) -> Any:
+        return atoms[of["type"] if isinstance(of, dict) else of]
+
     if kind.get("min", 1) == 0:
         return ["map", []] if value is not None else ["set", []]
     return ["map", [[atom(key), atom(value)]]] if value is not None else atom(key)
 
 
-def elements(value):
+def elements(value: Any) -> list[Any]:
     """The elements of a set, or the pairs of a map."""
-    if isinstance(value, list) and value[:1] in (["set"], ["map"]):
-        return value[1]
-    return [value]
+    found: list[Any] = value[1] if isinstance(value, list) and value[:1] in (["set"], ["map"]) else [value]
+    return found
 
 
-def printed(found):
+def printed(found: list[Any]) -> Any:
     """A set in RFC 7047's notation: of one element the atom alone."""
     return found[0] if len(found) == 1 else ["set", found]
 
 
-def changed(column, old, difference):
+def changed(column: Any, old: Any, difference: Any) -> Any:
     """A value with a difference of `update2` applied."""
     _, value, most = base(column)
     if most == 1:
@@ -206,14 +215,18 @@ class Copy(threading.Thread):
     changed], ..]).
     """
 
-    def __init__(self, remote, database=None):
+    def __init__(self, remote: str, database: str | None = None) -> None:
         super().__init__(daemon=True)
         address(remote)
         self.remote, self.database, self.lock = remote, database, threading.Lock()
-        self.schema, self.tables, self.why, self.is_up = None, {}, "not connected yet", False
-        self.listeners, self.told, self.refused, self.reconnects, self.moments = [], 0, 0, -1, collections.deque()
+        self.schema: Any = None
+        self.tables: dict[str, dict[str, Any]] = {}
+        self.why, self.is_up = "not connected yet", False
+        self.listeners: list[Events] = []
+        self.told, self.refused, self.reconnects = 0, 0, -1
+        self.moments: collections.deque[float] = collections.deque()
 
-    def run(self):
+    def run(self) -> None:
         tries = 0
         while True:
             try:
@@ -224,12 +237,12 @@ class Copy(threading.Thread):
                 self.down(wrong)
             time.sleep(PAUSES[min(tries, len(PAUSES) - 1)])
 
-    def down(self, wrong):
+    def down(self, wrong: Exception) -> None:
         with self.lock:
             self.is_up, self.why = False, str(wrong) if isinstance(wrong, Fault) else f"{type(wrong).__name__}: {wrong}"
             self.tell("down", self.why)
 
-    def follow(self, connection):
+    def follow(self, connection: Connection) -> None:
         """Folds what comes until the connection ends."""
         schema = connection.schema(self.database)
         asked = {table: [{"columns": sorted(it["columns"])}] for table, it in schema["tables"].items()}
@@ -242,18 +255,18 @@ class Copy(threading.Thread):
         is_quiet = False
         while True:
             came = connection.receive(PATIENCE / 2)
-            if came is None and is_quiet:
-                raise Fault(f"{self.remote}: nothing came for {PATIENCE} s")
-            is_quiet = came is None
-            if is_quiet:
+            if came is None:
+                if is_quiet:
+                    raise Fault(f"{self.remote}: nothing came for {PATIENCE} s")
                 connection.send({"id": "look", "method": "echo", "params": []})
             elif came[0].get("method") == "update2" and came[0]["params"][0] == ["look"]:
                 with self.lock:
                     self.told += 1
                     self.moments.append(time.monotonic())
                     self.tell("rows", self.fold(came[0]["params"][1]))
+            is_quiet = came is None
 
-    def fold(self, updates):
+    def fold(self, updates: Any) -> list[list[Any]]:
         """Takes table updates in, and gives what changed."""
         found = []
         for table, rows in updates.items():
@@ -263,9 +276,10 @@ class Copy(threading.Thread):
                 found.append([table, uuid, *self.fold_row(table, uuid, change)])
         return found
 
-    def fold_row(self, table, uuid, change):
+    def fold_row(self, table: str, uuid: str, change: Any) -> tuple[Any, list[str]]:
         """Takes a row update in: the row or None, and the columns that changed."""
-        (kind, given), rows, columns = *change.items(), self.tables[table], self.schema["tables"][table]["columns"]
+        ((kind, given),) = change.items()
+        rows, columns = self.tables[table], self.schema["tables"][table]["columns"]
         if (uuid in rows) != (kind in ("modify", "delete")):
             self.refused += 1
             raise Fault(f"refused: {kind} of a row of {table} that {'is' if uuid in rows else 'was never'} there: {uuid}")
@@ -281,17 +295,17 @@ class Copy(threading.Thread):
         rows[uuid] = {name: given.get(name, default(column)) for name, column in columns.items()}
         return rows[uuid], sorted(columns)
 
-    def tell(self, kind, data):
+    def tell(self, kind: str, data: Any) -> None:
         for each in self.listeners:
             each.put((kind, data))
 
-    def listen(self):
+    def listen(self) -> Events:
         """A queue of what happens from now on."""
-        events = queue.Queue()
+        events: Events = queue.Queue()
         self.listeners.append(events)
         return events
 
-    def rate(self, seconds=10):
+    def rate(self, seconds: float = 10) -> float:
         """Notifications a second, of the last seconds."""
         with self.lock:
             begin = time.monotonic() - seconds
@@ -300,7 +314,7 @@ class Copy(threading.Thread):
             return len(self.moments) / seconds
 
 
-def listening_process(remote):
+def listening_process(remote: str) -> int | None:
     """The process of this machine that listens there, or None: it may be another machine's, or another user's."""
     family, place = address(remote)
     try:
