@@ -20,3 +20,6 @@ pub mod Crossing
 pub mod WaitingCounts
 pub mod RetriedInTurn
 pub mod Upcomings
+pub mod WaitReadings
+pub mod StuckTransactions
+pub mod HeldTransactions
