@@ -23,3 +23,5 @@ pub mod Upcomings
 pub mod WaitReadings
 pub mod StuckTransactions
 pub mod HeldTransactions
+pub mod PassedOver
+pub mod MarkedTables

@@ -1,3 +1,4 @@
 pub mod Deadlines
+pub mod Marked
 pub mod Represented
 pub mod Stuck
