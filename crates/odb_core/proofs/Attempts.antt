@@ -104,3 +104,9 @@ module _ (s : Schema) (db : Db) (results : Vec Data Global) (change : List Chang
   done_is (transaction.done answer new) k = (k.2, subst (IsSound s) (sym k.3) k.4)
   done_is (transaction.refused answer) k = absurd k
   done_is (transaction.waiting t) k = absurd k
+
+-- one that waits comes to that
+pub waiting_is : (s : Schema) (db : Db) (moment : Option ℕ) (m : transaction.Outcome) → Answers s db (outcome.Waiting moment) m → m ≡ transaction.waiting moment
+waiting_is s db moment (transaction.done answer new) k = absurd k
+waiting_is s db moment (transaction.refused answer) k = absurd k
+waiting_is s db moment (transaction.waiting t) k = ap transaction.waiting k

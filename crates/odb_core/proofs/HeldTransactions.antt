@@ -16,7 +16,7 @@ use Rattle.odb_service.specs.Session.{Item, Session, with_content}
 use Rattle.odb_service.specs.World.{Waiting, World, attempt, end_transaction, is_due, is_untried, on_outcome, post_to, retry, retry_all, split_first, try_due, try_one, untried, with_waiting}
 use Rattle.odb_tables.specs.Change.{is_changed}
 use Rattle.odb_tables.specs.Database.{Db}
-use Rattle.odb_core.specs.Stuck.{AreStuck, IsStuck, comes_to, waits_on}
+use Rattle.odb_core.specs.Stuck.{AreStuck, IsStuckIf, comes_to}
 use Rattle.odb_core.proofs.StuckTransactions.{stuck_here}
 
 -- ---- lists
@@ -53,9 +53,6 @@ all_given P Q R f [] h k = tt
 all_given P Q R f (x ∷ xs) h k = (f x h.0 k.0, all_given P Q R f xs h.1 k.1)
 
 -- ---- those that wait
-
-abbrev pub IsStuckIf : Schema → Db → Waiting → Type 0
-IsStuckIf s db p = IsSome (waits_on p.operations) → IsStuck s db p
 
 -- tried at no later commit, and where it was at the newest it is stuck
 abbrev pub IsHeld : Schema → Db → ℕ → Waiting → Type 0
@@ -95,6 +92,11 @@ module _ (s : Schema) where
   posted n is None w ps k = k
   posted n is (Some x) w ps k = k
 
+  -- nor those that wait
+  posted_waiting : (n : ℕ) (is : List Item) (o : Option Session) (w : World) → (post_to n is o w).waiting ≡ w.waiting
+  posted_waiting n is None w = refl
+  posted_waiting n is (Some x) w = refl
+
   -- after a commit each was tried before it
   passed : (old new : Db) (commits : ℕ) (ps : List Waiting) → AllByRecursion (IsHeld s old commits) ps → AllByRecursion (IsHeld s new (commits + 1)) ps
   passed old new commits ps k = all_so (IsHeld s old commits) (IsHeld s new (commits + 1)) (λ p h. let few : p.tried ≤ commits = h.0 in (omega (arith, few), λ e. absurd (let never : ⊥ = omega (arith, few, e) in never))) ps k
@@ -103,6 +105,13 @@ module _ (s : Schema) where
   pub ends_held : (n : ℕ) (d r : Data) (o : Option Db) (w : World) (ps : List Waiting) → AllHeld s w ps → AllHeld s (end_transaction h n d r o w) ps
   ends_held n d r None w ps k = posted n _ _ w ps k
   ends_held n d r (Some db) w ps k = posted n _ _ (record w { db = db; commits = w.commits + 1; earlier = with_content w.db w.earlier }) ps (passed w.db db w.commits ps k)
+
+  pub ended_held : (n : ℕ) (d r : Data) (o : Option Db) (w : World) → AreHeld s w → AreHeld s (end_transaction h n d r o w)
+  ended_held n d r o w k = ends_held n d r o w _ (subst (AllHeld s w) (sym (left_waiting o)) k)
+    where
+      left_waiting : (o : Option Db) → (end_transaction h n d r o w).waiting ≡ w.waiting
+      left_waiting None = posted_waiting n _ _ w
+      left_waiting (Some db) = posted_waiting n _ _ (record w { db = db; commits = w.commits + 1; earlier = with_content w.db w.earlier })
 
   abbrev Tried : Type 0
   Tried = World × Option Waiting
@@ -159,3 +168,19 @@ module _ (s : Schema) where
   pub due_held : (ps : List Waiting) (w : World) → AreHeld s w → AllHeld s w ps → AreHeld s (try_due h ps w)
   due_held [] w k m = k
   due_held (p ∷ ps) w k m = due_step p ps w k m (due_held ps) (is_due w.now p.deadline)
+
+  -- ---- what is left after an event is stuck
+
+  pub committed_stuck : (n : ℕ) (d r : Data) (db : Db) (w : World) → untried h w ≡ None → AreStuck s w.db w.waiting
+      → (let u = retry_all h (end_transaction h n d r (Some db) w) in untried h u ≡ None → AreStuck s u.db u.waiting)
+  committed_stuck n d r db w before stuck after =
+      let v : World = end_transaction h n d r (Some db) w in
+      let u : World = retry_all h v in
+      stuck_now s u u.waiting after (retried_held v (ended_held n d r (Some db) w (held s w w.waiting before stuck)))
+
+  pub due_stuck : (w : World) → untried h w ≡ None → AreStuck s w.db w.waiting
+      → (let u = retry_all h (try_due h w.waiting (record w { waiting = [] })) in untried h u ≡ None → AreStuck s u.db u.waiting)
+  due_stuck w before stuck after =
+      let v : World = try_due h w.waiting (record w { waiting = [] }) in
+      let u : World = retry_all h v in
+      stuck_now s u u.waiting after (retried_held v (due_held w.waiting (record w { waiting = [] }) tt (held s w w.waiting before stuck)))

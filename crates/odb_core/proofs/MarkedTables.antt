@@ -1,13 +1,17 @@
 -- Tables that are marked as the same, while changes are put over a database.
-use Rattle.std.proofs.Common.{◌≡◌, ℕ, zero, suc, ◌+◌, ◌<◌, ◌≤◌, Bool, true, false, nat_lt, List, [], ◌∷◌, length, Option, Some, None, refl, sym, ap, ◌∙◌, true≢false, arith}
+use Rattle.std.proofs.Common.{◌≡◌, ℕ, zero, suc, ◌+◌, ◌<◌, ◌≤◌, Bool, true, false, nat_lt, ◌||◌, List, [], ◌∷◌, length, map, Option, Some, None, refl, sym, ap, subst, ◌∙◌, true≢false, arith}
+use Rattle.std.specs.List.{list_any}
 use Rattle.std.specs.Prelude.{slice_get, slice_index_or, slice_set, unwrap_or}
 use Rattle.std.proofs.lemmas.Bool.Decides.{nat_tests}
+use Rattle.std.proofs.lemmas.Option.{same_Some}
 use Rattle.odb_atoms.specs.FinMap as finite
 use Rattle.odb_atoms.specs.Uuid.{uuid_cmp}
 use Rattle.odb_atoms.proofs.Atoms.{uuid_cmp_total, uuid_cmp-IsAntisymmetric}
 use Rattle.odb_atoms.proofs.FinMaps.{get-combine, get-empty, same_map}
+use Rattle.odb_schema.specs.Schema.{Schema, table_place}
 use Rattle.odb_tables.specs.Change.{Changes, after, all_changed_by, changed_by}
 use Rattle.odb_tables.specs.Database.{Db, Table, table_at}
+use Rattle.odb_core.specs.Stuck.{IsSameAt}
 use Rattle.odb_core.specs.Marked.{AreLeft, AreSame, change_at, is_marked}
 
 -- a change of no row
@@ -27,6 +31,10 @@ table_changed (x ∷ db) (c ∷ cs) (suc t) e = table_changed db cs t (omega (ar
 pub same_on : (marks left : List Bool) (old now : Db) (cs : List Changes) → length cs ≡ length now → AreLeft marks left cs → AreSame marks old now → AreSame left old (all_changed_by now cs)
 same_on marks left old now cs as_many lefts same t is =
     table_changed now cs t as_many ∙ ap (changed_by (table_at now t)) (lefts t is).1 ∙ unchanged (table_at now t) ∙ same t (lefts t is).0
+
+-- so is the table of a name, where that is marked
+pub same_named : (s : Schema) (name : List ℕ) (place : ℕ) (marks : List Bool) (old new : Db) → table_place s name ≡ Some place → is_marked marks place ≡ true → AreSame marks old new → IsSameAt s name old new
+same_named s name place marks old new at is same t e = same t (subst (λ u. is_marked marks u ≡ true) (same_Some place t (sym at ∙ e)) is)
 
 -- ---- unmarking
 
@@ -69,3 +77,9 @@ pub left_all : (k : ℕ) (marks new : List Bool) (cs : List Changes) → length 
 left_all k marks new cs long h t is =
     let low : t < length new = within new t is in
     ((h t is).0, (h t is).1 (omega (arith, low, long)))
+
+-- ---- lists
+
+pub any_mapped : {A B : Type 0} (p : B → Bool) (f : A → B) (xs : List A) → list_any (λ x. p (f x)) xs ≡ list_any p (map f xs)
+any_mapped p f [] = refl
+any_mapped p f (x ∷ xs) = ap (λ b. p (f x) || b) (any_mapped p f xs)

@@ -1,7 +1,7 @@
 -- A transaction that is stuck comes to nothing new, and stays so when it is tried.
 use Rattle.std.proofs.Common.{◌≡◌, ℕ, ◌+◌, List, [], ◌∷◌, ◌++◌, Option, Some, None, false, refl, sym, ap, subst, ◌∙◌}
 use Rattle.std.proofs.lemmas.Option.{none-some, same_Some}
-use Rattle.std.specs.Prelude.{IsSome, option_to_list}
+use Rattle.std.specs.Prelude.{option_to_list}
 use Rattle.odb_commit.specs.Transaction as transaction
 use Rattle.odb_locks.specs.Locks.{owns}
 use Rattle.odb_schema.specs.Schema.{Schema}
@@ -9,9 +9,8 @@ use Rattle.odb_service.specs.Server.{Server, served_by}
 use Rattle.odb_service.specs.Service.{outcome_of}
 use Rattle.odb_service.specs.World.{Waiting, World, attempt, is_due, on_outcome}
 use Rattle.odb_tables.specs.Database.{Db}
-use Rattle.odb_core.specs.Stuck.{IsStuck, comes_to, waits_on}
+use Rattle.odb_core.specs.Stuck.{IsStuck, IsStuckIf, comes_to}
 use Rattle.odb_core.specs.Represented.Steps.{by_service, let_wait, try_again}
-use Rattle.odb_core.proofs.HeldTransactions.{IsStuckIf}
 
 abbrev Tried : Type 0
 Tried = World × Option Waiting

@@ -19,7 +19,7 @@ use Rattle.odb_service.specs.Service.{max_rows}
 use Rattle.odb_service.specs.World.{Waiting, is_due}
 use Rattle.odb_tables.specs.Database.{Db, Table, table_at}
 use Rattle.odb_tables.specs.Matching.{matching}
-use Rattle.odb_core.specs.Stuck.{IsStuck, comes_to, is_wait, waits_on}
+use Rattle.odb_core.specs.Stuck.{IsSameAt, IsStuck, comes_to, is_wait, waits_on}
 use Rattle.odb_core.proofs.WaitReadings.{EndsAtOnce, WaitsAt, ends_read, waits_read}
 
 -- ---- operations that don't wait
@@ -269,9 +269,6 @@ named (op ∷ rest) name e = by (is_wait op) (list_any is_wait rest) refl refl e
     by true false is more e = (op, rest, refl, is, more, e)
     by false b is more e = absurd (none-some name e)
 
-abbrev pub AreAlike : Schema → List ℕ → Db → Db → Type 0
-AreAlike s name old new = (t : ℕ) → table_place s name ≡ Some t → table_at new t ≡ table_at old t
-
 module _ (s : Schema) (p : Waiting) (name : List ℕ) (rests : waits_on p.operations ≡ Some name) where
   abbrev parts : IsNamed p.operations name
   parts = named p.operations name rests
@@ -308,7 +305,7 @@ module _ (s : Schema) (p : Waiting) (name : List ℕ) (rests : waits_on p.operat
     k = given p.fresh p.arrival later others
 
     -- where it waits it waits wherever its table is the same, and its deadline hasn't come
-    waits_again : AreAlike s name old new → is_due later moment ≡ false → comes_to s p new other later others ≡ transaction.waiting moment
+    waits_again : IsSameAt s name old new → is_due later moment ≡ false → comes_to s p new other later others ≡ transaction.waiting moment
     waits_again same before =
         let until : moment ≡ until_of k o = h.5 ∙ until_alike p.fresh p.arrival now later owns others o in
         let time : has_passed k (until_of k o) ≡ false = passed_is k (until_of k o) ∙ ap (is_due later) (sym until) ∙ before in
@@ -335,7 +332,7 @@ module _ (s : Schema) (p : Waiting) (name : List ℕ) (rests : waits_on p.operat
   }
 
   -- one that is stuck is stuck wherever its table is the same
-  pub stuck_alike : (old new : Db) → AreAlike s name old new → IsStuck s old p → IsStuck s new p
+  pub stuck_alike : (old new : Db) → IsSameAt s name old new → IsStuck s old p → IsStuck s new p
   stuck_alike old new same h = record {
     waits = λ number now owns before. waits_again old new number number now now owns owns p.deadline (h.waits number now owns before) same before;
     until = h.until;

@@ -1,6 +1,6 @@
 -- What transactions that end one after another make of a server.
-use Rattle.std.proofs.Common.{◌≡◌, ℕ, ◌+◌, Bool, true, false, true≢false, List, [], ◌∷◌, ◌++◌, Option, Some, None, refl, sym, ap, subst, ◌∙◌}
-use Rattle.std.specs.Prelude.{Vec, IfSome}
+use Rattle.std.proofs.Common.{◌≡◌, ℕ, ◌+◌, Bool, true, false, true≢false, List, [], ◌∷◌, ◌++◌, length, Option, Some, None, refl, sym, ap, subst, ◌∙◌}
+use Rattle.std.specs.Prelude.{Vec, IfSome, map}
 use Rattle.std.specs.declared.alloc.Global.{Global}
 use Rattle.std.proofs.lemmas.List.Sums.{fold-append}
 use Rattle.odb_commit.specs.Sound.{IsSound}
@@ -12,6 +12,7 @@ use Rattle.odb_service.specs.Session.{Item}
 use Rattle.odb_service.specs.World.{Waiting}
 use Rattle.odb_sessions.specs.Book.{Book}
 use Rattle.odb_sessions.specs.Committed.{AreChangesFrom, Ending, all_ended, all_left, ended_by, left_by, one_ended}
+use Rattle.odb_sessions.specs.Represented.Ended.{ending_of}
 use Rattle.odb_tables.specs.Change.{Changes, all_changed_by}
 use Rattle.odb_tables.specs.Database.{Db}
 use Rattle.odb_tables.specs.Installing.{IsChangeOf}
@@ -23,7 +24,10 @@ use Rattle.odb_core.specs.Represented.Steps.{by_service, let_wait}
 use Rattle.odb_core.specs.declared.upcoming.Plan.{Plan}
 use Rattle.odb_core.specs.Represented.Upcoming.{after_ended, with_book, Agrees, IsPlanOf, Leads}
 use Rattle.odb_core.specs.Represented.Waiting.{ends, reply_with}
+use Rattle.odb_core.specs.Marked.{AreLeft, AreSame}
+use Rattle.odb_core.specs.Stuck.{AreStuck, IsKept}
 use Rattle.odb_core.proofs.Attempts.{commit_as, post_as}
+use Rattle.odb_core.proofs.MarkedTables.{same_on}
 use Rattle.odb_core.proofs.ServerSteps.{placed}
 
 -- one more that ended
@@ -67,10 +71,10 @@ module _ (v : Server) (es : List Ending) (ps : List Waiting) (a : Submitted) (re
 
 -- ---- what is put over the database
 
-pub begun : (s : Schema) (b : Book) (spoilt : Bool) → IsSound s b.db → Agrees spoilt s b (pending_of b.db) b.commits []
-begun s b spoilt sound = record { pending = λ _. refl; base = refl; commits = refl; each = tt; sound = sound }
+pub begun : (s : Schema) (b : Book) (spoilt : Bool) (marks : List Bool) (ps : List Waiting) → IsKept s b.db ps → Agrees spoilt s b (pending_of b.db) b.commits [] marks ps
+begun s b spoilt marks ps h = record { pending = λ _. refl; base = refl; commits = refl; each = tt; sound = h.0; marked = λ _ t is. refl; stuck = h.1 }
 
-module _ (s : Schema) (b : Book) (spoilt : Bool) (p : Pending) (n : ℕ) (es : List Ending) (h : Agrees spoilt s b p n es) where
+module _ (s : Schema) (b : Book) (spoilt : Bool) (p : Pending) (n : ℕ) (es : List Ending) (marks : List Bool) (ps : List Waiting) (h : Agrees spoilt s b p n es marks ps) where
   -- the next database is what is put over
   pub next_is : (all_ended s b es).db ≡ all_left b.db es
   next_is = ended_leave s b es
@@ -79,11 +83,15 @@ module _ (s : Schema) (b : Book) (spoilt : Bool) (p : Pending) (n : ℕ) (es : L
   is_put whole = h.pending whole ∙ sym next_is
 
   -- where memory is refused meanwhile
-  pub broken : (q : Pending) → q.old ≡ p.old → Agrees true s b q n es
-  broken q same = record { pending = λ e. absurd (true≢false e); base = same ∙ h.base; commits = h.commits; each = h.each; sound = h.sound }
+  pub broken : (q : Pending) (left : List Bool) → q.old ≡ p.old → Agrees true s b q n es left ps
+  broken q left same = record { pending = λ e. absurd (true≢false e); base = same ∙ h.base; commits = h.commits; each = h.each; sound = h.sound; marked = λ e. absurd (true≢false e); stuck = h.stuck }
+
+  -- with others that wait
+  pub with_others : (qs : List Waiting) → AreStuck s b.db qs → Agrees spoilt s b p n es marks qs
+  with_others qs stuck = record { pending = h.pending; base = h.base; commits = h.commits; each = h.each; sound = h.sound; marked = h.marked; stuck = stuck }
 
   -- one more that changes nothing
-  pub replied : (session : ℕ) (i : Item) → Agrees spoilt s b p n (es ++ (let e : Ending = (session, (i, None)) in e) ∷ [])
+  pub replied : (session : ℕ) (i : Item) → Agrees spoilt s b p n (es ++ (let e : Ending = (session, (i, None)) in e) ∷ []) marks ps
   replied session i =
       let e : Ending = (session, (i, None)) in
       let left : all_left b.db (es ++ e ∷ []) ≡ all_left b.db es = left_more b.db es e in
@@ -93,12 +101,14 @@ module _ (s : Schema) (b : Book) (spoilt : Bool) (p : Pending) (n : ℕ) (es : L
         commits = h.commits ∙ sym (ap (λ (x : Book). x.commits) (ended_more s b es e));
         each = changes_more b.db es e h.each tt;
         sound = subst (IsSound s) (sym left) h.sound;
+        marked = h.marked;
+        stuck = h.stuck;
       }
 
   -- one more with a change
-  pub changed : (session : ℕ) (i : Item) (cs : List Changes) (q : Pending) → spoilt ≡ false → IsChangeOf (all_ended s b es).db cs → IsSound s (all_changed_by (all_ended s b es).db cs)
-      → q.now ≡ all_changed_by p.now cs → q.old ≡ p.old → Agrees false s b q (n + 1) (es ++ (let e : Ending = (session, (i, Some cs)) in e) ∷ [])
-  changed session i cs q whole is sound made same =
+  pub changed : (session : ℕ) (i : Item) (cs : List Changes) (q : Pending) (still : List Bool) → spoilt ≡ false → IsChangeOf (all_ended s b es).db cs → IsSound s (all_changed_by (all_ended s b es).db cs)
+      → q.now ≡ all_changed_by p.now cs → q.old ≡ p.old → AreLeft marks still cs → Agrees false s b q (n + 1) (es ++ (let e : Ending = (session, (i, Some cs)) in e) ∷ []) still ps
+  changed session i cs q still whole is sound made same unmarked =
       let e : Ending = (session, (i, Some cs)) in
       let left : all_left b.db (es ++ e ∷ []) ≡ all_changed_by (all_left b.db es) cs = left_more b.db es e in
       record {
@@ -107,6 +117,8 @@ module _ (s : Schema) (b : Book) (spoilt : Bool) (p : Pending) (n : ℕ) (es : L
         commits = ap (λ (k : ℕ). k + 1) h.commits ∙ sym (ap (λ (x : Book). x.commits) (ended_more s b es e));
         each = changes_more b.db es e h.each (subst (λ (db : Db). IsChangeOf db cs) next_is is);
         sound = subst (IsSound s) (ap (λ (db : Db). all_changed_by db cs) next_is ∙ sym left) sound;
+        marked = λ _. subst (AreSame still b.db) (sym made) (same_on marks still b.db p.now cs (is.0 ∙ ap length (sym (is_put whole))) unmarked (h.marked whole));
+        stuck = h.stuck;
       }
 
 -- what leads from the server without those that wait leads from it, and to each server that is the same
@@ -116,3 +128,10 @@ led_on v b u t p base same h =
     let k : IsPlanOf (let_wait [] v) p = from.0 in
     let planned : IsPlanOf v p = record { each = k.each; whole = k.whole; leads_to = k.leads_to; sound = k.sound } in
     (planned, sym same ∙ from.1)
+
+-- where those that wait are stuck in that server, they are on what the plan's change makes
+pub left_on : (v u : Server) (p : Plan) → Leads v p u → AreStuck v.schema u.world.db u.world.waiting → AreStuck v.schema (all_changed_by v.world.db p.change) p.left
+left_on v u p h stuck =
+    let es : List Ending = map ending_of p.ended.items in
+    let there : AreStuck v.schema (all_ended v.schema (book_in v.world) es).db p.left = subst (λ (x : Server). AreStuck v.schema x.world.db x.world.waiting) h.1 stuck in
+    subst (λ (db : Db). AreStuck v.schema db p.left) (ended_leave v.schema (book_in v.world) es ∙ sym h.0.leads_to) there

@@ -5,9 +5,11 @@
 #![tactic(auto)]
 
 mod counts;
+mod marks;
 mod monitors;
 mod refused;
 mod requests;
+mod resting;
 mod server;
 mod setting;
 mod state;

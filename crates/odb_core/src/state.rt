@@ -11,7 +11,9 @@ ghost use Rattle.odb_sessions.specs.Taken.{AreOf, given_by, sessions_in};
 ghost use Rattle.odb_core.specs.Represented.Core.{empty_world};
 ghost use Rattle.odb_core.specs.Represented.Rounds.{book_in};
 ghost use Rattle.odb_core.specs.Represented.Upcoming.{after_due, after_ended, IsPlanOf};
-ghost use Rattle.odb_core.specs.Represented.Waiting.{waiting_as};
+ghost use Rattle.odb_core.specs.Represented.Waiting.{outcome_in, waiting_as};
+ghost use Rattle.odb_core.specs.Stuck.{AreStuck};
+ghost use Rattle.odb_commit.specs.Transaction as transaction;
 ghost use Rattle.odb_sessions.specs.Represented.Ended.{ending_of};
 
 use crate::setting::Setting;
@@ -31,7 +33,7 @@ use std::marker::Model;
 
 /// The schema, how many sessions were opened, the moment, the transactions that wait in order of arrival, the
 /// locks, and the database with its commits and the open sessions. Contracts see it as the server. The database
-/// is always sound.
+/// is always sound, and each transaction that rests on one table is stuck on it.
 pub(crate) struct State {
     pub(crate) alloc: Global,
     pub(crate) served: ServedSchema,
@@ -43,8 +45,8 @@ pub(crate) struct State {
 }
 
 impl Model for State {
-    ghost use Rattle.odb_commit.specs.Sound.{IsSound};
     ghost use Rattle.odb_service.specs.Server.{Server, server_code};
+    ghost use Rattle.odb_core.specs.Stuck.{IsKept};
 
     ghost Value = { Server };
 
@@ -56,7 +58,7 @@ impl Model for State {
       opened = s.opened;
     } };
 
-    ghost invariant = { λ s. IsSound s.served s.sessions.db };
+    ghost invariant = { λ s. IsKept s.served s.sessions.db s.waiting };
 }
 
 impl State {
@@ -162,14 +164,15 @@ impl State {
         Ok(())
     }
 
-    /// Makes the change as the next commit and queues the reply.
+    /// Makes the change as the next commit, where none waits, and queues the reply.
     fn commit(
         &mut self,
         asked: &Submitted,
         results: Vec<OperationResult>,
         change: ChangeSet,
     ) -> Result<(), AllocError>
-        requires { IsDone self.old asked.now results change }
+        requires outcome { IsDone self.old asked.now results change }
+        requires none { self.old.world.waiting ≡ [] }
         ensures ok { OnOk result (by_service (ends asked.now results (Some (all_changed_by self.old.world.db change))) self.old ≡ self.new) }
         ensures waiting { self.new.world.waiting ≡ self.old.world.waiting }
         ensures err { OnErr result (self.new ≡ self.old) }
@@ -265,7 +268,8 @@ impl State {
 
     /// Lets come what was found out. What `odb_sessions::Sessions::end_all` costs.
     fn carry_out_plan(&mut self, plan: Plan) -> Result<(), AllocError>
-        requires { IsPlanOf self.old plan }
+        requires plan { IsPlanOf self.old plan }
+        requires stuck { AreStuck self.old.schema self.old.world.db self.old.world.waiting → AreStuck self.old.schema (all_changed_by self.old.world.db plan.change) plan.left }
         ensures ok { OnOk result (self.new ≡ after_ended self.old (map ending_of plan.ended.items) plan.left) }
         ensures err { OnErr result (self.new ≡ self.old) }
     {
@@ -285,6 +289,7 @@ impl State {
         asked: Submitted,
         deadline: Option<u64>,
     ) -> Result<(), (Submitted, AllocError)>
+        requires { outcome_in self.old.schema self.old.world asked ≡ transaction.waiting deadline }
         ensures ok { OnOk result (self.new ≡ let_wait (self.old.world.waiting ++ waiting_as asked deadline self.old.world.commits ∷ []) self.old) }
         ensures err { OnErr result (self.new ≡ self.old) }
         ensures back { IfErr result (λ back. back.0 ≡ asked) }

@@ -2,7 +2,7 @@
 //! section 5.2.6). They are tried one after another, each on what the ones before it leave, and nothing is changed
 //! before all were. [P 12.2, 12.3]
 
-ghost use Rattle.std.specs.Prelude.{◌≡◌, ◌+◌, ◌++◌, ◌==◌, ◌&&◌, ◌≤◌, ◌∷◌, [], ℕ, List, Option, None, Some, false, if◌then◌else◌, length, map, IfOk, OnOk};
+ghost use Rattle.std.specs.Prelude.{◌≡◌, ◌+◌, ◌++◌, ◌==◌, ◌&&◌, ◌≤◌, ◌∷◌, [], ℕ, List, Option, None, Some, false, true, if◌then◌else◌, length, map, IfOk, OnOk};
 ghost use Rattle.odb_service.specs.Server.{Server};
 ghost use Rattle.odb_service.specs.World as model;
 ghost use Rattle.odb_service.specs.World.{is_untried, retry_all, try_due};
@@ -10,9 +10,11 @@ ghost use Rattle.odb_sessions.specs.Represented.Ended.{ending_of};
 ghost use Rattle.odb_tables.specs.Change.{all_changed_by};
 ghost use Rattle.odb_core.specs.Represented.Retrying.{IsRetrying};
 ghost use Rattle.odb_core.specs.Represented.Steps.{AreTried, attempted, by_service, let_wait, try_again};
-ghost use Rattle.odb_core.specs.Represented.Upcoming.{after_due, Leads};
+ghost use Rattle.odb_core.specs.Represented.Upcoming.{after_due, GoesOn, Leads};
+ghost use Rattle.odb_core.specs.Stuck.{AreStuck, IsSameAt, IsStuckIf};
 ghost use Rattle.odb_core.specs.Represented.Waiting.{IsDone, IsOutcome, ends, left_waiting, reply_with, waiting_as};
 
+use crate::marks::{is_marked, unmark};
 use crate::setting::Setting;
 use crate::state::{State, changes_rows};
 use crate::submitted::Submitted;
@@ -46,6 +48,8 @@ pub(crate) struct Upcoming<'a> {
     commits: u64,
     ended: Vec<Ended>,
     waiting: WaitingList,
+    /// Of each table whether it is certain that no change touches it.
+    marks: Vec<bool>,
     /// Whether memory was refused while a change was put in: then nothing can be tried any more.
     is_spoilt: bool,
 }
@@ -65,7 +69,7 @@ impl<'a> Model for Upcoming<'a> {
       next = after_ended (server_with u.setting.schema.now u.setting.locks.now u.setting.now u.opened u.sessions.now) (map ending_of u.ended.items) u.waiting;
     } };
 
-    ghost invariant = { λ u. Agrees u.is_spoilt u.setting.schema.now u.sessions.now u.pending u.commits (map ending_of u.ended.items) };
+    ghost invariant = { λ u. Agrees u.is_spoilt u.setting.schema.now u.sessions.now u.pending u.commits (map ending_of u.ended.items) u.marks.items u.waiting };
 }
 
 impl State {
@@ -114,6 +118,7 @@ impl State {
             commits: self.sessions.commits(),
             ended: Vec::new(self.alloc),
             waiting: self.waiting.try_copy()?,
+            marks: Vec::from_elem(self.alloc, true, self.sessions.db().len())?,
             is_spoilt: false,
         })
     }
@@ -159,6 +164,7 @@ impl Upcoming<'_> {
         self.ended.reserve(1)?;
         self.is_spoilt = true;
         self.pending.add(&change)?;
+        unmark(&mut self.marks, &change);
         let ended = ended_with(self.alloc, asked, results, Some(change))?;
         self.ended.push_reserved(ended);
         self.commits = commits;
@@ -244,6 +250,7 @@ impl Upcoming<'_> {
     /// Tries the next one of them, where there are still as many commits and it wasn't tried at these. It goes
     /// after those that wait, unless it ends.
     fn retry_next(&mut self, waiting: Waiting, commits: u64) -> Result<(), AllocError>
+        requires { IsStuckIf self.old.next.schema self.old.base.world.db waiting }
         ensures next { OnOk result ((old : Server) (rest : List model.Waiting) → IsRetrying old self.old.next commits (waiting ∷ rest) → IsRetrying old self.new.next commits rest) }
         ensures base { self.new.base ≡ self.old.base }
     {
@@ -253,15 +260,58 @@ impl Upcoming<'_> {
         self.retry(waiting)
     }
 
-    /// Tries one that waited. It goes after those that wait, unless it ends.
+    /// Tries one that waited, unless it is certain that it would wait again. It goes after those that wait, unless it
+    /// ends. O(log n) comparisons of names for n tables, besides the try.
     fn retry(&mut self, waiting: Waiting) -> Result<(), AllocError>
+        requires { IsStuckIf self.old.next.schema self.old.base.world.db waiting }
         ensures next { OnOk result (by_service (try_again waiting) self.old.next ≡ self.new.next) }
         ensures base { self.new.base ≡ self.old.base }
     {
+        if self.goes_on(&waiting) {
+            return self.pass_over(waiting);
+        }
         if let Some(waiting) = self.retried(waiting)? {
             self.keep(waiting)?;
         }
         Ok(())
+    }
+
+    /// Returns whether it is certain that a transaction that is stuck would wait again: its deadline hasn't come, and
+    /// no change touches the table on which it rests.
+    fn goes_on(&self, waiting: &Waiting) -> bool
+        ensures { result ≡ true → GoesOn self.entry.now waiting.now }
+    {
+        if waiting.is_due(self.setting.now) {
+            return false;
+        }
+        match waiting.table() {
+            Some(name) => self.stays(name),
+            None => false,
+        }
+    }
+
+    /// Returns whether it is certain that no change touches the table of this name.
+    fn stays(&self, name: &str) -> bool
+        ensures { result ≡ true → IsSameAt self.entry.now.next.schema name.now self.entry.now.base.world.db self.entry.now.next.world.db }
+    {
+        if self.is_spoilt {
+            return false;
+        }
+        match self.setting.schema.table(name) {
+            Some(table) => is_marked(self.marks.as_slice(), table),
+            None => false,
+        }
+    }
+
+    /// Puts one after those that wait, as if it was tried.
+    fn pass_over(&mut self, waiting: Waiting) -> Result<(), AllocError>
+        requires { IsStuckIf self.old.next.schema self.old.base.world.db waiting }
+        ensures next { OnOk result (self.new.next ≡ let_wait (self.old.next.world.waiting ++ record waiting { tried = self.old.next.world.commits } ∷ []) self.old.next) }
+        ensures base { self.new.base ≡ self.old.base }
+    {
+        let deadline = waiting.deadline();
+        let commits = self.count_of_commits();
+        self.keep(waiting.tried_again(deadline, commits))
     }
 
     /// Returns whether there are as many commits as that, and the transaction wasn't tried at these.
@@ -274,6 +324,7 @@ impl Upcoming<'_> {
     /// Takes out all that wait.
     fn take_waiting(&mut self) -> Vec<Waiting>
         ensures all { result.items ≡ self.old.next.world.waiting }
+        ensures stuck { AreStuck self.old.next.schema self.old.base.world.db result.items }
         ensures none { self.new.next ≡ let_wait [] self.old.next }
         ensures base { self.new.base ≡ self.old.base }
     {
@@ -282,6 +333,7 @@ impl Upcoming<'_> {
 
     /// Puts one after those that wait.
     fn keep(&mut self, waiting: Waiting) -> Result<(), AllocError>
+        requires { IsStuckIf self.old.next.schema self.old.base.world.db waiting }
         ensures next { OnOk result (self.new.next ≡ let_wait (self.old.next.world.waiting ++ waiting ∷ []) self.old.next) }
         ensures base { self.new.base ≡ self.old.base }
     {
@@ -301,6 +353,7 @@ impl Upcoming<'_> {
     }
 
     fn try_if_due(&mut self, waiting: Waiting) -> Result<(), AllocError>
+        requires { IsStuckIf self.old.next.schema self.old.base.world.db waiting }
         ensures next { OnOk result ((ps : List model.Waiting) → by_service (λ h. try_due h (waiting ∷ ps)) self.old.next ≡ by_service (λ h. try_due h ps) self.new.next) }
         ensures base { self.new.base ≡ self.old.base }
     {
@@ -323,6 +376,7 @@ impl Upcoming<'_> {
             commits: _,
             ended,
             waiting,
+            marks: _,
             is_spoilt,
         } = self;
         if is_spoilt {

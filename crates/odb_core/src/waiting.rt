@@ -1,8 +1,10 @@
 //! Transactions that are tried, and those that wait (RFC 7047, sections 4.1.3 and 5.2.6). [P 12.1, 12.4]
 
-ghost use Rattle.std.specs.Prelude.{◌≡◌, ◌==◌, IfErr, IfOk};
+ghost use Rattle.std.specs.Prelude.{◌≡◌, ◌==◌, option_map, IfErr, IfOk};
 ghost use Rattle.odb_core.specs.Represented.Waiting.{is_named, waiting_as};
+ghost use Rattle.odb_core.specs.Stuck.{waits_on};
 
+use crate::resting::Resting;
 use crate::submitted::Submitted;
 use odb_locks::SessionId;
 use std::alloc::{AllocError, Global};
@@ -18,10 +20,10 @@ pub(crate) enum Tried {
     Waiting { deadline: Option<u64> },
 }
 
-/// A transaction that waits. Copies share what was submitted.
+/// A transaction that waits. Copies share what was submitted, and the table on which it rests.
 #[derive(Drop)]
 pub(crate) struct Waiting {
-    submitted: Arc<Submitted>,
+    resting: Arc<Resting>,
     deadline: Option<u64>,
     tried: u64,
 }
@@ -36,7 +38,7 @@ impl Model for Waiting {
 
     ghost coded = { waiting_code };
 
-    ghost view = { λ p. waiting_as (arc_value p.submitted) p.deadline p.tried };
+    ghost view = { λ p. waiting_as (arc_value p.resting).submitted p.deadline p.tried };
 }
 
 impl Waiting {
@@ -54,13 +56,14 @@ impl Waiting {
         ensures ok { IfOk result (λ waiting. waiting ≡ waiting_as submitted deadline tried) }
         ensures err { IfErr result (λ back. back.0 ≡ submitted) }
     {
-        match Arc::new(alloc, submitted) {
-            Ok(submitted) => Ok(Waiting {
-                submitted,
+        let resting = Resting::new(alloc, submitted)?;
+        match Arc::new(alloc, resting) {
+            Ok(resting) => Ok(Waiting {
+                resting,
                 deadline,
                 tried,
             }),
-            Err(refused) => Err((refused.value, AllocError)),
+            Err(refused) => Err((refused.value.into_submitted(), AllocError)),
         }
     }
 
@@ -68,7 +71,17 @@ impl Waiting {
     pub(crate) fn submitted(&self) -> &Submitted
         ensures { waiting_as result.now self.now.deadline self.now.tried ≡ self.now }
     {
-        &self.submitted
+        &self.resting.submitted
+    }
+
+    /// Returns the name of the table on which its operations rest, if they rest on one. O(1).
+    pub(crate) fn table(&self) -> Option<&str>
+        ensures { option_map (λ text. text.now) result ≡ waits_on self.now.operations }
+    {
+        match &self.resting.table {
+            Some(table) => Some(table.as_str()),
+            None => None,
+        }
     }
 
     /// Returns the same one, which waits until another deadline and was tried again. O(1).
@@ -76,7 +89,7 @@ impl Waiting {
         ensures { result ≡ record (self) { deadline = deadline; tried = tried } }
     {
         Waiting {
-            submitted: self.submitted,
+            resting: self.resting,
             deadline,
             tried,
         }
@@ -110,21 +123,21 @@ impl Waiting {
     pub(crate) fn session(&self) -> SessionId
         ensures { result ≡ self.now.session }
     {
-        self.submitted.session
+        self.resting.submitted.session
     }
 
     /// Returns whether it is the session's. O(1).
     pub(crate) fn belongs_to(&self, session: SessionId) -> bool
         ensures { result ≡ (self.now.session == session) }
     {
-        self.submitted.session == session
+        self.resting.submitted.session == session
     }
 
     /// Returns whether it is the session's, and its request has the id of this text. O(bytes of the id).
     pub(crate) fn has_id_and_session(&self, session: SessionId, id: &[u8]) -> bool
         ensures { result ≡ is_named session id.now self.now }
     {
-        self.submitted.session == session && self.submitted.id.as_slice() == id
+        self.resting.submitted.session == session && self.resting.submitted.id.as_slice() == id
     }
 }
 
@@ -136,7 +149,7 @@ impl Clone for Waiting {
     /// Shares the same transaction. O(1).
     fn clone(&self) -> Result<Waiting, AllocError> {
         Ok(Waiting {
-            submitted: self.submitted.clone()?,
+            resting: self.resting.clone()?,
             deadline: self.deadline,
             tried: self.tried,
         })

@@ -6,7 +6,7 @@ use Rattle.odb_service.specs.World.{World}
 use Rattle.odb_sessions.specs.Taken.{AreReady, given_by, sessions_in}
 use Rattle.odb_core.specs.Represented.Rounds.{book_in}
 use Rattle.odb_core.proofs.ServerSteps.{placed}
-use Rattle.odb_commit.specs.Sound.{IsSound}
+use Rattle.odb_core.specs.Stuck.{IsKept}
 use Rattle.odb_service.specs.Session.{Revision}
 use Rattle.odb_core.proofs.state.State.accept.Goals as goal
 
@@ -30,4 +30,4 @@ pub returns-clause-texts : goal.returns-clause-texts
 returns-clause-texts c = c.accept.ensures.texts ∙ ap (λ (v : Server). flat_map (given_by (book_in v.world)) c.args.prepared) c.self.view_is
 
 pub invariant_of-self : goal.invariant_of-self
-invariant_of-self c = subst (λ (r : Revision). IsSound c.self.inside.served r.db) (sym c.accept.ensures.revision) c.self.invariant
+invariant_of-self c = subst (λ (r : Revision). IsKept c.self.inside.served r.db c.self.inside.waiting) (sym c.accept.ensures.revision) c.self.invariant

@@ -11,7 +11,7 @@ use Rattle.odb_sessions.specs.Book.{Book}
 use Rattle.odb_core.specs.Represented.Steps.{in_world}
 use Rattle.odb_core.proofs.LockPosts.{answers_as, answers_to}
 use Rattle.odb_core.proofs.ServerSteps.{placed}
-use Rattle.odb_commit.specs.Sound.{IsSound}
+use Rattle.odb_core.specs.Stuck.{IsKept}
 use Rattle.odb_core.proofs.CoreInvariant.{either_if}
 use Rattle.odb_core.proofs.state.State.answer_lock.Goals as goal
 
@@ -34,5 +34,5 @@ returns-clause-ok c =
 pub invariant_of-self : goal.invariant_of-self
 invariant_of-self c =
     either_if _ c.post_all.result c.post_all.ensures.ok c.post_all.ensures.err
-    (λ queued h. subst (λ (b : Book). IsSound c.self.inside.served b.db) (sym h) c.self.invariant)
-    (λ e. subst (λ (b : Book). IsSound c.self.inside.served b.db) (sym e) c.self.invariant)
+    (λ queued h. subst (λ (b : Book). IsKept c.self.inside.served b.db c.self.inside.waiting) (sym h) c.self.invariant)
+    (λ e. subst (λ (b : Book). IsKept c.self.inside.served b.db c.self.inside.waiting) (sym e) c.self.invariant)

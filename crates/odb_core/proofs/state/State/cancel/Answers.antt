@@ -1,4 +1,4 @@
-use Rattle.std.proofs.Common.{rules, ◌≡◌, [], ◌∷◌, Some, sym, ap, ◌∙◌}
+use Rattle.std.proofs.Common.{rules, ◌≡◌, [], ◌∷◌, Some, sym, ap, subst, ◌∙◌}
 use Rattle.std.specs.Prelude.{slice_get}
 use Rattle.std.specs.List.{position, remove}
 use Rattle.serde_json.specs.Written.{compact_text}
@@ -11,6 +11,8 @@ use Rattle.odb_service.specs.World.{Waiting, World, is_of, post, untried}
 use Rattle.odb_queue.specs.Represented.Item.{item_of}
 use Rattle.odb_core.specs.Represented.Steps.{in_world}
 use Rattle.odb_core.specs.Represented.Waiting.{is_named}
+use Rattle.odb_core.specs.Stuck.{AreStuck, IsStuckIf}
+use Rattle.odb_core.proofs.HeldTransactions.{all_removed}
 use Rattle.odb_core.proofs.Attempts.{post_as}
 use Rattle.odb_core.proofs.CanceledTransactions.{below, cancels_as, still_tried}
 use Rattle.odb_core.proofs.ClosedSessions.{cancels_none}
@@ -38,6 +40,12 @@ remove-requires c =
     let found : c.place_of.result ≡ position (is_named c.args.session c.deref.result.now) w.waiting = search rules in
     let same : w.waiting ≡ c.self-2.inside.waiting = sym (ap (λ (u : World). u.waiting) (post_as c.args.session (item_of c.in_ok-reply.reply ∷ []) w)) ∙ ap (λ (u : Server). u.world.waiting) (c.in_ok-post.ensures.ok ∙ sym c.self-2.view_is) in
     below (is_named c.args.session c.deref.result.now) c.self-2.inside.waiting c.in-Some.place (ap (position (is_named c.args.session c.deref.result.now)) (sym same) ∙ sym found ∙ c.in-Some.is)
+
+pub invariant_of-self : goal.invariant_of-self
+invariant_of-self c =
+    let i = c.self-2.inside in
+    let left : c.remove.new.self ≡ remove i.waiting c.in-Some.place = search rules in
+    (c.self-2.invariant.0, subst (AreStuck i.served i.sessions.db) (sym left) (all_removed (IsStuckIf i.served i.sessions.db) i.waiting c.in-Some.place c.self-2.invariant.1))
 
 pub returns-clause-ok : goal.returns-clause-ok
 returns-clause-ok c =

@@ -10,7 +10,7 @@ use Rattle.odb_sessions.specs.Posts.{at_number}
 use Rattle.odb_core.proofs.AskedMonitors.{cancels_none, cancels_one}
 use Rattle.odb_core.proofs.Attempts.{post_as}
 use Rattle.odb_core.proofs.ServerSteps.{placed}
-use Rattle.odb_commit.specs.Sound.{IsSound}
+use Rattle.odb_core.specs.Stuck.{IsKept}
 use Rattle.odb_sessions.specs.Book.{Book}
 use Rattle.odb_core.proofs.state.State.cancel_monitor.Goals as goal
 
@@ -44,7 +44,7 @@ returns-clause-ok c =
     })
 
 pub invariant_of-self : goal.invariant_of-self
-invariant_of-self c = subst (λ (b : Book). IsSound c.self.inside.served b.db) (sym c.in_err-stop.ensures.err) c.self.invariant
+invariant_of-self c = subst (λ (b : Book). IsKept c.self.inside.served b.db c.self.inside.waiting) (sym c.in_err-stop.ensures.err) c.self.invariant
 
 pub invariant_of-self-2 : goal.invariant_of-self-2
-invariant_of-self-2 c = subst (λ (b : Book). IsSound c.self.inside.served b.db) (sym c.in_ok-stop.ensures.ok) c.self.invariant
+invariant_of-self-2 c = subst (λ (b : Book). IsKept c.self.inside.served b.db c.self.inside.waiting) (sym c.in_ok-stop.ensures.ok) c.self.invariant

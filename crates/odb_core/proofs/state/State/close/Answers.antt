@@ -1,4 +1,4 @@
-use Rattle.std.proofs.Common.{rules, ◌≡◌, ◌==◌, not, map, filter, sym, ap, ◌∙◌, subst}
+use Rattle.std.proofs.Common.{rules, ◌≡◌, ◌==◌, Bool, not, map, filter, sym, ap, ◌∙◌, subst}
 use Rattle.odb_atoms.specs.FinMap as finite
 use Rattle.odb_locks.specs.Locks.{drop_session}
 use Rattle.odb_queue.specs.Represented.Post.{post_of, told_of}
@@ -9,7 +9,9 @@ use Rattle.odb_sessions.specs.Book.{Book}
 use Rattle.odb_core.specs.Represented.Steps.{by_service}
 use Rattle.odb_core.proofs.CanceledTransactions.{closed_as, closed_tried}
 use Rattle.odb_core.proofs.ServerSteps.{placed}
-use Rattle.odb_commit.specs.Sound.{IsSound}
+use Rattle.odb_tables.specs.Database.{Db}
+use Rattle.odb_core.proofs.HeldTransactions.{all_filter}
+use Rattle.odb_core.specs.Stuck.{AreStuck, IsKept, IsStuckIf}
 use Rattle.odb_core.proofs.state.State.close.Goals as goal
 
 pub returns-clause-ok : goal.returns-clause-ok
@@ -38,12 +40,16 @@ returns-clause-tried c = λ tried h.
     ∙ closed_tried h n w c.end_session.new.self left (ap (λ (u : Server). untried h u.world) c.self.view_is ∙ tried h)
 
 pub invariant_of-self : goal.invariant_of-self
-invariant_of-self c = subst (λ (b : Book). IsSound c.self.inside.served b.db) (sym c.in_err-post_all.ensures.err) c.self.invariant
+invariant_of-self c = subst (λ (b : Book). IsKept c.self.inside.served b.db c.self.inside.waiting) (sym c.in_err-post_all.ensures.err) c.self.invariant
 
 pub invariant_of-self-2 : goal.invariant_of-self-2
 invariant_of-self-2 c =
     let same : c.close.new.self.db ≡ c.self.inside.sessions.db = ap (λ (b : Book). b.db) c.close.ensures ∙ ap (λ (b : Book). b.db) c.in_ok-post_all.ensures.ok in
-    subst (IsSound c.self.inside.served) (sym same) c.self.invariant
+    let i = c.self.inside in
+    let ones : Waiting → Bool = λ p. not (p.session == c.args.session) in
+    let left : c.end_session.new.self ≡ filter ones i.waiting = c.end_session.ensures in
+    let stuck : AreStuck i.served i.sessions.db c.end_session.new.self = subst (AreStuck i.served i.sessions.db) (sym left) (all_filter (IsStuckIf i.served i.sessions.db) ones i.waiting c.self.invariant.1) in
+    subst (λ (d : Db). IsKept i.served d c.end_session.new.self) (sym same) (c.self.invariant.0, stuck)
 
 pub returns-in_err-post_all-clause-tried : goal.returns-in_err-post_all-clause-tried
 returns-in_err-post_all-clause-tried c = λ tried h.

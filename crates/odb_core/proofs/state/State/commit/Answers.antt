@@ -17,6 +17,7 @@ use Rattle.odb_sessions.specs.Posts.{at_number}
 use Rattle.odb_core.proofs.Attempts.{commit_as, done_is}
 use Rattle.odb_core.proofs.ServerSteps.{placed}
 use Rattle.odb_commit.specs.Sound.{IsSound}
+use Rattle.odb_core.specs.Stuck.{AreStuck, IsKept}
 use Rattle.odb_tables.specs.Installing.{IsChangeOf}
 use Rattle.odb_core.specs.Represented.Waiting.{outcome_in}
 use Rattle.odb_core.proofs.state.State.commit.Goals as goal
@@ -47,16 +48,18 @@ returns-clause-ok c =
 pub commit-requires : goal.commit-requires
 commit-requires c =
     let v : Server = c.args.self.now in
-    let is : IsChangeOf v.world.db c.args.change × IsSound v.schema (all_changed_by v.world.db c.args.change) = done_is v.schema v.world.db c.args.results c.args.change (outcome_in v.schema v.world c.args.asked.now) c.requires in
+    let is : IsChangeOf v.world.db c.args.change × IsSound v.schema (all_changed_by v.world.db c.args.change) = done_is v.schema v.world.db c.args.results c.args.change (outcome_in v.schema v.world c.args.asked.now) c.requires.outcome in
     subst (λ (u : Server). IsChangeOf u.world.db c.args.change) (sym c.self.view_is) is.0
 
 pub invariant_of-self : goal.invariant_of-self
-invariant_of-self c = subst (λ (b : Book). IsSound c.self.inside.served b.db) (sym c.in_err-commit.ensures.err) c.self.invariant
+invariant_of-self c = subst (λ (b : Book). IsKept c.self.inside.served b.db c.self.inside.waiting) (sym c.in_err-commit.ensures.err) c.self.invariant
 
 pub invariant_of-self-2 : goal.invariant_of-self-2
 invariant_of-self-2 c =
     let v : Server = c.args.self.now in
     let i = c.self.inside in
-    let is : IsChangeOf v.world.db c.args.change × IsSound v.schema (all_changed_by v.world.db c.args.change) = done_is v.schema v.world.db c.args.results c.args.change (outcome_in v.schema v.world c.args.asked.now) c.requires in
+    let is : IsChangeOf v.world.db c.args.change × IsSound v.schema (all_changed_by v.world.db c.args.change) = done_is v.schema v.world.db c.args.results c.args.change (outcome_in v.schema v.world c.args.asked.now) c.requires.outcome in
     let sound : IsSound i.served (all_changed_by i.sessions.db c.args.change) = subst (λ (u : Server). IsSound u.schema (all_changed_by u.world.db c.args.change)) (sym c.self.view_is) is.1 in
-    subst (λ (b : Book). IsSound i.served b.db) (sym (c.in_ok-commit.ensures.ok v.schema)) sound
+    let none : i.waiting ≡ [] = ap (λ (u : Server). u.world.waiting) c.self.view_is ∙ c.requires.none in
+    let stuck : AreStuck i.served (all_changed_by i.sessions.db c.args.change) i.waiting = subst (AreStuck i.served (all_changed_by i.sessions.db c.args.change)) (sym none) tt in
+    subst (λ (b : Book). IsKept i.served b.db i.waiting) (sym (c.in_ok-commit.ensures.ok v.schema)) (sound, stuck)

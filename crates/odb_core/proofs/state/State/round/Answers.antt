@@ -4,7 +4,7 @@ use Rattle.odb_service.specs.Run.{take_each}
 use Rattle.odb_service.specs.Server.{Server, printed, served_by}
 use Rattle.odb_service.specs.World.{World}
 use Rattle.odb_core.proofs.ServerSteps.{placed}
-use Rattle.odb_commit.specs.Sound.{IsSound}
+use Rattle.odb_core.specs.Stuck.{IsKept}
 use Rattle.odb_service.specs.Session.{Revision}
 use Rattle.odb_core.proofs.state.State.round.Goals as goal
 
@@ -23,4 +23,4 @@ returns-clause-ok c =
     )) c.round.ensures.ok
 
 pub invariant_of-self : goal.invariant_of-self
-invariant_of-self c = subst (λ (r : Revision). IsSound c.self.inside.served r.db) (sym c.round.ensures.revision) c.self.invariant
+invariant_of-self c = subst (λ (r : Revision). IsKept c.self.inside.served r.db c.self.inside.waiting) (sym c.round.ensures.revision) c.self.invariant

@@ -34,7 +34,7 @@ begin-requires-clause-tables c =
     let n = notation_of c.args.asked.kind in
     let d = view c.args.asked.requests.now in
     let read : read_requests s n d ≡ Ok c.in-Ok.requests.items = sym (c.in_ok-requests.ensures ∙ ap (λ (v : Server). read_requests v.schema n d) c.self.view_is) ∙ ap requests_as c.in-Ok.is in
-    let sound : IsSound s c.args.self.now.world.db = subst (λ (v : Server). IsSound v.schema v.world.db) c.self.view_is c.self.invariant in
+    let sound : IsSound s c.args.self.now.world.db = subst (λ (v : Server). IsSound v.schema v.world.db) c.self.view_is c.self.invariant.0 in
     of_tables s c.args.self.now.world.db sound.0.0 n d c.in-Ok.requests.items read
 
 pub begin-requires-clause-apart : goal.begin-requires-clause-apart

@@ -7,12 +7,19 @@ use Rattle.odb_service.specs.Server.{Server, served_by}
 use Rattle.odb_service.specs.World.{Waiting, World, is_untried, untried}
 use Rattle.odb_core.specs.Represented.Steps.{by_service, let_wait}
 use Rattle.odb_core.specs.Represented.Waiting.{ends, outcome_in, runs, waiting_as}
-use Rattle.odb_core.proofs.Attempts.{fails_as, waits_as}
+use Rattle.odb_core.proofs.Attempts.{fails_as, waiting_is, waits_as}
 use Rattle.odb_core.proofs.ClosedSessions.{none_pushed}
 use Rattle.odb_core.proofs.HandledRequests.{runs_alone, runs_waiting}
 use Rattle.odb_service.proofs.Results.{either_way, ok_together}
 use Rattle.odb_core.proofs.ServerSteps.{framed, placed}
 use Rattle.odb_core.proofs.state.State.transact.Goals as goal
+
+pub make_wait-requires : goal.make_wait-requires
+make_wait-requires c =
+    let s = c.args.self.now.schema in
+    let w : World = c.args.self.now.world in
+    let waits : Answers s w.db (outcome.Waiting c.in-Ok-Waiting.deadline) (outcome_in s w c.args.asked) = search rules in
+    waiting_is s w.db c.in-Ok-Waiting.deadline (outcome_in s w c.args.asked) waits
 
 pub returns-in-Ok-Waiting-clause-ok : goal.returns-in-Ok-Waiting-clause-ok
 returns-in-Ok-Waiting-clause-ok c =

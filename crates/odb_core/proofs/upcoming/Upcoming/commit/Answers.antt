@@ -37,7 +37,7 @@ add-requires c =
     let es : List Ending = map ending_of i.ended.items in
     let whole : i.is_spoilt ≡ false = search rules in
     let is : IsChangeOf v.world.db c.args.change × IsSound v.schema (all_changed_by v.world.db c.args.change) = done_is v.schema v.world.db c.args.results c.args.change (outcome_in v.schema v.world c.args.asked.now) c.requires in
-    subst (λ (db : Db). IsChangeOf db c.args.change) (sym (is_put s i.sessions.now i.is_spoilt i.pending i.commits es c.self.invariant whole ∙ ap (λ (u : Upcoming). u.next.world.db) c.self.view_is)) is.0
+    subst (λ (db : Db). IsChangeOf db c.args.change) (sym (is_put s i.sessions.now i.is_spoilt i.pending i.commits es i.marks.items i.waiting c.self.invariant whole ∙ ap (λ (u : Upcoming). u.next.world.db) c.self.view_is)) is.0
 
 pub invariant_of-self-2 : goal.invariant_of-self-2
 invariant_of-self-2 c =
@@ -57,6 +57,6 @@ invariant_of-self-2 c =
     let more : map ending_of c.push_reserved.new.self.items ≡ es ++ e ∷ [] =
     ap (map ending_of) pushed ∙ map-append ending_of i.ended.items (c.in_ok-ended.ended ∷ []) ∙ ap (λ (x : Ending). es ++ x ∷ []) c.in_ok-ended.ensures in
     let count : c.in_ok-commits.commits ≡ i.commits + 1 = search rules in
-    subst (λ (xs : List Ending). Agrees false s i.sessions.now c.add.new.self c.in_ok-commits.commits xs) (sym more)
-    (subst (λ (n : ℕ). Agrees false s i.sessions.now c.add.new.self n (es ++ e ∷ [])) (sym count)
-    (changed s i.sessions.now i.is_spoilt i.pending i.commits es c.self.invariant a.session (reply_with a c.args.results) cs c.add.new.self whole there.0 there.1 c.in_ok-add.ensures.ok c.in_ok-add.ensures.old))
+    subst (λ (xs : List Ending). Agrees false s i.sessions.now c.add.new.self c.in_ok-commits.commits xs c.unmark.new.marks.items i.waiting) (sym more)
+    (subst (λ (n : ℕ). Agrees false s i.sessions.now c.add.new.self n (es ++ e ∷ []) c.unmark.new.marks.items i.waiting) (sym count)
+    (changed s i.sessions.now i.is_spoilt i.pending i.commits es i.marks.items i.waiting c.self.invariant a.session (reply_with a c.args.results) cs c.add.new.self c.unmark.new.marks.items whole there.0 there.1 c.in_ok-add.ensures.ok c.in_ok-add.ensures.old c.unmark.ensures))

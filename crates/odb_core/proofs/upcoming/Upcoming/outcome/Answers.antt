@@ -20,7 +20,7 @@ returns c =
     let same : after_ended v es i.waiting ≡ c.args.self.now.next = ap (λ (u : Upcoming). u.next) c.self.view_is in
     let whole : i.is_spoilt ≡ false = search rules in
     let begins : c.in_ok-draft.draft.old ≡ i.pending.now = ap (λ d. d.old) c.in_ok-draft.ensures in
-    let db : c.in_ok-draft.draft.old ≡ (after_ended v es i.waiting).world.db = begins ∙ is_put s i.sessions.now i.is_spoilt i.pending i.commits es c.self.invariant whole in
+    let db : c.in_ok-draft.draft.old ≡ (after_ended v es i.waiting).world.db = begins ∙ is_put s i.sessions.now i.is_spoilt i.pending i.commits es i.marks.items i.waiting c.self.invariant whole in
     let count : i.commits ≡ (after_ended v es i.waiting).world.commits = c.self.invariant.commits in
     IfOk-weaker c.outcome.result _ _ (λ o h.
     subst (λ (u : Server). IsOutcome u a o) same

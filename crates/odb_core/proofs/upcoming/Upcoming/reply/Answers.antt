@@ -32,5 +32,5 @@ invariant_of-self-2 c =
     let pushed : c.push.new.self.items ≡ i.ended.items ++ c.in_ok-ended.ended ∷ [] = search rules in
     let more : map ending_of c.push.new.self.items ≡ es ++ e ∷ [] =
     ap (map ending_of) pushed ∙ map-append ending_of i.ended.items (c.in_ok-ended.ended ∷ []) ∙ ap (λ (x : Ending). es ++ x ∷ []) c.in_ok-ended.ensures in
-    subst (λ (xs : List Ending). Agrees i.is_spoilt s i.sessions.now i.pending i.commits xs) (sym more)
-    (replied s i.sessions.now i.is_spoilt i.pending i.commits es c.self.invariant a.session (reply_with a c.args.results))
+    subst (λ (xs : List Ending). Agrees i.is_spoilt s i.sessions.now i.pending i.commits xs i.marks.items i.waiting) (sym more)
+    (replied s i.sessions.now i.is_spoilt i.pending i.commits es i.marks.items i.waiting c.self.invariant a.session (reply_with a c.args.results))

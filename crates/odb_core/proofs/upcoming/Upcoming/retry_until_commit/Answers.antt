@@ -1,10 +1,12 @@
 use Rattle.std.proofs.Common.{rules, ◌≡◌, ℕ, ◌==◌, true, List, [], ◌∷◌, length, sym, ap, subst, ◌∙◌}
 use Rattle.std.proofs.lemmas.List.{nil_from_length}
 use Rattle.std.specs.Cmp.{unsigned_Decides}
+use Rattle.odb_schema.specs.Schema.{Schema}
 use Rattle.odb_service.specs.Server.{Server}
 use Rattle.odb_service.specs.World.{Waiting, is_untried, split_first}
 use Rattle.odb_core.specs.Represented.Retrying.{IsRetrying}
 use Rattle.odb_core.specs.Represented.Steps.{let_wait}
+use Rattle.odb_core.specs.Stuck.{AreStuck, IsStuckIf}
 use Rattle.odb_core.proofs.RetriedInTurn.{begins_in_turn, changed_is, ends_in_turn, fewer_left}
 use Rattle.odb_core.proofs.upcoming.Upcoming.retry_until_commit.Goals as goal
 
@@ -21,7 +23,20 @@ loop-waiting-init c =
     subst (λ k. IsRetrying v u k rest) (sym count)
     (subst (λ x. IsRetrying v x v.world.commits rest) (sym none) (subst (λ ps. IsRetrying v (let_wait [] v) v.world.commits ps) (sym all) (begins_in_turn v)))
     in
-    (begun, c.take_waiting-earlier.ensures.base)
+    let stuck : AreStuck v.schema c.args.self.now.base.world.db rest =
+    subst (AreStuck v.schema c.args.self.now.base.world.db) (c.take_waiting-earlier.ensures.all ∙ sym all) c.take_waiting-earlier.ensures.stuck
+    in
+    (begun, c.take_waiting-earlier.ensures.base, stuck)
+
+pub retry_next-requires : goal.retry_next-requires
+retry_next-requires c =
+    let v : Server = c.args.self.now.next in
+    let b : Server = c.args.self.now.base in
+    let p : Waiting = c.in-Some.waiting in
+    let step : c.loop-waiting.waiting-iterator.rest.items ≡ p ∷ c.next.new.self.rest.items = search rules in
+    let one : IsStuckIf v.schema b.world.db p = (subst (AreStuck v.schema b.world.db) step c.loop-waiting.invariant.2).0 in
+    subst (λ (s : Schema). IsStuckIf s c.loop-waiting.self.base.world.db p) (ap (λ (x : Server). x.schema) c.loop-waiting.invariant.0.same)
+    (subst (λ (x : Server). IsStuckIf v.schema x.world.db p) (sym c.loop-waiting.invariant.1) one)
 
 pub loop-waiting-preserved : goal.loop-waiting-preserved
 loop-waiting-preserved c =
@@ -30,7 +45,7 @@ loop-waiting-preserved c =
     let rest : List Waiting = c.next.new.self.rest.items in
     let step : c.loop-waiting.waiting-iterator.rest.items ≡ c.in-Some.waiting ∷ rest = search rules in
     let goes_on : IsRetrying v c.retry_next.new.self.next n rest = c.in_ok-retry_next.ensures.next v rest (subst (IsRetrying v c.loop-waiting.self.next n) step c.loop-waiting.invariant.0) in
-    (goes_on, c.in_ok-retry_next.ensures.base ∙ c.loop-waiting.invariant.1)
+    (goes_on, c.in_ok-retry_next.ensures.base ∙ c.loop-waiting.invariant.1, (subst (AreStuck v.schema c.args.self.now.base.world.db) step c.loop-waiting.invariant.2).1)
 
 pub returns-clause-ok : goal.returns-clause-ok
 returns-clause-ok c =
