@@ -9,6 +9,7 @@ use Rattle.odb_locks.proofs.locks.Locks.TheSendSync as locks
 use Rattle.odb_queue.specs.contracts.served_schema.ServedSchema as ServedSchema
 use Rattle.odb_queue.proofs.served_schema.ServedSchema.TheSendSync as served
 use Rattle.odb_core.specs.contracts.submitted.Submitted as Submitted
+use Rattle.odb_core.specs.contracts.resting.Resting as Resting
 use Rattle.odb_core.specs.contracts.counts.Counts as Counts
 use Rattle.odb_core.specs.contracts.waiting.Waiting as Waiting
 use Rattle.odb_core.specs.contracts.waiting_list.WaitingList as WaitingList
@@ -21,8 +22,14 @@ Submitted-send = search (Request-send, sendable, heap.crosses) depth 20
 Submitted-sync : IsSync (Submitted.the_field).row
 Submitted-sync = search (Request-sync, sendable, heap.crosses) depth 20
 
+Resting-send : IsSend (Resting.the_field).row
+Resting-send = search (Submitted-send, sendable, heap.crosses) depth 20
+
+Resting-sync : IsSync (Resting.the_field).row
+Resting-sync = search (Submitted-sync, sendable, heap.crosses) depth 20
+
 Waiting-send : IsSend (Waiting.the_field).row
-Waiting-send = search (Submitted-send, Submitted-sync, sendable, heap.crosses) depth 20
+Waiting-send = search (Resting-send, Resting-sync, sendable, heap.crosses) depth 20
 
 Counts-send : IsSend (Counts.the_field).row
 Counts-send = search (sendable, heap.crosses, maps.crosses) depth 20

@@ -1,6 +1,6 @@
 -- What goes on waiting as the machine tries those that wait: each that was tried at the newest commit is stuck.
-use Rattle.std.proofs.Common.{◌≡◌, ℕ, zero, suc, ◌+◌, ◌==◌, ◌≤◌, Bool, true, false, cond, not, List, [], ◌∷◌, ◌++◌, Option, Some, None, refl, sym, ap, subst, ◌∙◌, true≢false, arith}
-use Rattle.std.specs.Prelude.{⊤, IfSome, IsSome, filter, option_to_list}
+use Rattle.std.proofs.Common.{◌≡◌, ℕ, zero, suc, ◌+◌, ◌==◌, ◌≤◌, Bool, true, false, cond, not, List, [], ◌∷◌, ◌++◌, Option, Some, None, refl, sym, subst, true≢false, arith}
+use Rattle.std.specs.Prelude.{IfSome, filter, option_to_list}
 use Rattle.std.specs.Cmp.{unsigned_Decides}
 use Rattle.std.specs.List.{AllByRecursion, remove}
 use Rattle.odb_commit.specs.Transaction as transaction
@@ -11,7 +11,7 @@ use Rattle.odb_schema.specs.Schema.{Schema}
 use Rattle.odb_service.proofs.Each.{Each, none_passes}
 use Rattle.odb_service.proofs.Splits.{Split, split_parts}
 use Rattle.odb_service.specs.Server.{served_by}
-use Rattle.odb_service.specs.Service.{Service, max_rows, outcome_of}
+use Rattle.odb_service.specs.Service.{Service, outcome_of}
 use Rattle.odb_service.specs.Session.{Item, Session, with_content}
 use Rattle.odb_service.specs.World.{Waiting, World, attempt, end_transaction, is_due, is_untried, on_outcome, post_to, retry, retry_all, split_first, try_due, try_one, untried, with_waiting}
 use Rattle.odb_tables.specs.Change.{is_changed}

@@ -1,6 +1,6 @@
 -- A transaction that rests on one table waits for as long as that stays, until one deadline.
-use Rattle.std.proofs.Common.{◌≡◌, ℕ, Bool, true, false, cond, not, ◌&&◌, ◌||◌, List, [], ◌∷◌, length, Option, Some, None, is_some, Result, Ok, Err, refl, sym, ap, subst, ◌∙◌, true≢false}
-use Rattle.std.specs.Prelude.{⊤, IsSome, codes, map, nat_le, replicate}
+use Rattle.std.proofs.Common.{◌≡◌, ℕ, Bool, true, false, cond, not, ◌&&◌, ◌||◌, List, [], ◌∷◌, length, Option, Some, None, Result, Ok, Err, refl, sym, ap, ◌∙◌, true≢false}
+use Rattle.std.specs.Prelude.{⊤, IsSome, codes, map}
 use Rattle.std.specs.List.{list_any}
 use Rattle.std.proofs.lemmas.Option.{none-some, same_Some}
 use Rattle.odb_atoms.specs.Error.{Error, timed_out}
@@ -8,11 +8,11 @@ use Rattle.odb_atoms.specs.Uuid.{Uuid}
 use Rattle.odb_commit.specs.Transaction as transaction
 use Rattle.odb_commit.specs.Transaction.{Outcome, outcome, settled, transact}
 use Rattle.odb_integrity.specs.Settlement.{settle}
-use Rattle.odb_json.specs.Operation.{Op, Until, read_op}
+use Rattle.odb_json.specs.Operation.{Op, read_op}
 use Rattle.odb_ops.specs.Execution as ops
 use Rattle.odb_ops.specs.Execution.{Context, Draft, Ran, Stop, deadline, draft_of, error_result, expected, fails, failed, finished, first_fresh, fresh_after, go_on, has_passed, is_reached, must_wait, names_of, or_fault, or_stop, perform, read_and_perform, run, run_from, same_rows, selected, stopped, unmet, with_result}
 use Rattle.odb_schema.proofs.Holds.{Holds, in_read, next}
-use Rattle.odb_schema.specs.Json.{Data, null, string_member}
+use Rattle.odb_schema.specs.Json.{Data, string_member}
 use Rattle.odb_schema.specs.Notation.{Names}
 use Rattle.odb_schema.specs.Schema.{Schema, columns_at, table_place}
 use Rattle.odb_service.specs.Service.{max_rows}

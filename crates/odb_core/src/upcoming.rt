@@ -74,8 +74,9 @@ impl<'a> Model for Upcoming<'a> {
 
 impl State {
     /// Finds out what becomes of those that wait where the change is the next commit: each that wasn't tried since the
-    /// newest commit is tried, the earliest first, until there is none. What these tries cost, O(waiting) once more
-    /// for each that changes the database, and O(rows changed).
+    /// newest commit is tried, the earliest first, until there is none; but for those of which it is certain that they
+    /// would wait again. What these tries cost, O(waiting) once more for each that changes the database, and O(rows
+    /// changed).
     pub(crate) fn plan_commit(
         &self,
         asked: &Submitted,

@@ -1,10 +1,10 @@
-use Rattle.std.proofs.Common.{rules, ◌≡◌, map, sym, ap, subst, ◌∙◌}
+use Rattle.std.proofs.Common.{◌≡◌, map, sym, ap, subst, ◌∙◌}
 use Rattle.odb_commit.specs.Sound.{IsSound}
 use Rattle.odb_core.specs.Stuck.{AreStuck, IsKept}
 use Rattle.odb_service.specs.Server.{Server}
 use Rattle.odb_service.specs.World.{World}
 use Rattle.odb_sessions.specs.Book.{Book}
-use Rattle.odb_sessions.specs.Committed.{AreChangesFrom, Ending, all_ended, all_left}
+use Rattle.odb_sessions.specs.Committed.{AreChangesFrom, all_ended, all_left}
 use Rattle.odb_sessions.specs.Represented.Ended.{ending_of}
 use Rattle.odb_tables.specs.Change.{all_changed_by}
 use Rattle.odb_tables.specs.Database.{Db}

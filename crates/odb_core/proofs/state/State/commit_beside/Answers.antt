@@ -1,4 +1,4 @@
-use Rattle.std.proofs.Common.{rules, ◌≡◌, Some, None, map, sym, ap, ◌∙◌}
+use Rattle.std.proofs.Common.{◌≡◌, Some, None, map, sym, ap, ◌∙◌}
 use Rattle.std.proofs.lemmas.Result.{on_ok_weaker}
 use Rattle.odb_service.proofs.Results.{either_way}
 use Rattle.odb_service.specs.Server.{Server, served_by}
@@ -10,7 +10,7 @@ use Rattle.odb_tables.specs.Change.{all_changed_by}
 use Rattle.odb_tables.specs.Database.{Db}
 use Rattle.odb_wire.specs.Shown.{request_data}
 use Rattle.odb_core.specs.Represented.Steps.{by_service}
-use Rattle.odb_core.specs.Represented.Upcoming.{Leads, after_ended}
+use Rattle.odb_core.specs.Represented.Upcoming.{after_ended}
 use Rattle.odb_core.specs.Represented.Waiting.{ends}
 use Rattle.odb_core.specs.Stuck.{AreStuck}
 use Rattle.odb_core.proofs.HeldTransactions.{committed_stuck}

@@ -1,13 +1,11 @@
-use Rattle.std.proofs.Common.{rules, ◌≡◌, None, map, sym, ap, ◌∙◌}
+use Rattle.std.proofs.Common.{◌≡◌, None, map, sym, ap, ◌∙◌}
 use Rattle.std.proofs.lemmas.Result.{on_ok_weaker}
 use Rattle.odb_service.proofs.Results.{either_way}
 use Rattle.odb_service.specs.Server.{Server, served_by}
-use Rattle.odb_service.specs.World.{retry_all, untried}
+use Rattle.odb_service.specs.World.{untried}
 use Rattle.odb_sessions.specs.Represented.Ended.{ending_of}
-use Rattle.odb_tables.specs.Change.{all_changed_by}
 use Rattle.odb_core.specs.Represented.Steps.{by_service}
-use Rattle.odb_core.specs.Represented.Upcoming.{Leads, after_due, after_ended}
-use Rattle.odb_core.specs.Represented.Waiting.{ends}
+use Rattle.odb_core.specs.Represented.Upcoming.{after_due, after_ended}
 use Rattle.odb_core.specs.Stuck.{AreStuck}
 use Rattle.odb_core.proofs.HeldTransactions.{due_stuck}
 use Rattle.odb_core.proofs.Upcomings.{left_on}

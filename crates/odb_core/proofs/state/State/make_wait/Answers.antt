@@ -1,11 +1,11 @@
-use Rattle.std.proofs.Common.{rules, ◌≡◌, ◌++◌, ◌∷◌, [], ℕ, ◌+◌, Option, None, ap, sym, subst, ◌∙◌}
+use Rattle.std.proofs.Common.{◌≡◌, ◌++◌, ◌∷◌, [], ℕ, ◌+◌, Option, None, sym, subst}
 use Rattle.odb_locks.specs.Locks.{owns}
 use Rattle.odb_service.proofs.Results.{either_way}
 use Rattle.odb_service.specs.Server.{Server}
 use Rattle.odb_service.specs.World.{Waiting}
 use Rattle.odb_tables.specs.Database.{Db}
 use Rattle.odb_core.specs.Represented.Waiting.{waiting_as}
-use Rattle.odb_core.specs.Stuck.{AreStuck, IsKept, IsStuckIf}
+use Rattle.odb_core.specs.Stuck.{AreStuck, IsStuckIf}
 use Rattle.odb_core.proofs.HeldTransactions.{all_append}
 use Rattle.odb_core.proofs.StuckTransactions.{stuck_here}
 use Rattle.odb_core.proofs.state.State.make_wait.Goals as goal

@@ -1,10 +1,10 @@
-use Rattle.std.proofs.Common.{rules, ◌≡◌, Some, sym, ap, subst, ◌∙◌}
+use Rattle.std.proofs.Common.{◌≡◌, Some, sym, ap, subst, ◌∙◌}
 use Rattle.std.proofs.lemmas.Result.{IfOk-weaker}
 use Rattle.odb_service.specs.Server.{Server}
 use Rattle.odb_service.specs.World.{retry_all}
 use Rattle.odb_tables.specs.Change.{all_changed_by}
 use Rattle.odb_core.specs.Represented.Steps.{AreTried, by_service}
-use Rattle.odb_core.specs.Represented.Upcoming.{Leads, Upcoming}
+use Rattle.odb_core.specs.Represented.Upcoming.{Upcoming}
 use Rattle.odb_core.specs.Represented.Waiting.{ends}
 use Rattle.odb_core.proofs.Upcomings.{led_on}
 use Rattle.odb_core.proofs.state.State.plan_commit.Goals as goal

@@ -1,9 +1,9 @@
-use Rattle.std.proofs.Common.{rules, ◌≡◌, [], sym, ap, subst, ◌∙◌}
+use Rattle.std.proofs.Common.{◌≡◌, [], sym, ap, subst, ◌∙◌}
 use Rattle.std.proofs.lemmas.Result.{IfOk-weaker}
 use Rattle.odb_service.specs.Server.{Server}
 use Rattle.odb_service.specs.World.{retry_all, try_due}
 use Rattle.odb_core.specs.Represented.Steps.{AreTried, by_service, let_wait}
-use Rattle.odb_core.specs.Represented.Upcoming.{Leads, Upcoming}
+use Rattle.odb_core.specs.Represented.Upcoming.{Upcoming}
 use Rattle.odb_core.proofs.Upcomings.{led_on}
 use Rattle.odb_core.proofs.state.State.plan_due.Goals as goal
 

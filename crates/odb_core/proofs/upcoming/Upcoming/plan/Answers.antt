@@ -6,7 +6,7 @@ use Rattle.odb_sessions.specs.Represented.Ended.{ending_of}
 use Rattle.odb_tables.specs.Change.{all_changed_by}
 use Rattle.odb_tables.specs.Database.{Db}
 use Rattle.odb_tables.specs.Installing.{IsChangeOf}
-use Rattle.odb_core.specs.Represented.Upcoming.{IsPlanOf, Leads, Upcoming, after_ended, server_with}
+use Rattle.odb_core.specs.Represented.Upcoming.{IsPlanOf, Leads, Upcoming, server_with}
 use Rattle.odb_core.proofs.upcoming.Upcoming.plan.Goals as goal
 
 pub returns : goal.returns

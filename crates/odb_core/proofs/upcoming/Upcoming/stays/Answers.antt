@@ -1,9 +1,7 @@
-use Rattle.std.proofs.Common.{rules, ◌≡◌, true, false, List, Some, map, sym, ap, subst, ◌∙◌}
+use Rattle.std.proofs.Common.{rules, ◌≡◌, true, false, List, Some, map, subst}
 use Rattle.odb_schema.specs.Schema.{table_place}
-use Rattle.odb_service.specs.Server.{Server}
 use Rattle.odb_sessions.specs.Committed.{Ending, all_ended}
 use Rattle.odb_sessions.specs.Represented.Ended.{ending_of}
-use Rattle.odb_tables.specs.Database.{Db}
 use Rattle.odb_core.specs.Marked.{AreSame, is_marked}
 use Rattle.odb_core.specs.Represented.Upcoming.{Upcoming}
 use Rattle.odb_core.specs.Stuck.{IsSameAt}

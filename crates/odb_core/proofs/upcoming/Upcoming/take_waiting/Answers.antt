@@ -1,4 +1,4 @@
-use Rattle.std.proofs.Common.{◌≡◌, [], map, sym, subst}
+use Rattle.std.proofs.Common.{map, sym, subst}
 use Rattle.odb_sessions.specs.Represented.Ended.{ending_of}
 use Rattle.odb_core.specs.Represented.Upcoming.{Upcoming}
 use Rattle.odb_core.specs.Stuck.{AreStuck}

@@ -1,4 +1,4 @@
-use Rattle.std.proofs.Common.{rules, ◌≡◌, List, ◌∷◌, refl, sym, ap, subst, ◌∙◌}
+use Rattle.std.proofs.Common.{rules, ◌≡◌, List, ◌∷◌, refl, sym, ap, subst}
 use Rattle.odb_schema.specs.Schema.{Schema}
 use Rattle.odb_service.specs.Server.{Server}
 use Rattle.odb_service.specs.World.{Waiting}
