@@ -35,7 +35,7 @@ TWICE = {
 # Names in documents that are the toolchain's.
 OF_THE_TOOLCHAIN = {"after_borrow": "of std's io, in a proof"}
 
-# Steps, and places at which one goes on, that no comment of the code names, and why.
+# Steps, and places at which one goes on, that no comment and no contract of the code names, and why.
 UNNAMED = {
     "goes_on": "the pump's next step: comments name the place",
     "loop_goes_on": "the loop's next step: comments name the place",
@@ -47,8 +47,6 @@ UNNAMED = {
     "owes": "whatever a turn of the lock makes owed",
     "nears": "whatever a turn of the lock makes due sooner",
     "gives_all": "any round that gives all that is owed",
-    "gives": "the pump's round",
-    "rests": "the pump's pause",
     "flushes": "no comment has it yet: `Ring::flush`",
     "meets_busy": "no comment has it yet: a submit that is answered Busy",
 }
@@ -144,15 +142,18 @@ def steps():
 
 
 def named_steps():
-    """The names in the comments `Step: ..` and `Steps: ..` of the threads' code."""
-    for path in files(["crates/ovsdbd/src/**/*.rt", "crates/odb_hub/src/**/*.rt"]):
-        for comment in re.findall(r"(?:^ *///.*\n)+", read_text(path), re.M):
+    """The names in the comments `Step: ..` and `Steps: ..` of the threads' code, and the places that its contracts ask for."""
+    for path in files(["crates/ovsdbd/src/**/*.rt", "crates/odb_hub/src/**/*.rt", "crates/odb_waking/src/**/*.rt"]):
+        text = read_text(path)
+        if "odb_waking.specs" in text:
+            yield from re.findall(r"\w+", " ".join(re.findall(r"^ *(?:requires|ensures) .*", text, re.M)))
+        for comment in re.findall(r"(?:^ *///.*\n)+", text, re.M):
             for found in STEPS.finditer(re.sub(r"\s*///\s*", " ", comment)):
                 yield from re.findall(r"`(\w+)`", found[1])
 
 
 def unnamed():
-    """The steps that no comment of the code names, and lines of UNNAMED that are of none."""
+    """The steps that no comment and no contract of the code names, and lines of UNNAMED that are of none."""
     lacking = set(steps()) - set(named_steps())
-    yield from (f"odb_waking: no comment of the code names its step {it}, as in `Step: ..`" for it in sorted(lacking - {*UNNAMED}))
+    yield from (f"odb_waking: no comment of the code names its step {it}, as in `Step: ..`, and no contract" for it in sorted(lacking - {*UNNAMED}))
     yield from (f"tools/names.py: {it} is named, or no step, and no longer in UNNAMED" for it in sorted({*UNNAMED} - lacking))

@@ -88,7 +88,7 @@ impl Ring {
     }
 
     /// Sends a message, or holds it back where the ring has no room, and calls the thread that serves the session: the steps
-    /// of the thread that has the lock, in the loop of `odb_waking`.
+    /// of the thread that has the lock, in the loop of `odb_waking`. Steps: `puts`, `giver_goes_on`.
     pub(crate) fn put(&mut self, out: Out)
         requires { self.old.held ≡ None }
         ensures { IsPut (text_of_out out) self.old self.new }
