@@ -39,8 +39,10 @@ pub(crate) struct Clerk<'a, L: Ledger, R> {
     /// The connections at their places, and the places that are vacant.
     connections: Vec<Option<Connection<L>>>,
     vacant: Vec<usize>,
-    /// The places of those that have a turn next: of those that ask something, and of the others.
+    /// The places of those that have a turn next: of those that ask something, of those of them whose last submission was
+    /// slow, and of the others.
     asking: VecDeque<usize>,
+    slow: VecDeque<usize>,
     queue: VecDeque<usize>,
     /// Whether no connection will come any more.
     is_closed: bool,
@@ -71,6 +73,7 @@ pub(crate) fn serve_desk<L: Ledger, R: Threads + Wait + Clock + RandomSource + S
         connections: Vec::new(daemon.alloc),
         vacant: Vec::new(daemon.alloc),
         asking: VecDeque::new(daemon.alloc),
+        slow: VecDeque::new(daemon.alloc),
         queue: VecDeque::new(daemon.alloc),
         is_closed: false,
         looks: 0,
@@ -102,6 +105,7 @@ impl<'a, L: Ledger, R: Threads + Wait + Clock + RandomSource + Sync> Clerk<'a, L
             connections,
             vacant: _,
             asking: _,
+            slow: _,
             queue: _,
             is_closed: _,
             looks: _,
@@ -206,6 +210,7 @@ impl<'a, L: Ledger, R: Wait + Clock> Clerk<'a, L, R> {
         }
         self.vacant.reserve(place.saturating_add(1))?;
         self.asking.reserve(place.saturating_add(1))?;
+        self.slow.reserve(place.saturating_add(1))?;
         self.queue.reserve(place.saturating_add(1))?;
         self.connections.reserve(1)?;
         self.connections.push_reserved(None);
@@ -232,10 +237,12 @@ impl<'a, L: Ledger, R: Wait + Clock> Clerk<'a, L, R> {
             return;
         }
         // There is room for each connection once.
-        connection.is_queued = if connection.has_requests() {
-            self.asking.push_back(place).is_ok()
-        } else {
+        connection.is_queued = if !connection.has_requests() {
             self.queue.push_back(place).is_ok()
+        } else if connection.is_slow {
+            self.slow.push_back(place).is_ok()
+        } else {
+            self.asking.push_back(place).is_ok()
         };
     }
 
@@ -286,7 +293,7 @@ impl<'a, L: Ledger, R: Wait + Clock> Clerk<'a, L, R> {
 
     /// Returns whether some have a turn next.
     fn has_next(&self) -> bool {
-        !self.asking.is_empty() || !self.queue.is_empty()
+        !self.asking.is_empty() || !self.slow.is_empty() || !self.queue.is_empty()
     }
 
     /// Waits for events: not at all where some have a turn next.
@@ -387,11 +394,11 @@ impl<'a, L: Ledger, R: Wait + Clock> Clerk<'a, L, R> {
 
 impl<'a, L: Ledger, R: Threads + Wait + Clock + Sync> Clerk<'a, L, R> {
     /// Gives a turn to some of those that ask something, and to as many of the others, so that neither wait for all of the
-    /// others.
+    /// others; and then to one that was slow, so that the others wait for one of these at most.
     fn serve_some(&mut self) {
         for _ in 0..TURNS {
-            if !self.has_next() {
-                return;
+            if self.asking.is_empty() && self.queue.is_empty() {
+                break;
             }
             if let Some(place) = self.asking.pop_front() {
                 self.serve(place);
@@ -399,6 +406,9 @@ impl<'a, L: Ledger, R: Threads + Wait + Clock + Sync> Clerk<'a, L, R> {
             if let Some(place) = self.queue.pop_front() {
                 self.serve(place);
             }
+        }
+        if let Some(place) = self.slow.pop_front() {
+            self.serve(place);
         }
     }
 

@@ -91,6 +91,8 @@ pub(crate) struct Connection<L: Ledger> {
     is_cut_off: bool,
     /// Whether the connection is among those that have a turn next.
     pub(crate) is_queued: bool,
+    /// Whether its last submission was slow.
+    pub(crate) is_slow: bool,
     /// When the peer sent something, and when it took something, in milliseconds since the start.
     heard: u64,
     took: u64,
@@ -123,6 +125,7 @@ impl<L: Ledger> Connection<L> {
             is_busy: false,
             is_cut_off: false,
             is_queued: false,
+            is_slow: false,
             heard: moment,
             took: moment,
             was_asked: false,
@@ -382,7 +385,9 @@ impl<L: Ledger> Connection<L> {
             return;
         };
         let daemon = tools.daemon;
-        match daemon.submit_turn(tools.rt, seat, &mut self.inbox) {
+        let turn = daemon.submit_turn(tools.rt, seat, &mut self.inbox);
+        self.is_slow = turn.is_slow;
+        match turn.outcome {
             Ok(()) => {}
             Err(Refused::Busy) => self.is_busy = true,
             Err(_) => {
@@ -463,6 +468,7 @@ impl<L: Ledger> Connection<L> {
             is_busy: _,
             is_cut_off: _,
             is_queued: _,
+            is_slow: _,
             heard: _,
             took: _,
             was_asked: _,

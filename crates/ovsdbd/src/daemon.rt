@@ -10,6 +10,7 @@ use odb_hub::{Hub, Inbox, Seat};
 use odb_par::{Open, Workers};
 use odb_waking::PumpPlace;
 use std::alloc::Global;
+use std::io;
 use std::net::SocketAddr;
 use std::sync::Wait;
 use std::sync::atomic::{AtomicU64, Ordering};
@@ -19,6 +20,18 @@ use std::time::{Clock, Duration, Instant};
 
 /// After how many turns of the pump the journal begins anew.
 const SETTLES: u64 = 65_536;
+
+/// From how many microseconds under the lock on a turn of submissions counts as slow.
+const SLOW: u64 = 1_000;
+
+/// What became of a turn of submissions.
+#[derive(Drop)]
+pub(crate) struct SubmittedTurn {
+    /// Nothing, or why the turn stopped.
+    pub(crate) outcome: Result<(), Refused>,
+    /// Whether it had the lock for a millisecond or longer.
+    pub(crate) is_slow: bool,
+}
 
 /// A core for the schema, with empty tables, and the moment from which moments are counted.
 #[derive(Drop)]
@@ -137,12 +150,14 @@ impl<L: Ledger> Daemon<L> {
         rt: &R,
         seat: &mut Seat<L>,
         inbox: &mut Inbox,
-    ) -> Result<(), Refused> {
+    ) -> SubmittedTurn {
         let before = inbox.pending();
         let now = self.now(rt);
         let mut hub = self.hub.enter(rt);
+        let begun = Instant::now(rt);
         let submitted = inbox.submit_turn(rt, &mut *hub, seat, now);
         drop(hub);
+        let is_slow = is_slow(rt, begun);
         let taken = before.saturating_sub(inbox.pending());
         if submitted.due_sooner {
             self.pace.alarm.call();
@@ -151,7 +166,10 @@ impl<L: Ledger> Daemon<L> {
         if !is_quiet(&submitted.owes) {
             self.tell_all(rt, submitted.few, taken.max(1) as u64);
         }
-        submitted.owes.map(|_| ())
+        SubmittedTurn {
+            outcome: submitted.owes.map(|_| ()),
+            is_slow,
+        }
     }
 
     /// Ends a session, and has those told who own its locks then. Where memory is refused the seat comes back.
@@ -251,6 +269,17 @@ impl<L: Ledger> Daemon<L> {
     fn left<R: Clock>(&self, rt: &R, moment: Option<u64>) -> Option<Duration> {
         let left = moment?.saturating_sub(self.now(rt));
         Some(Duration::from_millis(left.max(1)))
+    }
+}
+
+/// Returns whether a millisecond or longer is over since the moment, if the clock could be read.
+fn is_slow<R: Clock>(rt: &R, begun: io::Result<Instant>) -> bool {
+    let Ok(begun) = begun else {
+        return false;
+    };
+    match begun.elapsed(rt) {
+        Ok(elapsed) => elapsed >= Duration::from_micros(SLOW),
+        Err(_) => false,
     }
 }
 
