@@ -16,9 +16,11 @@ use Rattle.odb_core.specs.Represented.Steps.{AreTried, OnlySessions, by_service}
 use Rattle.odb_service.proofs.WhoIsOpen as open_ones
 use Rattle.odb_service.proofs.SessionMaps.{get-insert, same_key}
 use Rattle.odb_core.proofs.SessionNumbers.{unused_in_none, unused_opened, unused_same}
+use Rattle.odb_core.proofs.SessionsOfSchema.{Keeps, closes_of, none_of, put_of, takes_of}
+use Rattle.odb_sessions.specs.OfSchema.{AreSessionsOf}
 
 pub new_valid : (run most : ℕ) (s : Schema) → IsValid (new_server run most s)
-new_valid run most s = (λ h. refl, unused_in_none)
+new_valid run most s = (λ h. refl, unused_in_none, none_of s)
 
 -- a taking leaves who is open
 takes_one : (h : Service) (s q : ℕ) (w : World) (o : Option Session) → get w.sessions s ≡ o → is_some (get (take_of h s o w).0.sessions q) ≡ is_some (get w.sessions q)
@@ -40,19 +42,22 @@ pub valid_taken : (ss : List ℕ) (v u : Server) (outs : List (ℕ × List ℕ))
 valid_taken ss v u outs rest round h =
     let opened : u.opened ≡ v.opened = ap (λ (x : Server). x.opened) rest in
     let unused : AreUnused u.world.sessions v.opened = unused_taken (served_by v.schema) ss v.world u.world v.opened (ap (λ (x : Server). x.world) round.0) h.1 in
-    (λ k. ap (λ (x : Server). untried k x.world) rest ∙ h.0 k, subst (AreUnused u.world.sessions) (sym opened) unused)
+    let of : AreSessionsOf v.schema u.world.sessions =
+    subst (λ (w : World). AreSessionsOf v.schema w.sessions) (ap (λ (x : Server). x.world) round.0) (takes_of v.schema ss v.world h.2)
+    in
+    (λ k. ap (λ (x : Server). untried k x.world) rest ∙ h.0 k, subst (AreUnused u.world.sessions) (sym opened) unused, subst (λ (s : Schema). AreSessionsOf s u.world.sessions) (sym (ap (λ (x : Server). x.schema) rest)) of)
 
--- a step that leaves who is open
+-- a step that leaves who is open, and what is asked of the schema
 pub valid_after : (f : Service → World → World) → ((h : Service) (w : World) (q : ℕ) → is_some (get (f h w).sessions q) ≡ is_some (get w.sessions q))
-    → (v u : Server) → by_service f v ≡ u → AreTried u → IsValid v → IsValid u
-valid_after f leaves v u e tried h =
+    → (v u : Server) → Keeps v.schema v.world (f (served_by v.schema) v.world) → by_service f v ≡ u → AreTried u → IsValid v → IsValid u
+valid_after f leaves v u keeps e tried h =
     let unused : AreUnused u.world.sessions v.opened =
     unused_same v.world.sessions u.world.sessions v.opened (λ q. ap (λ (x : Server). is_some (get x.world.sessions q)) (sym e) ∙ leaves (served_by v.schema) v.world q) h.1
     in
-    (tried, subst (AreUnused u.world.sessions) (ap (λ (x : Server). x.opened) e) unused)
+    (tried, subst (AreUnused u.world.sessions) (ap (λ (x : Server). x.opened) e) unused, subst (λ (x : Server). AreSessionsOf x.schema x.world.sessions) e (keeps h.2))
 
 pub valid_opened : (v : Server) → IsValid v → IsValid (with_session v)
-valid_opened v h = (h.0, unused_opened v.world.sessions v.opened fresh_session h.1)
+valid_opened v h = (h.0, unused_opened v.world.sessions v.opened fresh_session h.1, put_of v.schema v.world.sessions v.opened fresh_session (tt, tt) h.2)
 
 none_then : (a b : Bool) → b ≡ false → (a && b) ≡ false
 none_then true b e = e
@@ -69,7 +74,7 @@ unused_closed h s n w v e unused q above =
 pub valid_closed : (s : ℕ) (v u : Server) → by_service (λ h. close h s) v ≡ u → AreTried u → IsValid v → IsValid u
 valid_closed s v u e tried h =
     let unused : AreUnused u.world.sessions v.opened = unused_closed (served_by v.schema) s v.opened v.world u.world (ap (λ (x : Server). x.world) e) h.1 in
-    (tried, subst (AreUnused u.world.sessions) (ap (λ (x : Server). x.opened) e) unused)
+    (tried, subst (AreUnused u.world.sessions) (ap (λ (x : Server). x.opened) e) unused, subst (λ (x : Server). AreSessionsOf x.schema x.world.sessions) e (closes_of v.schema s v.world h.2))
 
 -- what holds however a call ended
 pub either_if : {A E G Q : Type 0} (P : A → Type 0) (r : Result A E) → IfOk r P → OnErr r Q → ((a : A) → P a → G) → (Q → G) → G

@@ -14,6 +14,7 @@ pub mod PlainCalls
 pub mod RequestTables
 pub mod ServerSteps
 pub mod SessionNumbers
+pub mod SessionsOfSchema
 pub mod WorldPosts
 pub mod QuietRounds
 pub mod Crossing

@@ -200,7 +200,8 @@ impl Core {
         ensures once { IfOk result (λ jobs. AreEachOnce (revision_of self.now.world) jobs.jobs jobs.likenesses) }
     {
         let listed = once(self.alloc, ready)?;
-        self.state.sessions.jobs(listed.as_slice())
+        let schema = self.state.served.schema();
+        self.state.sessions.jobs(schema, listed.as_slice())
     }
 
     /// Keeps the text of a first reply, if there is one, which [`Jobs::first_text`] found for this core as it is: until the

@@ -5,6 +5,7 @@ ghost use Rattle.std.specs.List.{list_any};
 ghost use Rattle.odb_atoms.specs.FinMap as finite;
 ghost use Rattle.odb_tables.specs.Change.{all_changed_by};
 ghost use Rattle.odb_sessions.specs.FirstTexts.{IsFirstText};
+ghost use Rattle.odb_sessions.specs.OfSchema.{AreSessionsOf};
 ghost use Rattle.odb_sessions.specs.Planned.{AreOnce};
 ghost use Rattle.odb_sessions.specs.Represented.Out.{sent_in};
 ghost use Rattle.odb_sessions.specs.Taken.{AreOf, given_by, sessions_in};
@@ -300,12 +301,14 @@ impl State {
     /// Gives each listed session that is open its next message, if it has one, in the order of the list. Where
     /// memory is refused nothing was taken.
     pub(crate) fn round(&mut self, listed: &[SessionId]) -> Result<Vec<Out>, AllocError>
-        requires { AreOnce listed.now }
+        requires once { AreOnce listed.now }
+        requires of { AreSessionsOf self.old.schema self.old.world.sessions }
         ensures ok { IfOk result (λ outs. IsRoundOf listed.now self.old self.new (map sent_in outs.items)) }
         ensures rest { OnlySessions self.old self.new }
         ensures err { OnErr result (self.new ≡ self.old) }
     {
-        self.sessions.round(listed)
+        let schema = self.served.schema();
+        self.sessions.round(schema, listed)
     }
 
     /// Keeps the text of a first reply, if there is one.

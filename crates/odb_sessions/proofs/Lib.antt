@@ -28,6 +28,7 @@ mod NamedCommits
 mod NamedReplays
 mod Newest
 mod Numbers
+mod OneSchema
 mod OtherFilters
 mod OwedSessions
 mod Pendings

@@ -1,5 +1,6 @@
 -- What a plan foresees: what clients have once so much of a queue was taken, and the text that comes. [P 10.1]
 use Rattle.std.specs.Prelude.{ℕ, zero, suc, List, [], ◌∷◌, Option, Some, None, flat_map, slice_get}
+use Rattle.std.specs.List.{AllByRecursion}
 use Rattle.serde_json.specs.Written.{compact_text}
 use Rattle.odb_chain.specs.Chains.{Chains, Mark}
 use Rattle.odb_cond.specs.Filter.{Filter}
@@ -8,9 +9,12 @@ use Rattle.odb_monitor.specs.View.{View, query, selected}
 use Rattle.odb_recent.specs.Recent.{Recent}
 use Rattle.odb_request.specs.Request.{Request}
 use Rattle.odb_rpc.specs.Message.{reply}
+use Rattle.odb_schema.specs.Schema.{Schema}
 use Rattle.odb_service.specs.Service.{Service}
 use Rattle.odb_service.specs.Session.{Item, Monitor, Revision, filter_of, no_result, refilter, renamed, say, shift, start, stopped, sync}
+use Rattle.odb_sessions.specs.Composed.{asked_of}
 use Rattle.odb_sessions.specs.Held.{Held, Watched, marks_in, view_of, watch_of}
+use Rattle.odb_sessions.specs.OfSchema.{AreOfSchema}
 use Rattle.odb_sessions.specs.Planned.{Due, out_of}
 use Rattle.odb_tables.specs.Database.{Db, table_at}
 use Rattle.odb_wire.specs.Message.{id_of}
@@ -19,8 +23,9 @@ use Rattle.odb_wire.specs.Message.{id_of}
 abbrev pub Filters : Type 0
 Filters = List (List ℕ × Filter)
 
--- the database with its past, its last commits, the jobs so far, and a session's monitors once so much of its queue was taken
+-- the schema, the database with its past, its last commits, the jobs so far, and a session's monitors once so much of its queue was taken
 pub record Foreseen : Type 0 where
+  pub schema : Schema
   pub chains : Chains
   pub recent : Recent
   pub jobs : List Job
@@ -41,6 +46,10 @@ seen_ahead db a = record { watch = watch_of a.held; view = view_ahead db a.held 
 
 abbrev pub marks_ahead : List Ahead → List Mark
 marks_ahead xs = flat_map (λ a. marks_in a.held) xs
+
+-- what they ask is of the schema
+abbrev pub AreAheadOf : Schema → List Ahead → Type 0
+AreAheadOf s xs = AllByRecursion (λ a. AreOfSchema s (asked_of a.held.tables)) xs
 
 -- nothing is foreseen of it
 abbrev pub as_told : Held → Ahead

@@ -40,8 +40,9 @@ certainly x = Some x
 abbrev pub IsFor : List Job → Option Job → Option ℕ → Type 0
 IsFor js job place = (all : List Job) → Keeps js all → option_map (slice_get all) place ≡ option_map certainly job
 
--- the database with its past, its last commits, and the jobs so far
+-- the schema, the database with its past, its last commits, and the jobs so far
 pub record Wanted : Type 0 where
+  pub schema : Schema
   pub chains : Chains
   pub recent : Recent
   pub jobs : List Job

@@ -11,6 +11,7 @@ pub mod Jobs
 pub mod Moved
 pub mod Named
 pub mod Newest
+pub mod OfSchema
 pub mod Owed
 pub mod Planned
 pub mod Posts

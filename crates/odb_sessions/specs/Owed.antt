@@ -1,5 +1,5 @@
 -- Which sessions may be owed something, and what the others ask of tables. [P 10.1, 10.3]
-use Rattle.std.specs.Prelude.{◌≡◌, ℕ, Bool, false, ◌==◌, List, [], map, flat_map, Option, Some, None}
+use Rattle.std.specs.Prelude.{◌≡◌, ℕ, Bool, false, ◌==◌, ◌&&◌, if◌then◌else◌, List, [], map, flat_map, Option, Some, None}
 use Rattle.std.specs.List.{list_any}
 use Rattle.std.specs.BTreeSet.{BTreeSet, contains}
 use Rattle.std.specs.Ordering.{eq_by_cmp, nat_cmp}
@@ -63,6 +63,10 @@ KeepsOthers old new session = (s : ℕ) → (session == s) ≡ false → asked_a
 -- of each session that isn't in the set the index says what it did
 abbrev pub KeepsResting : BTreeSet ℕ → Interests → Interests → Type 0
 KeepsResting owed old new = (s : ℕ) → contains nat_cmp owed s ≡ false → asked_at new s ≡ asked_at old s
+
+-- of each of these sessions that is in the set the index says nothing, and of all others what it did
+abbrev pub ForgetsOwed : BTreeSet ℕ → List ℕ → Interests → Interests → Type 0
+ForgetsOwed owed ss old new = (s : ℕ) → asked_at new s ≡ (if contains nat_cmp owed s && list_any (λ t. t == s) ss then [] else asked_at old s)
 
 -- the session is owed nothing, and the index says of it just what its monitors ask
 abbrev pub IsAtRest : Interests → Book → ℕ → Type 0

@@ -2,13 +2,15 @@
 ghost use Rattle.std.specs.Prelude.{◌≡◌, map, option_map};
 ghost use Rattle.std.specs.Arc.{arc_value};
 ghost use Rattle.std.specs.Bool.{Decides};
-ghost use Rattle.odb_sessions.specs.Represented.Alike.{ago_in, filter_in, is_first, is_reply, likeness_in, place_in, stand_in, told_in};
+ghost use Rattle.odb_cond.specs.Represented.Clause.{selector_of};
+ghost use Rattle.odb_sessions.specs.OfSchema.{asks_of};
+ghost use Rattle.odb_sessions.specs.Represented.Alike.{ago_in, bare_in, bare_likeness, filter_in, is_first, is_reply, place_in, told_in};
 
 use crate::monitor::{Monitor, Watching};
 use crate::under::filter_under;
 use crate::way::Way;
 use odb_chain::Mark;
-use odb_cond::Filter;
+use odb_cond::{Filter, Selector};
 use odb_request::Request;
 use odb_schema::TableId;
 
@@ -122,40 +124,72 @@ fn same_told(told: Option<&Filter>, other: Option<&Filter>) -> bool
     }
 }
 
-/// Returns whether the same is asked of both.
+/// Returns whether it is the same column.
+fn same_column(column: Selector, other: Selector) -> bool
+    ensures { Decides result (selector_of column ≡ selector_of other) }
+{
+    column == other
+}
+
+/// Returns whether the two lists have the same columns, one by one.
+fn same_columns(columns: &[Selector], others: &[Selector]) -> bool
+    ensures { Decides result (map selector_of columns.now ≡ map selector_of others.now) }
+{
+    if columns.len() != others.len() {
+        return false;
+    }
+    for place in 0..columns.len() {
+        if !same_column(columns[place], others[place]) {
+            return false;
+        }
+    }
+    true
+}
+
+/// Returns whether the two ask for the same columns and the same kinds of change of the same table, by their places in a
+/// schema. O(n) for n columns.
+fn ask_alike(request: &Request, other: &Request) -> bool
+    ensures { Decides result ((request.now.place ≡ other.now.place) × (map (λ c. c.source) request.now.shape.columns ≡ map (λ c. c.source) other.now.shape.columns) × (request.now.select ≡ other.now.select)) }
+{
+    request.table() == other.table()
+        && same_columns(request.columns(), other.columns())
+        && request.select() == other.select()
+}
+
+/// Returns whether the same is asked of both, names and types aside.
 fn same_asked<'a>(
     request: &'a Request,
     way: Way<'a>,
     other: &'a Request,
     other_way: Way<'a>,
 ) -> bool
-    ensures { Decides result (record request.now { filter = filter_in way.entry request.now } ≡ record other.now { filter = filter_in other_way.entry other.now }) }
+    ensures { Decides result (asks_of (record request.now { filter = filter_in way.entry request.now }) ≡ asks_of (record other.now { filter = filter_in other_way.entry other.now })) }
 {
-    way.filter(request).same(other_way.filter(other)) && request.shape().same(other.shape())
+    way.filter(request).same(other_way.filter(other)) && ask_alike(request, other)
 }
 
-/// Returns whether both clients stand to the tables in the same way.
+/// Returns whether both clients stand to the tables in the same way, names and types aside.
 fn stand_alike<'a>(
     table: &'a Watching,
     way: Way<'a>,
     other: &'a Watching,
     other_way: Way<'a>,
 ) -> bool
-    ensures { Decides result (stand_in way.entry table.now ≡ stand_in other_way.entry other.now) }
+    ensures { Decides result (bare_in way.entry table.now ≡ bare_in other_way.entry other.now) }
 {
     same_place(way.place(&table.mark), other_way.place(&other.mark))
         && same_told(way.told(table), other_way.told(other))
         && same_asked(&table.request, way, &other.request, other_way)
 }
 
-/// Returns whether both clients stand to each of these tables in the same way.
+/// Returns whether both clients stand to each of these tables in the same way, names and types aside.
 fn all_stand_alike<'a>(
     tables: &'a [Watching],
     way: Way<'a>,
     others: &'a [Watching],
     other_way: Way<'a>,
 ) -> bool
-    ensures { Decides result (map (stand_in way.entry) tables.now ≡ map (stand_in other_way.entry) others.now) }
+    ensures { Decides result (map (bare_in way.entry) tables.now ≡ map (bare_in other_way.entry) others.now) }
 {
     if tables.len() != others.len() {
         return false;
@@ -170,14 +204,15 @@ fn all_stand_alike<'a>(
 
 impl Monitor {
     /// Returns whether what is composed for its client in this way is what is composed for the client of the other in
-    /// the other way. O(n) times what comparing two requests costs, for n tables.
+    /// the other way, where the requests of both are of one schema: names and types aren't looked at. O(n) for n columns of
+    /// all tables and members of their filters.
     pub(crate) fn is_like<'a>(
         &'a self,
         way: Way<'a>,
         other: &'a Monitor,
         other_way: Way<'a>,
     ) -> bool
-        ensures { Decides result (likeness_in self.now way.entry ≡ likeness_in other.now other_way.entry) }
+        ensures { Decides result (bare_likeness self.now way.entry ≡ bare_likeness other.now other_way.entry) }
     {
         self.is_told_like(way, other, other_way)
             && all_stand_alike(

@@ -1,9 +1,9 @@
 //! What was decided in a round, so that each composition is planned once. [P 10.1, 10.3]
-ghost use Rattle.std.specs.Prelude.{◌≡◌, ℕ, [], ◌++◌, ◌∷◌, false, is_some, IfSome, OnErr, OnOk};
-ghost use Rattle.std.specs.Bool.{Decides};
+ghost use Rattle.std.specs.Prelude.{◌≡◌, ℕ, [], ◌++◌, ◌∷◌, true, false, is_some, IfSome, OnErr, OnOk};
 ghost use Rattle.std.specs.List.{All};
-ghost use Rattle.odb_sessions.specs.Represented.Alike.{likeness_in};
-ghost use Rattle.odb_sessions.specs.Represented.Decided.{Differs, IsAmong, IsSame, Puts, bucket_at};
+ghost use Rattle.odb_schema.specs.Schema.{Schema};
+ghost use Rattle.odb_sessions.specs.Represented.Alike.{IsLikenessOf, likeness_in};
+ghost use Rattle.odb_sessions.specs.Represented.Decided.{AreDecisionsOf, Differs, IsAmong, IsDecisionOf, IsSame, Puts, bucket_at};
 ghost use Rattle.odb_sessions.specs.Represented.Digest.{digest};
 
 use crate::digest::digest_of;
@@ -45,9 +45,10 @@ impl<'a> Decision<'a> {
         }
     }
 
-    /// Returns whether the same is composed for the client of this monitor in this way.
+    /// Returns whether the same is composed for the client of this monitor in this way, where all requests are of one schema.
     fn serves(&self, monitor: &'a Monitor, way: Way<'a>) -> bool
-        ensures { Decides result (self.now.likeness ≡ likeness_in monitor.now way.entry) }
+        ensures same { result ≡ true → (s : Schema) → IsDecisionOf s self.now → IsLikenessOf s (likeness_in monitor.now way.entry) → self.now.likeness ≡ likeness_in monitor.now way.entry }
+        ensures differs { result ≡ false → Differs (likeness_in monitor.now way.entry) self.now }
     {
         let own = self.monitor;
         own.is_like(self.way, monitor, way)
@@ -103,9 +104,11 @@ impl<'a> Bucket<'a> {
         Ok(())
     }
 
-    /// Returns what was decided of what is composed for the client of this monitor in this way.
+    /// Returns what was decided of what is composed for the client of this monitor in this way, where all requests are of one
+    /// schema.
     fn find(&self, monitor: &'a Monitor, way: Way<'a>) -> Option<Option<usize>>
-        ensures some { IfSome result (λ place. IsAmong self.now (record { likeness = likeness_in monitor.now way.entry; place = place })) }
+        ensures some { IfSome result (λ place. (s : Schema) → All (IsDecisionOf s) self.now → IsLikenessOf s (likeness_in monitor.now way.entry)
+            → IsAmong self.now (record { likeness = likeness_in monitor.now way.entry; place = place })) }
         ensures none { is_some result ≡ false → All (Differs (likeness_in monitor.now way.entry)) self.now }
     {
         for decision in &self.decisions {
@@ -135,10 +138,11 @@ impl<'a> Decided<'a> {
         }
     }
 
-    /// Returns what was decided of what is composed for the client of this monitor in this way. O(log n) for n
-    /// decisions, and a comparison of monitors for each that has the same digest.
+    /// Returns what was decided of what is composed for the client of this monitor in this way, where all requests are of one
+    /// schema. O(log n) for n decisions, and a comparison of monitors for each that has the same digest.
     pub(crate) fn find(&self, monitor: &'a Monitor, way: Way<'a>) -> Option<Option<usize>>
-        ensures some { IfSome result (λ place. IsAmong (bucket_at self.now (digest (likeness_in monitor.now way.entry))) (record { likeness = likeness_in monitor.now way.entry; place = place })) }
+        ensures some { IfSome result (λ place. (s : Schema) → AreDecisionsOf s self.now → IsLikenessOf s (likeness_in monitor.now way.entry)
+            → IsAmong (bucket_at self.now (digest (likeness_in monitor.now way.entry))) (record { likeness = likeness_in monitor.now way.entry; place = place })) }
         ensures none { is_some result ≡ false → All (Differs (likeness_in monitor.now way.entry)) (bucket_at self.now (digest (likeness_in monitor.now way.entry))) }
     {
         match self.buckets.get(&digest_of(monitor, way)) {

@@ -5,10 +5,12 @@ ghost use Rattle.odb_service.specs.Server.{served_by};
 ghost use Rattle.odb_service.specs.Service.{Service};
 ghost use Rattle.odb_service.specs.Session.{leaves, refilter};
 ghost use Rattle.odb_sessions.specs.Asked.{is_same};
-ghost use Rattle.std.specs.List.{All};
+ghost use Rattle.std.specs.List.{All, AllByRecursion};
 ghost use Rattle.odb_sessions.specs.FirstTexts.{AreFirstTexts, IsOfNow};
-ghost use Rattle.odb_sessions.specs.Foreseen.{as_told, marks_ahead, seen_ahead};
+ghost use Rattle.odb_sessions.specs.Composed.{asked_of};
+ghost use Rattle.odb_sessions.specs.Foreseen.{AreAheadOf, as_told, marks_ahead, seen_ahead};
 ghost use Rattle.odb_sessions.specs.Held.{marks_in, monitor_of, watch_of};
+ghost use Rattle.odb_sessions.specs.OfSchema.{AreOfSchema, IsMonitorOf};
 ghost use Rattle.odb_sessions.specs.Planned.{due, plan_rest};
 ghost use Rattle.odb_sessions.specs.Jobs.{AreEachOnce, Keeps};
 ghost use Rattle.odb_sessions.specs.Represented.Composed.{Tells};
@@ -67,12 +69,14 @@ impl<'a> Ahead<'a> {
         wanted: &mut Wanted<'a>,
         under: Under<'a>,
     ) -> Result<Option<Envelope>, AllocError>
-        requires { AreLive wanted.old.chains (marks_in self.now.held) }
+        requires live { AreLive wanted.old.chains (marks_in self.now.held) }
+        requires of { AreOfSchema wanted.old.schema (asked_of self.now.held.tables) }
         ensures text { IfOk result (λ message. (h : Service) → Tells wanted.new.jobs message
             (update_sending h (revision_at wanted.old.chains wanted.old.recent) (refilter (filters_in under.entry) (watch_of self.now.held).requests) (seen_ahead wanted.old.chains.db self.now))) }
         ensures jobs { Keeps wanted.old.jobs wanted.new.jobs }
         ensures chains { wanted.new.chains ≡ wanted.old.chains }
         ensures recent { wanted.new.recent ≡ wanted.old.recent }
+        ensures schema { wanted.new.schema ≡ wanted.old.schema }
     {
         let monitor = self.monitor;
         match self.told {
@@ -125,7 +129,8 @@ fn pass<'a>(
     id: &Id,
     under: Under<'a>,
 ) -> Result<Option<Envelope>, AllocError>
-    requires { AreLive wanted.old.chains (marks_ahead monitors.old.items) }
+    requires live { AreLive wanted.old.chains (marks_ahead monitors.old.items) }
+    requires of { AreAheadOf wanted.old.schema monitors.old.items }
     ensures text { IfOk result (λ message. (s : Schema) → Tells wanted.new.jobs message
         (option_map (due_sending (served_by s) (revision_at wanted.old.chains wanted.old.recent)) (due (served_by s) wanted.old.chains.db (item_in id.now under.entry) (map (seen_ahead wanted.old.chains.db) monitors.old.items)))) }
     ensures passed { OnOk result ((s : Schema) → map (seen_ahead wanted.old.chains.db) monitors.new.items
@@ -133,7 +138,9 @@ fn pass<'a>(
     ensures jobs { Keeps wanted.old.jobs wanted.new.jobs }
     ensures chains { wanted.new.chains ≡ wanted.old.chains }
     ensures recent { wanted.new.recent ≡ wanted.old.recent }
+    ensures schema { wanted.new.schema ≡ wanted.old.schema }
     ensures live { AreLive wanted.old.chains (marks_ahead monitors.new.items) }
+    ensures of { AreAheadOf wanted.old.schema monitors.new.items }
 {
     let Some(place) = place_of(monitors.as_slice(), id) else {
         return Ok(None);
@@ -154,7 +161,8 @@ pub(crate) struct Rest {
 /// Returns what these monitors have due. The costs are those of `Ahead::update` for each monitor up to the first that
 /// is owed something.
 fn rest_due<'a>(wanted: &mut Wanted<'a>, monitors: &[Ahead<'a>]) -> Result<Rest, AllocError>
-    requires { AreLive wanted.old.chains (marks_ahead monitors.now) }
+    requires live { AreLive wanted.old.chains (marks_ahead monitors.now) }
+    requires of { AreAheadOf wanted.old.schema monitors.now }
     ensures monitors { IfOk result (λ rest. (h : Service)
         → rest.monitors ≡ (plan_rest h wanted.old.chains.db (map (seen_ahead wanted.old.chains.db) monitors.now)).monitors) }
     ensures text { IfOk result (λ rest. (h : Service) → Tells wanted.new.jobs rest.message
@@ -162,6 +170,7 @@ fn rest_due<'a>(wanted: &mut Wanted<'a>, monitors: &[Ahead<'a>]) -> Result<Rest,
     ensures jobs { Keeps wanted.old.jobs wanted.new.jobs }
     ensures chains { wanted.new.chains ≡ wanted.old.chains }
     ensures recent { wanted.new.recent ≡ wanted.old.recent }
+    ensures schema { wanted.new.schema ≡ wanted.old.schema }
 {
     for place in 0..monitors.len() {
         let message = monitors[place].update(wanted, Under::Asked)?;
@@ -178,7 +187,8 @@ fn rest_due<'a>(wanted: &mut Wanted<'a>, monitors: &[Ahead<'a>]) -> Result<Rest,
     })
 }
 
-/// The database with its past and its last commits, the jobs so far, and what a plan foresees of a session's monitors.
+/// The database with its past and its last commits, the jobs so far, and what a plan foresees of a session's monitors. All
+/// requests are of the schema.
 pub(crate) struct Planner<'a> {
     pub(crate) wanted: Wanted<'a>,
     monitors: Vec<Ahead<'a>>,
@@ -187,7 +197,7 @@ pub(crate) struct Planner<'a> {
 impl<'a> Model for Planner<'a> {
     ghost use Rattle.std.specs.Prelude.{map};
     ghost use Rattle.odb_sessions.specs.Foreseen as model;
-    ghost use Rattle.odb_sessions.specs.Foreseen.{marks_ahead, seen_ahead};
+    ghost use Rattle.odb_sessions.specs.Foreseen.{AreAheadOf, marks_ahead, seen_ahead};
     ghost use Rattle.odb_sessions.specs.Represented.Codes.{foreseen_code};
     ghost use Rattle.odb_sessions.specs.Tied.{AreLive};
 
@@ -195,35 +205,38 @@ impl<'a> Model for Planner<'a> {
 
     ghost coded = { foreseen_code };
 
-    ghost view = { λ p. record { chains = p.wanted.chains; recent = p.wanted.recent; jobs = p.wanted.jobs; monitors = map (seen_ahead p.wanted.chains.db) p.monitors.items } };
+    ghost view = { λ p. record { schema = p.wanted.schema; chains = p.wanted.chains; recent = p.wanted.recent; jobs = p.wanted.jobs; monitors = map (seen_ahead p.wanted.chains.db) p.monitors.items } };
 
-    ghost invariant = { λ p. AreLive p.wanted.chains (marks_ahead p.monitors.items) };
+    ghost invariant = { λ p. AreLive p.wanted.chains (marks_ahead p.monitors.items) × AreAheadOf p.wanted.schema p.monitors.items };
 }
 
 impl<'a> Planner<'a> {
     /// Makes a planner of no jobs and no monitors. O(1).
     pub(crate) fn new(
         alloc: Global,
+        schema: &'a odb_schema::Schema,
         chains: &'a Chains,
         recent: &'a Recent,
         firsts: &'a FirstTexts,
     ) -> Planner<'a>
         requires { AreFirstTexts chains.now.db firsts.now }
-        ensures { result ≡ record { chains = chains.now; recent = recent.now; jobs = []; monitors = [] } }
+        ensures { result ≡ record { schema = schema.now; chains = chains.now; recent = recent.now; jobs = []; monitors = [] } }
     {
         Planner {
-            wanted: Wanted::new(alloc, chains, recent, firsts),
+            wanted: Wanted::new(alloc, schema, chains, recent, firsts),
             monitors: Vec::new(alloc),
         }
     }
 
     /// Takes these monitors in the place of those that it had, with nothing foreseen of them. O(n) for n monitors.
     pub(crate) fn turn_to(&mut self, monitors: &'a [Monitor]) -> Result<(), AllocError>
-        requires { AreLive self.old.chains (flat_map marks_in monitors.now) }
+        requires live { AreLive self.old.chains (flat_map marks_in monitors.now) }
+        requires of { AllByRecursion (IsMonitorOf self.old.schema) (map monitor_of monitors.now) }
         ensures monitors { OnOk result (self.new.monitors ≡ map monitor_of monitors.now) }
         ensures jobs { self.new.jobs ≡ self.old.jobs }
         ensures chains { self.new.chains ≡ self.old.chains }
         ensures recent { self.new.recent ≡ self.old.recent }
+        ensures schema { self.new.schema ≡ self.old.schema }
     {
         let ahead = all_ahead(self.wanted.alloc(), monitors)?;
         self.monitors = ahead;
@@ -240,6 +253,7 @@ impl<'a> Planner<'a> {
         ensures jobs { Keeps self.old.jobs self.new.jobs }
         ensures chains { self.new.chains ≡ self.old.chains }
         ensures recent { self.new.recent ≡ self.old.recent }
+        ensures schema { self.new.schema ≡ self.old.schema }
     {
         pass(&mut self.wanted, &mut self.monitors, id, under)
     }
@@ -254,6 +268,7 @@ impl<'a> Planner<'a> {
         ensures jobs { Keeps self.old.jobs self.new.jobs }
         ensures chains { self.new.chains ≡ self.old.chains }
         ensures recent { self.new.recent ≡ self.old.recent }
+        ensures schema { self.new.schema ≡ self.old.schema }
     {
         rest_due(&mut self.wanted, self.monitors.as_slice())
     }

@@ -1,10 +1,10 @@
 //! What sessions ask of tables, in the index of interest. [P 9.1, 10.1]
-ghost use Rattle.std.specs.Prelude.{◌≡◌, ◌++◌, flat_map, map, option_map, IfSome, OnOk};
+ghost use Rattle.std.specs.Prelude.{◌≡◌, ◌++◌, ◌∷◌, [], flat_map, map, option_map, IfSome, OnOk};
 ghost use Rattle.std.specs.Bool.{OnTrue};
 ghost use Rattle.std.specs.Option.{option_copied};
 ghost use Rattle.odb_interest.specs.Keys.{asked_at};
 ghost use Rattle.odb_sessions.specs.Held.{seen};
-ghost use Rattle.odb_sessions.specs.Owed.{KeepsOthers, KeepsResting, filter_asked, filters_asked, interest_if};
+ghost use Rattle.odb_sessions.specs.Owed.{ForgetsOwed, KeepsOthers, KeepsResting, filter_asked, filters_asked, interest_if};
 
 use crate::monitor::{Monitor, Watching};
 use crate::session::Session;
@@ -39,7 +39,8 @@ pub(crate) fn cover(
 /// Makes the index say nothing of those of these sessions that may be owed something, so that it doesn't name them at
 /// each change until they rest. O(log n) for each, and what `odb_interest::Interest::forget` costs.
 pub(crate) fn forget_owed(interest: &mut Interest, owed: &BTreeSet<SessionId>, listed: &[SessionId])
-    ensures { KeepsResting owed.now interest.old interest.new }
+    ensures resting { KeepsResting owed.now interest.old interest.new }
+    ensures forgets { ForgetsOwed owed.now listed.now interest.old interest.new }
 {
     for session in listed {
         forget_if_owed(interest, owed, *session);
@@ -48,7 +49,8 @@ pub(crate) fn forget_owed(interest: &mut Interest, owed: &BTreeSet<SessionId>, l
 
 /// Makes the index say nothing of a session that may be owed something.
 fn forget_if_owed(interest: &mut Interest, owed: &BTreeSet<SessionId>, session: SessionId)
-    ensures { KeepsResting owed.now interest.old interest.new }
+    ensures resting { KeepsResting owed.now interest.old interest.new }
+    ensures forgets { ForgetsOwed owed.now (session ∷ []) interest.old interest.new }
 {
     if !owed.contains(&session) {
         return;

@@ -7,10 +7,11 @@ ghost use Rattle.odb_monitor.specs.Job as model_job;
 ghost use Rattle.odb_monitor.specs.Job.{updates_of};
 ghost use Rattle.odb_service.specs.Service.{Service};
 ghost use Rattle.odb_service.specs.Session.{refilter};
-ghost use Rattle.odb_sessions.specs.Composed.{AreNow, IsKnown, all_asked_as, notified_text, part_to};
+ghost use Rattle.odb_sessions.specs.Composed.{AreNow, IsKnown, all_asked_as, asked_of, notified_text, part_to};
 ghost use Rattle.odb_sessions.specs.Foreseen.{as_told, seen_ahead};
 ghost use Rattle.odb_sessions.specs.Held.{marks_in, monitor_of, watch_of};
 ghost use Rattle.odb_sessions.specs.Jobs.{Keeps, certainly, if_sent};
+ghost use Rattle.odb_sessions.specs.OfSchema.{AreOfSchema};
 ghost use Rattle.odb_sessions.specs.Represented.Composed.{IsFrame, Tells, sending_under};
 ghost use Rattle.odb_sessions.specs.Represented.Under.{filters_in};
 ghost use Rattle.odb_sessions.specs.Sending.{notifying, sent_with, update_sending};
@@ -50,12 +51,14 @@ impl Monitor {
         wanted: &mut Wanted<'a>,
         under: Under<'a>,
     ) -> Result<Option<Envelope>, AllocError>
-        requires { AreLive wanted.old.chains (marks_in self.now) }
+        requires live { AreLive wanted.old.chains (marks_in self.now) }
+        requires of { AreOfSchema wanted.old.schema (asked_of self.now.tables) }
         ensures text { IfOk result (λ message. (h : Service) → Tells wanted.new.jobs message
             (update_sending h (revision_at wanted.old.chains wanted.old.recent) (refilter (filters_in under.entry) (watch_of self.now).requests) (seen_ahead wanted.old.chains.db (as_told self.now)))) }
         ensures jobs { Keeps wanted.old.jobs wanted.new.jobs }
         ensures chains { wanted.new.chains ≡ wanted.old.chains }
         ensures recent { wanted.new.recent ≡ wanted.old.recent }
+        ensures schema { wanted.new.schema ≡ wanted.old.schema }
     {
         match under {
             Under::Asked => self.update_asked(wanted),
@@ -65,12 +68,14 @@ impl Monitor {
 
     /// Returns the update that its client is owed.
     fn update_asked<'a>(&'a self, wanted: &mut Wanted<'a>) -> Result<Option<Envelope>, AllocError>
-        requires { AreLive wanted.old.chains (marks_in self.now) }
+        requires live { AreLive wanted.old.chains (marks_in self.now) }
+        requires of { AreOfSchema wanted.old.schema (asked_of self.now.tables) }
         ensures text { IfOk result (λ message. (h : Service) → Tells wanted.new.jobs message
             (update_sending h (revision_at wanted.old.chains wanted.old.recent) (watch_of self.now).requests (monitor_of self.now))) }
         ensures jobs { Keeps wanted.old.jobs wanted.new.jobs }
         ensures chains { wanted.new.chains ≡ wanted.old.chains }
         ensures recent { wanted.new.recent ≡ wanted.old.recent }
+        ensures schema { wanted.new.schema ≡ wanted.old.schema }
     {
         if are_now(self.tables.as_slice(), wanted.chains()) {
             return Ok(None);
@@ -86,12 +91,14 @@ impl Monitor {
         wanted: &mut Wanted<'a>,
         under: Under<'a>,
     ) -> Result<Option<Envelope>, AllocError>
-        requires { AreLive wanted.old.chains (marks_in self.now) }
+        requires live { AreLive wanted.old.chains (marks_in self.now) }
+        requires of { AreOfSchema wanted.old.schema (asked_of self.now.tables) }
         ensures text { IfOk result (λ message. (h : Service) → Tells wanted.new.jobs message
             (update_sending h (revision_at wanted.old.chains wanted.old.recent) (refilter (filters_in under.entry) (watch_of self.now).requests) (monitor_of self.now))) }
         ensures jobs { Keeps wanted.old.jobs wanted.new.jobs }
         ensures chains { wanted.new.chains ≡ wanted.old.chains }
         ensures recent { wanted.new.recent ≡ wanted.old.recent }
+        ensures schema { wanted.new.schema ≡ wanted.old.schema }
     {
         let number = wanted.number();
         let place = wanted.want(self, Way::Changed(under))?;
@@ -106,12 +113,14 @@ impl Monitor {
         told: Under<'a>,
         under: Under<'a>,
     ) -> Result<Option<Envelope>, AllocError>
-        requires { AreLive wanted.old.chains (marks_in self.now) }
+        requires live { AreLive wanted.old.chains (marks_in self.now) }
+        requires of { AreOfSchema wanted.old.schema (asked_of self.now.tables) }
         ensures text { IfOk result (λ message. (h : Service) → Tells wanted.new.jobs message
             (update_sending h (revision_at wanted.old.chains wanted.old.recent) (refilter (filters_in under.entry) (watch_of self.now).requests) (seen_ahead wanted.old.chains.db (record { held = self.now; told = Some (filters_in told.entry) })))) }
         ensures jobs { Keeps wanted.old.jobs wanted.new.jobs }
         ensures chains { wanted.new.chains ≡ wanted.old.chains }
         ensures recent { wanted.new.recent ≡ wanted.old.recent }
+        ensures schema { wanted.new.schema ≡ wanted.old.schema }
     {
         let number = wanted.number();
         let place = wanted.want(self, Way::Again(told, under))?;

@@ -12,6 +12,7 @@ ghost use Rattle.odb_service.specs.World.{World, revision_of};
 ghost use Rattle.odb_sessions.specs.FirstTexts.{IsFirstText, IsOfNow};
 ghost use Rattle.odb_sessions.specs.Held.{all_seen, seen};
 ghost use Rattle.odb_sessions.specs.Jobs.{AreEachOnce, AreMadeOf, AreOfJobs, IsOfJob, Keeps};
+ghost use Rattle.odb_sessions.specs.OfSchema.{AreSessionsOf};
 ghost use Rattle.odb_sessions.specs.Planned.{AreOnce};
 ghost use Rattle.odb_sessions.specs.Posts.{at_number};
 ghost use Rattle.odb_sessions.specs.Represented.Out.{sent_in};
@@ -47,7 +48,8 @@ fn taking_at<'a>(
     session: SessionId,
     planner: &mut Planner<'a>,
 ) -> Result<Planned, AllocError>
-    requires { AreAllLive planner.old.chains sessions.now }
+    requires live { AreAllLive planner.old.chains sessions.now }
+    requires of { AreSessionsOf planner.old.schema (all_seen sessions.now) }
     ensures session { IfOk result (λ planned. planned.session ≡ session) }
     ensures ready { IfOk result (λ planned. (s : Schema) (all : List model_job.Job) → Keeps planner.new.jobs all
         → IsReadyFor s (revision_at planner.old.chains planner.old.recent) (option_map seen (finite.get sessions.now session)) (ready_by all planned.taking)) }
@@ -56,6 +58,7 @@ fn taking_at<'a>(
     ensures jobs { Keeps planner.old.jobs planner.new.jobs }
     ensures chains { planner.new.chains ≡ planner.old.chains }
     ensures recent { planner.new.recent ≡ planner.old.recent }
+    ensures schema { planner.new.schema ≡ planner.old.schema }
 {
     let Some(of) = sessions.get(session) else {
         return Ok(Planned::none(session));
@@ -75,7 +78,8 @@ fn takings_at<'a>(
     listed: &[SessionId],
     planner: &mut Planner<'a>,
 ) -> Result<Vec<Planned>, AllocError>
-    requires { AreAllLive planner.old.chains sessions.now }
+    requires live { AreAllLive planner.old.chains sessions.now }
+    requires of { AreSessionsOf planner.old.schema (all_seen sessions.now) }
     ensures sessions { IfOk result (λ planned. map (λ p. p.session) planned.items ≡ listed.now) }
     ensures ready { IfOk result (λ planned. (s : Schema) (all : List model_job.Job) → Keeps planner.new.jobs all
         → AreReady s (book_with planner.old.chains.db planner.old.recent (all_seen sessions.now)) (map (pending_by all) planned.items)) }
@@ -83,6 +87,7 @@ fn takings_at<'a>(
         → AreMadeOf s (book_with planner.old.chains.db planner.old.recent (all_seen sessions.now)) all (map (pending_by all) planned.items)) }
     ensures chains { OnOk result (planner.new.chains ≡ planner.old.chains) }
     ensures recent { OnOk result (planner.new.recent ≡ planner.old.recent) }
+    ensures schema { OnOk result (planner.new.schema ≡ planner.old.schema) }
 {
     let mut takings = Vec::with_capacity(alloc, listed.len())?;
     for session in listed {
@@ -109,9 +114,14 @@ fn message(
 }
 
 impl Sessions {
-    /// Plans a round of these sessions: nothing is composed, and nothing is taken. No two jobs are alike, those
-    /// of replies to who resumes among them: what clients of several are owed alike is one.
-    pub fn jobs(&self, listed: &[SessionId]) -> Result<Jobs<'_>, AllocError>
+    /// Plans a round of these sessions, of which all requests are of the schema: nothing is composed, and nothing is taken.
+    /// No two jobs are alike, those of replies to who resumes among them: what clients of several are owed alike is one.
+    pub fn jobs<'a>(
+        &'a self,
+        schema: &'a odb_schema::Schema,
+        listed: &[SessionId],
+    ) -> Result<Jobs<'a>, AllocError>
+        requires { AreSessionsOf schema.now self.now.sessions }
         ensures sessions { IfOk result (λ jobs. sessions_in jobs.takings ≡ listed.now) }
         ensures ready { IfOk result (λ jobs. AreOf self.now jobs.takings) }
         ensures jobs { IfOk result (λ jobs. AreOfJobs self.now jobs.jobs jobs.takings) }
@@ -120,6 +130,7 @@ impl Sessions {
     {
         let mut planner = Planner::new(
             self.alloc,
+            schema,
             self.past.chains(),
             &self.recent,
             self.past.firsts(),
@@ -129,12 +140,17 @@ impl Sessions {
     }
 
     /// Plans the same, and composes it.
-    fn composed(&self, listed: &[SessionId]) -> Result<Composed, AllocError>
+    fn composed(
+        &self,
+        schema: &odb_schema::Schema,
+        listed: &[SessionId],
+    ) -> Result<Composed, AllocError>
+        requires { AreSessionsOf schema.now self.now.sessions }
         ensures sessions { IfOk result (λ composed. sessions_in composed.prepared ≡ listed.now) }
         ensures ready { IfOk result (λ composed. AreOf self.now composed.prepared) }
         ensures first { IfOk result (λ composed. IfSome composed.first (IsFirstText self.now.db)) }
     {
-        let jobs = self.jobs(listed)?;
+        let jobs = self.jobs(schema, listed)?;
         let bodies = jobs.compose()?;
         let first = jobs.first_text(bodies.as_slice())?;
         let prepared = jobs.finish(bodies.as_slice())?;
@@ -207,16 +223,21 @@ impl Sessions {
         self.take_all(takings, outs)
     }
 
-    /// Gives each listed session that is open its next message, if it has one, in the order of the list. Where
-    /// memory is refused nothing was taken.
-    pub fn round(&mut self, listed: &[SessionId]) -> Result<Vec<Out>, AllocError>
-        requires { AreOnce listed.now }
+    /// Gives each listed session that is open its next message, if it has one, in the order of the list, where all
+    /// requests are of the schema. Where memory is refused nothing was taken.
+    pub fn round(
+        &mut self,
+        schema: &odb_schema::Schema,
+        listed: &[SessionId],
+    ) -> Result<Vec<Out>, AllocError>
+        requires once { AreOnce listed.now }
+        requires of { AreSessionsOf schema.now self.old.sessions }
         ensures ok { IfOk result (λ outs. (schema : Schema) (w : World) → revision_of w ≡ revision_in self.old → w.sessions ≡ self.old.sessions
             → (let r = take_each (served_by schema) listed.now w in (r.0 ≡ record w { sessions = self.new.sessions }) × (map printed r.1 ≡ map sent_in outs.items))) }
         ensures revision { revision_in self.new ≡ revision_in self.old }
         ensures err { OnErr result (self.new ≡ self.old) }
     {
-        let Composed { prepared, first } = self.composed(listed)?;
+        let Composed { prepared, first } = self.composed(schema, listed)?;
         self.keep(first);
         Ok(self.accept(prepared))
     }

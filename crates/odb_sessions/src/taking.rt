@@ -1,5 +1,6 @@
 //! Takings as they are planned: what they use up, and the text that comes. Nothing changes by them. [P 9.8, 10.1]
 ghost use Rattle.std.specs.Prelude.{◌≡◌, ◌≤◌, true, false, IfOk, IfSome, List, OnOk, Option, Some, flat_map, is_some, length, map, option_and_then, option_map};
+ghost use Rattle.std.specs.List.{AllByRecursion};
 ghost use Rattle.odb_atoms.specs.Represented.Atom.{uuid_of};
 ghost use Rattle.odb_monitor.specs.Job as model_job;
 ghost use Rattle.odb_recent.specs.Recent.{commits_ago};
@@ -8,8 +9,10 @@ ghost use Rattle.odb_service.specs.Server.{served_by};
 ghost use Rattle.odb_service.specs.Service.{Service};
 ghost use Rattle.odb_service.specs.Session as machine;
 ghost use Rattle.odb_service.specs.Session.{leaves};
+ghost use Rattle.odb_sessions.specs.Composed.{asked_of};
 ghost use Rattle.odb_sessions.specs.Foreseen.{finished_text};
 ghost use Rattle.odb_sessions.specs.Held.{item_seen, marks_due, marks_in, marks_of, seen, watch_of};
+ghost use Rattle.odb_sessions.specs.OfSchema.{AreOfSchema, IsItemOf, IsSessionOf};
 ghost use Rattle.odb_sessions.specs.Planned.{due, first_due, plan, plan_from};
 ghost use Rattle.odb_sessions.specs.Jobs.{Keeps};
 ghost use Rattle.odb_sessions.specs.Represented.Composed.{sending_under};
@@ -66,12 +69,14 @@ impl Start {
     /// Returns the first reply. The costs are those of `Wanted::first_reply` or `Wanted::resume` and, for an id of n
     /// bytes, O(n).
     fn first_reply<'a>(&'a self, wanted: &mut Wanted<'a>) -> Result<Envelope, AllocError>
-        requires { AreLive wanted.old.chains (marks_in self.now.monitor) }
+        requires live { AreLive wanted.old.chains (marks_in self.now.monitor) }
+        requires of { AreOfSchema wanted.old.schema (asked_of self.now.monitor.tables) }
         ensures text { IfOk result (λ message. (h : Service) (all : List model_job.Job) → Keeps wanted.new.jobs all
             → sending_under all message ≡ Some (due_sending h (revision_at wanted.old.chains wanted.old.recent) (first_due self.now.origin (watch_of self.now.monitor)))) }
         ensures jobs { Keeps wanted.old.jobs wanted.new.jobs }
         ensures chains { wanted.new.chains ≡ wanted.old.chains }
         ensures recent { wanted.new.recent ≡ wanted.old.recent }
+        ensures schema { wanted.new.schema ≡ wanted.old.schema }
     {
         let _now = wanted.chains().db();
         match self.monitor.since {
@@ -82,12 +87,14 @@ impl Start {
 
     /// Returns the first reply, where no commit was named.
     fn whole_reply<'a>(&'a self, wanted: &mut Wanted<'a>) -> Result<Envelope, AllocError>
-        requires { AreLive wanted.old.chains (marks_in self.now.monitor) }
+        requires live { AreLive wanted.old.chains (marks_in self.now.monitor) }
+        requires of { AreOfSchema wanted.old.schema (asked_of self.now.monitor.tables) }
         ensures text { IfOk result (λ message. (all : List model_job.Job) → Keeps wanted.new.jobs all
             → sending_under all message ≡ Some (whole_sending wanted.old.chains.db self.now.origin self.now.monitor)) }
         ensures jobs { Keeps wanted.old.jobs wanted.new.jobs }
         ensures chains { wanted.new.chains ≡ wanted.old.chains }
         ensures recent { wanted.new.recent ≡ wanted.old.recent }
+        ensures schema { wanted.new.schema ≡ wanted.old.schema }
     {
         let job = wanted.first_reply(&self.monitor)?;
         self.origin.reply(wanted.alloc(), job)
@@ -99,13 +106,15 @@ impl Start {
         wanted: &mut Wanted<'a>,
         since: Uuid,
     ) -> Result<Envelope, AllocError>
-        requires { AreLive wanted.old.chains (marks_in self.now.monitor) }
+        requires live { AreLive wanted.old.chains (marks_in self.now.monitor) }
+        requires of { AreOfSchema wanted.old.schema (asked_of self.now.monitor.tables) }
         ensures text { IfOk result (λ message. (all : List model_job.Job) → Keeps wanted.new.jobs all
             → sending_under all message ≡ Some (sending_since wanted.old.recent wanted.old.chains.db self.now.origin self.now.monitor (uuid_of since))) }
         ensures kept { IfSome (commits_ago wanted.old.recent.most wanted.old.recent.run wanted.old.recent.commits (uuid_of since)) (λ ago. ago ≤ length wanted.old.recent.undos) }
         ensures jobs { Keeps wanted.old.jobs wanted.new.jobs }
         ensures chains { wanted.new.chains ≡ wanted.old.chains }
         ensures recent { wanted.new.recent ≡ wanted.old.recent }
+        ensures schema { wanted.new.schema ≡ wanted.old.schema }
     {
         let number = wanted.number();
         match wanted.ago(since) {
@@ -120,12 +129,14 @@ impl Start {
         wanted: &mut Wanted<'a>,
         number: Uuid,
     ) -> Result<Envelope, AllocError>
-        requires { AreLive wanted.old.chains (marks_in self.now.monitor) }
+        requires live { AreLive wanted.old.chains (marks_in self.now.monitor) }
+        requires of { AreOfSchema wanted.old.schema (asked_of self.now.monitor.tables) }
         ensures text { IfOk result (λ message. (all : List model_job.Job) → Keeps wanted.new.jobs all
             → sending_under all message ≡ Some (missed_sending (uuid_of number) wanted.old.chains.db self.now.origin self.now.monitor)) }
         ensures jobs { Keeps wanted.old.jobs wanted.new.jobs }
         ensures chains { wanted.new.chains ≡ wanted.old.chains }
         ensures recent { wanted.new.recent ≡ wanted.old.recent }
+        ensures schema { wanted.new.schema ≡ wanted.old.schema }
     {
         let job = wanted.first_reply(&self.monitor)?;
         self.origin
@@ -135,12 +146,14 @@ impl Start {
     /// Returns the first reply, where the commit that was named is found so many commits ago.
     fn found<'a>(&'a self, wanted: &mut Wanted<'a>, ago: usize) -> Result<Envelope, AllocError>
         requires live { AreLive wanted.old.chains (marks_in self.now.monitor) }
+        requires of { AreOfSchema wanted.old.schema (asked_of self.now.monitor.tables) }
         requires kept { ago ≤ length wanted.old.recent.undos }
         ensures text { IfOk result (λ message. (all : List model_job.Job) → Keeps wanted.new.jobs all
             → sending_under all message ≡ Some (found_sending wanted.old.recent ago wanted.old.chains.db self.now.origin self.now.monitor)) }
         ensures jobs { Keeps wanted.old.jobs wanted.new.jobs }
         ensures chains { wanted.new.chains ≡ wanted.old.chains }
         ensures recent { wanted.new.recent ≡ wanted.old.recent }
+        ensures schema { wanted.new.schema ≡ wanted.old.schema }
     {
         let number = wanted.number();
         let job = wanted.resume(&self.monitor, ago)?;
@@ -168,13 +181,15 @@ impl Item {
 impl<'a> Planner<'a> {
     /// Makes the first reply, which comes.
     fn begin(&mut self, start: &'a Start) -> Result<Option<Coming>, AllocError>
-        requires { AreLive self.old.chains (marks_in start.now.monitor) }
+        requires live { AreLive self.old.chains (marks_in start.now.monitor) }
+        requires of { AreOfSchema self.old.schema (asked_of start.now.monitor.tables) }
         ensures comes { IfOk result (λ coming. is_some coming ≡ true) }
         ensures text { IfOk result (λ coming. (h : Service) (last : Option machine.Item) → Comes self.new.jobs coming last
             (Some (due_sending h (revision_at self.old.chains self.old.recent) (first_due start.now.origin (watch_of start.now.monitor))))) }
         ensures jobs { Keeps self.old.jobs self.new.jobs }
         ensures chains { self.new.chains ≡ self.old.chains }
         ensures recent { self.new.recent ≡ self.old.recent }
+        ensures schema { self.new.schema ≡ self.old.schema }
     {
         let message = start.first_reply(&mut self.wanted)?;
         Ok(composed(Some(message)))
@@ -191,6 +206,7 @@ impl<'a> Planner<'a> {
         ensures jobs { Keeps self.old.jobs self.new.jobs }
         ensures chains { self.new.chains ≡ self.old.chains }
         ensures recent { self.new.recent ≡ self.old.recent }
+        ensures schema { self.new.schema ≡ self.old.schema }
     {
         let message = self.pass(id, under)?;
         Ok(composed(message))
@@ -199,7 +215,8 @@ impl<'a> Planner<'a> {
     /// Returns what the item gives the client. Where that is nothing the monitors are foreseen as they are after it.
     /// The costs are those of `Planner::pass` and of `Start::first_reply`.
     fn give(&mut self, item: &'a Item) -> Result<Option<Coming>, AllocError>
-        requires { AreLive self.old.chains (marks_due (queued_of item.now)) }
+        requires live { AreLive self.old.chains (marks_due (queued_of item.now)) }
+        requires of { IsItemOf self.old.schema (item_seen (queued_of item.now)) }
         ensures comes { IfOk result (λ coming. (s : Schema) → is_some coming
             ≡ is_some (due (served_by s) self.old.chains.db (item_seen (queued_of item.now)) self.old.monitors)) }
         ensures text { IfOk result (λ coming. (s : Schema) → Comes self.new.jobs coming (Some (item_seen (queued_of item.now)))
@@ -209,6 +226,7 @@ impl<'a> Planner<'a> {
         ensures jobs { Keeps self.old.jobs self.new.jobs }
         ensures chains { self.new.chains ≡ self.old.chains }
         ensures recent { self.new.recent ≡ self.old.recent }
+        ensures schema { self.new.schema ≡ self.old.schema }
     {
         match item {
             Item::Say(_) => Ok(Some(Coming::Queued)),
@@ -245,7 +263,8 @@ fn at_once(items: &VecDeque<Item>) -> Option<Taking>
 /// Returns what a taking of these items uses up, and what comes. The costs are those of `Planner::give` for each item
 /// up to the first that gives something and, where none does, of `Planner::rest`.
 fn taking_of<'a>(items: &'a VecDeque<Item>, planner: &mut Planner<'a>) -> Result<Taking, AllocError>
-    requires { AreLive planner.old.chains (flat_map marks_due (map queued_of items.now.items)) }
+    requires live { AreLive planner.old.chains (flat_map marks_due (map queued_of items.now.items)) }
+    requires of { AllByRecursion (IsItemOf planner.old.schema) (map item_seen (map queued_of items.now.items)) }
     ensures items { IfOk result (λ taking. (s : Schema) → taking.items
         ≡ (plan_from (served_by s) planner.old.chains.db (map item_seen (map queued_of items.now.items)) planner.old.monitors).items) }
     ensures monitors { IfOk result (λ taking. (s : Schema) → taking.monitors
@@ -256,6 +275,7 @@ fn taking_of<'a>(items: &'a VecDeque<Item>, planner: &mut Planner<'a>) -> Result
     ensures jobs { Keeps planner.old.jobs planner.new.jobs }
     ensures chains { planner.new.chains ≡ planner.old.chains }
     ensures recent { planner.new.recent ≡ planner.old.recent }
+    ensures schema { planner.new.schema ≡ planner.old.schema }
 {
     for place in 0..items.len() {
         let coming = planner.give(&items[place])?;
@@ -279,7 +299,8 @@ impl Session {
     /// Returns what a taking of the session uses up, and what comes. The costs are those of `Planner::turn_to` and
     /// `taking_of`.
     pub(crate) fn taking<'a>(&'a self, planner: &mut Planner<'a>) -> Result<Taking, AllocError>
-        requires { AreLive planner.old.chains (marks_of self.now) }
+        requires live { AreLive planner.old.chains (marks_of self.now) }
+        requires of { IsSessionOf planner.old.schema (seen self.now) }
         ensures items { IfOk result (λ taking. (s : Schema)
             → taking.items ≡ (plan (served_by s) planner.old.chains.db (seen self.now)).items) }
         ensures monitors { IfOk result (λ taking. (s : Schema)
@@ -289,6 +310,7 @@ impl Session {
         ensures jobs { Keeps planner.old.jobs planner.new.jobs }
         ensures chains { planner.new.chains ≡ planner.old.chains }
         ensures recent { planner.new.recent ≡ planner.old.recent }
+        ensures schema { planner.new.schema ≡ planner.old.schema }
     {
         if let Some(taking) = self.queue.at_once() {
             return Ok(taking);
@@ -315,7 +337,8 @@ impl Queue {
 
     /// Returns what a taking of a session with this queue uses up, and what comes. The costs are those of `taking_of`.
     fn taking<'a>(&'a self, planner: &mut Planner<'a>) -> Result<Taking, AllocError>
-        requires { AreLive planner.old.chains (flat_map marks_due self.now) }
+        requires live { AreLive planner.old.chains (flat_map marks_due self.now) }
+        requires of { AllByRecursion (IsItemOf planner.old.schema) (map item_seen self.now) }
         ensures items { IfOk result (λ taking. (s : Schema)
             → taking.items ≡ (plan_from (served_by s) planner.old.chains.db (map item_seen self.now) planner.old.monitors).items) }
         ensures monitors { IfOk result (λ taking. (s : Schema)
@@ -326,6 +349,7 @@ impl Queue {
         ensures jobs { Keeps planner.old.jobs planner.new.jobs }
         ensures chains { planner.new.chains ≡ planner.old.chains }
         ensures recent { planner.new.recent ≡ planner.old.recent }
+        ensures schema { planner.new.schema ≡ planner.old.schema }
     {
         taking_of(&self.items, planner)
     }

@@ -9,6 +9,7 @@ ghost use Rattle.odb_sessions.specs.Composed.{asked_of, owed_job, resumed_job};
 ghost use Rattle.odb_sessions.specs.FirstTexts.{AreFirstTexts, IsOfNow};
 ghost use Rattle.odb_sessions.specs.Held.{marks_in};
 ghost use Rattle.odb_sessions.specs.Jobs.{AreEachOnce, IsFor, Keeps, if_sent};
+ghost use Rattle.odb_sessions.specs.OfSchema.{AreOfSchema};
 ghost use Rattle.odb_sessions.specs.Represented.Alike.{IsFoundIn, likeness_in};
 ghost use Rattle.odb_sessions.specs.Represented.Decided.{IsSame, Puts};
 ghost use Rattle.odb_sessions.specs.Represented.Job.{job_in};
@@ -22,6 +23,7 @@ use crate::monitor::Monitor;
 use crate::way::Way;
 use odb_chain::Chains;
 use odb_recent::Recent;
+use odb_schema::Schema;
 use std::alloc::{AllocError, Global};
 use std::marker::Model;
 use uuid::Uuid;
@@ -91,9 +93,10 @@ impl<'a> Listed<'a> {
 }
 
 /// The jobs that a round needs, in the database with its past and its last commits, with the texts of first replies that
-/// are kept, and what was decided.
+/// are kept, and what was decided. All requests are of the schema.
 pub(crate) struct Wanted<'a> {
     alloc: Global,
+    schema: &'a Schema,
     chains: &'a Chains,
     recent: &'a Recent,
     firsts: &'a FirstTexts,
@@ -104,30 +107,32 @@ pub(crate) struct Wanted<'a> {
 impl<'a> Model for Wanted<'a> {
     ghost use Rattle.odb_sessions.specs.Jobs as model;
     ghost use Rattle.odb_sessions.specs.Represented.Codes.{wanted_code};
-    ghost use Rattle.odb_sessions.specs.Represented.Decided.{IsPlanned};
+    ghost use Rattle.odb_sessions.specs.Represented.Decided.{AreDecisionsOf, IsPlanned};
 
     ghost Value = { model.Wanted };
 
     ghost coded = { wanted_code };
 
-    ghost view = { λ w. record { chains = w.chains.now; recent = w.recent.now; jobs = w.listed.jobs.items } };
+    ghost view = { λ w. record { schema = w.schema.now; chains = w.chains.now; recent = w.recent.now; jobs = w.listed.jobs.items } };
 
-    ghost invariant = { λ w. IsPlanned w.chains.now w.recent.now.undos w.firsts.now w.listed.jobs.items w.listed.askings.items w.decided };
+    ghost invariant = { λ w. IsPlanned w.chains.now w.recent.now.undos w.firsts.now w.listed.jobs.items w.listed.askings.items w.decided × AreDecisionsOf w.schema.now w.decided };
 }
 
 impl<'a> Wanted<'a> {
     /// Wants no job yet. O(1).
     pub(crate) fn new(
         alloc: Global,
+        schema: &'a Schema,
         chains: &'a Chains,
         recent: &'a Recent,
         firsts: &'a FirstTexts,
     ) -> Wanted<'a>
         requires { AreFirstTexts chains.now.db firsts.now }
-        ensures { result ≡ record { chains = chains.now; recent = recent.now; jobs = [] } }
+        ensures { result ≡ record { schema = schema.now; chains = chains.now; recent = recent.now; jobs = [] } }
     {
         Wanted {
             alloc,
+            schema,
             chains,
             recent,
             firsts,
@@ -177,6 +182,7 @@ impl<'a> Wanted<'a> {
     {
         let Wanted {
             alloc: _,
+            schema: _,
             chains: _,
             recent: _,
             firsts: _,
@@ -189,11 +195,13 @@ impl<'a> Wanted<'a> {
     /// Returns the place of the job for the client of a monitor, for the table updates that it is owed; `None` where
     /// nothing is sent. The costs are those of `want`.
     pub(crate) fn updates(&mut self, monitor: &'a Monitor) -> Result<Option<usize>, AllocError>
-        requires { AreLive self.old.chains (marks_in monitor.now) }
+        requires live { AreLive self.old.chains (marks_in monitor.now) }
+        requires of { AreOfSchema self.old.schema (asked_of monitor.now.tables) }
         ensures place { IfOk result (λ place. IsFor self.new.jobs (if_sent (owed_job self.old.chains.db monitor.now)) place) }
         ensures jobs { Keeps self.old.jobs self.new.jobs }
         ensures chains { self.new.chains ≡ self.old.chains }
         ensures recent { self.new.recent ≡ self.old.recent }
+        ensures schema { self.new.schema ≡ self.old.schema }
     {
         self.want(monitor, Way::Asked)
     }
@@ -206,11 +214,13 @@ impl<'a> Wanted<'a> {
         way: Way<'a>,
     ) -> Result<Option<usize>, AllocError>
         requires live { AreLive self.old.chains (marks_in monitor.now) }
+        requires of { AreOfSchema self.old.schema (asked_of monitor.now.tables) }
         requires found { IsFoundIn self.old.recent way }
         ensures place { IfOk result (λ place. IsFor self.new.jobs (if_sent (job_in self.old.chains.db monitor.now way.entry)) place) }
         ensures jobs { Keeps self.old.jobs self.new.jobs }
         ensures chains { self.new.chains ≡ self.old.chains }
         ensures recent { self.new.recent ≡ self.old.recent }
+        ensures schema { self.new.schema ≡ self.old.schema }
     {
         if let Some(place) = self.decided.find(monitor, way) {
             return Ok(place);
@@ -247,12 +257,14 @@ impl<'a> Wanted<'a> {
 
     /// Returns the place of the job for the client of a monitor: its first reply. The costs are those of `want`.
     pub(crate) fn first_reply(&mut self, monitor: &'a Monitor) -> Result<usize, AllocError>
-        requires { AreLive self.old.chains (marks_in monitor.now) }
+        requires live { AreLive self.old.chains (marks_in monitor.now) }
+        requires of { AreOfSchema self.old.schema (asked_of monitor.now.tables) }
         ensures place { IfOk result (λ place. (all : List model_job.Job) → Keeps self.new.jobs all
             → slice_get all place ≡ Some (job_in self.old.chains.db monitor.now way.First)) }
         ensures jobs { Keeps self.old.jobs self.new.jobs }
         ensures chains { self.new.chains ≡ self.old.chains }
         ensures recent { self.new.recent ≡ self.old.recent }
+        ensures schema { self.new.schema ≡ self.old.schema }
     {
         let place = self.want(monitor, Way::First)?;
         let Some(place) = place else {
@@ -265,12 +277,14 @@ impl<'a> Wanted<'a> {
     /// so many commits ago. The costs are those of `want`.
     pub(crate) fn resume(&mut self, monitor: &'a Monitor, ago: usize) -> Result<usize, AllocError>
         requires live { AreLive self.old.chains (marks_in monitor.now) }
+        requires of { AreOfSchema self.old.schema (asked_of monitor.now.tables) }
         requires kept { ago ≤ length self.old.recent.undos }
         ensures place { IfOk result (λ place. (all : List model_job.Job) → Keeps self.new.jobs all
             → slice_get all place ≡ Some (resumed_job (take ago self.old.recent.undos) self.old.chains.db monitor.now.notation (asked_of monitor.now.tables))) }
         ensures jobs { Keeps self.old.jobs self.new.jobs }
         ensures chains { self.new.chains ≡ self.old.chains }
         ensures recent { self.new.recent ≡ self.old.recent }
+        ensures schema { self.new.schema ≡ self.old.schema }
     {
         let recent = self.recent();
         let place = self.want(monitor, Way::Since(recent, ago))?;
@@ -286,6 +300,7 @@ impl Drop for Wanted<'_> {
     fn drop(self) {
         let Wanted {
             alloc: _,
+            schema: _,
             chains: _,
             recent: _,
             firsts: _,

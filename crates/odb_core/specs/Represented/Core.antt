@@ -8,15 +8,16 @@ use Rattle.odb_service.specs.Session.{Session, nothing_earlier, take}
 use Rattle.odb_service.specs.World.{World, revision_of}
 use Rattle.odb_schema.specs.Schema.{Schema}
 use Rattle.odb_sessions.specs.Book.{fresh_session}
+use Rattle.odb_sessions.specs.OfSchema.{AreSessionsOf}
 use Rattle.odb_core.specs.Represented.Steps.{AreTried}
 
 -- no session has this number or a later one
 abbrev pub AreUnused : finite.FinMap nat_cmp Session → ℕ → Type 0
 AreUnused s opened = (q : ℕ) → opened ≤ q → finite.get s q ≡ None
 
--- each waiting transaction was tried since the newest commit, and numbers of sessions stay below those to come
+-- each waiting transaction was tried since the newest commit, numbers of sessions stay below those to come, and what monitors ask is of the schema
 abbrev pub IsValid : Server → Type 0
-IsValid v = AreTried v × AreUnused v.world.sessions v.opened
+IsValid v = AreTried v × AreUnused v.world.sessions v.opened × AreSessionsOf v.schema v.world.sessions
 
 -- empty tables, no commit, no waiting transaction, no lock and no session, in a run with this word, of which so many contents can be found
 abbrev pub empty_world : (run most tables : ℕ) → World

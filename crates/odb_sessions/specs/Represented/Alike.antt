@@ -1,13 +1,15 @@
 -- The likeness of a job: of a monitor, in each of the ways.
-use Rattle.std.specs.Prelude.{◌≡◌, ◌≤◌, ℕ, Bool, true, false, [], length, map as map_list, Option, Some, None, option_map, unwrap_or}
+use Rattle.std.specs.Prelude.{◌≡◌, ◌≤◌, ℕ, Bool, true, false, List, [], length, map as map_list, Option, Some, None, option_map, unwrap_or}
 use Rattle.odb_atoms.specs.FinMap as map
 use Rattle.odb_chain.specs.Chains.{Chains, Mark, standing}
 use Rattle.odb_cond.specs.Filter.{Filter}
 use Rattle.odb_recent.specs.Recent.{Recent}
-use Rattle.odb_request.specs.Request.{Request}
+use Rattle.odb_request.specs.Request.{Notation, Request}
+use Rattle.odb_schema.specs.Schema.{Schema}
 use Rattle.odb_service.specs.Session.{filter_of}
 use Rattle.odb_sessions.specs.Alike.{Contents, Likeness, Stand}
 use Rattle.odb_sessions.specs.Held.{Held, Watched}
+use Rattle.odb_sessions.specs.OfSchema.{AreOfSchema, Asks, asks_of}
 use Rattle.odb_sessions.specs.Represented.Job.{filters_by}
 use Rattle.odb_sessions.specs.Represented.Under.{filters_in}
 use Rattle.odb_sessions.specs.declared.way.Way.{Way}
@@ -69,5 +71,31 @@ place_in (way.Since r n) m = None
 abbrev pub stand_in : Way → Watched → Stand
 stand_in v w = record { request = record (w.request) { filter = filter_in v w.request }; told = told_in v w; place = place_in v w.mark }
 
+-- how a client stands to a table, without the names and the types that the schema has
+pub record Bare : Type 0 where
+  pub asks : Asks
+  pub told : Option Filter
+  pub place : Option (ℕ × ℕ)
+
+abbrev pub bare : Stand → Bare
+bare s = record { asks = asks_of s.request; told = s.told; place = s.place }
+
+abbrev pub bare_in : Way → Watched → Bare
+bare_in v w = bare (stand_in v w)
+
 abbrev pub likeness_in : Held → Way → Likeness
 likeness_in x w = record { notation = x.notation; first = is_first w; ago = ago_in w; stands = map_list (stand_in w) x.tables }
+
+-- in which notation, whether it is a first reply with all, how many commits ago the client had what it asks, and how it stands to each table, without names and types
+pub record BareLikeness : Type 0 where
+  pub notation : Notation
+  pub first : Bool
+  pub ago : Option ℕ
+  pub stands : List Bare
+
+abbrev pub bare_likeness : Held → Way → BareLikeness
+bare_likeness x w = record { notation = x.notation; first = is_first w; ago = ago_in w; stands = map_list (bare_in w) x.tables }
+
+-- what it asks is of the schema
+abbrev pub IsLikenessOf : Schema → Likeness → Type 0
+IsLikenessOf s l = AreOfSchema s (map_list (λ t. t.request) l.stands)

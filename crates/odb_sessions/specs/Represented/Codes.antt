@@ -16,6 +16,8 @@ use Rattle.odb_request.specs.Request.{Notation, Request, Shape}
 use Rattle.odb_request.specs.Represented.Codes.{filter_code, notation_code, request_code, shape_code}
 use Rattle.odb_schema.specs.Json.{Data}
 use Rattle.odb_schema.specs.JsonCode.{data_code}
+use Rattle.odb_schema.specs.Represented.Codes.{schema_code}
+use Rattle.odb_schema.specs.Schema.{Schema}
 use Rattle.odb_service.specs.Session.{Earlier, Item, Monitor, Session, Watch}
 use Rattle.odb_service.specs.WorldCode.{earlier_code, item_code, monitor_code, session_code, watch_code}
 use Rattle.odb_tables.specs.Database.{Db, db_code}
@@ -73,8 +75,8 @@ named_code = code_by (Data × (Notation × List Shape)) (coded× data_code (code
 
 abbrev pub foreseen_code : Coded Foreseen
 foreseen_code =
-    code_by (Chains × (Recent × (List Job × List Monitor))) (coded× chains_code (coded× recent_code (coded× (coded_list job_code) (coded_list monitor_code))))
-    (λ f. (f.chains, (f.recent, (f.jobs, f.monitors)))) (λ p. record { chains = p.0; recent = p.1.0; jobs = p.1.1.0; monitors = p.1.1.1 }) (λ f. refl)
+    code_by (Schema × (Chains × (Recent × (List Job × List Monitor)))) (coded× schema_code (coded× chains_code (coded× recent_code (coded× (coded_list job_code) (coded_list monitor_code)))))
+    (λ f. (f.schema, (f.chains, (f.recent, (f.jobs, f.monitors))))) (λ p. record { schema = p.0; chains = p.1.0; recent = p.1.1.0; jobs = p.1.1.1.0; monitors = p.1.1.1.1 }) (λ f. refl)
 
 abbrev pub filters_code : Coded Filters
 filters_code = coded_list (coded× (coded_list coded_ℕ) filter_code)
@@ -106,8 +108,8 @@ first_texts_code = coded_list first_text_code
 
 abbrev pub wanted_code : Coded Wanted
 wanted_code =
-    code_by (Chains × (Recent × List Job)) (coded× chains_code (coded× recent_code (coded_list job_code)))
-    (λ w. (w.chains, (w.recent, w.jobs))) (λ p. record { chains = p.0; recent = p.1.0; jobs = p.1.1 }) (λ w. refl)
+    code_by (Schema × (Chains × (Recent × List Job))) (coded× schema_code (coded× chains_code (coded× recent_code (coded_list job_code))))
+    (λ w. (w.schema, (w.chains, (w.recent, w.jobs)))) (λ p. record { schema = p.0; chains = p.1.0; recent = p.1.1.0; jobs = p.1.1.1 }) (λ w. refl)
 
 -- ---- takings
 

@@ -6,10 +6,11 @@ use Rattle.std.specs.Ordering.{nat_cmp}
 use Rattle.odb_chain.specs.Chains.{Chains}
 use Rattle.odb_monitor.specs.Job.{Job}
 use Rattle.odb_recent.specs.Undo.{Undo}
+use Rattle.odb_schema.specs.Schema.{Schema}
 use Rattle.odb_sessions.specs.Alike.{AreUnlike, IsLike, Likeness, job_like}
 use Rattle.odb_sessions.specs.FirstTexts.{AreFirstTexts, FirstText, IsOfNow}
 use Rattle.odb_sessions.specs.Jobs.{Decision, IsFor, if_sent}
-use Rattle.odb_sessions.specs.Represented.Alike.{contents}
+use Rattle.odb_sessions.specs.Represented.Alike.{IsLikenessOf, contents}
 use Rattle.odb_sessions.specs.Represented.Digest.{digest}
 use Rattle.odb_sessions.specs.declared.decided.Decided.{Decided}
 
@@ -19,6 +20,13 @@ bucket_at d n = unwrap_or (tree.get nat_cmp d.buckets n) []
 
 abbrev pub Differs : Likeness → Decision → Type 0
 Differs l d = d.likeness ≢ l
+
+-- what is asked is of the schema
+abbrev pub IsDecisionOf : Schema → Decision → Type 0
+IsDecisionOf s d = IsLikenessOf s d.likeness
+
+abbrev pub AreDecisionsOf : Schema → Decided → Type 0
+AreDecisionsOf s d = (n : ℕ) → All (IsDecisionOf s) (bucket_at d n)
 
 abbrev pub IsAmong : List Decision → Decision → Type 0
 IsAmong ds d = (i : ℕ) × (i < length ds) × (d ≡ slice_index_or ds i d)

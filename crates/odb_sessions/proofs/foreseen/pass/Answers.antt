@@ -1,12 +1,16 @@
 use Rattle.std.proofs.Common.{rules, ◌≡◌, ◌<◌, List, length, option_map, position, slice_index_or, Some, None, subst, sym, ap, ◌∙◌}
+use Rattle.odb_schema.specs.Schema.{Schema}
 use Rattle.odb_service.specs.Server.{served_by}
 use Rattle.odb_sessions.specs.Asked.{is_same}
+use Rattle.odb_sessions.specs.Composed.{asked_of}
 use Rattle.odb_sessions.specs.Foreseen.{Ahead}
+use Rattle.odb_sessions.specs.OfSchema.{AreOfSchema}
 use Rattle.odb_sessions.specs.Jobs.{certainly}
 use Rattle.odb_sessions.specs.Held.{marks_in}
 use Rattle.odb_sessions.specs.Tied.{AreLive}
 use Rattle.odb_sessions.specs.Sending.{due_sending}
 use Rattle.odb_sessions.proofs.Aheads.{due_found, due_nowhere, leaves_found, leaves_nowhere, live_ahead, same_marks}
+use Rattle.odb_sessions.proofs.OneSchema.{ahead_of, still_of}
 use Rattle.odb_sessions.proofs.Places.{keeps_itself}
 use Rattle.odb_sessions.proofs.foreseen.pass.Goals as goal
 use Rattle.odb_sessions.specs.Book.{revision_at}
@@ -21,14 +25,24 @@ returns-in_default-clause-passed c = λ s.
     let none : position (λ (a : Ahead). is_same c.args.id.now a.held.id) c.args.monitors.now.items ≡ None = search rules in
     sym (leaves_nowhere s c.args.wanted.now.chains.db c.args.id.now c.args.under c.args.monitors.now.items none)
 
-pub update-requires : goal.update-requires
-update-requires c =
+pub update-requires-clause-live : goal.update-requires-clause-live
+update-requires-clause-live c =
     let xs : List Ahead = c.args.monitors.now.items in
     let k = c.in-Some.place in
     let x : Ahead = c.index.result.now in
     let low : k < length xs = search rules in
     let at : x ≡ slice_index_or xs k x = search rules in
-    subst (λ (y : Ahead). AreLive c.args.wanted.now.chains (marks_in y.held)) (sym at) (live_ahead c.args.wanted.now.chains xs k x low c.requires)
+    subst (λ (y : Ahead). AreLive c.args.wanted.now.chains (marks_in y.held)) (sym at) (live_ahead c.args.wanted.now.chains xs k x low c.requires.live)
+
+pub update-requires-clause-of : goal.update-requires-clause-of
+update-requires-clause-of c =
+    let s : Schema = c.args.wanted.now.schema in
+    let xs : List Ahead = c.args.monitors.now.items in
+    let k = c.in-Some.place in
+    let x : Ahead = c.index.result.now in
+    let low : k < length xs = search rules in
+    let at : x ≡ slice_index_or xs k x = search rules in
+    subst (λ (y : Ahead). AreOfSchema s (asked_of y.held.tables)) (sym at) (ahead_of s xs k x low c.requires.of)
 
 pub returns-clause-text : goal.returns-clause-text
 returns-clause-text c = λ s all kept.
@@ -57,7 +71,16 @@ returns-clause-live c =
     let x : Ahead = c.index-2.result.now in
     let low : k < length xs = search rules in
     let at : x ≡ slice_index_or xs k x = search rules in
-    subst (AreLive c.args.wanted.now.chains) (sym (same_marks xs k x c.brought.result low (ap (λ (a : Ahead). a.held) c.brought.ensures ∙ ap (λ (a : Ahead). a.held) at))) c.requires
+    subst (AreLive c.args.wanted.now.chains) (sym (same_marks xs k x c.brought.result low (ap (λ (a : Ahead). a.held) c.brought.ensures ∙ ap (λ (a : Ahead). a.held) at))) c.requires.live
+
+pub returns-clause-of : goal.returns-clause-of
+returns-clause-of c =
+    let xs : List Ahead = c.args.monitors.now.items in
+    let k = c.in-Some.place in
+    let x : Ahead = c.index-2.result.now in
+    let low : k < length xs = search rules in
+    let at : x ≡ slice_index_or xs k x = search rules in
+    still_of c.args.wanted.now.schema xs k x c.brought.result low (ap (λ (a : Ahead). a.held) c.brought.ensures ∙ ap (λ (a : Ahead). a.held) at) c.requires.of
 
 pub returns-in_default-clause-jobs : goal.returns-in_default-clause-jobs
 returns-in_default-clause-jobs c = keeps_itself c.args.wanted.now.jobs

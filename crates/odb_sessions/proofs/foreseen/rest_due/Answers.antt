@@ -3,7 +3,10 @@ use Rattle.std.specs.Prelude.{option_and_then}
 use Rattle.std.proofs.lemmas.List.{drop_more}
 use Rattle.odb_chain.specs.Chains.{Chains}
 use Rattle.odb_monitor.specs.Job.{Job}
+use Rattle.odb_schema.specs.Schema.{Schema}
+use Rattle.odb_sessions.specs.Composed.{asked_of}
 use Rattle.odb_sessions.specs.Foreseen.{Ahead}
+use Rattle.odb_sessions.specs.OfSchema.{AreOfSchema}
 use Rattle.odb_sessions.specs.Held.{marks_in}
 use Rattle.odb_sessions.specs.Jobs.{certainly}
 use Rattle.odb_sessions.specs.Planned.{Plan}
@@ -11,6 +14,7 @@ use Rattle.odb_sessions.specs.Represented.Composed.{sending_under}
 use Rattle.odb_sessions.specs.Tied.{AreLive}
 use Rattle.odb_sessions.specs.Sending.{due_sending}
 use Rattle.odb_sessions.proofs.Aheads.{live_ahead}
+use Rattle.odb_sessions.proofs.OneSchema.{ahead_of}
 use Rattle.odb_sessions.proofs.Places.{is_told, keeps_itself, keeps_on, still_told, told_sending}
 use Rattle.odb_sessions.proofs.Rests.{found_monitors, found_out, none_yet, rest_done, rest_none, rest_of, sending_at}
 use Rattle.odb_sessions.proofs.foreseen.rest_due.Goals as goal
@@ -18,6 +22,7 @@ use Rattle.odb_sessions.specs.Book.{revision_at}
 
 pub loop-place-init : goal.loop-place-init
 loop-place-init c = record {
+  schema = refl;
   chains = refl;
   recent = refl;
   jobs = keeps_itself c.args.wanted.now.jobs;
@@ -25,16 +30,27 @@ loop-place-init c = record {
   rest = λ h. none_yet (rest_of h c.args.wanted.now.chains.db c.args.monitors.now);
 }
 
-pub update-requires : goal.update-requires
-update-requires c =
+pub update-requires-clause-live : goal.update-requires-clause-live
+update-requires-clause-live c =
     let k : Chains = c.args.wanted.now.chains in
     let xs : List Ahead = c.args.monitors.now in
     let i = c.loop-place.place in
     let x : Ahead = c.index-monitors-place.result in
     let low : i < length xs = search rules in
     let at : x ≡ slice_index_or xs i x = search rules in
-    let live : AreLive k (marks_in x.held) = subst (λ (y : Ahead). AreLive k (marks_in y.held)) (sym at) (live_ahead k xs i x low c.requires) in
+    let live : AreLive k (marks_in x.held) = subst (λ (y : Ahead). AreLive k (marks_in y.held)) (sym at) (live_ahead k xs i x low c.requires.live) in
     subst (λ (n : Chains). AreLive n (marks_in x.held)) (sym c.loop-place.invariant.chains) live
+
+pub update-requires-clause-of : goal.update-requires-clause-of
+update-requires-clause-of c =
+    let s : Schema = c.args.wanted.now.schema in
+    let xs : List Ahead = c.args.monitors.now in
+    let i = c.loop-place.place in
+    let x : Ahead = c.index-monitors-place.result in
+    let low : i < length xs = search rules in
+    let at : x ≡ slice_index_or xs i x = search rules in
+    let of : AreOfSchema s (asked_of x.held.tables) = subst (λ (y : Ahead). AreOfSchema s (asked_of y.held.tables)) (sym at) (ahead_of s xs i x low c.requires.of) in
+    subst (λ (r : Schema). AreOfSchema r (asked_of x.held.tables)) (sym c.loop-place.invariant.schema) of
 
 pub loop-place-preserved : goal.loop-place-preserved
 loop-place-preserved c =
@@ -49,6 +65,7 @@ loop-place-preserved c =
     let sent = option_and_then (sending_under js) c.in_ok-message.message in
     let none : is_some c.in_ok-message.message ≡ false = search rules in
     record {
+      schema = c.update.ensures.schema ∙ c.loop-place.invariant.schema;
       chains = c.update.ensures.chains ∙ c.loop-place.invariant.chains;
       recent = c.update.ensures.recent ∙ c.loop-place.invariant.recent;
       jobs = keeps_on c.args.wanted.now.jobs c.loop-place.wanted.jobs js c.loop-place.invariant.jobs c.update.ensures.jobs;
@@ -101,6 +118,9 @@ returns-then-is_some-clause-chains c = c.update.ensures.chains ∙ c.loop-place.
 pub returns-then-is_some-clause-recent : goal.returns-then-is_some-clause-recent
 returns-then-is_some-clause-recent c = c.update.ensures.recent ∙ c.loop-place.invariant.recent
 
+pub returns-then-is_some-clause-schema : goal.returns-then-is_some-clause-schema
+returns-then-is_some-clause-schema c = c.update.ensures.schema ∙ c.loop-place.invariant.schema
+
 pub returns-in_err-message-clause-jobs : goal.returns-in_err-message-clause-jobs
 returns-in_err-message-clause-jobs c = keeps_on c.args.wanted.now.jobs c.loop-place.wanted.jobs c.update.new.wanted.jobs c.loop-place.invariant.jobs c.update.ensures.jobs
 
@@ -125,3 +145,6 @@ returns-clause-chains c = c.loop-place.invariant.chains
 
 pub returns-clause-recent : goal.returns-clause-recent
 returns-clause-recent c = c.loop-place.invariant.recent
+
+pub returns-clause-schema : goal.returns-clause-schema
+returns-clause-schema c = c.loop-place.invariant.schema

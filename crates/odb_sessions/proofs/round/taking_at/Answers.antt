@@ -11,6 +11,7 @@ use Rattle.odb_sessions.specs.Taken.{IsReadyFor, Text}
 use Rattle.odb_sessions.proofs.Pendings.{made_of}
 use Rattle.odb_sessions.proofs.Places.{keeps_itself, text_comes}
 use Rattle.odb_sessions.proofs.Rounds.{ready_by_plan, texts_due}
+use Rattle.odb_sessions.proofs.Ties.{get-seen}
 use Rattle.odb_sessions.proofs.round.taking_at.Goals as goal
 use Rattle.odb_sessions.specs.Book.{revision_at}
 
@@ -22,10 +23,15 @@ returns-in_default-clause-ready c = λ s all kept.
 pub returns-in_default-clause-jobs : goal.returns-in_default-clause-jobs
 returns-in_default-clause-jobs c = keeps_itself c.args.planner.now.jobs
 
-pub taking-requires : goal.taking-requires
-taking-requires c =
+pub taking-requires-clause-live : goal.taking-requires-clause-live
+taking-requires-clause-live c =
     let there : finite.get c.args.sessions.now c.args.session ≡ Some c.in-Some.of.now = search rules in
-    c.requires c.args.session c.in-Some.of.now there
+    c.requires.live c.args.session c.in-Some.of.now there
+
+pub taking-requires-clause-of : goal.taking-requires-clause-of
+taking-requires-clause-of c =
+    let there : finite.get c.args.sessions.now c.args.session ≡ Some c.in-Some.of.now = search rules in
+    c.requires.of c.args.session (seen c.in-Some.of.now) (get-seen c.args.sessions.now c.args.session ∙ ap (option_map seen) there)
 
 pub returns-clause-ready : goal.returns-clause-ready
 returns-clause-ready c = λ s all kept.

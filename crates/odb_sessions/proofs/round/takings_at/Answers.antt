@@ -10,6 +10,7 @@ use Rattle.odb_service.specs.Session.{Revision, Session}
 use Rattle.odb_sessions.specs.Book.{Book, book_with, revision_at}
 use Rattle.odb_sessions.specs.Held.{Sessions, all_seen, seen}
 use Rattle.odb_sessions.specs.Jobs.{AreMadeOf, IsOfJob, Keeps}
+use Rattle.odb_sessions.specs.OfSchema.{AreSessionsOf}
 use Rattle.odb_sessions.specs.Represented.Taking.{pending_by, ready_by, text_planned}
 use Rattle.odb_sessions.specs.Taken.{AreReady, IsReadyFor}
 use Rattle.odb_sessions.specs.Tied.{AreAllLive}
@@ -33,6 +34,7 @@ loop-session-init c =
       fits,
       refl,
       λ s all kept. subst (λ (ps : List Planned). AreMadeOf s (book c.args.planner.now.chains c.args.planner.now.recent c.args.sessions.now) all (map (pending_by all) ps)) (sym none) tt,
+      refl,
       refl,
     )
 
@@ -84,6 +86,7 @@ loop-session-preserved c =
           (c.loop-session.invariant.5 s all (keeps_on c.loop-session.planner.jobs now all c.taking_at.ensures.jobs kept))
           (subst (λ (n : ℕ). IsOfJob s (revision_at k r) all (get (all_seen m) n) (text_planned all p.taking.coming)) (sym named) (made s all kept))),
       c.taking_at.ensures.recent ∙ commits,
+      c.taking_at.ensures.schema ∙ c.loop-session.invariant.7,
     )
 
 pub returns-clause-sessions : goal.returns-clause-sessions
@@ -91,8 +94,11 @@ returns-clause-sessions c =
     let past : length c.args.listed.now ≤ c.loop-session.session-index = search rules in
     c.loop-session.invariant.0 ∙ take_all c.loop-session.session-index c.args.listed.now past
 
-pub taking_at-requires : goal.taking_at-requires
-taking_at-requires c = subst (λ (k : Chains). AreAllLive k c.args.sessions.now) (sym c.loop-session.invariant.4) c.requires
+pub taking_at-requires-clause-live : goal.taking_at-requires-clause-live
+taking_at-requires-clause-live c = subst (λ (k : Chains). AreAllLive k c.args.sessions.now) (sym c.loop-session.invariant.4) c.requires.live
+
+pub taking_at-requires-clause-of : goal.taking_at-requires-clause-of
+taking_at-requires-clause-of c = subst (λ (s : Schema). AreSessionsOf s (all_seen c.args.sessions.now)) (sym c.loop-session.invariant.7) c.requires.of
 
 pub returns-clause-ready : goal.returns-clause-ready
 returns-clause-ready c = c.loop-session.invariant.1
@@ -105,3 +111,6 @@ returns-clause-chains c = c.loop-session.invariant.4
 
 pub returns-clause-recent : goal.returns-clause-recent
 returns-clause-recent c = c.loop-session.invariant.6
+
+pub returns-clause-schema : goal.returns-clause-schema
+returns-clause-schema c = c.loop-session.invariant.7

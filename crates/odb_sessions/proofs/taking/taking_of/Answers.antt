@@ -1,9 +1,11 @@
 use Rattle.std.proofs.Common.{rules, ◌≡◌, ◌+◌, ◌<◌, ◌≤◌, arith, true, false, List, ◌∷◌, drop, flat_map, is_some, length, map, option_map, slice_index_or, refl, subst, sym, ap, ◌∙◌}
 use Rattle.std.proofs.lemmas.List.{drop_more}
 use Rattle.odb_chain.specs.Chains.{Chains}
+use Rattle.odb_schema.specs.Schema.{Schema}
 use Rattle.odb_service.specs.Server.{served_by}
 use Rattle.odb_service.specs.Session.{Monitor, Revision, leaves}
 use Rattle.odb_sessions.specs.Held.{marks_due}
+use Rattle.odb_sessions.specs.OfSchema.{IsItemOf}
 use Rattle.odb_sessions.specs.Planned.{Plan, due, plan_rest}
 use Rattle.odb_sessions.specs.Represented.Composed.{sending_under}
 use Rattle.odb_sessions.specs.Represented.Queued.{queued_of}
@@ -12,6 +14,7 @@ use Rattle.odb_sessions.specs.Tied.{AreLive}
 use Rattle.odb_sessions.specs.declared.item.Item.{Item}
 use Rattle.odb_sessions.specs.Sending.{due_sending}
 use Rattle.odb_sessions.proofs.Leading.{at_end, ended, goes_on, last_at, live_due, none_used, plan_at, seen_item}
+use Rattle.odb_sessions.proofs.OneSchema.{item_of}
 use Rattle.odb_sessions.proofs.Places.{keeps_itself, keeps_on, told_sending}
 use Rattle.odb_sessions.proofs.taking.taking_of.Goals as goal
 use Rattle.odb_tables.specs.Database.{Db}
@@ -19,6 +22,7 @@ use Rattle.odb_sessions.specs.Book.{revision_at}
 
 pub loop-place-init : goal.loop-place-init
 loop-place-init c = record {
+  schema = refl;
   within = omega arith;
   chains = refl;
   recent = refl;
@@ -26,16 +30,26 @@ loop-place-init c = record {
   rest = λ s. none_used (plan_at s c.args.planner.now.chains.db c.args.items.now.items c.args.planner.now.monitors);
 }
 
-pub give-requires : goal.give-requires
-give-requires c =
+pub give-requires-clause-live : goal.give-requires-clause-live
+give-requires-clause-live c =
     let k : Chains = c.loop-place.planner.chains in
     let xs : List Item = c.args.items.now.items in
     let i = c.loop-place.place in
     let x : Item = c.index.result.now in
     let low : i < length xs = search rules in
     let at : x ≡ slice_index_or xs i x = search rules in
-    let live : AreLive k (flat_map marks_due (map queued_of xs)) = subst (λ (n : Chains). AreLive n (flat_map marks_due (map queued_of xs))) (sym c.loop-place.invariant.chains) c.requires in
+    let live : AreLive k (flat_map marks_due (map queued_of xs)) = subst (λ (n : Chains). AreLive n (flat_map marks_due (map queued_of xs))) (sym c.loop-place.invariant.chains) c.requires.live in
     subst (λ (y : Item). AreLive k (marks_due (queued_of y))) (sym at) (live_due k xs i x low live)
+
+pub give-requires-clause-of : goal.give-requires-clause-of
+give-requires-clause-of c =
+    let xs : List Item = c.args.items.now.items in
+    let i = c.loop-place.place in
+    let x : Item = c.index.result.now in
+    let low : i < length xs = search rules in
+    let at : x ≡ slice_index_or xs i x = search rules in
+    let of : IsItemOf c.args.planner.now.schema (seen_item x) = subst (λ (y : Item). IsItemOf c.args.planner.now.schema (seen_item y)) (sym at) (item_of c.args.planner.now.schema xs i x low c.requires.of) in
+    subst (λ (s : Schema). IsItemOf s (seen_item x)) (sym c.loop-place.invariant.schema) of
 
 pub loop-place-preserved : goal.loop-place-preserved
 loop-place-preserved c =
@@ -51,6 +65,7 @@ loop-place-preserved c =
     let none : is_some c.in_ok-coming.coming ≡ false = search rules in
     record {
       within = omega (arith, low);
+      schema = c.give.ensures.schema ∙ c.loop-place.invariant.schema;
       chains = c.give.ensures.chains ∙ c.loop-place.invariant.chains;
       recent = c.give.ensures.recent ∙ c.loop-place.invariant.recent;
       jobs = keeps_on c.args.planner.now.jobs c.loop-place.planner.jobs c.give.new.self.jobs c.loop-place.invariant.jobs c.give.ensures.jobs;

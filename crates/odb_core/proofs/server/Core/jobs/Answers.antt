@@ -1,13 +1,24 @@
-use Rattle.std.proofs.Common.{rules, ◌≡◌, ap, subst, ◌∙◌}
+use Rattle.std.proofs.Common.{rules, ◌≡◌, ap, subst, sym, ◌∙◌}
 use Rattle.std.proofs.lemmas.Result.{IfOk-weaker}
 use Rattle.odb_service.specs.Server.{Server}
 use Rattle.odb_service.specs.World.{World}
 use Rattle.odb_sessions.specs.Book.{Book, revision_in}
+use Rattle.odb_schema.specs.Schema.{Schema}
 use Rattle.odb_sessions.specs.Jobs.{AreEachOnce, AreMadeOf}
+use Rattle.odb_sessions.specs.OfSchema.{AreSessionsOf}
 use Rattle.odb_sessions.specs.Taken.{AreReady}
 use Rattle.odb_core.specs.Represented.Rounds.{book_in}
 use Rattle.odb_core.proofs.CoreInvariant.{if_both}
 use Rattle.odb_core.proofs.server.Core.jobs.Goals as goal
+
+pub jobs-requires : goal.jobs-requires
+jobs-requires c =
+    let r = c.self-inside.inside.0.1.0 in
+    let w : World = record { db = r.sessions.db; commits = r.sessions.commits; earlier = r.sessions.earlier; now = r.now; waiting = r.waiting; locks = r.locks; sessions = r.sessions.sessions } in
+    let v : Server = record { schema = r.served; world = w; opened = r.opened } in
+    let is : c.self.inside.state ≡ v = sym (ap (λ i. i.state) c.self-inside.view_is) in
+    let of : AreSessionsOf r.served r.sessions.sessions = subst (λ (u : Server). AreSessionsOf u.schema u.world.sessions) is c.self.invariant.2 in
+    subst (λ (s : Schema). AreSessionsOf s r.sessions.sessions) (sym c.schema-schema.ensures) of
 
 pub returns-clause-round : goal.returns-clause-round
 returns-clause-round c =

@@ -10,8 +10,11 @@ use Rattle.odb_core.proofs.CoreInvariant.{either_if, valid_taken}
 use Rattle.odb_core.proofs.ServerSteps.{rounds}
 use Rattle.odb_core.proofs.server.Core.round.Goals as goal
 
-pub round-requires : goal.round-requires
-round-requires c =
+pub round-requires-clause-of : goal.round-requires-clause-of
+round-requires-clause-of c = c.self.invariant.2
+
+pub round-requires-clause-once : goal.round-requires-clause-once
+round-requires-clause-once c =
     let listed : c.as_slice.result.now ≡ once c.args.ready.now = search rules in
     subst AreOnce (sym listed) (once_once c.args.ready.now)
 

@@ -13,6 +13,7 @@ use Rattle.odb_core.specs.Represented.Reason.{IsReason}
 use Rattle.odb_core.specs.Represented.Steps.{by_service}
 use Rattle.odb_service.proofs.Results.{either_way}
 use Rattle.odb_core.proofs.CoreInvariant.{valid_after}
+use Rattle.odb_core.proofs.SessionsOfSchema.{handles_of}
 use Rattle.odb_core.proofs.ServerSteps.{Served, submit-busy, submit-gone, submit-ok}
 use Rattle.odb_core.proofs.SessionNumbers.{found_none, found_some}
 use Rattle.odb_core.proofs.server.Core.submit.Goals as goal
@@ -53,7 +54,7 @@ invariant_of-self c =
     let k = call_at v.schema d in
     let fresh = map uuid_of c.args.fresh.now in
     either_way (by_service (λ h w. handle h n d fresh k (at_moment h c.args.now w)) v ≡ u) (u ≡ v) (IsValid u) c.receive.result c.receive.ensures.ok c.receive.ensures.err
-    (λ e. valid_after (λ h w. handle h n d fresh k (at_moment h c.args.now w)) (λ h w q. handles h n d fresh k (at_moment h c.args.now w) q) v u e c.receive.ensures.tried c.self.invariant)
+    (λ e. valid_after (λ h w. handle h n d fresh k (at_moment h c.args.now w)) (λ h w q. handles h n d fresh k (at_moment h c.args.now w) q) v u (handles_of v.schema n d fresh k (at_moment (served_by v.schema) c.args.now v.world)) e c.receive.ensures.tried c.self.invariant)
     (λ e. subst IsValid (sym e) c.self.invariant)
 
 pub returns-clause-ok : goal.returns-clause-ok

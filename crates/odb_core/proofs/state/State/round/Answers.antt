@@ -1,12 +1,23 @@
-use Rattle.std.proofs.Common.{map, refl, sym, ap, ◌∙◌, subst}
+use Rattle.std.proofs.Common.{◌≡◌, map, refl, sym, ap, ◌∙◌, subst}
 use Rattle.std.proofs.lemmas.Result.{IfOk-weaker}
+use Rattle.odb_schema.specs.Schema.{Schema}
 use Rattle.odb_service.specs.Run.{take_each}
 use Rattle.odb_service.specs.Server.{Server, printed, served_by}
 use Rattle.odb_service.specs.World.{World}
 use Rattle.odb_core.proofs.ServerSteps.{placed}
 use Rattle.odb_core.specs.Stuck.{IsKept}
+use Rattle.odb_sessions.specs.OfSchema.{AreSessionsOf}
 use Rattle.odb_service.specs.Session.{Revision}
 use Rattle.odb_core.proofs.state.State.round.Goals as goal
+
+pub round-requires-clause-of : goal.round-requires-clause-of
+round-requires-clause-of c =
+    let i = c.self.inside in
+    let w : World = record { db = i.sessions.db; commits = i.sessions.commits; earlier = i.sessions.earlier; now = i.now; waiting = i.waiting; locks = i.locks; sessions = i.sessions.sessions } in
+    let v : Server = record { schema = i.served; world = w; opened = i.opened } in
+    let is : v ≡ c.args.self.now = c.self.view_is in
+    let of : AreSessionsOf i.served i.sessions.sessions = subst (λ (u : Server). AreSessionsOf u.schema u.world.sessions) (sym is) c.requires.of in
+    subst (λ (s : Schema). AreSessionsOf s i.sessions.sessions) (sym c.schema-schema.ensures) of
 
 pub returns-clause-ok : goal.returns-clause-ok
 returns-clause-ok c =

@@ -1,12 +1,15 @@
 use Rattle.std.proofs.Common.{rules, ◌≡◌, List, [], Option, Some, subst, sym, ap, ◌∙◌}
 use Rattle.std.specs.Prelude.{IfSome, unwrap_or}
 use Rattle.std.specs.BTreeMap as tree
+use Rattle.std.specs.List.{All}
 use Rattle.std.specs.Ordering.{nat_cmp}
+use Rattle.odb_schema.specs.Schema.{Schema}
 use Rattle.odb_sessions.specs.Alike.{Likeness}
 use Rattle.odb_sessions.specs.Jobs.{Decision}
-use Rattle.odb_sessions.specs.Represented.Alike.{likeness_in}
-use Rattle.odb_sessions.specs.Represented.Decided.{IsAmong, bucket_at}
+use Rattle.odb_sessions.specs.Represented.Alike.{IsLikenessOf, likeness_in}
+use Rattle.odb_sessions.specs.Represented.Decided.{IsAmong, IsDecisionOf, bucket_at}
 use Rattle.odb_sessions.specs.Represented.Digest.{digest}
+use Rattle.odb_sessions.proofs.OneSchema.{if_some_weaker}
 use Rattle.odb_sessions.proofs.decided.Decided.find.Goals as goal
 
 pub returns-in-Some-clause-some : goal.returns-in-Some-clause-some
@@ -14,4 +17,7 @@ returns-in-Some-clause-some c =
     let l : Likeness = likeness_in c.args.monitor.now c.args.way in
     let there : tree.get nat_cmp c.args.self.now.buckets c.digest_of.result ≡ Some c.in-Some.bucket.now = search rules in
     let is : bucket_at c.args.self.now (digest l) ≡ c.in-Some.bucket.now = ap (bucket_at c.args.self.now) (sym c.digest_of.ensures) ∙ ap (λ (o : Option (List Decision)). unwrap_or o []) there in
-    subst (λ (ds : List Decision). IfSome c.find.result (λ place. IsAmong ds (record { likeness = l; place = place }))) (sym is) c.find.ensures.some
+    let here : IfSome c.find.result (λ place. (s : Schema) → All (IsDecisionOf s) (bucket_at c.args.self.now (digest l)) → IsLikenessOf s l → IsAmong (bucket_at c.args.self.now (digest l)) (record { likeness = l; place = place })) =
+    subst (λ (ds : List Decision). IfSome c.find.result (λ place. (s : Schema) → All (IsDecisionOf s) ds → IsLikenessOf s l → IsAmong ds (record { likeness = l; place = place }))) (sym is) c.find.ensures.some
+    in
+    if_some_weaker c.find.result _ _ (λ place among. λ s of other. among s (of (digest l)) other) here

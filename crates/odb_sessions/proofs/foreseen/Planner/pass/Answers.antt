@@ -4,7 +4,7 @@ use Rattle.odb_monitor.specs.Job.{Job}
 use Rattle.odb_schema.specs.Schema.{Schema}
 use Rattle.odb_service.specs.Server.{served_by}
 use Rattle.odb_service.specs.Session.{leaves}
-use Rattle.odb_sessions.specs.Foreseen.{Foreseen, marks_ahead, seen_ahead}
+use Rattle.odb_sessions.specs.Foreseen.{AreAheadOf, Foreseen, marks_ahead, seen_ahead}
 use Rattle.odb_sessions.specs.Jobs.{Keeps}
 use Rattle.odb_sessions.specs.Planned.{due}
 use Rattle.odb_sessions.specs.Represented.Composed.{Tells}
@@ -15,7 +15,10 @@ use Rattle.odb_sessions.proofs.foreseen.Planner.pass.Goals as goal
 use Rattle.odb_sessions.specs.Book.{revision_at}
 
 pub invariant_of-self : goal.invariant_of-self
-invariant_of-self c = subst (λ (k : Chains). AreLive k (marks_ahead c.pass.new.monitors.items)) (sym c.pass.ensures.chains) c.pass.ensures.live
+invariant_of-self c = (
+  subst (λ (k : Chains). AreLive k (marks_ahead c.pass.new.monitors.items)) (sym c.pass.ensures.chains) c.pass.ensures.live,
+  subst (λ (s : Schema). AreAheadOf s c.pass.new.monitors.items) (sym c.pass.ensures.schema) c.pass.ensures.of,
+)
 
 pub returns-clause-text : goal.returns-clause-text
 returns-clause-text c =

@@ -2,7 +2,8 @@ use Rattle.std.proofs.Common.{rules, ◌≡◌, List, map, option_map, subst, sy
 use Rattle.std.proofs.lemmas.Result.{IfOk-weaker}
 use Rattle.odb_chain.specs.Chains.{Chains}
 use Rattle.odb_monitor.specs.Job.{Job}
-use Rattle.odb_sessions.specs.Foreseen.{Ahead, Foreseen, marks_ahead, seen_ahead}
+use Rattle.odb_schema.specs.Schema.{Schema}
+use Rattle.odb_sessions.specs.Foreseen.{Ahead, AreAheadOf, Foreseen, marks_ahead, seen_ahead}
 use Rattle.odb_sessions.specs.Jobs.{Keeps, certainly}
 use Rattle.odb_sessions.specs.Planned.{plan_rest}
 use Rattle.odb_sessions.specs.Tied.{AreLive}
@@ -11,7 +12,10 @@ use Rattle.odb_sessions.proofs.foreseen.Planner.rest.Goals as goal
 use Rattle.odb_sessions.specs.Book.{revision_at}
 
 pub invariant_of-self : goal.invariant_of-self
-invariant_of-self c = subst (λ (k : Chains). AreLive k (marks_ahead c.self.inside.monitors.items)) (sym c.rest_due.ensures.chains) c.self.invariant
+invariant_of-self c = (
+  subst (λ (k : Chains). AreLive k (marks_ahead c.self.inside.monitors.items)) (sym c.rest_due.ensures.chains) c.self.invariant.0,
+  subst (λ (s : Schema). AreAheadOf s c.self.inside.monitors.items) (sym c.rest_due.ensures.schema) c.self.invariant.1,
+)
 
 pub returns-clause-monitors : goal.returns-clause-monitors
 returns-clause-monitors c =

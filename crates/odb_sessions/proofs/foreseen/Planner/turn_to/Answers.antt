@@ -1,16 +1,24 @@
 use Rattle.std.proofs.Common.{List, flat_map, map, subst, sym, ap, ◌∙◌}
+use Rattle.std.specs.List.{AllByRecursion}
 use Rattle.odb_chain.specs.Chains.{Chains}
-use Rattle.odb_sessions.specs.Foreseen.{Ahead, Foreseen, marks_ahead, seen_ahead}
-use Rattle.odb_sessions.specs.Held.{marks_in}
+use Rattle.odb_schema.specs.Schema.{Schema}
+use Rattle.odb_sessions.specs.Foreseen.{Ahead, AreAheadOf, Foreseen, marks_ahead, seen_ahead}
+use Rattle.odb_sessions.specs.Held.{marks_in, monitor_of}
+use Rattle.odb_sessions.specs.OfSchema.{IsMonitorOf}
 use Rattle.odb_sessions.specs.Tied.{AreLive}
 use Rattle.odb_sessions.proofs.Aheads.{marks_told, seen_told}
+use Rattle.odb_sessions.proofs.OneSchema.{told_of}
 use Rattle.odb_sessions.proofs.foreseen.Planner.turn_to.Goals as goal
 
 pub invariant_of-self : goal.invariant_of-self
 invariant_of-self c =
     let k : Chains = c.self.inside.wanted.chains in
-    let live : AreLive k (flat_map marks_in c.args.monitors.now) = subst (λ (f : Foreseen). AreLive f.chains (flat_map marks_in c.args.monitors.now)) (sym c.self.view_is) c.requires in
-    subst (AreLive k) (sym (ap marks_ahead c.in_ok-ahead.ensures ∙ marks_told c.args.monitors.now)) live
+    let live : AreLive k (flat_map marks_in c.args.monitors.now) = subst (λ (f : Foreseen). AreLive f.chains (flat_map marks_in c.args.monitors.now)) (sym c.self.view_is) c.requires.live in
+    let s : Schema = c.self.inside.wanted.schema in
+    let of : AllByRecursion (IsMonitorOf s) (map monitor_of c.args.monitors.now) = subst (λ (f : Foreseen). AllByRecursion (IsMonitorOf f.schema) (map monitor_of c.args.monitors.now)) (sym c.self.view_is) c.requires.of in (
+      subst (AreLive k) (sym (ap marks_ahead c.in_ok-ahead.ensures ∙ marks_told c.args.monitors.now)) live,
+      subst (AreAheadOf s) (sym c.in_ok-ahead.ensures) (told_of s c.args.monitors.now of),
+    )
 
 pub returns-clause-monitors : goal.returns-clause-monitors
 returns-clause-monitors c =

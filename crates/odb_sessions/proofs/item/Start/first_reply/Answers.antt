@@ -29,7 +29,7 @@ returns-in-Some-clause-text c =
     let since : x.since ≡ Some (uuid_of v) = sym (ap (λ (s : Start). s.monitor.since) c.self.view_is) ∙ ap (option_map uuid_of) some in
     let theirs : AreTheirs x.tables = subst (λ (s : Start). AreTheirs s.monitor.tables) c.self.view_is c.self.invariant.0 in
     let lists : HasLists k = subst HasLists c.chains.ensures c.db-now.ensures.lists in
-    let there : AreThere k.db x.tables = are_there k x.tables lists c.requires theirs in
+    let there : AreThere k.db x.tables = are_there k x.tables lists c.requires.live theirs in
     IfOk-weaker c.reply_since.result _ _
     (λ message e. λ h all kept. e all kept ∙ ap Some (since_is h c.args.wanted.now.recent k c.args.self.now.origin x (uuid_of v) since c.reply_since.ensures.kept there))
     c.reply_since.ensures.text

@@ -20,7 +20,7 @@ are_now-requires c =
     let k : Chains = c.args.wanted.now.chains in
     let ws : List Watched = c.self.inside.tables.items in
     let slice : c.as_slice.result.now ≡ ws = search rules in
-    let known : All (IsKnown k) ws = known_all k ws (subst (λ (x : Held). AreLive k (marks_in x)) (sym c.self.view_is) c.requires) c.self.invariant.0 in
+    let known : All (IsKnown k) ws = known_all k ws (subst (λ (x : Held). AreLive k (marks_in x)) (sym c.self.view_is) c.requires.live) c.self.invariant.0 in
     subst (λ (n : Chains). All (IsKnown n) c.as_slice.result.now) (sym c.chains.ensures) (subst (λ (vs : List Watched). All (IsKnown k) vs) (sym slice) known)
 
 pub returns-then-are_now-clause-text : goal.returns-then-are_now-clause-text

@@ -1,9 +1,12 @@
 use Rattle.std.proofs.Common.{rules, ◌≡◌, ◌++◌, List, flat_map, map, option_map, subst, sym, ap, ◌∙◌}
 use Rattle.std.proofs.lemmas.Result.{IfOk-weaker}
+use Rattle.std.specs.List.{AllByRecursion}
 use Rattle.odb_chain.specs.Chains.{Chains, Mark}
+use Rattle.odb_schema.specs.Schema.{Schema}
 use Rattle.odb_service.specs.Server.{served_by}
 use Rattle.odb_service.specs.Session.{Monitor}
 use Rattle.odb_sessions.specs.Held.{Held, Kept, item_seen, marks_due, marks_in, marks_of, monitor_of, seen}
+use Rattle.odb_sessions.specs.OfSchema.{IsItemOf, IsMonitorOf, IsSessionOf}
 use Rattle.odb_sessions.specs.Planned.{plan, plan_from}
 use Rattle.odb_sessions.specs.Represented.Taking.{taking_sending}
 use Rattle.odb_sessions.specs.Tied.{AreLive}
@@ -20,21 +23,34 @@ returns-in-Some-clause-text c = λ s all kept.
     subst (λ (y : Kept). taking_sending all c.in-Some.taking (seen y).queue ≡ option_map (due_sending (served_by s) revision) (plan (served_by s) revision.db (seen y)).out) c.self.view_is
     (c.in-Some.ensures.text s revision (seen x).monitors all)
 
-pub turn_to-requires : goal.turn_to-requires
-turn_to-requires c =
+pub turn_to-requires-clause-live : goal.turn_to-requires-clause-live
+turn_to-requires-clause-live c =
     let k : Chains = c.args.planner.now.chains in
     let ms : List Mark = flat_map marks_in c.self.inside.monitors.items in
     let ds : List Mark = flat_map marks_due c.self.inside.queue in
     let slice : c.as_slice.result.now ≡ c.self.inside.monitors.items = search rules in
-    let live : AreLive k (ms ++ ds) = subst (λ (x : Kept). AreLive k (marks_of x)) (sym c.self.view_is) c.requires in
+    let live : AreLive k (ms ++ ds) = subst (λ (x : Kept). AreLive k (marks_of x)) (sym c.self.view_is) c.requires.live in
     subst (λ (xs : List Held). AreLive k (flat_map marks_in xs)) (sym slice) (live-left k ms ds live)
 
-pub taking-requires : goal.taking-requires
-taking-requires c =
+pub turn_to-requires-clause-of : goal.turn_to-requires-clause-of
+turn_to-requires-clause-of c =
+    let s : Schema = c.args.planner.now.schema in
+    let slice : c.as_slice.result.now ≡ c.self.inside.monitors.items = search rules in
+    let of : IsSessionOf s (seen (record { queue = c.self.inside.queue; monitors = c.self.inside.monitors.items })) = subst (λ (x : Kept). IsSessionOf s (seen x)) (sym c.self.view_is) c.requires.of in
+    subst (λ (xs : List Held). AllByRecursion (IsMonitorOf s) (map monitor_of xs)) (sym slice) of.1
+
+pub taking-requires-clause-of : goal.taking-requires-clause-of
+taking-requires-clause-of c =
+    let s : Schema = c.args.planner.now.schema in
+    let of : IsSessionOf s (seen (record { queue = c.self.inside.queue; monitors = c.self.inside.monitors.items })) = subst (λ (x : Kept). IsSessionOf s (seen x)) (sym c.self.view_is) c.requires.of in
+    subst (λ (r : Schema). AllByRecursion (IsItemOf r) (map item_seen c.self.inside.queue)) (sym c.turn_to.ensures.schema) of.0
+
+pub taking-requires-clause-live : goal.taking-requires-clause-live
+taking-requires-clause-live c =
     let k : Chains = c.args.planner.now.chains in
     let ms : List Mark = flat_map marks_in c.self.inside.monitors.items in
     let ds : List Mark = flat_map marks_due c.self.inside.queue in
-    let live : AreLive k (ms ++ ds) = subst (λ (x : Kept). AreLive k (marks_of x)) (sym c.self.view_is) c.requires in
+    let live : AreLive k (ms ++ ds) = subst (λ (x : Kept). AreLive k (marks_of x)) (sym c.self.view_is) c.requires.live in
     subst (λ (n : Chains). AreLive n ds) (sym c.turn_to.ensures.chains) (live-right k ms ds live)
 
 pub returns-clause-items : goal.returns-clause-items

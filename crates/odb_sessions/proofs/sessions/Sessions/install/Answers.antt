@@ -32,7 +32,7 @@ invariant_of-self c =
     let j = c.forget_owed.new.interest in
     let b : Book = book_seen old.past old.sessions in
     let kept : AreNoted old.owed o [] = c.note_each.ensures.kept in
-    (c.refresh_each.ensures.tied, subst (AreAtRest o j) (sym c.refresh_each.ensures.seen) (said_rest o i j b (still_rest old.owed o i b [] c.self.invariant.1 kept) (λ q out. c.forget_owed.ensures q (kept q out).0)))
+    (c.refresh_each.ensures.tied, subst (AreAtRest o j) (sym c.refresh_each.ensures.seen) (said_rest o i j b (still_rest old.owed o i b [] c.self.invariant.1 kept) (λ q out. c.forget_owed.ensures.resting q (kept q out).0)))
 
 pub absorb-requires : goal.absorb-requires
 absorb-requires c = subst (λ (d : Db). IsChangeOf d c.args.change) (sym (ap (λ (b : Book). b.db) c.refresh_each.ensures.seen ∙ ap (λ (b : Book). b.db) c.self.view_is)) c.requires
@@ -46,7 +46,7 @@ invariant_of-self-in_err-absorb c =
     let j = c.forget_owed.new.interest in
     let b : Book = book_seen old.past old.sessions in
     let kept : AreNoted old.owed o [] = c.note_each.ensures.kept in
-    let rest : AreAtRest o j b = said_rest o i j b (still_rest old.owed o i b [] c.self.invariant.1 kept) (λ q out. c.forget_owed.ensures q (kept q out).0) in (
+    let rest : AreAtRest o j b = said_rest o i j b (still_rest old.owed o i b [] c.self.invariant.1 kept) (λ q out. c.forget_owed.ensures.resting q (kept q out).0) in (
       subst (λ (x : Chains). IsTied x m) (sym c.in_err-absorb.ensures.err) c.refresh_each.ensures.tied,
       subst (λ (x : Chains). AreAtRest o j (book_seen x m)) (sym c.in_err-absorb.ensures.err) (subst (AreAtRest o j) (sym c.refresh_each.ensures.seen) rest),
     )
@@ -84,7 +84,7 @@ invariant_of-self-2 c =
       c.go_on.ensures.tied,
       subst (AreAtRest o j) (sym (c.go_on.ensures.seen ∙ after))
           (said_rest o i j (record b { db = all_changed_by b.db c.args.change }) (touched_rest old.owed o i b c.args.change c.in_ok-touched.touched.items c.self.invariant.1 noted is named)
-          (λ q out. c.forget_owed.ensures q (noted q out).0)),
+          (λ q out. c.forget_owed.ensures.resting q (noted q out).0)),
     )
 
 pub returns-in_err-note_each-clause-err : goal.returns-in_err-note_each-clause-err

@@ -2,6 +2,7 @@ use Rattle.std.proofs.Common.{◌≡◌, List, map, ap, subst, sym, ◌∙◌}
 use Rattle.odb_chain.specs.Chains.{Chains}
 use Rattle.odb_monitor.specs.Job.{Job}
 use Rattle.std.specs.List.{All}
+use Rattle.odb_schema.specs.Schema.{Schema}
 use Rattle.odb_service.specs.Session.{Revision}
 use Rattle.odb_sessions.specs.Book.{Book, book_with, revision_at, revision_in}
 use Rattle.odb_sessions.specs.FirstTexts.{IsOfNow}
@@ -9,6 +10,7 @@ use Rattle.odb_tables.specs.Database.{Db}
 use Rattle.odb_sessions.specs.Foreseen.{Foreseen}
 use Rattle.odb_sessions.specs.Held.{all_seen}
 use Rattle.odb_sessions.specs.Jobs.{AreEachOnce, AreMadeOf, Round}
+use Rattle.odb_sessions.specs.OfSchema.{AreSessionsOf}
 use Rattle.odb_sessions.specs.Represented.Taking.{pending_by}
 use Rattle.odb_sessions.specs.Taken.{AreReady, sessions_in}
 use Rattle.odb_sessions.specs.Tied.{AreAllLive}
@@ -16,8 +18,13 @@ use Rattle.odb_sessions.proofs.Pendings.{sessions_by}
 use Rattle.odb_sessions.proofs.Places.{keeps_same}
 use Rattle.odb_sessions.proofs.sessions.Sessions.jobs.Goals as goal
 
-pub takings_at-requires : goal.takings_at-requires
-takings_at-requires c =
+pub takings_at-requires-clause-of : goal.takings_at-requires-clause-of
+takings_at-requires-clause-of c =
+    let planner : c.new-planner.result.schema ≡ c.args.schema.now = ap (λ (f : Foreseen). f.schema) c.new-planner.ensures in
+    subst (λ (s : Schema). AreSessionsOf s (all_seen c.self.inside.sessions)) (sym planner) (subst (λ (b : Book). AreSessionsOf c.args.schema.now b.sessions) (sym c.self.view_is) c.requires)
+
+pub takings_at-requires-clause-live : goal.takings_at-requires-clause-live
+takings_at-requires-clause-live c =
     let planner : c.new-planner.result.chains ≡ c.self.inside.past = ap (λ (f : Foreseen). f.chains) c.new-planner.ensures ∙ c.chains.ensures in
     subst (λ (k : Chains). AreAllLive k c.self.inside.sessions) (sym planner) c.self.invariant.0.2
 

@@ -7,7 +7,7 @@ use Rattle.odb_sessions.specs.Taken.{AreReady}
 use Rattle.odb_sessions.proofs.sessions.Sessions.round.Goals as goal
 
 pub accept-requires-clause-once : goal.accept-requires-clause-once
-accept-requires-clause-once c = subst AreOnce (sym c.in_ok-prepared.ensures.sessions) c.requires
+accept-requires-clause-once c = subst AreOnce (sym c.in_ok-prepared.ensures.sessions) c.requires.once
 
 pub accept-requires-clause-ready : goal.accept-requires-clause-ready
 accept-requires-clause-ready c = λ s. subst (λ (b : Book). AreReady s b c.in_ok-prepared.field-0.prepared) (sym c.keep.ensures) (c.in_ok-prepared.ensures.ready s)

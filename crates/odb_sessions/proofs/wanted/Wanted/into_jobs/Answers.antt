@@ -10,9 +10,9 @@ pub returns-clause-jobs : goal.returns-clause-jobs
 returns-clause-jobs c = ap (λ (w : Wanted). w.jobs) c.self.view_is
 
 pub returns-clause-now : goal.returns-clause-now
-returns-clause-now c = subst (λ (w : Wanted). All (IsOfNow w.chains.db) c.self.inside.listed.jobs.items) c.self.view_is c.self.invariant.2
+returns-clause-now c = subst (λ (w : Wanted). All (IsOfNow w.chains.db) c.self.inside.listed.jobs.items) c.self.view_is c.self.invariant.0.2
 
 pub returns-clause-once : goal.returns-clause-once
 returns-clause-once c =
     subst (λ (w : Wanted). AreEachOnce (revision_at w.chains w.recent) c.self.inside.listed.jobs.items c.self.inside.listed.askings.items) c.self.view_is
-    (c.self.invariant.4, (contents c.self.inside.chains.now, c.self.inside.recent.now.undos, refl, c.self.invariant.5))
+    (c.self.invariant.0.4, (contents c.self.inside.chains.now, c.self.inside.recent.now.undos, refl, c.self.invariant.0.5))

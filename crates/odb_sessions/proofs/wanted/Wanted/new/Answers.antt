@@ -3,6 +3,7 @@ use Rattle.odb_monitor.specs.Job.{Job}
 use Rattle.odb_sessions.specs.Alike.{Likeness}
 use Rattle.odb_sessions.specs.Represented.Decided.{IsPlanned}
 use Rattle.odb_sessions.proofs.Decisions.{none_planned}
+use Rattle.odb_sessions.proofs.OneSchema.{none_decided}
 use Rattle.odb_sessions.proofs.wanted.Wanted.new.Goals as goal
 
 pub invariant_of-result : goal.invariant_of-result
@@ -10,5 +11,8 @@ invariant_of-result c =
     let k = c.args.chains.now in
     let us = c.args.recent.now.undos in
     let fs = c.args.firsts.now in
+    let planned : IsPlanned k us fs c.new.result.jobs.items c.new.result.askings.items c.new-2.result =
     subst (λ (js : List Job). IsPlanned k us fs js c.new.result.askings.items c.new-2.result) (sym c.new.ensures.jobs)
     (subst (λ (ls : List Likeness). IsPlanned k us fs [] ls c.new-2.result) (sym c.new.ensures.askings) (none_planned k us fs c.new-2.result c.requires c.new-2.ensures))
+    in
+    (planned, none_decided c.args.schema.now c.new-2.result c.new-2.ensures)

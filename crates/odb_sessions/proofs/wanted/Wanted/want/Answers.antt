@@ -1,10 +1,13 @@
-use Rattle.std.proofs.Common.{rules, ◌≡◌, ◌++◌, ◌∷◌, [], true, false, List, is_some, Some, None, refl, subst, sym, ap, ◌∙◌}
+use Rattle.std.proofs.Common.{rules, ◌≡◌, ◌++◌, ◌∷◌, [], true, false, List, is_some, length, Some, None, refl, subst, sym, ap, ◌∙◌}
 use Rattle.std.specs.List.{All}
 use Rattle.odb_chain.specs.Chains.{Chains}
 use Rattle.odb_monitor.specs.Job.{Job, updates_of}
 use Rattle.odb_recent.specs.Recent.{Recent}
 use Rattle.odb_recent.specs.Undo.{Undo}
+use Rattle.odb_schema.specs.Schema.{Schema}
 use Rattle.odb_sessions.specs.Alike.{Likeness, job_like}
+use Rattle.odb_sessions.specs.Composed.{asked_of}
+use Rattle.odb_sessions.specs.OfSchema.{AreOfSchema}
 use Rattle.odb_sessions.specs.FirstTexts.{FirstText, IsOfNow}
 use Rattle.odb_sessions.specs.Held.{Held, marks_in}
 use Rattle.odb_sessions.specs.Jobs.{Decision, IsFor, Keeps, Wanted, if_sent}
@@ -17,6 +20,7 @@ use Rattle.odb_sessions.specs.declared.decided.Decided.{Decided}
 use Rattle.odb_sessions.proofs.Decisions.{found, more_planned, same_planned, silent_planned}
 use Rattle.odb_sessions.proofs.FirstTexts.{of_now}
 use Rattle.odb_sessions.proofs.Likenesses.{like_job, of_commits, of_requests}
+use Rattle.odb_sessions.proofs.OneSchema.{likeness_of, more_decided, same_decided}
 use Rattle.odb_sessions.proofs.Places.{added_at, keeps_added, keeps_itself, keeps_same, none_for, some_for}
 use Rattle.odb_sessions.proofs.wanted.Wanted.want.Goals as goal
 
@@ -31,7 +35,11 @@ returns-in-Some-clause-place c =
     let live : AreLive k (marks_in x) = subst (λ (w : Wanted). AreLive w.chains (marks_in x)) (sym c.self.view_is) c.requires.live in
     let own : IsFoundIn r c.args.way = subst (λ (w : Wanted). IsFoundIn w.recent c.args.way) (sym c.self.view_is) c.requires.found in
     let place = c.in-Some.place in
-    let here : IsFor js (if_sent (job_like (contents k) us k.db l)) place = found k us js c.self.inside.decided (digest l) (record { likeness = l; place = place }) c.self.invariant.0 c.in-Some.ensures.some in
+    let s : Schema = c.self.inside.schema.now in
+    let of : AreOfSchema s (asked_of x.tables) = subst (λ (w : Wanted). AreOfSchema w.schema (asked_of x.tables)) (sym c.self.view_is) c.requires.of in
+    let here : IsFor js (if_sent (job_like (contents k) us k.db l)) place =
+    found k us js c.self.inside.decided (digest l) (record { likeness = l; place = place }) c.self.invariant.0.0 (c.in-Some.ensures.some s c.self.invariant.1 (likeness_of s x c.args.way of))
+    in
     subst (λ (w : Wanted). IsFor w.jobs (if_sent (job_in w.chains.db x c.args.way)) place) c.self.view_is
     (subst (λ (j : Job). IsFor js (if_sent j) place) (sym (like_job k r x c.args.way own live)) here)
 
@@ -41,8 +49,10 @@ returns-in-Some-clause-jobs c = keeps_itself c.args.self.now.jobs
 pub invariant_of-self : goal.invariant_of-self
 invariant_of-self c =
     let js : List Job = c.self.inside.listed.jobs.items in
-    let ls : List Likeness = c.self.inside.listed.askings.items in
-    same_planned c.self.inside.chains.now c.self.inside.recent.now.undos c.self.inside.firsts.now js js ls ls c.self.inside.decided c.put.new.self refl refl c.in_err-put.ensures.err c.self.invariant
+    let ls : List Likeness = c.self.inside.listed.askings.items in (
+      same_planned c.self.inside.chains.now c.self.inside.recent.now.undos c.self.inside.firsts.now js js ls ls c.self.inside.decided c.put.new.self refl refl c.in_err-put.ensures.err c.self.invariant.0,
+      same_decided c.self.inside.schema.now c.self.inside.decided c.put.new.self c.in_err-put.ensures.err c.self.invariant.1,
+    )
 
 pub invariant_of-self-then-not-is_sent : goal.invariant_of-self-then-not-is_sent
 invariant_of-self-then-not-is_sent c =
@@ -62,12 +72,17 @@ invariant_of-self-then-not-is_sent c =
     let silent : is_some (updates_of job) ≡ false = search rules in
     let none : is_some (updates_of (job_like (contents k) us k.db l)) ≡ false = ap (λ (j : Job). is_some (updates_of j)) (sym is) ∙ silent in
     let puts : Puts d c.put.new.self (record { likeness = l; place = None }) = subst (λ (e : Decision). Puts d c.put.new.self e) c.new.ensures c.in_ok-put.ensures.ok in
-    silent_planned k us fs js ls d c.put.new.self l none puts c.self.invariant
+    let s : Schema = c.self.inside.schema.now in
+    let of : AreOfSchema s (asked_of x.tables) = subst (λ (w : Wanted). AreOfSchema w.schema (asked_of x.tables)) (sym c.self.view_is) c.requires.of in
+    (silent_planned k us fs js ls d c.put.new.self l none puts c.self.invariant.0, more_decided s d c.put.new.self (record { likeness = l; place = None }) puts (likeness_of s x c.args.way of) c.self.invariant.1)
 
 pub invariant_of-self-in_err-place : goal.invariant_of-self-in_err-place
 invariant_of-self-in_err-place c =
+    let planned : IsPlanned c.self.inside.chains.now c.self.inside.recent.now.undos c.self.inside.firsts.now c.add.new.self.jobs.items c.add.new.self.askings.items c.add.new.decided =
     same_planned c.self.inside.chains.now c.self.inside.recent.now.undos c.self.inside.firsts.now c.self.inside.listed.jobs.items c.add.new.self.jobs.items c.self.inside.listed.askings.items c.add.new.self.askings.items c.self.inside.decided c.add.new.decided
-    c.in_err-place.ensures.kept c.in_err-place.ensures.known c.in_err-place.ensures.undecided c.self.invariant
+    c.in_err-place.ensures.kept c.in_err-place.ensures.known c.in_err-place.ensures.undecided c.self.invariant.0
+    in
+    (planned, same_decided c.self.inside.schema.now c.self.inside.decided c.add.new.decided c.in_err-place.ensures.undecided c.self.invariant.1)
 
 pub invariant_of-self-2 : goal.invariant_of-self-2
 invariant_of-self-2 c =
@@ -88,9 +103,14 @@ invariant_of-self-2 c =
     let now : IsOfNow k.db job = subst (IsOfNow k.db) (sym whole) (of_now k.db x c.args.way) in
     let sent : is_some (updates_of job) ≡ true = search rules in
     let fresh : All (Differs l) (bucket_at d (digest l)) = c.in_default.ensures.none refl in
-    let more : IsPlanned k us fs (js ++ job ∷ []) (ls ++ l ∷ []) c.add.new.decided = more_planned k us fs js ls d c.add.new.decided l job (is, of_requests x c.args.way, of_commits r x c.args.way own) now sent fresh c.in_ok-place.ensures.decided c.self.invariant in
+    let more : IsPlanned k us fs (js ++ job ∷ []) (ls ++ l ∷ []) c.add.new.decided = more_planned k us fs js ls d c.add.new.decided l job (is, of_requests x c.args.way, of_commits r x c.args.way own) now sent fresh c.in_ok-place.ensures.decided c.self.invariant.0 in
+    let planned : IsPlanned k us fs c.add.new.self.jobs.items c.add.new.self.askings.items c.add.new.decided =
     subst (λ (bs : List Job). IsPlanned k us fs bs c.add.new.self.askings.items c.add.new.decided) (sym c.in_ok-place.ensures.jobs)
     (subst (λ (ms : List Likeness). IsPlanned k us fs (js ++ job ∷ []) ms c.add.new.decided) (sym c.in_ok-place.ensures.askings) more)
+    in
+    let s : Schema = c.self.inside.schema.now in
+    let of : AreOfSchema s (asked_of x.tables) = subst (λ (w : Wanted). AreOfSchema w.schema (asked_of x.tables)) (sym c.self.view_is) c.requires.of in
+    (planned, more_decided s d c.add.new.decided (record { likeness = l; place = Some (length js) }) c.in_ok-place.ensures.decided (likeness_of s x c.args.way of) c.self.invariant.1)
 
 pub returns-then-not-is_sent-clause-place : goal.returns-then-not-is_sent-clause-place
 returns-then-not-is_sent-clause-place c =
