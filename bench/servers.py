@@ -18,6 +18,7 @@ import subprocess
 import sys
 import time
 from collections.abc import Iterable, Sequence
+from multiprocessing.connection import Connection
 from multiprocessing.synchronize import Event, Semaphore
 from typing import Any, Union
 
@@ -28,6 +29,8 @@ from places import PROGRAM
 
 SCHEMA: dict[str, Any] = {"name": "bench", "version": "1.0.0", "tables": {"T": {"columns": {"k": {"type": "integer"}, "v": {"type": "integer"}}, "isRoot": True}}}
 WINDOW = 32
+OPENS, CLOSES = b"{}"
+NO_BRACKETS = bytes({*range(256)} - {OPENS, CLOSES})
 
 
 def schema_in(folder: str) -> str:
@@ -105,10 +108,10 @@ class Client(daemon.Client):
     def ended(self, data: bytes) -> int:
         """How many messages end in this piece. What is measured has no brackets in its texts."""
         count = 0
-        for byte in data:
-            if byte == 123:
+        for byte in data.translate(None, NO_BRACKETS):
+            if byte == OPENS:
                 self.deep += 1
-            elif byte == 125:
+            else:
                 self.deep -= 1
                 count += self.deep == 0
         return count
@@ -124,6 +127,32 @@ class Client(daemon.Client):
         """The reply, where ovsdb-server may ask in between whether the client is there."""
         self.send(data)
         return self.message()
+
+
+class Bystander:
+    """A process that asks for an echo, waits for so many seconds after the reply, and asks again, until it is ended."""
+
+    def __init__(self, port: int, pause: float = 0.005) -> None:
+        self.times, kept = multiprocessing.Pipe(duplex=False)
+        self.over, begun = multiprocessing.Event(), multiprocessing.Event()
+        multiprocessing.Process(target=echoes, args=(port, pause, begun, self.over, kept), daemon=True).start()
+        begun.wait()
+
+    def end(self) -> list[float]:
+        """How long each echo took, in seconds, the shortest first."""
+        self.over.set()
+        return sorted(self.times.recv())
+
+
+def echoes(port: int, pause: float, begun: Event, over: Event, kept: Connection) -> None:
+    client, times = Client(port), []
+    while not over.is_set():
+        start = time.perf_counter()
+        client.ask(b'{"id":"e","method":"echo","params":[]}')
+        times.append(time.perf_counter() - start)
+        begun.set()
+        time.sleep(pause)
+    kept.send(times)
 
 
 def request(number: Any, method: str, params: Any) -> bytes:
