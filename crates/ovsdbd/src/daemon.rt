@@ -22,14 +22,14 @@ use std::time::{Clock, Duration, Instant};
 const SETTLES: u64 = 65_536;
 
 /// From how many microseconds under the lock on a turn of submissions counts as slow.
-const SLOW: u64 = 1_000;
+const SLOW: u64 = 200;
 
 /// What became of a turn of submissions.
 #[derive(Drop)]
 pub(crate) struct SubmittedTurn {
     /// Nothing, or why the turn stopped.
     pub(crate) outcome: Result<(), Refused>,
-    /// Whether it had the lock for a millisecond or longer.
+    /// Whether it had the lock for long.
     pub(crate) is_slow: bool,
 }
 
