@@ -1,21 +1,25 @@
 -- The index finds a session by the keys of what it asks, also after a filter is added, taken out or forgotten.
-use Rattle.std.specs.Prelude.{◌≡◌, ℕ, ◌+◌, ◌<◌, Bool, true, false, cond, not, ◌&&◌, ◌||◌, ◌==◌, List, [], ◌∷◌, ◌++◌, length, map, take, drop, Option, Some, None}
+use Rattle.std.specs.Prelude.{◌≡◌, ℕ, zero, suc, ◌+◌, ◌<◌, Bool, true, false, cond, not, ◌&&◌, ◌||◌, ◌==◌, List, [], ◌∷◌, ◌++◌, length, map, take, drop, slice_get, Option, Some, None}
 use mathlib.Core.Bool.{true≢false}
 use mathlib.Core.Logic.{inl, inr}
 use mathlib.Core.Path.{refl, sym, ap, ◌∙◌}
-use Rattle.std.proofs.Common.{get_or}
-use Rattle.std.proofs.lemmas.List.{take-append-drop}
+use Rattle.std.proofs.Common.{get_or, slice_set}
+use Rattle.std.proofs.lemmas.List.{take-append-drop, take_more}
 use Rattle.std.proofs.lemmas.List.Folds.{list_any-append, list_any_more}
+use Rattle.std.proofs.lemmas.Option.{none-some, same_Some}
+use Rattle.std.specs.Cmp.{unsigned_Decides}
 use Rattle.std.specs.List.{cons_option, filter_map, list_any}
+use Rattle.odb_cond.specs.Filter.{Filter}
 use Rattle.odb_cond.specs.Represented.Filter.{member_of}
 use Rattle.odb_cond.specs.declared.filter.Member.{Member}
 use Rattle.odb_interest.specs.Keys.{Asked, Interests, Key, asked_at, key_of}
 use Rattle.odb_interest.specs.Represented.Asked.{LosesFirst}
-use Rattle.odb_interest.specs.Represented.Index.{Covers, CoversSome, Indexes, IsUnchanged, Puts, Uncovers, UncoversAll, finds, is_own}
+use Rattle.odb_interest.specs.Represented.Index.{Covers, CoversLacking, CoversSome, Indexes, IsUnchanged, Puts, Uncovers, UncoversAll, UncoversAt, UncoversFound, finds, is_own}
 use Rattle.odb_interest.specs.Represented.Key.{among, has_key, held, is_asked, same_key}
-use Rattle.odb_interest.specs.Represented.Lists.{Asks, IsSame}
+use Rattle.odb_interest.specs.Represented.Lists.{Asks, IsSame, with_filter}
 use Rattle.odb_interest.specs.declared.index.Index.{Index}
-use Rattle.odb_interest.proofs.Booleans.{all_out, back, goes, middle_out, never_own, not_own, one_fewer, one_more, own, put_among, some_reached, stays, stays_so}
+use Rattle.odb_interest.proofs.Booleans.{all_out, back, both_parts, each_part, exchanged_none, exchanged_one, goes, grouped, middle_out, never_own, not_own, one_fewer, one_filter_fewer, one_more, or_false, or_turned, own, part_reached, put_among, some_reached, stays, stays_so, twice_not}
+use Rattle.odb_interest.proofs.Asking.{asks_itself}
 use Rattle.odb_interest.proofs.Touching.{key_is, same_number}
 
 -- ---- the keys of a filter, member by member
@@ -109,6 +113,118 @@ module _ (table session : ℕ) where
     same t k s ∙ before t k s ∙ some_reached (finds old t k s) (is_own table session t s) (among (take i ms) k) (among ms k) (among_part ms i k),
   )
 
+-- ---- the keys that the other filter lacks
+
+-- one of the members of the code is looked up by the key, so the filter is
+pub among_gives : (ms : List Member) (k : Key) → among ms k ≡ true → has_key k (map member_of ms) ≡ true
+among_gives [] k h = absurd (true≢false (sym h))
+among_gives (m ∷ ms) k h = any-filter_map (same_key k) key_of (map member_of (m ∷ ms)) ∙ any-members (same_key k) (m ∷ ms) ∙ h
+
+pub at_place : (ms : List Member) (i : ℕ) (m : Member) (k : Key) → i < length ms → m ≡ get_or ms i m → held (same_key k) (key_of (member_of m)) ≡ true → among ms k ≡ true
+at_place ms i m k inside is h =
+    among_part ms (i + 1) k (among_more ms i m k inside is ∙ ap (λ b. among (take i ms) k || b) h ∙ or_turned (among (take i ms) k) true)
+
+-- what is looked up by a key that is among the members
+pub near_has : (ms : List Member) (o : Option Key) (key k : Key) → o ≡ Some key → among ms key ≡ true → held (same_key k) o ≡ true → among ms k ≡ true
+near_has ms o key k is found h = ap (among ms) (key_is k key (sym (ap (held (same_key k)) is) ∙ h)) ∙ found
+
+module _ (table session : ℕ) where
+  pub covers_lacking : (old new : Index) (p other : Key → Bool) → Covers old new table p session → CoversLacking old new table p other session
+  covers_lacking old new p other h t k s = (true, λ _. refl, h t k s)
+
+  pub none_lacking : (now : Index) (p other : Key → Bool) → ((k : Key) → p k ≡ true → other k ≡ true) → CoversLacking now now table p other session
+  none_lacking now p other h t k s = (false, h k, or_false (finds now t k s))
+
+  pub covers_lacking_by : (old new : Index) (p q other : Key → Bool) → ((k : Key) → p k ≡ q k) → CoversLacking old new table p other session → CoversLacking old new table q other session
+  covers_lacking_by old new p q other is h t k s =
+      let w = h t k s in
+      (w.0, λ has. w.1 (is k ∙ has), w.2 ∙ ap (λ b. finds old t k s || (w.0 && (is_own table session t s && b))) (is k))
+
+  pub some_lacking : (old new : Index) (p other : Key → Bool) → CoversLacking old new table p other session → CoversSome old new table p session
+  some_lacking old new p other h t k s = let w = h t k s in (w.0, w.2)
+
+  pub lacking_more : (old now new : Index) (ms : List Member) (i : ℕ) (m : Member) (other : Key → Bool) → i < length ms → m ≡ get_or ms i m → CoversLacking old now table (among (take i ms)) other session → CoversLacking now new table (λ k. held (same_key k) (key_of (member_of m))) other session → CoversLacking old new table (among (take (i + 1) ms)) other session
+  lacking_more old now new ms i m other inside is before more t k s =
+      let w = before t k s in
+      let v = more t k s in
+      let p = among (take i ms) k in
+      let q = held (same_key k) (key_of (member_of m)) in
+      let o = is_own table session t s in (
+        ((w.0 && p) || (v.0 && q)),
+        λ has. each_part p q w.0 v.0 (other k) w.1 v.1 (sym (among_more ms i m k inside is) ∙ has),
+        v.2 ∙ ap (λ b. b || (v.0 && (o && q))) w.2 ∙ both_parts (finds old t k s) o p q w.0 v.0
+            ∙ ap (λ b. finds old t k s || (((w.0 && p) || (v.0 && q)) && (o && b))) (sym (among_more ms i m k inside is)),
+      )
+
+  -- where memory was refused, some keys are covered
+  pub lacking_so_far : (old now new : Index) (ms : List Member) (i : ℕ) (other : Key → Bool) → CoversLacking old now table (among (take i ms)) other session → IsUnchanged now new → CoversSome old new table (among ms) session
+  lacking_so_far old now new ms i other before same t k s =
+      let w = before t k s in (
+        (w.0 && among (take i ms) k),
+        same t k s ∙ w.2 ∙ part_reached (finds old t k s) (is_own table session t s) (among (take i ms) k) (among ms k) w.0 (among_part ms i k),
+      )
+
+  -- ---- the keys by which another index finds it
+
+  pub found_by : (old new : Index) (p q : Key → Bool) (found : Index) → ((k : Key) → p k ≡ q k) → UncoversFound old new table p session found → UncoversFound old new table q session found
+  found_by old new p q found is h t k s = h t k s ∙ ap (λ b. finds old t k s && not (is_own table session t s && (b && finds found table k session))) (is k)
+
+  pub found_more : (old now new : Index) (ms : List Member) (i : ℕ) (m : Member) (found : Index) → i < length ms → m ≡ get_or ms i m → UncoversFound old now table (among (take i ms)) session found → UncoversFound now new table (λ k. held (same_key k) (key_of (member_of m))) session found → UncoversFound old new table (among (take (i + 1) ms)) session found
+  found_more old now new ms i m found inside is before more t k s =
+      more t k s ∙ ap (λ b. b && not (is_own table session t s && (held (same_key k) (key_of (member_of m)) && finds found table k session))) (before t k s)
+      ∙ one_fewer (finds old t k s) (is_own table session t s) (among (take i ms) k) (held (same_key k) (key_of (member_of m))) (finds found table k session)
+      ∙ ap (λ b. finds old t k s && not (is_own table session t s && (b && finds found table k session))) (sym (among_more ms i m k inside is))
+
+  pub none_found : (now found : Index) (p : Key → Bool) → ((k : Key) → p k ≡ false) → UncoversFound now now table p session found
+  none_found now found p none t k s = by (finds now t k s) (is_own table session t s) (finds found table k session) ∙ ap (λ b. finds now t k s && not (is_own table session t s && (b && finds found table k session))) (sym (none k))
+    where
+      by : (b o n : Bool) → b ≡ (b && not (o && (false && n)))
+      by false o n = refl
+      by true true n = refl
+      by true false n = refl
+
+  pub put_found_out : (now new found : Index) (key : Key) → finds found table key session ≡ true → Puts now new table key session false → UncoversFound now new table (λ k. same_key k key) session found
+  put_found_out now new found key there puts t k s =
+      puts t k s
+      ∙ goes (finds now t k s) (table == t) (same_key k key) (session == s) (not (finds found table k session))
+      (λ here same. (λ i. not (finds found table (key_is k key same i) session)) ∙ ap not there)
+      ∙ ap (λ b. finds now t k s && not (is_own table session t s && (same_key k key && b))) (twice_not (finds found table k session))
+
+  pub none_found_out : (now found : Index) (key : Key) → finds found table key session ≡ false → UncoversFound now now table (λ k. same_key k key) session found
+  none_found_out now found key gone t k s =
+      stays (finds now t k s) (table == t) (same_key k key) (session == s) (not (finds found table k session))
+      (λ here same. (λ i. not (finds found table (key_is k key same i) session)) ∙ ap not gone)
+      ∙ ap (λ b. finds now t k s && not (is_own table session t s && (same_key k key && b))) (twice_not (finds found table k session))
+
+  -- ---- the filters of a table
+
+  pub at_table : (old now new : Index) (fs : List Asked) (i : ℕ) (a : Asked) → i < length fs → a ≡ get_or fs i a → UncoversAt old now table session (take i fs) → UncoversAt now new table session (a ∷ []) → UncoversAt old new table session (take (i + 1) fs)
+  at_table old now new fs i a inside is before more t k s =
+      more t k s ∙ ap (λ b. b && not (is_own table session t s && is_asked (a ∷ []) t k)) (before t k s)
+      ∙ one_filter_fewer (finds old t k s) (is_own table session t s) (is_asked (take i fs) t k) (is_asked (a ∷ []) t k)
+      ∙ ap (λ b. finds old t k s && not (is_own table session t s && b)) (sym (ap (λ xs. is_asked xs t k) (take_more fs i a inside ∙ ap (λ x. take i fs ++ x ∷ []) (sym is)) ∙ list_any-append (λ (x : Asked). (x.0 == t) && has_key k x.1) (take i fs) (a ∷ [])))
+
+  -- a filter of another table
+  pub other_table : (now : Index) (a : Asked) → (a.0 == table) ≡ false → UncoversAt now now table session (a ∷ [])
+  other_table now a e t k s = by (table == t) refl
+    where
+      apart : (table == t) ≡ true → (a.0 == t) ≡ false
+      apart h = ap (λ n. a.0 == n) (sym (same_number table t h)) ∙ e
+
+      by : (b : Bool) → (table == t) ≡ b → finds now t k s ≡ (finds now t k s && not (((table == t) && (session == s)) && (((a.0 == t) && has_key k a.1) || false)))
+      by true h = sym (ap (λ b. finds now t k s && not (((table == t) && (session == s)) && ((b && has_key k a.1) || false))) (apart h) ∙ ap (λ b. finds now t k s && not b) (never_own ((table == t) && (session == s))) ∙ stays_so (finds now t k s))
+      by false h = sym (ap (λ b. finds now t k s && not ((b && (session == s)) && (((a.0 == t) && has_key k a.1) || false))) h ∙ stays_so (finds now t k s))
+
+  -- a filter of this one, which no others share
+  pub own_table : (now new : Index) (a : Asked) → a.0 ≡ table → Uncovers now new table (λ k. has_key k a.1) session [] → UncoversAt now new table session (a ∷ [])
+  own_table now new a same h t k s = h t k s ∙ ap (λ b. finds now t k s && not b) (by (table == t) (session == s) (has_key k a.1)) ∙ ap (λ (n : ℕ). finds now t k s && not (((table == t) && (session == s)) && (((n == t) && has_key k a.1) || false))) (sym same)
+    where
+      by : (t s h : Bool) → ((t && s) && (h && true)) ≡ ((t && s) && ((t && h) || false))
+      by true true true = refl
+      by true true false = refl
+      by true false h = refl
+      by false s h = refl
+
 -- ---- the index and the lists
 
 at_session : (session s : ℕ) → (session == s) ≡ true → session ≡ s
@@ -116,6 +232,38 @@ at_session session s e = same_number session s e
 
 is_asked-append : (fs gs : List Asked) (t : ℕ) (k : Key) → is_asked (fs ++ gs) t k ≡ (is_asked fs t k || is_asked gs t k)
 is_asked-append fs gs t k = list_any-append (λ (a : Asked). (a.0 == t) && has_key k a.1) fs gs
+
+itself_number : (n : ℕ) → (n == n) ≡ true
+itself_number n = (unsigned_Decides n n).1 refl
+
+-- what is asked by the other filters of a list, and by one of them or by another in its place
+with_filter_parts : (fs : List Asked) (place : ℕ) (a : Asked) (f : Filter) (t : ℕ) (k : Key) → slice_get fs place ≡ Some a → (others : Bool) × (is_asked fs t k ≡ (others || ((a.0 == t) && has_key k a.1))) × (is_asked (with_filter fs place f) t k ≡ (others || ((a.0 == t) && has_key k f)))
+with_filter_parts [] place a f t k there = absurd (none-some a there)
+with_filter_parts (x ∷ xs) zero a f t k there =
+    let is : x ≡ a = same_Some x a there in (
+      is_asked xs t k,
+      (λ i. ((is i).0 == t) && has_key k (is i).1 || is_asked xs t k) ∙ or_turned ((a.0 == t) && has_key k a.1) (is_asked xs t k),
+      (λ i. ((is i).0 == t) && has_key k f || is_asked xs t k) ∙ or_turned ((a.0 == t) && has_key k f) (is_asked xs t k),
+    )
+with_filter_parts (x ∷ xs) (suc place) a f t k there =
+    let part = with_filter_parts xs place a f t k there in
+    let h = (x.0 == t) && has_key k x.1 in (
+      (h || part.0),
+      ap (λ b. h || b) part.1 ∙ sym (grouped h part.0 ((a.0 == t) && has_key k a.1)),
+      ap (λ b. h || b) part.2 ∙ sym (grouped h part.0 ((a.0 == t) && has_key k f)),
+    )
+
+-- a filter is put in the place of another of its table
+pub put_filter : (fs : List Asked) (k : ℕ) (a b : Asked) → slice_get fs k ≡ Some b → b.0 ≡ a.0 → slice_set fs k a ≡ with_filter fs k a.1
+put_filter [] k a b there same = absurd (none-some b there)
+put_filter (x ∷ xs) zero a b there same = λ i. ((sym same ∙ ap (λ (y : Asked). y.0) (sym (same_Some x b there))) i, a.1) ∷ xs
+put_filter (x ∷ xs) (suc k) a b there same = ap (λ ys. x ∷ ys) (put_filter xs k a b there same)
+
+-- past the last nothing is put
+pub past_last : (fs : List Asked) (place : ℕ) (f : Filter) → slice_get fs place ≡ None → with_filter fs place f ≡ fs
+past_last [] place f e = refl
+past_last (x ∷ xs) zero f e = absurd (none-some x (sym e))
+past_last (x ∷ xs) (suc place) f e = ap (λ ys. x ∷ ys) (past_last xs place f e)
 
 module _ (x : Index) (v : Interests) (agrees : Indexes x v) (session : ℕ) where
   pub entered : (y : Index) (w : Interests) (a : Asked) → Covers x y a.0 (λ k. has_key k a.1) session → Asks v w session (asked_at v session ++ a ∷ []) → Indexes y w
@@ -173,6 +321,57 @@ module _ (x : Index) (v : Interests) (agrees : Indexes x v) (session : ℕ) wher
           ap (λ b. is_asked (asked_at v s) t k && not (((a.0 == t) && b) && (has_key k a.1 && not (is_asked (asked_at w session) t k)))) e
           ∙ ap (λ b. is_asked (asked_at v s) t k && not (b && (has_key k a.1 && not (is_asked (asked_at w session) t k)))) (never_own (a.0 == t))
           ∙ stays_so (is_asked (asked_at v s) t k)
+
+  -- a filter in the place of another of its table, over an index of what the old one alone may have
+  pub exchanged : (y z none going left : Index) (w : Interests) (place : ℕ) (old : Asked) (f : Filter) → slice_get (asked_at v session) place ≡ Some old → ((t : ℕ) (k : Key) (s : ℕ) → finds none t k s ≡ false) → CoversLacking none going old.0 (λ k. has_key k old.1) (λ k. has_key k f) session → UncoversAt going left old.0 session (asked_at w session) → CoversLacking x y old.0 (λ k. has_key k f) (λ k. has_key k old.1) session → Asks v w session (with_filter (asked_at v session) place f) → UncoversFound y z old.0 (λ k. has_key k old.1) session left → Indexes z w
+  exchanged y z none going left w place old f there empty goes leaves comes asks uncovers t k s = uncovers t k s ∙ by (session == s) refl (old.0 == t) refl
+    where
+      o : Bool
+      o = has_key k old.1
+
+      n : Bool
+      n = has_key k f
+
+      part : (others : Bool) × (is_asked (asked_at v session) t k ≡ (others || ((old.0 == t) && o))) × (is_asked (with_filter (asked_at v session) place f) t k ≡ (others || ((old.0 == t) && n)))
+      part = with_filter_parts (asked_at v session) place old f t k there
+
+      here : (some : Bool) × (n ≡ true → (some || o) ≡ true) × (finds y t k s ≡ (finds x t k s || (some && (is_own old.0 session t s && n))))
+      here = comes t k s
+
+      gone : (some : Bool) × (o ≡ true → (some || n) ≡ true) × (finds going old.0 k session ≡ (finds none old.0 k session || (some && (is_own old.0 session old.0 session && o))))
+      gone = goes old.0 k session
+
+      out : Bool → Bool
+      out own = (is_asked (asked_at v s) t k || (here.0 && (own && n))) && not (own && (o && finds left old.0 k session))
+
+      starts : (finds y t k s && not (((old.0 == t) && (session == s)) && (o && finds left old.0 k session))) ≡ out ((old.0 == t) && (session == s))
+      starts = ap (λ b. b && not (((old.0 == t) && (session == s)) && (o && finds left old.0 k session))) (here.2 ∙ ap (λ b. b || (here.0 && (((old.0 == t) && (session == s)) && n))) (agrees t k s))
+
+      own_session : asked_at w session ≡ with_filter (asked_at v session) place f
+      own_session = asks_itself session v w (with_filter (asked_at v session) place f) asks
+
+      by : (b : Bool) → (session == s) ≡ b → (d : Bool) → (old.0 == t) ≡ d → (finds y t k s && not (((old.0 == t) && (session == s)) && (o && finds left old.0 k session))) ≡ is_asked (asked_at w s) t k
+      by false e d same =
+          starts ∙ ap out (ap (λ b. (old.0 == t) && b) e ∙ never_own (old.0 == t))
+          ∙ exchanged_none (is_asked (asked_at v s) t k) here.0 n (o && finds left old.0 k session)
+          ∙ sym (ap (λ fs. is_asked fs t k) (asks s ∙ ap (λ b. cond b (with_filter (asked_at v session) place f) (asked_at v s)) e))
+      by true e false same =
+          starts ∙ ap (λ b. out (b && (session == s))) same
+          ∙ exchanged_none (is_asked (asked_at v s) t k) here.0 n (o && finds left old.0 k session)
+          ∙ ap (λ m. is_asked (asked_at v m) t k) (sym (at_session session s e))
+          ∙ part.1 ∙ ap (λ b. part.0 || (b && o)) same ∙ sym (ap (λ b. part.0 || (b && n)) same) ∙ sym part.2
+          ∙ ap (λ fs. is_asked fs t k) (sym own_session) ∙ ap (λ m. is_asked (asked_at w m) t k) (at_session session s e)
+      by true e true same =
+          let was : is_asked (asked_at v s) t k ≡ (part.0 || o) = ap (λ m. is_asked (asked_at v m) t k) (sym (at_session session s e)) ∙ part.1 ∙ ap (λ b. part.0 || (b && o)) same in
+          let now : is_asked (with_filter (asked_at v session) place f) t k ≡ (part.0 || n) = part.2 ∙ ap (λ b. part.0 || (b && n)) same in
+          let at : old.0 ≡ t = same_number old.0 t same in
+          let itself : is_own old.0 session old.0 session ≡ true = (λ i. itself_number old.0 i && itself_number session i) in
+          let first : finds going old.0 k session ≡ (gone.0 && o) = gone.2 ∙ (λ i. empty old.0 k session i || (gone.0 && (itself i && o))) in
+          let last : finds left old.0 k session ≡ ((gone.0 && o) && not (part.0 || n)) =
+          leaves old.0 k session ∙ (λ i. first i && not (itself i && is_asked (asked_at w session) (at i) k)) ∙ ap (λ b. (gone.0 && o) && not b) (ap (λ fs. is_asked fs t k) own_session ∙ now) in
+          starts ∙ (λ i. (was i || (here.0 && ((same i && e i) && n))) && not ((same i && e i) && (o && last i)))
+          ∙ exchanged_one part.0 o n here.0 gone.0 here.1 gone.1
+          ∙ sym now ∙ ap (λ fs. is_asked fs t k) (sym own_session) ∙ ap (λ m. is_asked (asked_at w m) t k) (at_session session s e)
 
   pub forgotten : (y : Index) (w : Interests) → UncoversAll x y session (asked_at v session) → Asks v w session [] → Indexes y w
   forgotten y w uncovers asks t k s = uncovers t k s ∙ ap (λ b. b && not ((session == s) && is_asked (asked_at v session) t k)) (agrees t k s) ∙ by (session == s) refl ∙ sym (ap (λ fs. is_asked fs t k) (asks s))

@@ -80,6 +80,14 @@ asks_same session old new h s = h s ∙ by (session == s) refl
 pub asks_itself : (session : ℕ) (old new : Interests) (fs : List Asked) → Asks old new session fs → asked_at new session ≡ fs
 asks_itself session old new fs h = h session ∙ ap (λ b. cond b fs (asked_at old session)) ((unsigned_Decides session session).1 refl)
 
+-- it asks what it did
+pub asks_kept : (session : ℕ) (old : Interests) (fs : List Asked) → asked_at old session ≡ fs → Asks old old session fs
+asks_kept session old fs is s = by (session == s) refl
+  where
+    by : (b : Bool) → (session == s) ≡ b → asked_at old s ≡ cond b fs (asked_at old s)
+    by true e = ap (asked_at old) (sym ((unsigned_Decides session s).0 e)) ∙ is
+    by false e = refl
+
 -- ---- a list that loses its first x
 
 pub none_lost : {X : Type 0} (x : X) (xs ys : List X) → ys ≡ xs → All (λ y. y ≢ x) xs → LosesFirst x xs ys

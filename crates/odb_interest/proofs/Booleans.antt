@@ -1,7 +1,8 @@
 -- Laws of tests.
 use Rattle.std.specs.Prelude.{◌≡◌, ℕ, Bool, true, false, cond, not, ◌&&◌, ◌||◌, ◌==◌, Result, Ok, Err, OnErr}
 use Rattle.std.specs.Cmp.{both_ways, unsigned_Decides}
-use mathlib.Core.Path.{refl, sym, ap}
+use mathlib.Core.Bool.{true≢false}
+use mathlib.Core.Path.{refl, sym, ap, ◌∙◌}
 
 pub turned : (m n : ℕ) → (m == n) ≡ (n == m)
 turned m n = both_ways (m == n) (n == m) (λ e. (unsigned_Decides n m).1 (sym ((unsigned_Decides m n).0 e))) (λ e. (unsigned_Decides m n).1 (sym ((unsigned_Decides n m).0 e)))
@@ -132,3 +133,76 @@ never_own false = refl
 pub whatever : {X E : Type 0} (P : Type 0) (r : Result X E) → P → OnErr r P
 whatever P (Ok x) p = tt
 whatever P (Err e) p = p
+
+pub or_turned : (a b : Bool) → (a || b) ≡ (b || a)
+or_turned true true = refl
+or_turned true false = refl
+or_turned false true = refl
+or_turned false false = refl
+
+-- some keys of two parts
+pub both_parts : (b o p q c d : Bool) → ((b || (c && (o && p))) || (d && (o && q))) ≡ (b || (((c && p) || (d && q)) && (o && (p || q))))
+both_parts true o p q c d = refl
+both_parts false true true true true true = refl
+both_parts false true true true true false = refl
+both_parts false true true true false true = refl
+both_parts false true true true false false = refl
+both_parts false true true false true true = refl
+both_parts false true true false true false = refl
+both_parts false true true false false true = refl
+both_parts false true true false false false = refl
+both_parts false true false true true true = refl
+both_parts false true false true true false = refl
+both_parts false true false true false true = refl
+both_parts false true false true false false = refl
+both_parts false true false false true true = refl
+both_parts false true false false true false = refl
+both_parts false true false false false true = refl
+both_parts false true false false false false = refl
+both_parts false false p q true true = sym (never_own (p || q))
+both_parts false false p q true false = sym (never_own (p || false))
+both_parts false false p q false true = sym (never_own q)
+both_parts false false p q false false = refl
+
+-- each key of two parts is found, or the other filter has it
+pub each_part : (p q c d n : Bool) → (p ≡ true → (c || n) ≡ true) → (q ≡ true → (d || n) ≡ true) → (p || q) ≡ true → (((c && p) || (d && q)) || n) ≡ true
+each_part p q c d true h g e = or_turned ((c && p) || (d && q)) true
+each_part true q true d false h g e = refl
+each_part true q false d false h g e = absurd (true≢false (sym (h refl)))
+each_part false true c true false h g e = ap (λ b. (b || true) || false) (never_own c)
+each_part false true c false false h g e = absurd (true≢false (sym (g refl)))
+each_part false false c d false h g e = absurd (true≢false (sym e))
+
+-- the keys that were reached, of all
+pub part_reached : (b o p t c : Bool) → (p ≡ true → t ≡ true) → (b || (c && (o && p))) ≡ (b || ((c && p) && (o && t)))
+part_reached true o p t c h = refl
+part_reached false o p t false h = refl
+part_reached false o true t true h = ap (λ x. o && x) (sym (h refl))
+part_reached false o false t true h = never_own o
+
+-- one filter in the place of another: what both have stays, what the old one alone has goes, what the new one alone has comes
+pub exchanged_one : (f o n c g : Bool) → (n ≡ true → (c || o) ≡ true) → (o ≡ true → (g || n) ≡ true) → (((f || o) || (c && (true && n))) && not (true && (o && ((g && o) && not (f || n))))) ≡ (f || n)
+exchanged_one true o n c g comes goes = ap (λ b. true && not (o && b)) (never_own (g && o)) ∙ ap (λ b. true && not b) (never_own o)
+exchanged_one false true true c g comes goes = ap (λ b. true && not b) (never_own (g && true))
+exchanged_one false true false c true comes goes = refl
+exchanged_one false true false c false comes goes = absurd (true≢false (sym (goes refl)))
+exchanged_one false false true true g comes goes = refl
+exchanged_one false false true false g comes goes = absurd (true≢false (sym (comes refl)))
+exchanged_one false false false c g comes goes = ap (λ b. b && true) (never_own c)
+
+-- where nothing of its own is
+pub exchanged_none : (x c n r : Bool) → ((x || (c && (false && n))) && not (false && r)) ≡ x
+exchanged_none true c n r = refl
+exchanged_none false true n r = refl
+exchanged_none false false n r = refl
+
+pub twice_not : (b : Bool) → not (not b) ≡ b
+twice_not true = refl
+twice_not false = refl
+
+-- two parts that go, one after the other
+pub one_filter_fewer : (b o p q : Bool) → ((b && not (o && p)) && not (o && q)) ≡ (b && not (o && (p || q)))
+one_filter_fewer false o p q = refl
+one_filter_fewer true false p q = refl
+one_filter_fewer true true true q = refl
+one_filter_fewer true true false q = refl

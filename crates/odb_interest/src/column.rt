@@ -69,6 +69,16 @@ impl Column {
         }
     }
 
+    /// Returns whether the session names the atom. O(log n) for n atoms and for n sessions that name it.
+    pub(crate) fn has(&self, atom: &Atom, session: SessionId) -> bool
+        ensures { result ≡ names self.now (atom_of atom.now) session }
+    {
+        match self.sessions.get(atom) {
+            Some(sessions) => sessions.contains(&session),
+            None => false,
+        }
+    }
+
     /// Adds the sessions that name an atom which one of the rows has in the column, as it was or as it is.
     pub(crate) fn find(
         &self,

@@ -1,11 +1,11 @@
 //! The sessions by the keys of what they ask.
-ghost use Rattle.std.specs.Prelude.{◌≡◌, ℕ, false, true, OnErr, OnOk};
+ghost use Rattle.std.specs.Prelude.{◌≡◌, ◌∷◌, [], ℕ, false, true, OnErr, OnOk};
 ghost use Rattle.odb_interest.specs.Keys as model;
 ghost use Rattle.odb_interest.specs.Represented.Key.{among, has_key, key_in, same_key};
 ghost use Rattle.odb_interest.specs.Represented.Found.{Grows};
 
 use crate::asked::Asked;
-use crate::key::Key;
+use crate::key::{Key, lacking};
 use crate::watched::Watched;
 use odb_cond::{Filter, Member};
 use odb_locks::SessionId;
@@ -21,7 +21,7 @@ pub(crate) struct Index {
 }
 
 impl Index {
-    ghost use Rattle.odb_interest.specs.Represented.Index.{Covers, CoversSome, IsUnchanged, Puts, Uncovers, UncoversAll, finds, finds_among, finds_for};
+    ghost use Rattle.odb_interest.specs.Represented.Index.{Covers, CoversLacking, CoversSome, IsUnchanged, Puts, Uncovers, UncoversAll, UncoversAt, UncoversFound, finds, finds_among, finds_for};
 
     /// Makes an index of no sessions.
     pub(crate) fn new(alloc: Global) -> Index
@@ -63,6 +63,16 @@ impl Index {
         }
     }
 
+    /// Returns whether the session is found by the key of the table. O(log n), as `Column::has` says it.
+    fn has(&self, table: TableId, key: Key<'_>, session: SessionId) -> bool
+        ensures { result ≡ finds self.now table (key_in key.entry) session }
+    {
+        match self.tables.get(&table.place()) {
+            Some(watched) => watched.has(key, session),
+            None => false,
+        }
+    }
+
     /// Has the session found by the keys of the filter too; where memory is refused, by some of them.
     pub(crate) fn cover(
         &mut self,
@@ -93,6 +103,33 @@ impl Index {
     {
         for member in members {
             if let Some(key) = Key::of(member) {
+                self.insert(alloc, table, key, session)?;
+            }
+        }
+        Ok(())
+    }
+
+    /// Has the session found by keys of the filter too, by each that the other filter hasn't; where memory is refused,
+    /// by some of them. A look-up for each that isn't among the next few of the other filter.
+    pub(crate) fn cover_lacking(
+        &mut self,
+        alloc: Global,
+        asked: &Asked,
+        other: &Filter,
+        session: SessionId,
+    ) -> Result<(), AllocError>
+        ensures some { CoversSome self.old self.new asked.now.0 (λ k. has_key k asked.now.1) session }
+        ensures ok { OnOk result (CoversLacking self.old self.new asked.now.0 (λ k. has_key k asked.now.1) (λ k. has_key k other.now) session) }
+    {
+        let table = asked.table();
+        let members = asked.filter().members();
+        if members.is_empty() {
+            return self.insert(alloc, table, Key::Any, session);
+        }
+        let others = other.members();
+        let mut place = 0;
+        for member in members {
+            if let Some(key) = lacking(member, others, &mut place) {
                 self.insert(alloc, table, key, session)?;
             }
         }
@@ -139,6 +176,50 @@ impl Index {
     {
         for asked in filters {
             self.uncover(asked.table(), asked.filter(), session, &[]);
+        }
+    }
+
+    /// Has the session not found by the keys of those of the filters that are of the table.
+    pub(crate) fn uncover_table(&mut self, table: TableId, session: SessionId, filters: &[Asked])
+        ensures { UncoversAt self.old self.new table session filters.now }
+    {
+        for asked in filters {
+            self.uncover_if_of(table, session, asked);
+        }
+    }
+
+    /// Has the session not found by the keys of the filter, if it is of the table.
+    fn uncover_if_of(&mut self, table: TableId, session: SessionId, asked: &Asked)
+        ensures { UncoversAt self.old self.new table session (asked.now ∷ []) }
+    {
+        if asked.table() != table {
+            return;
+        }
+        self.uncover(table, asked.filter(), session, &[]);
+    }
+
+    /// Has the session not found by those keys of the filter by which the other index finds it.
+    pub(crate) fn uncover_found(&mut self, asked: &Asked, session: SessionId, found: &Index)
+        ensures { UncoversFound self.old self.new asked.now.0 (λ k. has_key k asked.now.1) session found.now }
+    {
+        let table = asked.table();
+        let members = asked.filter().members();
+        if members.is_empty() {
+            return self.remove_found(table, Key::Any, session, found);
+        }
+        for member in members {
+            if let Some(key) = Key::of(member) {
+                self.remove_found(table, key, session, found);
+            }
+        }
+    }
+
+    /// Has the session not found by the key, if the other index finds it by that.
+    fn remove_found(&mut self, table: TableId, key: Key<'_>, session: SessionId, found: &Index)
+        ensures { UncoversFound self.old self.new table (λ k. same_key k (key_in key.entry)) session found.now }
+    {
+        if found.has(table, key, session) {
+            self.remove(table, key, session);
         }
     }
 

@@ -1,5 +1,5 @@
 //! The index of what sessions ask.
-ghost use Rattle.std.specs.Prelude.{◌≡◌, ◌++◌, ◌==◌, ◌∷◌, [], ℕ, IfOk, OnErr, OnOk};
+ghost use Rattle.std.specs.Prelude.{◌≡◌, ◌++◌, ◌==◌, ◌∷◌, [], ℕ, slice_get, IfOk, OnErr, OnOk, Some};
 ghost use Rattle.std.specs.Arc.{arc_value};
 ghost use Rattle.std.specs.List.{list_any};
 ghost use Rattle.std.specs.List.Sorted.{IsStrictlySortedBy};
@@ -8,7 +8,7 @@ ghost use Rattle.odb_interest.specs.Keys.{asked_at, is_touched};
 ghost use Rattle.odb_interest.specs.Represented.Asked.{LosesFirst};
 ghost use Rattle.odb_interest.specs.Represented.Index.{Covers, CoversSome};
 ghost use Rattle.odb_interest.specs.Represented.Key.{has_key};
-ghost use Rattle.odb_interest.specs.Represented.Lists.{Asks, IsSame};
+ghost use Rattle.odb_interest.specs.Represented.Lists.{Asks, IsSame, with_filter};
 
 use crate::asked::Asked;
 use crate::found::ascending;
@@ -88,6 +88,58 @@ impl Interest {
                 Err(refused)
             }
         }
+    }
+
+    /// Has a filter in the place of another of the same table in what the session asks, where place 0 is that of its
+    /// first filter; past the last it changes nothing. Where memory is refused each session asks what it did.
+    ///
+    /// It compares the keys of the members of both filters, O(n) for n members that stand in the same order but for
+    /// a few, and a look-up for each member that stands elsewhere in the other filter or isn't there; where a key goes,
+    /// a look-up for each member that the session asks of the table.
+    pub fn put(
+        &mut self,
+        session: SessionId,
+        place: usize,
+        filter: &Arc<Filter>,
+    ) -> Result<(), AllocError>
+        ensures ok { OnOk result (Asks self.old self.new session (with_filter (asked_at self.old session) place (arc_value filter.now))) }
+        ensures err { OnErr result (IsSame self.old self.new) }
+    {
+        let Some(asked) = self.lists.get(session).get(place) else {
+            return Ok(());
+        };
+        let old = Asked::new(asked.table(), asked.filter())?;
+        let new = Asked::new(asked.table(), filter)?;
+        self.exchange(session, place, &old, new)
+    }
+
+    /// Has the new filter in the place of the old one.
+    fn exchange(
+        &mut self,
+        session: SessionId,
+        place: usize,
+        old: &Asked,
+        new: Asked,
+    ) -> Result<(), AllocError>
+        requires there { slice_get (asked_at self.old session) place ≡ Some old.now }
+        requires table { new.0 ≡ old.now.0 }
+        ensures ok { OnOk result (Asks self.old self.new session (with_filter (asked_at self.old session) place new.1)) }
+        ensures err { OnErr result (IsSame self.old self.new) }
+    {
+        let mut going = Index::new(self.alloc);
+        going.cover_lacking(self.alloc, old, new.filter(), session)?;
+        if let Err(refused) = self
+            .index
+            .cover_lacking(self.alloc, &new, old.filter(), session)
+        {
+            // Some keys may have been entered.
+            self.index.uncover(new.table(), new.filter(), session, self.lists.get(session));
+            return Err(refused);
+        }
+        self.lists.put(session, place, new);
+        going.uncover_table(old.table(), session, self.lists.get(session));
+        self.index.uncover_found(old, session, &going);
+        Ok(())
     }
 
     /// Takes a filter of the table out of what the session asks: the first that has the same members in the

@@ -1,15 +1,18 @@
 //! What the members of a filter are looked up by.
-ghost use Rattle.std.specs.Prelude.{◌≡◌, ◌&&◌, ◌==◌, map, option_map};
+ghost use Rattle.std.specs.Prelude.{◌≡◌, ◌&&◌, ◌==◌, map, option_map, true, IfSome};
 ghost use Rattle.odb_atoms.specs.Represented.Atom.{atom_of};
 ghost use Rattle.odb_cond.specs.Represented.Clause.{selector_of};
 ghost use Rattle.odb_cond.specs.Represented.Filter.{member_of};
 ghost use Rattle.odb_interest.specs.Keys.{atoms_in, first_in, key_at, key_of, needed};
-ghost use Rattle.odb_interest.specs.Represented.Key.{among, has_key, held, is_asked, key_in, same_column, same_key};
+ghost use Rattle.odb_interest.specs.Represented.Key.{LacksKey, among, has_key, held, is_asked, key_in, same_column, same_key};
 
 use crate::asked::Asked;
 use odb_atoms::{Atom, Entries, Value};
 use odb_cond::{Clause, Filter, Function, Member, Selector};
 use odb_schema::TableId;
+
+/// How many members of another filter are looked at for a key.
+const NEAR: usize = 4;
 
 /// What a session is looked up by.
 #[derive(Clone, Copy)]
@@ -87,6 +90,18 @@ impl<'a> Key<'a> {
         members.iter().any(|member| self.is_of_member(member))
     }
 
+    /// Returns the place after one of the next few members, from the place on, that is looked up by the key.
+    fn find_near(self, members: &[Member], from: usize) -> Option<usize>
+        ensures { IfSome result (λ _. among members.now (key_in self.entry) ≡ true) }
+    {
+        for place in from..members.len().min(from.saturating_add(NEAR)) {
+            if self.is_of_member(&members[place]) {
+                return Some(place + 1);
+            }
+        }
+        None
+    }
+
     /// Returns whether the member is looked up by the key.
     fn is_of_member(self, member: &Member) -> bool
         ensures { result ≡ held (same_key (key_in self.entry)) (key_of (member_of member.now)) }
@@ -96,6 +111,25 @@ impl<'a> Key<'a> {
             None => false,
         }
     }
+}
+
+/// Returns the key of the member, unless one of the next few of the others, from the place on, has it too: then the
+/// place is the one after that.
+pub(crate) fn lacking<'a>(
+    member: &'a Member,
+    others: &[Member],
+    place: &mut usize,
+) -> Option<Key<'a>>
+    ensures { LacksKey member.now others.now (option_map key_in result) }
+{
+    let Some(key) = Key::of(member) else {
+        return None;
+    };
+    let Some(next) = key.find_near(others, *place) else {
+        return Some(key);
+    };
+    *place = next;
+    None
 }
 
 /// Returns whether the two are the same column.

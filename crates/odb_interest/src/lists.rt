@@ -5,7 +5,7 @@ ghost use Rattle.std.specs.List.{All};
 ghost use Rattle.odb_interest.specs.Keys as model;
 ghost use Rattle.odb_interest.specs.Keys.{asked_at};
 ghost use Rattle.odb_interest.specs.Represented.Asked.{LosesFirst};
-ghost use Rattle.odb_interest.specs.Represented.Lists.{Asks, IsSame};
+ghost use Rattle.odb_interest.specs.Represented.Lists.{Asks, IsSame, with_filter};
 
 use crate::asked::Asked;
 use odb_cond::Filter;
@@ -68,6 +68,20 @@ impl Lists {
         list.push(asked)?;
         drop(self.lists.insert(session, list)?);
         Ok(())
+    }
+
+    /// Has a filter in the place of another in what the session asks, if there is one.
+    pub(crate) fn put(&mut self, session: SessionId, place: usize, asked: Asked)
+        requires { IfSome (slice_get (asked_at self.old session) place) (λ a. a.0 ≡ asked.0) }
+        ensures { Asks self.old self.new session (with_filter (asked_at self.old session) place asked.1) }
+    {
+        let Some(list) = self.lists.get_mut(&session) else {
+            return;
+        };
+        let Some(there) = list.get_mut(place) else {
+            return;
+        };
+        *there = asked;
     }
 
     /// Takes the first such filter out of what the session asks, and says whether there was one.

@@ -82,6 +82,21 @@ impl Watched {
         }
     }
 
+    /// Returns whether the session is found by the key. O(log n), as `Column::has` says it.
+    pub(crate) fn has(&self, key: Key<'_>, session: SessionId) -> bool
+        ensures { result ≡ watches self.now (key_in key.entry) session }
+    {
+        match key {
+            Key::Any => self.loose.contains(&session),
+            Key::Named(Selector::Uuid, atom) => self.uuids.has(atom, session),
+            Key::Named(Selector::Version, atom) => self.versions.has(atom, session),
+            Key::Named(Selector::Declared(place), atom) => match self.columns.get(&place) {
+                Some(column) => column.has(atom, session),
+                None => false,
+            },
+        }
+    }
+
     /// Adds the sessions that are found by a key of these rows.
     pub(crate) fn find(
         &self,

@@ -1,5 +1,5 @@
 -- Which sessions are to be found by which keys of which tables, and what a call changes of that.
-use Rattle.std.specs.Prelude.{◌≡◌, ℕ, Bool, not, ◌&&◌, ◌||◌, ◌==◌, if◌then◌else◌, nat_lt, List, length}
+use Rattle.std.specs.Prelude.{◌≡◌, ℕ, Bool, true, not, ◌&&◌, ◌||◌, ◌==◌, if◌then◌else◌, nat_lt, List, length}
 use Rattle.std.specs.BTreeMap.{get}
 use Rattle.odb_atoms.specs.FinMap.{entries_of, len}
 use Rattle.std.specs.Ordering.{nat_cmp}
@@ -32,6 +32,10 @@ Covers old new table test session = (t : ℕ) (k : Key) (s : ℕ) → finds new 
 abbrev pub CoversSome : Index → Index → ℕ → (Key → Bool) → ℕ → Type 0
 CoversSome old new table test session = (t : ℕ) (k : Key) (s : ℕ) → (some : Bool) × (finds new t k s ≡ (finds old t k s || (some && (is_own table session t s && test k))))
 
+-- it is found by keys that pass the test too, by each that doesn't pass the other
+abbrev pub CoversLacking : Index → Index → ℕ → (Key → Bool) → (Key → Bool) → ℕ → Type 0
+CoversLacking old new table test other session = (t : ℕ) (k : Key) (s : ℕ) → (some : Bool) × (test k ≡ true → (some || other k) ≡ true) × (finds new t k s ≡ (finds old t k s || (some && (is_own table session t s && test k))))
+
 -- it is found by the keys that pass the test no more, but for those that the others have
 abbrev pub Uncovers : Index → Index → ℕ → (Key → Bool) → ℕ → List Asked → Type 0
 Uncovers old new table test session others = (t : ℕ) (k : Key) (s : ℕ) → finds new t k s ≡ (finds old t k s && not (is_own table session t s && (test k && not (is_asked others t k))))
@@ -39,6 +43,14 @@ Uncovers old new table test session others = (t : ℕ) (k : Key) (s : ℕ) → f
 -- it is found by the keys of these filters no more
 abbrev pub UncoversAll : Index → Index → ℕ → List Asked → Type 0
 UncoversAll old new session fs = (t : ℕ) (k : Key) (s : ℕ) → finds new t k s ≡ (finds old t k s && not ((session == s) && is_asked fs t k))
+
+-- it is found by the keys of these filters of the table no more
+abbrev pub UncoversAt : Index → Index → ℕ → ℕ → List Asked → Type 0
+UncoversAt old new table session fs = (t : ℕ) (k : Key) (s : ℕ) → finds new t k s ≡ (finds old t k s && not (is_own table session t s && is_asked fs t k))
+
+-- it is found no more by the keys that pass the test, of those by which another index finds it
+abbrev pub UncoversFound : Index → Index → ℕ → (Key → Bool) → ℕ → Index → Type 0
+UncoversFound old new table test session found = (t : ℕ) (k : Key) (s : ℕ) → finds new t k s ≡ (finds old t k s && not (is_own table session t s && (test k && finds found table k session)))
 
 -- a session is found by the keys of the filters that it asks
 abbrev pub Indexes : Index → Interests → Type 0

@@ -1,5 +1,5 @@
 -- What a key of the code stands for, and which keys are the same.
-use Rattle.std.specs.Prelude.{ℕ, Bool, true, false, ◌&&◌, ◌==◌, List, Option, Some, None}
+use Rattle.std.specs.Prelude.{◌≡◌, ℕ, Bool, true, false, ◌&&◌, ◌==◌, List, Option, Some, None}
 use Rattle.std.specs.List.{list_any}
 use Rattle.odb_atoms.specs.Atom.{same_atom}
 use Rattle.odb_atoms.specs.Represented.Atom.{atom_of}
@@ -44,3 +44,8 @@ is_asked fs t k = list_any (λ a. (a.0 == t) && has_key k a.1) fs
 -- one of the members of the code is looked up by the key
 abbrev pub among : List code.Member → model.Key → Bool
 among ms k = list_any (λ m. held (same_key k) (key_of (member_of m))) ms
+
+-- the key of the member, or none, where the others have it or it has none
+abbrev pub LacksKey : code.Member → List code.Member → Option model.Key → Type 0
+LacksKey m others None = (k : model.Key) → held (same_key k) (key_of (member_of m)) ≡ true → among others k ≡ true
+LacksKey m others (Some k) = key_of (member_of m) ≡ Some k
