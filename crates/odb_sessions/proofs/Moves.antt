@@ -145,6 +145,15 @@ came_late k (m ∷ ms) t p h = by (is_at t p (now_of k m)) refl h (came_late k m
 pub moves_none : (k : Chains) → Moves k k []
 moves_none k = (refl, refl, λ t p. refl, λ t p x there h. stood (standing k t p) x.content h (λ y is. ap (λ (z : Standing). z.content) (same_Some y x (sym is ∙ there))), λ n. n)
 
+-- a mark that stands for now
+pub stays_now : (k : Chains) (m : Mark) → m.place ≡ version k m.table → m.content ≡ table_at k.db m.table → now_of k m ≡ m
+stays_now k m place content = λ i. let x : Mark = record { table = m.table; place = sym place i; content = sym content i } in x
+
+pub moves_still : (k : Chains) (m : Mark) → now_of k m ≡ m → Moves k k (m ∷ [])
+moves_still k m same =
+    let none : Moves k k [] = moves_none k in
+    (refl, refl, λ t p. ap (λ (n : Mark). count k t p + uses t p (n ∷ [])) same, none.3, none.4)
+
 module _ (a b c : Chains) (xs ys : List Mark) (now : IsNow a) (f : Moves a b xs) (g : Moves b c ys) where
   later : (t p : ℕ) → count b t p + uses t p (all_now a ys) ≡ count c t p + uses t p ys
   later t p = ap (λ ms. count b t p + uses t p ms) (sym (same_now a b ys f.0 f.1)) ∙ g.2 t p

@@ -1,5 +1,5 @@
 -- Which sessions may be owed something, and what the others ask of tables. [P 10.1, 10.3]
-use Rattle.std.specs.Prelude.{◌≡◌, ℕ, Bool, false, ◌==◌, ◌&&◌, if◌then◌else◌, List, [], map, flat_map, Option, Some, None}
+use Rattle.std.specs.Prelude.{◌≡◌, ℕ, Bool, false, ◌==◌, ◌&&◌, if◌then◌else◌, List, [], ◌++◌, length, map, flat_map, Option, Some, None}
 use Rattle.std.specs.List.{list_any}
 use Rattle.std.specs.BTreeSet.{BTreeSet, contains}
 use Rattle.std.specs.Ordering.{eq_by_cmp, nat_cmp}
@@ -55,6 +55,13 @@ filter_asked w = (w.request.place, w.request.filter)
 
 abbrev pub filters_asked : Held → List Asked
 filters_asked h = map filter_asked h.tables
+
+abbrev pub table_of : Asked → ℕ
+table_of a = a.0
+
+-- a list has these filters in the place of as many others of the same tables, from the place on; the next place is the one after them
+abbrev pub IsPut : List Asked → List Asked → ℕ → List Asked → ℕ → Type 0
+IsPut old new place fs next = (front middle back : List Asked) → old ≡ front ++ (middle ++ back) → length front ≡ place → map table_of middle ≡ map table_of fs → (new ≡ front ++ (fs ++ back)) × (next ≡ length (front ++ fs))
 
 -- of each other session the index says what it did
 abbrev pub KeepsOthers : Interests → Interests → ℕ → Type 0

@@ -3,7 +3,7 @@ ghost use Rattle.std.specs.Prelude.{◌≡◌, ℕ, [], ◌++◌, ◌∷◌, tru
 ghost use Rattle.std.specs.List.{All};
 ghost use Rattle.odb_schema.specs.Schema.{Schema};
 ghost use Rattle.odb_sessions.specs.Represented.Alike.{IsLikenessOf, likeness_in};
-ghost use Rattle.odb_sessions.specs.Represented.Decided.{AreDecisionsOf, Differs, IsAmong, IsDecisionOf, IsSame, Puts, bucket_at};
+ghost use Rattle.odb_sessions.specs.Represented.Decided.{AreDecisionsOf, Differs, IsAmong, IsDecisionOf, IsSame, IsThere, Puts, bucket_at};
 ghost use Rattle.odb_sessions.specs.Represented.Digest.{digest};
 
 use crate::digest::digest_of;
@@ -120,11 +120,12 @@ impl<'a> Bucket<'a> {
     }
 }
 
-/// What was decided, by digests.
+/// What was decided, by digests, and the digest of the newest decision: mostly what is alike comes one after the other.
 #[derive(Drop)]
 pub(crate) struct Decided<'a> {
     alloc: Global,
     buckets: BTreeMap<u64, Bucket<'a>>,
+    newest: u64,
 }
 
 impl<'a> Decided<'a> {
@@ -135,17 +136,32 @@ impl<'a> Decided<'a> {
         Decided {
             alloc,
             buckets: BTreeMap::new(alloc),
+            newest: 0,
         }
     }
 
     /// Returns what was decided of what is composed for the client of this monitor in this way, where all requests are of one
-    /// schema. O(log n) for n decisions, and a comparison of monitors for each that has the same digest.
+    /// schema. A comparison of monitors for each decision that has the digest of the newest; where none of them is alike, a
+    /// digest, O(log n) for n decisions, and a comparison for each that has this digest.
     pub(crate) fn find(&self, monitor: &'a Monitor, way: Way<'a>) -> Option<Option<usize>>
         ensures some { IfSome result (λ place. (s : Schema) → AreDecisionsOf s self.now → IsLikenessOf s (likeness_in monitor.now way.entry)
-            → IsAmong (bucket_at self.now (digest (likeness_in monitor.now way.entry))) (record { likeness = likeness_in monitor.now way.entry; place = place })) }
+            → IsThere self.now (record { likeness = likeness_in monitor.now way.entry; place = place })) }
         ensures none { is_some result ≡ false → All (Differs (likeness_in monitor.now way.entry)) (bucket_at self.now (digest (likeness_in monitor.now way.entry))) }
     {
-        match self.buckets.get(&digest_of(monitor, way)) {
+        if let Some(place) = self.find_at(self.newest, monitor, way) {
+            return Some(place);
+        }
+        self.find_at(digest_of(monitor, way), monitor, way)
+    }
+
+    /// Returns the same of the decisions that have this digest. O(log n) for n decisions, and a comparison of monitors for each
+    /// that has it.
+    fn find_at(&self, number: u64, monitor: &'a Monitor, way: Way<'a>) -> Option<Option<usize>>
+        ensures some { IfSome result (λ place. (s : Schema) → AreDecisionsOf s self.now → IsLikenessOf s (likeness_in monitor.now way.entry)
+            → IsThere self.now (record { likeness = likeness_in monitor.now way.entry; place = place })) }
+        ensures none { is_some result ≡ false → All (Differs (likeness_in monitor.now way.entry)) (bucket_at self.now number) }
+    {
+        match self.buckets.get(&number) {
             Some(bucket) => bucket.find(monitor, way),
             None => None,
         }
@@ -157,6 +173,7 @@ impl<'a> Decided<'a> {
         ensures err { OnErr result (IsSame self.old self.new) }
     {
         let number = decision.digest();
+        self.newest = number;
         let Some(bucket) = self.buckets.get_mut(&number) else {
             return self.put_first(number, decision);
         };

@@ -5,7 +5,7 @@ ghost use Rattle.odb_chain.specs.Chains.{IsNow};
 ghost use Rattle.odb_cond.specs.Filter as model;
 ghost use Rattle.odb_service.specs.Session.{filter_of};
 ghost use Rattle.odb_sessions.specs.Composed.{asked_of};
-ghost use Rattle.odb_sessions.specs.Moved.{Moves, asked_under, brought_to, brought_under, told_now};
+ghost use Rattle.odb_sessions.specs.Moved.{Moves, asked_under, brought_to, brought_under, now_of, told_now};
 ghost use Rattle.odb_sessions.specs.Represented.Queued.{filters_of};
 ghost use Rattle.odb_sessions.specs.Represented.Told.{told_under};
 ghost use Rattle.odb_sessions.specs.Started.{AreApart};
@@ -13,7 +13,7 @@ ghost use Rattle.odb_sessions.specs.Tied.{HasAll, KeepsRoom, counted_in};
 
 use crate::item::Changes;
 use crate::monitor::Watching;
-use odb_chain::Chains;
+use odb_chain::{Chains, Mark};
 use odb_cond::Filter;
 use std::sync::Arc;
 
@@ -28,7 +28,7 @@ impl Watching {
         ensures moved { Moves chains.old chains.new (self.old.mark ∷ []) }
         ensures room { KeepsRoom chains.old chains.new }
     {
-        chains.advance(&mut self.mark);
+        bring_mark(&mut self.mark, chains);
         self.told = filter;
     }
 
@@ -66,6 +66,21 @@ impl Watching {
         };
         self.ask(filter);
     }
+}
+
+/// Lets the mark stand for what its table is now. O(1) where it does, and else what `odb_chain::Chains::advance` costs.
+fn bring_mark(mark: &mut Mark, chains: &mut Chains)
+    requires has { HasAll chains.old (mark.old ∷ []) }
+    requires few { counted_in chains.old.live < 2 ^ 64 - 1 }
+    requires now { IsNow chains.old }
+    ensures mark { mark.new ≡ now_of chains.old mark.old }
+    ensures moved { Moves chains.old chains.new (mark.old ∷ []) }
+    ensures room { KeepsRoom chains.old chains.new }
+{
+    if chains.is_now(mark) {
+        return;
+    }
+    chains.advance(mark);
 }
 
 /// Brings the client to what these tables are now, under the filters that are asked.

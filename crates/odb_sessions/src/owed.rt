@@ -80,6 +80,17 @@ fn told_by(filter: Option<&Filter>) -> Told<'_>
     }
 }
 
+/// Returns the filter under which a client was told, unless it is the request's: so no difference is looked for where a
+/// change leaves a filter as it is. O(members), each compared once.
+fn apart<'a>(told: &'a Filter, request: &Request) -> Option<&'a Filter>
+    ensures { told_under request.now (option_map (λ f. f.now) result) ≡ told.now }
+{
+    if told.same(request.filter()) {
+        return None;
+    }
+    Some(told)
+}
+
 /// Returns how the mark's table changed since the mark was made; `None` where it didn't.
 fn changes_since(
     alloc: Global,
@@ -109,13 +120,13 @@ impl Watching {
         }
     }
 
-    /// Returns it, as if the request were this one.
+    /// Returns it, as if the request were this one. What `apart` costs.
     fn owed_as<'a>(&'a self, request: &'a Request) -> Owed<'a>
         ensures { result ≡ asked_as self.now request.now }
     {
         Owed {
             request,
-            told: Some(self.told_filter()),
+            told: apart(self.told_filter(), request),
             mark: &self.mark,
         }
     }
@@ -131,7 +142,7 @@ impl Watching {
     }
 
     /// Returns the part of a job that leads the client to what the request selects, where it was told of the table as
-    /// it is now under these filters. O(1), and what a filter is looked up in.
+    /// it is now under these filters. What `apart` costs, and what a filter is looked up in.
     fn part_again<'a>(
         &'a self,
         chains: &'a Chains,
@@ -143,7 +154,7 @@ impl Watching {
     {
         let filter = filter_under(told, &self.request);
         let rows = chains.rows(&self.mark);
-        Part::new(request, Told::Under(filter), rows, None)
+        Part::new(request, told_by(apart(filter, request)), rows, None)
     }
 
     /// Makes the part of a job that leads a client to what the table is now which was told of it as it was so many
@@ -190,7 +201,7 @@ pub(crate) fn all_owed<'a>(
     Ok(owed)
 }
 
-/// Returns the tables of a monitor, as if these were its requests. O(n) for n tables.
+/// Returns the tables of a monitor, as if these were its requests. O(n) for n tables, and the members of their filters.
 pub(crate) fn all_owed_as<'a>(
     alloc: Global,
     tables: &'a [Watching],
@@ -207,7 +218,7 @@ pub(crate) fn all_owed_as<'a>(
 }
 
 /// Returns the parts for these tables, which lead the client to what the requests select, where it was told of them as
-/// they are now under these filters. For n tables O(n).
+/// they are now under these filters. For n tables O(n), and the members of their filters.
 pub(crate) fn parts_again<'a>(
     alloc: Global,
     chains: &'a Chains,

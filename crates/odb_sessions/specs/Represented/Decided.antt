@@ -31,6 +31,10 @@ AreDecisionsOf s d = (n : ℕ) → All (IsDecisionOf s) (bucket_at d n)
 abbrev pub IsAmong : List Decision → Decision → Type 0
 IsAmong ds d = (i : ℕ) × (i < length ds) × (d ≡ slice_index_or ds i d)
 
+-- some digest finds it
+abbrev pub IsThere : Decided → Decision → Type 0
+IsThere d x = (n : ℕ) × IsAmong (bucket_at d n) x
+
 -- with one decision more
 abbrev pub Puts : Decided → Decided → Decision → Type 0
 Puts old new d = (n : ℕ) → bucket_at new n ≡ (if n == digest d.likeness then bucket_at old n ++ d ∷ [] else bucket_at old n)

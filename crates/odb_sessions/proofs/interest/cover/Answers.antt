@@ -14,8 +14,19 @@ returns-then-are_asked-clause-ok c =
     let ms : List Held = c.as_slice-monitors.result.now in
     let there : option_copied c.args.of ≡ Some x = search rules in
     let monitors : ms ≡ x.monitors = search rules in
-    let same : c.asked.result.now ≡ flat_map filters_asked ms = subst (λ b. OnTrue b (c.asked.result.now ≡ flat_map filters_asked ms)) c.if-are_asked.true c.are_asked.ensures in
-    sym c.asked.ensures ∙ same ∙ ap (flat_map filters_asked) monitors ∙ kept_asks x ∙ ap (λ o. interest_if (option_map seen o)) (sym there)
+    let filters : List Asked = c.asked-filters.result.now in
+    let same : filters ≡ flat_map filters_asked ms = subst (λ b. OnTrue b (filters ≡ flat_map filters_asked ms)) c.if-are_asked.true c.are_asked.ensures in
+    sym c.asked-filters.ensures ∙ same ∙ ap (flat_map filters_asked) monitors ∙ kept_asks x ∙ ap (λ o. interest_if (option_map seen o)) (sym there)
+
+pub returns-then-are_of_tables-clause-ok : goal.returns-then-are_of_tables-clause-ok
+returns-then-are_of_tables-clause-ok c =
+    let x : Kept = c.in-Some.of.now in
+    let ms : List Held = c.as_slice-monitors.result.now in
+    let there : option_copied c.args.of ≡ Some x = search rules in
+    let monitors : ms ≡ x.monitors = search rules in
+    on_ok_weaker c.put_monitors.result
+    (λ said. said ∙ ap (flat_map filters_asked) monitors ∙ kept_asks x ∙ ap (λ o. interest_if (option_map seen o)) (sym there))
+    c.put_monitors.ensures.ok
 
 pub returns-clause-ok : goal.returns-clause-ok
 returns-clause-ok c =

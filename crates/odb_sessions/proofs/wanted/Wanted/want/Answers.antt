@@ -12,7 +12,7 @@ use Rattle.odb_sessions.specs.FirstTexts.{FirstText, IsOfNow}
 use Rattle.odb_sessions.specs.Held.{Held, marks_in}
 use Rattle.odb_sessions.specs.Jobs.{Decision, IsFor, Keeps, Wanted, if_sent}
 use Rattle.odb_sessions.specs.Represented.Alike.{IsFoundIn, contents, likeness_in}
-use Rattle.odb_sessions.specs.Represented.Decided.{Differs, IsPlanned, Puts, bucket_at}
+use Rattle.odb_sessions.specs.Represented.Decided.{Differs, IsPlanned, IsThere, Puts, bucket_at}
 use Rattle.odb_sessions.specs.Represented.Digest.{digest}
 use Rattle.odb_sessions.specs.Represented.Job.{job_in}
 use Rattle.odb_sessions.specs.Tied.{AreLive}
@@ -37,9 +37,8 @@ returns-in-Some-clause-place c =
     let place = c.in-Some.place in
     let s : Schema = c.self.inside.schema.now in
     let of : AreOfSchema s (asked_of x.tables) = subst (λ (w : Wanted). AreOfSchema w.schema (asked_of x.tables)) (sym c.self.view_is) c.requires.of in
-    let here : IsFor js (if_sent (job_like (contents k) us k.db l)) place =
-    found k us js c.self.inside.decided (digest l) (record { likeness = l; place = place }) c.self.invariant.0.0 (c.in-Some.ensures.some s c.self.invariant.1 (likeness_of s x c.args.way of))
-    in
+    let there : IsThere c.self.inside.decided (record { likeness = l; place = place }) = c.in-Some.ensures.some s c.self.invariant.1 (likeness_of s x c.args.way of) in
+    let here : IsFor js (if_sent (job_like (contents k) us k.db l)) place = found k us js c.self.inside.decided there.0 (record { likeness = l; place = place }) c.self.invariant.0.0 there.1 in
     subst (λ (w : Wanted). IsFor w.jobs (if_sent (job_in w.chains.db x c.args.way)) place) c.self.view_is
     (subst (λ (j : Job). IsFor js (if_sent j) place) (sym (like_job k r x c.args.way own live)) here)
 

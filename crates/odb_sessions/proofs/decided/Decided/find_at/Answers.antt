@@ -8,16 +8,16 @@ use Rattle.odb_sessions.specs.Alike.{Likeness}
 use Rattle.odb_sessions.specs.Jobs.{Decision}
 use Rattle.odb_sessions.specs.Represented.Alike.{IsLikenessOf, likeness_in}
 use Rattle.odb_sessions.specs.Represented.Decided.{IsAmong, IsDecisionOf, bucket_at}
-use Rattle.odb_sessions.specs.Represented.Digest.{digest}
 use Rattle.odb_sessions.proofs.OneSchema.{if_some_weaker}
-use Rattle.odb_sessions.proofs.decided.Decided.find.Goals as goal
+use Rattle.odb_sessions.proofs.decided.Decided.find_at.Goals as goal
 
 pub returns-in-Some-clause-some : goal.returns-in-Some-clause-some
 returns-in-Some-clause-some c =
     let l : Likeness = likeness_in c.args.monitor.now c.args.way in
-    let there : tree.get nat_cmp c.args.self.now.buckets c.digest_of.result ≡ Some c.in-Some.bucket.now = search rules in
-    let is : bucket_at c.args.self.now (digest l) ≡ c.in-Some.bucket.now = ap (bucket_at c.args.self.now) (sym c.digest_of.ensures) ∙ ap (λ (o : Option (List Decision)). unwrap_or o []) there in
-    let here : IfSome c.find.result (λ place. (s : Schema) → All (IsDecisionOf s) (bucket_at c.args.self.now (digest l)) → IsLikenessOf s l → IsAmong (bucket_at c.args.self.now (digest l)) (record { likeness = l; place = place })) =
+    let n = c.args.number in
+    let there : tree.get nat_cmp c.args.self.now.buckets n ≡ Some c.in-Some.bucket.now = search rules in
+    let is : bucket_at c.args.self.now n ≡ c.in-Some.bucket.now = ap (λ (o : Option (List Decision)). unwrap_or o []) there in
+    let here : IfSome c.find.result (λ place. (s : Schema) → All (IsDecisionOf s) (bucket_at c.args.self.now n) → IsLikenessOf s l → IsAmong (bucket_at c.args.self.now n) (record { likeness = l; place = place })) =
     subst (λ (ds : List Decision). IfSome c.find.result (λ place. (s : Schema) → All (IsDecisionOf s) ds → IsLikenessOf s l → IsAmong ds (record { likeness = l; place = place }))) (sym is) c.find.ensures.some
     in
-    if_some_weaker c.find.result _ _ (λ place among. λ s of other. among s (of (digest l)) other) here
+    if_some_weaker c.find.result _ _ (λ place among. λ s of other. (n, among s (of n) other)) here
