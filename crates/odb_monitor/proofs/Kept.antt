@@ -18,7 +18,7 @@ use Rattle.odb_atoms.specs.Uuid.{Uuid, uuid_cmp}
 use Rattle.odb_atoms.proofs.Atoms.{uuid_cmp-IsAntisymmetric, uuid_cmp_total}
 use Rattle.odb_atoms.proofs.FinMaps.{get-entries, same_key}
 use Rattle.odb_atoms.proofs.Rising.{is_less}
-use Rattle.odb_tables.proofs.KeyedMaps.{none_behind}
+use Rattle.odb_tables.proofs.KeyedMaps.{get-from_entries, none_behind}
 use Rattle.odb_tables.specs.Represented.Key.{keys_equivalent}
 
 abbrev pub AreDistinct : {X : Type 0} → List (Uuid × X) → Type 0
@@ -118,7 +118,7 @@ module _ {Y : Type 0} (m : finite.FinMap uuid_cmp Y) where
       by true rest = refl
       by false rest = rest
 
-  moved : (es fs : List (Uuid × Y)) → AreDistinct es → ((q : Uuid) → find uuid_cmp q es ≡ finite.get m q) → IsPermutation es fs → (q : Uuid) → find uuid_cmp q fs ≡ finite.get m q
+  pub moved : (es fs : List (Uuid × Y)) → AreDistinct es → ((q : Uuid) → find uuid_cmp q es ≡ finite.get m q) → IsPermutation es fs → (q : Uuid) → find uuid_cmp q fs ≡ finite.get m q
   unfolding named
   moved es fs d is p q =
       found_among fs q (recursion_from_All Stands fs (All-permutation Stands es fs p (All-from_recursion Stands es (stand es es is (each_found es d)))))
@@ -162,6 +162,12 @@ sorted : {Y : Type 0} (es : List (Uuid × Y)) → IsStrictlySortedBy uuid_cmp (k
 sorted [] h = tt
 sorted (e ∷ es) h = both _ _ (below e.0 es (sorted_head uuid_cmp e.0 (keys_of es) h)) (sorted es (sorted_tail uuid_cmp e.0 (keys_of es) h))
 
+pub ranked_entries : {X Y : Type 0} (f : X → Uuid × Y) (ys : List X) → IsSortedByKey (λ x. (f x).0) uuid_cmp ys → IsSortedByKey (λ (e : Uuid × Y). e.0) uuid_cmp (map f ys)
+ranked_entries f [] up = λ k d low high. absurd (omega (arith, high))
+ranked_entries f (x ∷ xs) up = λ k d low high.
+    let long : k + 1 < length (x ∷ xs) = omega (arith, length-map (x ∷ xs) f, high) in
+    (λ i. is_lt (uuid_cmp (get_or-map f (x ∷ xs) (k + 1) x d long i).0 (get_or-map f (x ∷ xs) k x d (omega (arith, long)) i).0)) ∙ up k x low long
+
 -- entries that answer as a map does, once they are sorted, are those of the map
 pub in_order : {X Y : Type 0} (f : X → Uuid × Y) (m : finite.FinMap uuid_cmp Y) (xs ys : List X) → AreDistinct (map f xs) → ((q : Uuid) → find uuid_cmp q (map f xs) ≡ finite.get m q)
     → IsPermutation xs ys → IsSortedByKey (λ x. (f x).0) uuid_cmp ys → map f ys ≡ m.entries
@@ -173,9 +179,28 @@ in_order f m xs ys d is p up =
     same_entries uuid_cmp uuid_cmp_total uuid_cmp-IsAntisymmetric fs m.entries
     (sorted fs (rises (keys_of fs) (ranked (λ e. e.0) fs (ranked_entries f ys up)) apart)) m.sorted
     (λ k. moved m es fs d is q k ∙ get-entries m k)
+
+-- ---- what is kept of entries that were sorted
+
+rising-kept : {X Y : Type 0} (g : Uuid → X → Option Y) (es : List (Uuid × X)) → IsStrictlySortedBy uuid_cmp (keys_of es) → IsStrictlySortedBy uuid_cmp (keys_of (kept g es))
+unfolding IsStrictlySortedBy
+rising-kept g [] h = tt
+rising-kept {Y = Y} g (e ∷ es) h = by (g e.0 e.1) (kept g es) (rising-kept g es (sorted_tail uuid_cmp e.0 (keys_of es) h)) (all-kept g (λ y. uuid_cmp e.0 y ≡ Less) es (sorted_head uuid_cmp e.0 (keys_of es) h))
   where
-    ranked_entries : {X Y : Type 0} (f : X → Uuid × Y) (ys : List X) → IsSortedByKey (λ x. (f x).0) uuid_cmp ys → IsSortedByKey (λ (e : Uuid × Y). e.0) uuid_cmp (map f ys)
-    ranked_entries f [] up = λ k d low high. absurd (omega (arith, high))
-    ranked_entries f (x ∷ xs) up = λ k d low high.
-        let long : k + 1 < length (x ∷ xs) = omega (arith, length-map (x ∷ xs) f, high) in
-        (λ i. is_lt (uuid_cmp (get_or-map f (x ∷ xs) (k + 1) x d long i).0 (get_or-map f (x ∷ xs) k x d (omega (arith, long)) i).0)) ∙ up k x low long
+    by : (c : Option Y) (cs : List (Uuid × Y)) → IsStrictlySortedBy uuid_cmp (keys_of cs) → AllByRecursion (λ y. uuid_cmp e.0 y ≡ Less) (keys_of cs) → IsStrictlySortedBy uuid_cmp (keys_of (cons_option (option_map (λ d. let x : Uuid × Y = (e.0, d) in x) c) cs))
+    by None cs r a = r
+    by (Some d) cs r a = (a, r)
+
+-- entries in another order are as distinct, and found alike
+module _ {X : Type 0} (es fs : List (Uuid × X)) (d : AreDistinct es) (p : IsPermutation es fs) where
+  pub distinct-moved : AreDistinct fs
+  distinct-moved = IsDistinct-IsPermutation (eq_by_cmp uuid_cmp) keys_equivalent.symm (keys_of es) (keys_of fs) (IsPermutation-map (λ e. e.0) es fs p) d
+
+  pub find-moved : (q : Uuid) → find uuid_cmp q fs ≡ find uuid_cmp q es
+  find-moved q = moved (finite.from_entries es) es fs d (λ k. sym (get-from_entries es k)) p q ∙ get-from_entries es q
+
+-- what is kept of entries that are sorted is a map's entries, where it answers as the map does
+pub kept_in_order : {X Y : Type 0} (g : Uuid → X → Option Y) (m : finite.FinMap uuid_cmp Y) (es : List (Uuid × X)) → AreDistinct es → IsSortedByKey (λ (e : Uuid × X). e.0) uuid_cmp es → ((q : Uuid) → find uuid_cmp q (kept g es) ≡ finite.get m q) → kept g es ≡ m.entries
+kept_in_order g m es d up is =
+    same_entries uuid_cmp uuid_cmp_total uuid_cmp-IsAntisymmetric (kept g es) m.entries
+    (sorted (kept g es) (rising-kept g es (rises (keys_of es) (ranked (λ e. e.0) es up) d))) m.sorted (λ k. is k ∙ get-entries m k)

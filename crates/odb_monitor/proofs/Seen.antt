@@ -1,7 +1,8 @@
 -- What is shown of each row of a part, and that its lines are just that.
-use Rattle.std.proofs.Common.{◌≡◌, Bool, true, false, cond, not, ◌||◌, List, [], ◌∷◌, Option, Some, None, filter_map, option_and_then, option_map, is_some, refl, sym, ap, ◌∙◌}
+use Rattle.std.proofs.Common.{◌≡◌, Bool, true, false, cond, not, ◌||◌, List, [], ◌∷◌, Option, Some, None, filter_map, option_and_then, option_map, is_some, IsPermutation, refl, sym, ap, ◌∙◌}
 use Rattle.std.specs.FinMap.Entries.{find}
 use Rattle.std.specs.List.{cons_option, list_any}
+use Rattle.std.specs.List.Sorted.{IsSortedByKey}
 use Rattle.std.proofs.lemmas.Option.{none-some}
 use Rattle.odb_atoms.specs.FinMap as finite
 use Rattle.odb_atoms.specs.FinMap.{FinMap, combine}
@@ -16,7 +17,7 @@ use Rattle.odb_monitor.specs.View.{change, cut, is_empty, is_shown, selected}
 use Rattle.odb_monitor.specs.declared.told.Told.{Told}
 use Rattle.odb_monitor.specs.declared.told.Told.TheVariants.{Asked, Nothing, Under}
 use Rattle.odb_monitor.proofs.Covered.{never}
-use Rattle.odb_monitor.proofs.Kept.{AreDistinct, distinct-kept, find-kept}
+use Rattle.odb_monitor.proofs.Kept.{AreDistinct, distinct-kept, distinct-moved, find-kept, find-moved, kept_in_order}
 use Rattle.odb_monitor.proofs.Maps.{get-combine, get-empty, get-map_entries, key-itself}
 use Rattle.odb_request.specs.Request.{Request}
 use Rattle.odb_tables.specs.Change.{Changes, before}
@@ -55,6 +56,17 @@ module _ (first : Bool) (q : Request) (w : Told) (t : Table) (c : Option Changes
 
   pub lines_distinct : AreDistinct (filter_map (line_at first w q) es)
   lines_distinct = distinct-kept (shown_at first w q) es h.0
+
+-- the rows in another order
+covers_moved : (es fs : List (Uuid × Pair)) (first : Bool) (w : Told) (q : Request) (then now : Table) → IsPermutation es fs → Covers es first w q then now → Covers fs first w q then now
+covers_moved es fs first w q then now p h = (distinct-moved es fs h.0 p, λ u. ap (option_and_then (shown_at first w q u)) (find-moved es fs h.0 p u) ∙ h.1 u)
+
+-- and sorted
+pub sorted_lines : (first : Bool) (q : Request) (w : Told) (t : Table) (c : Option Changes) (es fs : List (Uuid × Pair)) → Covers es first w q (table_then c t) t → IsPermutation es fs → IsSortedByKey (λ (e : Uuid × Pair). e.0) uuid_cmp fs
+    → filter_map (line_at first w q) fs ≡ (changes_shown first (part_of q w t c)).entries
+sorted_lines first q w t c es fs h p up =
+    let covers = covers_moved es fs first w q (table_then c t) t p h in
+    kept_in_order (shown_at first w q) (changes_shown first (part_of q w t c)) fs covers.0 up (lines_found first q w t c fs covers)
 
 -- a list and a map that answer alike are empty alike
 alike_empty : {Y : Type 0} (ls : List (Uuid × Y)) (m : FinMap uuid_cmp Y) → ((u : Uuid) → find uuid_cmp u ls ≡ finite.get m u) → is_empty ls ≡ is_empty m.entries

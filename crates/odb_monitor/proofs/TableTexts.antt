@@ -11,7 +11,7 @@ use Rattle.odb_monitor.specs.Update.{row_update, row_updates, table_update}
 use Rattle.odb_monitor.specs.View.{Change}
 
 module _ (l : Layout) where
-  each_row : (es : List (Uuid × Change)) → members_tokens (members_outline (row_updates l.notation l.first l.columns es)) ≡ flat_map (row_tokens l) es ++ end_object ∷ []
+  pub each_row : (es : List (Uuid × Change)) → members_tokens (members_outline (row_updates l.notation l.first l.columns es)) ≡ flat_map (row_tokens l) es ++ end_object ∷ []
   each_row [] = refl
   each_row (e ∷ es) =
       let one = tokens_of (row_update l.notation l.first l.columns e.1) in

@@ -7,3 +7,4 @@ pub mod Reading
 pub mod Fold
 pub mod Law
 pub mod Walk
+pub mod Listing

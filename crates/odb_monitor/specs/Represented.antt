@@ -2,8 +2,11 @@
 pub mod Bare
 pub mod Candidates
 pub mod Form
+pub mod Joining
 pub mod Layout
 pub mod Line
+pub mod Listing
+pub mod Members
 pub mod Part
 pub mod Search
 pub mod Seeking

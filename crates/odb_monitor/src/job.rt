@@ -1,13 +1,16 @@
 //! What is owed to the client of a monitor, composed (RFC 7047, sections 4.1.5 and 4.1.6;
 //! ovsdb-server(7), 4.1.12 to 4.1.14). [P 9.3]
-ghost use Rattle.std.specs.Prelude.{◌≡◌, ◌++◌, ◌∷◌, [], IfOk, OnOk, false, flat_map, is_some, not, option_map, true};
+ghost use Rattle.std.specs.Prelude.{◌≡◌, ◌<◌, ◌||◌, ◌++◌, ◌∷◌, [], IfOk, OnOk, Some, false, flat_map, is_some, length, not, option_map, slice_get, true};
 ghost use Rattle.std.specs.List.{list_any};
 ghost use Rattle.json.specs.Token.{begin_object, end_object};
 ghost use Rattle.serde_json.specs.Written.{compact_text};
+ghost use Rattle.odb_monitor.specs.Job as model_job;
 ghost use Rattle.odb_monitor.specs.Job.{updates_of};
+ghost use Rattle.odb_monitor.specs.Listing.{listed_tokens};
 ghost use Rattle.odb_monitor.specs.Represented.Part.{is_silent, part_tokens};
 ghost use Rattle.odb_request.specs.Represented.Kind.{notation_of};
 
+use crate::listing::Listing;
 use crate::part::Part;
 use json::Token;
 use odb_print::Printer;
@@ -101,6 +104,33 @@ impl<'a> Job<'a> {
             return Ok(true);
         }
         has_lines(alloc, self.first, &self.parts)
+    }
+
+    /// Returns whether something is sent, where it is known whether some row is shown. O(1).
+    pub(crate) fn is_sent(&self, shown: bool) -> bool
+        ensures { result ≡ (self.now.reply || shown) }
+    {
+        self.reply || shown
+    }
+
+    /// Returns how many tables the job has. O(1).
+    pub fn tables(&self) -> usize
+        ensures { result ≡ length self.now.parts }
+    {
+        self.parts.len()
+    }
+
+    /// Lists the rows of the table of the part at this place of which something may be shown, by ascending identifier, so
+    /// that several may print pieces of them.
+    ///
+    /// Of n rows O(n log n): the rows changed, and where another filter was asked also those that the two may tell apart;
+    /// where nothing was told yet, the rows that are asked for. `odb_tables::Rows::selected` says what finding them costs.
+    pub fn list(&self, alloc: Global, place: usize) -> Result<Listing<'_>, AllocError>
+        requires { place < length self.now.parts }
+        ensures { IfOk result (λ listing. (p : model_job.Part) → slice_get self.now.parts place ≡ Some p
+            → listed_tokens listing ≡ part_tokens self.now.notation self.now.first p) }
+    {
+        self.parts[place].list(alloc, self.kind, self.first)
     }
 }
 

@@ -213,7 +213,7 @@ impl<'a> Layout<'a> {
     }
 
     /// Prints a row's identifier, and what becomes of the row.
-    fn put_row(&self, out: &mut Printer, line: &Line<'_>) -> Result<(), AllocError>
+    pub(crate) fn put_row(&self, out: &mut Printer, line: &Line<'_>) -> Result<(), AllocError>
         ensures { OnOk result (out.new ≡ out.old ++ row_tokens self.now (line_in self.now.columns line.now)) }
     {
         put_key(out, line.uuid)?;

@@ -5,6 +5,7 @@ ghost use Rattle.std.specs.List.{list_any};
 ghost use Rattle.std.specs.List.Sorted.{IsSortedByKey};
 ghost use Rattle.odb_atoms.specs.Represented.Atom.{uuid_of};
 ghost use Rattle.odb_atoms.specs.Uuid.{uuid_cmp};
+ghost use Rattle.odb_monitor.specs.Listing.{listed_tokens};
 ghost use Rattle.odb_monitor.specs.Represented.Bare.{part_bare};
 ghost use Rattle.odb_monitor.specs.Represented.Candidates.{Covers, WasSo, changed_in, stayed_in, unchanged};
 ghost use Rattle.odb_monitor.specs.Represented.Line.{line_in};
@@ -21,6 +22,7 @@ use crate::bare::Bare;
 use crate::comparison::Comparison;
 use crate::layout::Layout;
 use crate::line::Line;
+use crate::listing::Listing;
 use crate::search::sought;
 use crate::sides::{Sides, add_others, changed, fresh, keys_of};
 use crate::told::Told;
@@ -139,6 +141,27 @@ impl<'a> Part<'a> {
             &self.bare.rows,
         )?;
         Ok(has_line(&comparison, &sides))
+    }
+
+    /// Lists the rows of which something may be shown, by ascending identifier.
+    pub(crate) fn list(
+        &self,
+        alloc: Global,
+        kind: Kind,
+        first: bool,
+    ) -> Result<Listing<'_>, AllocError>
+        ensures { IfOk result (λ listing. listed_tokens listing ≡ part_tokens (notation_of kind) first self.now) }
+    {
+        let comparison = Comparison::of(alloc, first, self.bare.told, self.bare.request);
+        let mut sides = sides_of(
+            alloc,
+            &comparison,
+            &self.found,
+            rows_of(&self.bare.changes),
+            &self.bare.rows,
+        )?;
+        sort_sides(&mut sides);
+        Ok(Listing::new(comparison, kind, sides))
     }
 
     /// Returns what is shown of the table, by ascending identifier.
@@ -282,6 +305,14 @@ fn sort(lines: &mut Vec<Line<'_>>)
     ensures sorted { IsSortedByKey (λ line. uuid_of line.uuid) uuid_cmp lines.new.items }
 {
     lines.sort_unstable_by_key(|line| Key::of(line.uuid));
+}
+
+/// Puts the rows in the order of their identifiers. O(n log n).
+fn sort_sides(sides: &mut Vec<Sides<'_>>)
+    ensures permutation { IsPermutation sides.old.items sides.new.items }
+    ensures sorted { IsSortedByKey (λ row. uuid_of row.uuid) uuid_cmp sides.new.items }
+{
+    sides.sort_unstable_by_key(|row| Key::of(row.uuid));
 }
 
 // Written, and not derived, so that each end of a scope is one call to prove.

@@ -1,4 +1,4 @@
--- Jobs, and what was found for them, may be lent to another thread: chains, a monitor with its marks, and the ways in which something is composed.
+-- Jobs, what was found for them, and their rows as they are listed, may be lent to another thread: chains, a monitor with its marks, and the ways in which something is composed.
 use denote.Param.Send.{IsSend, IsSync, owning_send, part_keyless, sendable}
 use denote.Ref.{NamedLft}
 use Rattle.std.proofs.Crossing as heap
@@ -9,7 +9,9 @@ use Rattle.odb_chain.specs.contracts.mark.Mark as Mark
 use Rattle.odb_cond.proofs.filter.Filter.TheSendSync as filter
 use Rattle.odb_cond.specs.contracts.filter.Filter as Filter
 use Rattle.odb_monitor.proofs.job.Job.TheSendSync as found
+use Rattle.odb_monitor.proofs.listing.Listing.TheSendSync as listing
 use Rattle.odb_monitor.specs.contracts.job.Job as Found
+use Rattle.odb_monitor.specs.contracts.listing.Listing as Listing
 use Rattle.odb_par.specs.contracts.picked.Picked as Picked
 use Rattle.odb_recent.proofs.Crossing.{Recent-sync}
 use Rattle.odb_request.proofs.request.Request.TheSendSync as request
@@ -81,7 +83,10 @@ Job-sync κ = search (Chains-sync, Monitor-sync, Way-sync, Request-sync, sendabl
 Found-sync : (κ : NamedLft) → IsSync (Found.the_field κ).row
 Found-sync κ = found.the_sync κ
 
+pub Listing-sync : (κ : NamedLft) → IsSync (Listing.the_field κ).row
+Listing-sync κ = listing.the_sync κ
+
 pub Picked-sync : (κ κ' : NamedLft) → IsSync (Picked.the_field κ κ').row
 Picked-sync κ κ' = search (Job-sync, Found-sync, sendable, heap.crosses) depth 20
 
-pub ruleset crosses = (Picked-sync, sendable, heap.crosses)
+pub ruleset crosses = (Picked-sync, Listing-sync, sendable, heap.crosses)

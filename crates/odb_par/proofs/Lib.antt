@@ -1,2 +1,3 @@
 mod Crossing
+mod OfRows
 mod Shares

@@ -18,8 +18,10 @@ use std::thread::Threads;
 /// Composes each of the jobs, and gives what is composed in their order. Of `n` workers the first takes the jobs 0, n,
 /// 2 n and so on, the second 1, n + 1, 2 n + 1 and so on: each in a thread of its own, but the caller is one of them,
 /// and does the work of those for which no thread can be made. Where there are two workers or more `pick` looks for the
-/// rows of each job before, one job after the other. The costs are those of `pick` and `Picked::compose` for each job,
-/// O(1) more for each, and a thread for each worker but one; there are no more workers than jobs.
+/// rows of each job before, one job after the other, and those for which it goes through tables are composed by pieces
+/// then, which the workers print (`compose_by_pieces`); such a job finds its body made. The costs are those of `pick` and
+/// `Picked::compose` for each job, O(1) more for each, and a thread for each worker but one; there are no more workers than
+/// jobs.
 pub fn compose_all<R: Threads + Sync, G: Gate + Sync>(
     rt: &R,
     alloc: Global,
@@ -35,13 +37,14 @@ pub fn compose_all<R: Threads + Sync, G: Gate + Sync>(
     in_order(alloc, jobs, workers, shares.as_slice())
 }
 
-/// Looks for the rows of each job, where there are two workers or more.
+/// Looks for the rows of each job, and composes the large ones, where there are two workers or more.
 fn pick_all<'j, 'a, R: Threads + Sync>(
     rt: &R,
     alloc: Global,
     jobs: &'j [Job<'a>],
     workers: usize,
 ) -> Result<Vec<Picked<'j, 'a>>, AllocError>
+    requires { (1 ≤ workers) × (workers ≤ 64) }
     ensures { IfOk result (λ picked. picked.items ≡ jobs.now) }
 {
     let mut picked = Vec::with_capacity(alloc, jobs.len())?;
@@ -54,19 +57,20 @@ fn pick_all<'j, 'a, R: Threads + Sync>(
     Ok(picked)
 }
 
-/// Looks for the rows of the job, where there are two workers or more.
+/// Looks for the rows of the job, and composes it where it is large, where there are two workers or more.
 fn pick_by<'j, 'a, R: Threads + Sync>(
     rt: &R,
     alloc: Global,
     job: &'j Job<'a>,
     workers: usize,
 ) -> Result<Picked<'j, 'a>, AllocError>
+    requires { (1 ≤ workers) × (workers ≤ 64) }
     ensures { IfOk result (λ picked. picked ≡ job.now) }
 {
     if workers < 2 {
         return Ok(Picked::plain(job));
     }
-    pick(rt, alloc, job)
+    pick(rt, alloc, job)?.composed(rt, alloc, workers)
 }
 
 /// Lets each worker compose its jobs.

@@ -4,10 +4,9 @@ ghost use Rattle.odb_par.specs.Shares.{AreShares};
 ghost use Rattle.odb_sessions.specs.Jobs.{composition};
 ghost use Rattle.odb_sessions.specs.Represented.Composed.{bytes_in};
 
-use crate::worker::Share;
+use crate::worker::{Body, Share};
 use odb_sessions::Job;
 use std::alloc::{AllocError, Global};
-use std::sync::Arc;
 
 /// Deals out for each job its body, in the order of the jobs: each is shared with the worker's. O(n) for n jobs.
 pub(crate) fn in_order(
@@ -15,7 +14,7 @@ pub(crate) fn in_order(
     jobs: &[Job<'_>],
     workers: usize,
     shares: &[Share],
-) -> Result<Vec<Option<Arc<Vec<u8>>>>, AllocError>
+) -> Result<Vec<Body>, AllocError>
     requires workers { 1 ≤ workers }
     requires shares { AreShares workers (map composition jobs.now) shares.now }
     ensures { IfOk result (λ bodies. map bytes_in bodies.items ≡ map composition jobs.now) }
@@ -31,7 +30,7 @@ pub(crate) fn in_order(
 }
 
 /// Shares the body. O(1).
-fn shared(body: &Option<Arc<Vec<u8>>>) -> Result<Option<Arc<Vec<u8>>>, AllocError>
+pub(crate) fn shared(body: &Body) -> Result<Body, AllocError>
     ensures { IfOk result (λ same. bytes_in same ≡ bytes_in body.now) }
 {
     let Some(text) = body else {

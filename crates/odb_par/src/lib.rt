@@ -8,6 +8,7 @@ mod dealing;
 mod gate;
 mod picked;
 mod picking;
+mod pieces;
 mod scan;
 mod worker;
 mod workers;

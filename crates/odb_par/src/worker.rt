@@ -9,8 +9,11 @@ use crate::picked::Picked;
 use std::alloc::{AllocError, Global};
 use std::sync::Arc;
 
+/// What is composed of a job: nothing where nothing is sent.
+pub(crate) type Body = Option<Arc<Vec<u8>>>;
+
 /// What a worker composed of its jobs, in their order, unless memory was refused.
-pub(crate) type Share = Result<Vec<Option<Arc<Vec<u8>>>>, AllocError>;
+pub(crate) type Share = Result<Vec<Body>, AllocError>;
 
 /// Composes the jobs at `first`, `first + workers` and so on. The costs are those of `Picked::compose` for each of them.
 pub(crate) fn own_bodies<G: Gate>(

@@ -1,7 +1,8 @@
 -- What a part of a job stands for, and how its rows are printed.
-use Rattle.std.specs.Prelude.{Bool, if◌then◌else◌, List, Option, Some, None, refl}
+use Rattle.std.specs.Prelude.{◌∷◌, ℕ, Bool, flat_map, if◌then◌else◌, List, Option, Some, None, refl}
 use Rattle.std.specs.Coded.{Coded, code_by, coded×, coded_list}
-use Rattle.json.specs.Token.{Token}
+use Rattle.json.specs.Print.{print}
+use Rattle.json.specs.Token.{Token, begin_object}
 use Rattle.odb_atoms.specs.FinMap as finite
 use Rattle.odb_atoms.specs.FinMap.{FinMap, combine, map_entries}
 use Rattle.odb_atoms.specs.Row.{Row, row_code}
@@ -53,3 +54,7 @@ is_silent first p = is_empty (changes_shown first p).entries
 -- the table's name and its rows, where there are some
 abbrev pub part_tokens : Notation → Bool → Part → List Token
 part_tokens n first p = member_tokens p.request.shape.name (table_update n first p.request.shape.columns (changes_shown first p).entries)
+
+-- the object of updates with these tables, as far as its closing bracket
+abbrev pub tables_text : Notation → Bool → List Part → List ℕ
+tables_text n first ps = print (begin_object ∷ flat_map (part_tokens n first) ps)
