@@ -13,6 +13,8 @@ use Rattle.odb_core.specs.contracts.resting.Resting as Resting
 use Rattle.odb_core.specs.contracts.counts.Counts as Counts
 use Rattle.odb_core.specs.contracts.waiting.Waiting as Waiting
 use Rattle.odb_core.specs.contracts.waiting_list.WaitingList as WaitingList
+use Rattle.odb_core.specs.contracts.failed.Failed as Failed
+use Rattle.odb_core.specs.contracts.failures.Failures as Failures
 use Rattle.odb_core.specs.contracts.state.State as State
 use Rattle.odb_core.specs.contracts.server.Core as Core
 
@@ -37,6 +39,12 @@ Counts-send = search (sendable, heap.crosses, maps.crosses) depth 20
 WaitingList-send : IsSend (WaitingList.the_field).row
 WaitingList-send = search (Counts-send, Waiting-send, sendable, heap.crosses) depth 20
 
+Failed-send : IsSend (Failed.the_field).row
+Failed-send = search (Waiting-send, sendable, heap.crosses) depth 20
+
+Failures-send : IsSend (Failures.the_field).row
+Failures-send = search (Failed-send, sendable, heap.crosses) depth 20
+
 Locks-send : IsSend (Locks.the_field).row
 Locks-send = locks.the_send
 
@@ -44,7 +52,7 @@ ServedSchema-send : IsSend (ServedSchema.the_field).row
 ServedSchema-send = served.the_send
 
 State-send : IsSend (State.the_field).row
-State-send = search (Locks-send, book.Sessions-send, ServedSchema-send, WaitingList-send, sendable, heap.crosses) depth 20
+State-send = search (Locks-send, book.Sessions-send, ServedSchema-send, WaitingList-send, Failures-send, sendable, heap.crosses) depth 20
 
 pub Core-send : IsSend (Core.the_field).row
 Core-send = search (State-send, sendable, heap.crosses) depth 20

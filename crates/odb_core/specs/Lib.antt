@@ -1,3 +1,4 @@
+pub mod Causes
 pub mod Deadlines
 pub mod Marked
 pub mod Represented

@@ -5,6 +5,8 @@
 #![tactic(auto)]
 
 mod counts;
+mod failed;
+mod failures;
 mod marks;
 mod monitors;
 mod refused;
@@ -18,6 +20,8 @@ mod upcoming;
 mod waiting;
 mod waiting_list;
 
+pub use failed::Failed;
+pub use odb_cause::{Cause, Detail, Stage};
 pub use odb_locks::SessionId;
 pub use odb_sessions::{FirstText, Job, Jobs, Out, Prepared};
 pub use refused::Refused;

@@ -7,11 +7,14 @@ ghost use Rattle.odb_atoms.specs.Represented.Atom.{uuid_of};
 ghost use Rattle.odb_rpc.specs.Message.{inserts_of};
 ghost use Rattle.odb_wire.specs.Shown.{request_data};
 ghost use Rattle.odb_service.specs.Run.{closed, max_sessions, once, opened, round, submitted, ticked};
+ghost use Rattle.odb_core.specs.Causes.{FailsFor};
 ghost use Rattle.odb_core.specs.Deadlines.{earliest};
 ghost use Rattle.odb_core.specs.declared.refused.Refused.TheVariants as refused;
 
+use crate::failed::Failed;
 use crate::refused::Refused;
 use crate::state::State;
+use odb_cause::Cause;
 use odb_locks::SessionId;
 use odb_schema::Schema;
 use odb_sessions::{FirstText, Jobs, Out, Prepared};
@@ -164,6 +167,31 @@ impl Core {
             Ok(()) => Ok(()),
             Err((request, _)) => Err((request, Refused::Memory)),
         }
+    }
+
+    /// Has the transactions that fail from now on noted, also those that wait before, until [`Core::take_failed`] takes them
+    /// out: so it is to be called again and again. Of what is served nothing changes by it. O(1).
+    pub fn note_failures(&mut self)
+        ensures { self.new ≡ self.old }
+    {
+        self.state.note_failures();
+    }
+
+    /// Takes out the transactions that failed and were noted, in the order in which they ended. One for which memory was
+    /// refused then isn't among them. O(1).
+    pub fn take_failed(&mut self) -> Vec<Failed>
+        ensures { self.new ≡ self.old }
+    {
+        self.state.take_failed()
+    }
+
+    /// Tries a transaction that failed once more, and returns why it fails on the core as it is, which a transaction that
+    /// fails leaves as it was; nothing, where it would go through or wait by now. Nothing is changed. What
+    /// [`odb_cause::explain`] costs.
+    pub fn cause(&self, failed: &Failed) -> Result<Option<Cause>, AllocError>
+        ensures { IfOk result (λ cause. IfSome cause (FailsFor self.now failed.now)) }
+    {
+        self.state.cause(failed)
     }
 
     /// Advances the clock to `now` (milliseconds); it never goes back, so that an earlier `now`

@@ -1,13 +1,15 @@
 //! What transactions are tried with. [P 6.3, 12.1]
 
-ghost use Rattle.std.specs.Prelude.{◌≡◌, IfOk, map};
+ghost use Rattle.std.specs.Prelude.{◌≡◌, None, IfOk, IfSome, map};
 ghost use Rattle.odb_atoms.specs.Represented.Atom.{uuid_of};
 ghost use Rattle.odb_commit.specs.Represented.Outcome.{Answers};
 ghost use Rattle.odb_commit.specs.Sound.{IsSound};
-ghost use Rattle.odb_core.specs.Represented.Waiting.{outcome_with};
+ghost use Rattle.odb_core.specs.Causes.{FailsWith};
+ghost use Rattle.odb_core.specs.Represented.Waiting.{outcome_with, waiting_as};
 ghost use Rattle.odb_tables.specs.Draft.{draft_of};
 
 use crate::submitted::Submitted;
+use odb_cause::{Cause, explain};
 use odb_commit::{Outcome, transact};
 use odb_locks::Locks;
 use odb_ops::Context;
@@ -55,6 +57,36 @@ impl Setting<'_> {
             self.schema,
             asked.operations(),
             number,
+            MAX_ROWS,
+            &context,
+        )
+    }
+
+    /// Returns why a transaction fails on the database of the draft, in which nothing is changed yet; nothing where it goes
+    /// through or waits.
+    pub(crate) fn cause(
+        &self,
+        draft: Draft<'_>,
+        asked: &Submitted,
+    ) -> Result<Option<Cause>, AllocError>
+        requires fresh { draft ≡ draft_of draft.old }
+        requires sound { IsSound self.now.schema.now draft.old }
+        ensures { IfOk result (λ cause. IfSome cause
+            (FailsWith self.entry.now.schema.now self.entry.now.locks.now self.entry.now.now draft.entry.old (waiting_as asked.now None 0))) }
+    {
+        let (session, arrival) = (asked.session, asked.arrival);
+        let owned = self.locks.owned(self.alloc, session)?;
+        let context = Context {
+            fresh: asked.fresh.as_slice(),
+            arrival,
+            now: self.now,
+            owned: owned.as_slice(),
+        };
+        explain(
+            self.alloc,
+            draft,
+            self.schema,
+            asked.operations(),
             MAX_ROWS,
             &context,
         )

@@ -13,14 +13,18 @@ ghost use Rattle.odb_core.specs.Represented.Core.{empty_world};
 ghost use Rattle.odb_core.specs.Represented.Rounds.{book_in};
 ghost use Rattle.odb_core.specs.Represented.Upcoming.{after_due, after_ended, IsPlanOf};
 ghost use Rattle.odb_core.specs.Represented.Waiting.{outcome_in, waiting_as};
+ghost use Rattle.odb_core.specs.Causes.{FailsFor};
 ghost use Rattle.odb_core.specs.Stuck.{AreStuck};
 ghost use Rattle.odb_commit.specs.Transaction as transaction;
 ghost use Rattle.odb_sessions.specs.Represented.Ended.{ending_of};
 
+use crate::failed::Failed;
+use crate::failures::Failures;
 use crate::setting::Setting;
 use crate::submitted::Submitted;
 use crate::upcoming::Plan;
 use crate::waiting_list::WaitingList;
+use odb_cause::Cause;
 use odb_commit::Outcome;
 use odb_locks::{Locks, SessionId};
 use odb_ops::OperationResult;
@@ -43,6 +47,7 @@ pub(crate) struct State {
     pub(crate) waiting: WaitingList,
     pub(crate) locks: Locks,
     pub(crate) sessions: Sessions,
+    pub(crate) failures: Failures,
 }
 
 impl Model for State {
@@ -96,6 +101,7 @@ impl State {
             waiting: WaitingList::new(alloc),
             locks: Locks::new(alloc),
             sessions,
+            failures: Failures::new(alloc),
         })
     }
 
@@ -136,6 +142,28 @@ impl State {
         let draft = Draft::new(self.alloc, self.sessions.db())?;
         self.setting()
             .outcome(draft, asked, self.sessions.commits())
+    }
+
+    /// Returns why a transaction that failed fails on the state as it is.
+    pub(crate) fn cause(&self, failed: &Failed) -> Result<Option<Cause>, AllocError>
+        ensures { IfOk result (λ cause. IfSome cause (FailsFor self.entry.now failed.now)) }
+    {
+        let draft = Draft::new(self.alloc, self.sessions.db())?;
+        self.setting().cause(draft, failed.submitted())
+    }
+
+    /// Has transactions that fail noted from now on.
+    pub(crate) fn note_failures(&mut self)
+        ensures { self.new ≡ self.old }
+    {
+        self.failures.begin();
+    }
+
+    /// Takes out the transactions that were noted.
+    pub(crate) fn take_failed(&mut self) -> Vec<Failed>
+        ensures { self.new ≡ self.old }
+    {
+        self.failures.take()
     }
 
     /// Queues the reply of a transaction that changes nothing.
@@ -203,11 +231,30 @@ impl State {
             Ok(Outcome::Waiting { deadline }) => self.make_wait(asked, deadline),
             Ok(Outcome::Failed { results }) => {
                 let ended = self.reply(&asked, results);
-                back_on_error(ended, asked)
+                self.note_failed(ended, asked)
             }
             Ok(Outcome::Done { results, change }) => {
                 let ended = self.complete(&asked, results, change);
                 back_on_error(ended, asked)
+            }
+            Err(refused) => Err((asked, refused)),
+        }
+    }
+
+    /// Notes a transaction that failed, where that is asked for. Where memory was refused for its end it comes back.
+    fn note_failed(
+        &mut self,
+        ended: Result<(), AllocError>,
+        asked: Submitted,
+    ) -> Result<(), (Submitted, AllocError)>
+        ensures same { self.new ≡ self.old }
+        ensures ok { IsOk result ↔ IsOk ended }
+        ensures back { IfErr result (λ back. back.0 ≡ asked) }
+    {
+        match ended {
+            Ok(()) => {
+                self.failures.add(asked);
+                Ok(())
             }
             Err(refused) => Err((asked, refused)),
         }
@@ -278,9 +325,11 @@ impl State {
             ended,
             change,
             left,
+            failed,
         } = plan;
         self.sessions.end_all(ended, change)?;
         self.waiting = left;
+        self.failures.append(failed);
         Ok(())
     }
 
@@ -342,6 +391,7 @@ impl State {
             waiting: self.waiting.try_copy()?,
             locks: self.locks.try_copy(self.alloc)?,
             sessions: self.sessions.try_copy()?,
+            failures: self.failures.without_failed(),
         })
     }
 }
@@ -395,6 +445,7 @@ impl Drop for State {
             waiting: _,
             locks: _,
             sessions: _,
+            failures: _,
         } = self;
     }
 }

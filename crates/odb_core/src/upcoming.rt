@@ -14,6 +14,7 @@ ghost use Rattle.odb_core.specs.Represented.Upcoming.{after_due, GoesOn, Leads};
 ghost use Rattle.odb_core.specs.Stuck.{AreStuck, IsSameAt, IsStuckIf};
 ghost use Rattle.odb_core.specs.Represented.Waiting.{IsDone, IsOutcome, ends, left_waiting, reply_with, waiting_as};
 
+use crate::failed::Failed;
 use crate::marks::{is_marked, unmark};
 use crate::setting::Setting;
 use crate::state::{State, changes_rows};
@@ -35,6 +36,8 @@ pub(crate) struct Plan {
     pub(crate) ended: Vec<Ended>,
     pub(crate) change: ChangeSet,
     pub(crate) left: WaitingList,
+    /// Those that waited and failed, where they are noted.
+    pub(crate) failed: Vec<Failed>,
 }
 
 /// A server over which transactions are tried, and nothing is changed: as it is, and as it will be.
@@ -52,6 +55,9 @@ pub(crate) struct Upcoming<'a> {
     marks: Vec<bool>,
     /// Whether memory was refused while a change was put in: then nothing can be tried any more.
     is_spoilt: bool,
+    /// Those that waited and failed, and whether they are noted.
+    failed: Vec<Failed>,
+    notes: bool,
 }
 
 impl<'a> Model for Upcoming<'a> {
@@ -121,6 +127,8 @@ impl State {
             waiting: self.waiting.try_copy()?,
             marks: Vec::from_elem(self.alloc, true, self.sessions.db().len())?,
             is_spoilt: false,
+            failed: Vec::new(self.alloc),
+            notes: self.failures.notes(),
         })
     }
 }
@@ -203,11 +211,24 @@ impl Upcoming<'_> {
         ensures base { self.new.base ≡ self.old.base }
     {
         let outcome = self.outcome(waiting.submitted())?;
+        let fails = fails(&outcome);
         match self.attempt_with(waiting.submitted(), outcome)? {
-            Tried::Ended => Ok(None),
+            Tried::Ended => {
+                self.note_ended(waiting, fails);
+                Ok(None)
+            }
             Tried::Waiting { deadline } => {
                 Ok(Some(waiting.tried_again(deadline, self.count_of_commits())))
             }
+        }
+    }
+
+    /// Notes one that waited and ended, where it failed and that is asked for. Where memory is refused it isn't noted.
+    fn note_ended(&mut self, waiting: Waiting, fails: bool)
+        ensures { self.new ≡ self.old }
+    {
+        if fails && self.notes {
+            drop(self.failed.push(Failed::new(waiting)));
         }
     }
 
@@ -379,6 +400,8 @@ impl Upcoming<'_> {
             waiting,
             marks: _,
             is_spoilt,
+            failed,
+            notes: _,
         } = self;
         if is_spoilt {
             return Err(AllocError);
@@ -388,8 +411,14 @@ impl Upcoming<'_> {
             ended,
             change,
             left: waiting,
+            failed,
         })
     }
+}
+
+/// Returns whether a transaction failed.
+fn fails(outcome: &Outcome) -> bool {
+    matches!(outcome, Outcome::Failed { results: _ })
 }
 
 /// Returns a transaction that ended with these results.

@@ -23,7 +23,7 @@ struct ComposedRound {
 
 /// Gives each session of the list that is open its next message, if it has one, as `Core::round` does; the workers compose
 /// what is to be composed for it. An error says that memory was refused, and nothing was taken then. It costs what that
-/// call costs, and a thread for each worker but one.
+/// call and `Jobs::weight` do; where that weight has two workers or more, `compose_all` takes the place of `Jobs::compose`.
 pub(crate) fn round_by<R: Threads + Sync, G: Gate + Sync>(
     rt: &R,
     core: &mut Core,
@@ -58,7 +58,8 @@ fn prepare<R: Threads + Sync, G: Gate + Sync>(
     Ok(ComposedRound { prepared, first })
 }
 
-/// Composes each of the jobs, by as many workers as there are for what they weigh.
+/// Composes each of the jobs, by as many workers as there are for what they weigh; one alone is the caller, and comes to no
+/// gate.
 fn bodies_of<R: Threads + Sync, G: Gate + Sync>(
     rt: &R,
     jobs: &Jobs<'_>,
@@ -68,5 +69,8 @@ fn bodies_of<R: Threads + Sync, G: Gate + Sync>(
     ensures { IfOk result (λ bodies. map bytes_in bodies.items ≡ map composition jobs.now.jobs) }
 {
     let count = workers.for_weight(jobs.weight());
+    if count < 2 {
+        return jobs.compose();
+    }
     compose_all(rt, jobs.alloc(), jobs.list(), count, gate)
 }

@@ -5,6 +5,7 @@ ghost use Rattle.odb_hub.specs.Batch as batch;
 ghost use Rattle.odb_service.specs.Run.{opened, ticked};
 
 use crate::bell::Bell;
+use crate::failure::TransactionFailure;
 use crate::mailbox::Mailbox;
 use crate::seat::Seat;
 use crate::state::HubState;
@@ -85,8 +86,9 @@ impl<L: Ledger> Counted<L> {
     ghost use Rattle.odb_hub.specs.Represented.Submission.{events_of};
     ghost use Rattle.odb_hub.specs.Rings.{fresh_ring, IsFlushedAt};
 
-    /// Makes a hub's state over a new core, which has empty tables, no commit and no session, of which so many seats may be given at once.
-    pub fn new(alloc: Global, core: Core, blank: Blank, seats: u64) -> Counted<L>
+    /// Makes a hub's state over a new core, which has empty tables, no commit and no session, of which so many seats may be given
+    /// at once; these workers compose what a session alone is given.
+    pub fn new(alloc: Global, core: Core, blank: Blank, seats: u64, workers: Workers) -> Counted<L>
         requires core { IsNew core }
         requires ledger { (blank.name ≡ L.name) × (blank.parts ≡ L.parts) }
         requires parts { blank.parts ≡ seats + 1 }
@@ -94,7 +96,7 @@ impl<L: Ledger> Counted<L> {
     {
         let (book, parted) = blank.open::<L>();
         Counted {
-            state: HubState::new(alloc, core),
+            state: HubState::new(alloc, core, workers),
             settled: Snapshot::of(&book),
             book,
             parted,
@@ -133,7 +135,7 @@ impl<L: Ledger> Counted<L> {
     /// Submits a turn of the batch as [`HubState::submit_turn`] does, and then gives the session what it is owed
     /// ([`HubState::rounds_for`]). It returns what came of both, whether a session may be owed something then, and whether
     /// a transaction is due sooner than any was. The seat is answered each submission that was taken.
-    pub fn submit_turn<R: Clock>(
+    pub fn submit_turn<R: Threads + Clock + Sync>(
         &mut self,
         rt: &R,
         seat: &mut Seat<L>,
@@ -155,7 +157,7 @@ impl<L: Ledger> Counted<L> {
         let submitted = self.state.submit_turn(rt, seat.session, batch, now);
         let answered = before.saturating_sub(batch.len());
         self.book.add(&mut seat.share, answered as u64);
-        let given = self.state.rounds_for(seat.session);
+        let given = self.state.rounds_for(rt, seat.session);
         BatchOutcome {
             given,
             owes: match submitted {
@@ -168,20 +170,36 @@ impl<L: Ledger> Counted<L> {
     }
 
     /// Does what [`HubState::rounds_for`] does.
-    pub fn rounds_for(&mut self, session: SessionId) -> Result<(), AllocError>
+    pub fn rounds_for<R: Threads + Sync>(
+        &mut self,
+        rt: &R,
+        session: SessionId,
+    ) -> Result<(), AllocError>
         ensures rounds { GivesOwn session self.old.kept self.new.kept }
         ensures given { OnOk result (IsGiven session self.new.kept) }
         ensures count { SameCount self.old self.new }
     {
-        self.state.rounds_for(session)
+        self.state.rounds_for(rt, session)
     }
 
     /// Does what [`HubState::give_next`] does.
-    pub fn give_next(&mut self, from: SessionId, now: u64) -> Option<SessionId>
+    pub fn give_next<R: Threads + Sync>(
+        &mut self,
+        rt: &R,
+        from: SessionId,
+        now: u64,
+    ) -> Option<SessionId>
         ensures given { GivesTo result self.old.kept self.new.kept }
         ensures count { SameCount self.old self.new }
     {
-        self.state.give_next(from, now)
+        self.state.give_next(rt, from, now)
+    }
+
+    /// Does what [`HubState::take_failures`] does.
+    pub fn take_failures(&mut self) -> Vec<TransactionFailure>
+        ensures { self.new ≡ self.old }
+    {
+        self.state.take_failures()
     }
 
     /// Does what [`HubState::tick`] does.

@@ -3,6 +3,7 @@ ghost use Rattle.std.specs.Prelude.{◌≡◌, ◌+◌};
 
 use crate::counted::Counted;
 use odb_core::Core;
+use odb_par::Workers;
 use std::alloc::Global;
 use std::sync::ledger::{Blank, Ledger};
 use std::sync::{Mutex, MutexGuard, Wait};
@@ -23,15 +24,16 @@ pub struct Hub<L: Ledger> {
 impl<L: Ledger> Hub<L> {
     ghost use Rattle.odb_hub.specs.Kept.{IsNew};
 
-    /// Makes a hub over a new core, which has empty tables, no commit and no session, of which so many seats may be given at once.
-    pub fn new(alloc: Global, core: Core, blank: Blank, seats: u64) -> Hub<L>
+    /// Makes a hub over a new core, which has empty tables, no commit and no session, of which so many seats may be given at once;
+    /// these workers compose what a session alone is given.
+    pub fn new(alloc: Global, core: Core, blank: Blank, seats: u64, workers: Workers) -> Hub<L>
         requires core { IsNew core }
         requires ledger { (blank.name ≡ L.name) × (blank.parts ≡ L.parts) }
         requires parts { blank.parts ≡ seats + 1 }
     {
         Hub {
             door: Mutex::new(()),
-            state: Mutex::new(Counted::new(alloc, core, blank, seats)),
+            state: Mutex::new(Counted::new(alloc, core, blank, seats, workers)),
         }
     }
 

@@ -17,6 +17,7 @@ use std::marker::Model;
 use std::mem;
 use std::snapshot::Snapshot;
 use std::sync::ledger::Ledger;
+use std::thread::Threads;
 use std::time::Clock;
 use uuid::Uuid;
 
@@ -142,7 +143,7 @@ impl Inbox {
     }
 
     /// Submits a turn of what is pending, from the first, as [`Counted::submit_turn`] does.
-    pub fn submit_turn<L: Ledger, R: Clock>(
+    pub fn submit_turn<L: Ledger, R: Threads + Clock + Sync>(
         &mut self,
         rt: &R,
         hub: &mut Counted<L>,

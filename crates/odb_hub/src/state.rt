@@ -7,15 +7,17 @@ ghost use Rattle.odb_service.specs.Run.{closed, opened, round, submitted, ticked
 
 use crate::bell::Bell;
 use crate::composing::round_by;
+use crate::failure::{TransactionFailure, add_causes};
 use crate::journal::{Happened, Journal};
 use crate::mailbox::Mailbox;
 use crate::rings::Rings;
 use crate::submission::Submission;
 use crate::turn::Turn;
 use odb_core::{Core, Refused, SessionId};
-use odb_par::{Gate, Workers};
+use odb_par::{Gate, Open, Workers};
 use std::alloc::{AllocError, Global};
 use std::marker::Model;
+use std::mem;
 use std::snapshot::Snapshot;
 use std::thread::Threads;
 use std::time::Clock;
@@ -37,6 +39,10 @@ pub struct HubState {
     journal: Journal,
     since_base: u64,
     rings: Rings,
+    /// The causes that were found out. No contract speaks of them.
+    failures: Vec<TransactionFailure>,
+    alloc: Global,
+    workers: Workers,
 }
 
 impl Model for HubState {
@@ -65,8 +71,8 @@ impl HubState {
     ghost use Rattle.odb_hub.specs.Rings.{AreShort, fresh_ring, IsFlushedAt};
 
     /// Makes the state of a new core, which has empty tables, no commit and no session; its own state is the base, and there is
-    /// no event.
-    pub fn new(alloc: Global, core: Core) -> HubState
+    /// no event. These workers compose what a session alone is given.
+    pub fn new(alloc: Global, core: Core, workers: Workers) -> HubState
         requires { IsNew core }
         ensures { result ≡ record { server = core; base = core.world; events = []; rings = empty } }
     {
@@ -75,6 +81,9 @@ impl HubState {
             since_base: 0,
             rings: Rings::new(alloc),
             core,
+            failures: Vec::new(alloc),
+            alloc,
+            workers,
         }
     }
 
@@ -114,8 +123,27 @@ impl HubState {
     }
 
     /// Takes a message of a session in; `now` is the moment in milliseconds. It is refused as `Core::submit` is, and
-    /// hands the submission back then. It costs what that call costs.
+    /// hands the submission back then. It costs what that call costs, and what the causes do where they are noted.
     pub fn submit(
+        &mut self,
+        session: SessionId,
+        submission: Submission,
+        now: u64,
+    ) -> Result<(), (Submission, Refused)>
+        ensures ok { OnOk result (Takes (submitted session (request_data submission.request) (map uuid_of submission.fresh.items) now) self.old self.new []) }
+        ensures rings { OnOk result (self.new.rings ≡ self.old.rings) }
+        ensures why { IfErr result (λ back. IsReason back.1
+            (serve (submitted session (request_data submission.request) (map uuid_of submission.fresh.items) now) self.old.server)) }
+        ensures err { OnErr result (self.new ≡ self.old) }
+        ensures back { IfErr result (λ back. (back.0.request ≡ submission.request) × (back.0.fresh ≡ submission.fresh)) }
+    {
+        let taken = self.receive(session, submission, now);
+        self.note_causes();
+        taken
+    }
+
+    /// Takes a message of a session in, as `submit` does.
+    fn receive(
         &mut self,
         session: SessionId,
         submission: Submission,
@@ -139,6 +167,24 @@ impl HubState {
             }
             Err((request, why)) => Err((Submission { request, fresh }, why)),
         }
+    }
+
+    /// Takes out the transactions that failed and were noted ([`Core::note_failures`]), with their causes: of those that were
+    /// submitted on the core on which they failed, of those that waited on the core as it is now, or as it was when another
+    /// was submitted. One for whose cause memory was refused isn't among them. What the causes of those that waited cost.
+    pub fn take_failures(&mut self) -> Vec<TransactionFailure>
+        ensures { self.new ≡ self.old }
+    {
+        self.note_causes();
+        mem::replace(&mut self.failures, Vec::new(self.alloc))
+    }
+
+    /// Finds out why those that failed did.
+    fn note_causes(&mut self)
+        ensures { self.new ≡ self.old }
+    {
+        let failed = self.core.take_failed();
+        add_causes(&self.core, failed, &mut self.failures);
     }
 
     /// Submits a turn of the batch, from its last to its first, each as `submit` does: at most 64, and none after the first
@@ -235,8 +281,12 @@ impl HubState {
     /// Gives this session alone its next message, if it has one and none is held back for it. What is held back is sent
     /// first, where its ring has room now. It returns how many messages there were. An error says that memory was refused:
     /// then what was held back may have been sent, and nothing else changed. O(log n), and O(k) where k sessions have a
-    /// message held back, as this one had.
-    pub fn round_for(&mut self, session: SessionId) -> Result<usize, AllocError>
+    /// message held back, as this one had; where its job is large, the workers of this hub compose it.
+    pub fn round_for<R: Threads + Sync>(
+        &mut self,
+        rt: &R,
+        session: SessionId,
+    ) -> Result<usize, AllocError>
         ensures ok { IfOk result (λ count. TakesOwnRound session count self.old self.new) }
         ensures err { OnErr result (FlushesOwn session self.old self.new) }
     {
@@ -244,7 +294,7 @@ impl HubState {
         if !ready {
             return Ok(0);
         }
-        let outs = self.core.round(&[session])?;
+        let outs = round_by(rt, &mut self.core, &[session], self.workers, &Open)?;
         let count = outs.len();
         self.rings.hand_over(outs);
         self.journal = self.journal.with(Happened::RoundOf(session));
@@ -255,7 +305,11 @@ impl HubState {
     /// Gives this session alone what it is owed, until it is owed nothing more or its ring holds one back. An error says that
     /// memory was refused to the last of these rounds, or that there were 2^64-1. It costs what the rounds cost, of which
     /// none is planned where nothing is owed.
-    pub fn rounds_for(&mut self, session: SessionId) -> Result<(), AllocError>
+    pub fn rounds_for<R: Threads + Sync>(
+        &mut self,
+        rt: &R,
+        session: SessionId,
+    ) -> Result<(), AllocError>
         ensures rounds { GivesOwn session self.old self.new }
         ensures given { OnOk result (IsGiven session self.new) }
     {
@@ -263,7 +317,7 @@ impl HubState {
             if self.rests(session) {
                 return Ok(());
             }
-            let given = self.round_for(session)?;
+            let given = self.round_for(rt, session)?;
             if given == 0 {
                 return Ok(());
             }
@@ -275,13 +329,18 @@ impl HubState {
     /// something, whose number it returns; `None` says that there is none. Where memory is refused for that, again and again
     /// for a second up to this moment, in milliseconds, the thread that serves the session is told to end it. O(k) where k
     /// sessions may be owed something, and what the rounds cost.
-    pub fn give_next(&mut self, from: SessionId, now: u64) -> Option<SessionId>
+    pub fn give_next<R: Threads + Sync>(
+        &mut self,
+        rt: &R,
+        from: SessionId,
+        now: u64,
+    ) -> Option<SessionId>
         ensures { GivesTo result self.old self.new }
     {
         let Some(session) = self.next_owed(from) else {
             return None;
         };
-        if self.rounds_for(session).is_err() {
+        if self.rounds_for(rt, session).is_err() {
             self.rings.note_refusal(session, now);
         }
         Some(session)
@@ -359,6 +418,9 @@ impl Drop for HubState {
             journal: _,
             since_base: _,
             rings: _,
+            failures: _,
+            alloc: _,
+            workers: _,
         } = self;
     }
 }

@@ -65,7 +65,7 @@ pub(crate) fn open<L: Ledger, R: Wait>(
 }
 
 /// Submits a request of this text. It returns whether it was taken, or met Busy.
-pub(crate) fn submit<L: Ledger, R: Wait + Clock>(
+pub(crate) fn submit<L: Ledger, R: Threads + Wait + Clock + Sync>(
     rt: &R,
     alloc: Global,
     hub: &Hub<L>,
@@ -83,7 +83,7 @@ pub(crate) fn submit<L: Ledger, R: Wait + Clock>(
 }
 
 /// Returns how many echoes the hub takes before it is Busy. Their ids are 1, 2, 3 and so on.
-fn taken<L: Ledger, R: Wait + Clock>(
+fn taken<L: Ledger, R: Threads + Wait + Clock + Sync>(
     rt: &R,
     alloc: Global,
     hub: &Hub<L>,
@@ -229,7 +229,7 @@ fn trial<L: Ledger, R: Threads + Wait + Clock + Sync>(
     requires ledger { (blank.name ≡ L.name) × (blank.parts ≡ L.parts) }
     requires parts { blank.parts ≡ 3 }
 {
-    let hub: Hub<L> = Hub::new(alloc, core, blank, 2);
+    let hub: Hub<L> = Hub::new(alloc, core, blank, 2, Workers::new(1, 0));
     let found = find(rt, alloc, &hub, is_asked)?;
     let first = hub.enter(rt).settle();
     let second = hub.enter(rt).settle();
@@ -239,7 +239,7 @@ fn trial<L: Ledger, R: Threads + Wait + Clock + Sync>(
 }
 
 /// Has a session open, ask for an echo, and end.
-fn come_and_go<L: Ledger, R: Wait + Clock>(
+fn come_and_go<L: Ledger, R: Threads + Wait + Clock + Sync>(
     rt: &R,
     alloc: Global,
     hub: &Hub<L>,
@@ -263,7 +263,7 @@ fn alone<L: Ledger, R: Threads + Wait + Clock + Sync>(
     requires ledger { (blank.name ≡ L.name) × (blank.parts ≡ L.parts) }
     requires parts { blank.parts ≡ 3 }
 {
-    let hub: Hub<L> = Hub::new(alloc, core, blank, 2);
+    let hub: Hub<L> = Hub::new(alloc, core, blank, 2, Workers::new(1, 0));
     other(rt, alloc, &hub)
 }
 

@@ -76,3 +76,25 @@ fn several_threads_test_the_rows_of_a_table(rt: HostRuntime) -> Result<(), Fail>
     }
     Ok(())
 }
+
+/// A monitor of all rows, by so many conditions, that each row meets, that 16,384 tests are made and more.
+const ASKS_ALL: &[u8] =
+    br#"{"id":2,"method":"monitor_cond","params":["net",null,{"T":[{"columns":["k"],"where":[["k","<",4001],["k","<",4002],["k","<",4003],["k","<",4004],["k",">",1],["k",">",2],["k",">",3],["k",">",4]]}]}]}"#;
+
+#[test]
+fn several_threads_print_pieces_of_a_table(rt: HostRuntime) -> Result<(), Fail> {
+    let alloc = rt.alloc();
+    let mut core = core(alloc, RandomState::new(&rt)?, NET)?;
+    submitter(alloc, &mut core, &inserts(alloc)?)?;
+    let session = submitter(alloc, &mut core, ASKS_ALL)?;
+    let jobs = core.jobs(&[session])?;
+    let alone = jobs.compose()?;
+    let by_two = compose_all(&rt, alloc, jobs.list(), 2, &Open)?;
+    let by_three = compose_all(&rt, alloc, jobs.list(), 3, &Open)?;
+    assert!(rt; by_two == alone);
+    assert!(rt; by_three == alone);
+    for body in &alone {
+        assert!(rt; length_of(body) > ROWS * 60, "all rows");
+    }
+    Ok(())
+}

@@ -104,7 +104,7 @@ fn sent<R: Threads + Sync, G: Gate + Sync>(
 ) -> Result<Vec<u8>, AllocError>
     requires { IsNew core }
 {
-    let mut state = HubState::new(alloc, core);
+    let mut state = HubState::new(alloc, core, workers);
     let mut mailboxes = Vec::new(alloc);
     for text in REQUESTS {
         mailboxes.push(asks(alloc, &mut state, text)?)?;

@@ -8,6 +8,7 @@ use crate::requests::{core, note};
 use crate::streams::{FailingWriter, Taken};
 use odb_core::Core;
 use odb_hub::{Hub, Mailbox, Outbox, Seat};
+use odb_par::Workers;
 use std::alloc::{AllocError, Global};
 use std::hash::RandomState;
 use std::io::ErrorKind;
@@ -15,6 +16,7 @@ use std::marker::Brand;
 use std::sync::Wait;
 use std::sync::ledger::{Blank, Ledger};
 use std::test::Fail;
+use std::thread::Threads;
 use std::time::Clock;
 
 /// A schema with one table of one column.
@@ -81,7 +83,7 @@ impl WriterStop {
     }
 }
 
-impl<'a, L: Ledger, R: Wait + Clock> WrittenSession<'a, L, R> {
+impl<'a, L: Ledger, R: Threads + Wait + Clock + Sync> WrittenSession<'a, L, R> {
     /// Returns whether a writer that stops so was written just what comes before, whether the peer may be asked then,
     /// and whether a good writer is written the rest, each byte once.
     fn writes(
@@ -134,7 +136,7 @@ fn is_all(text: &Vec<u8>, whole: &[u8], asks: bool) -> bool {
     text.get(..whole.len()) == Some(whole) && text.get(whole.len()..) == Some(behind.as_bytes())
 }
 
-fn ask<L: Ledger, R: Wait + Clock>(
+fn ask<L: Ledger, R: Threads + Wait + Clock + Sync>(
     rt: &R,
     alloc: Global,
     hub: &Hub<L>,
@@ -147,7 +149,7 @@ fn ask<L: Ledger, R: Wait + Clock>(
 }
 
 /// Inserts a row.
-fn insert<L: Ledger, R: Wait + Clock>(
+fn insert<L: Ledger, R: Threads + Wait + Clock + Sync>(
     rt: &R,
     alloc: Global,
     hub: &Hub<L>,
@@ -177,7 +179,7 @@ fn take(alloc: Global, mailbox: &mut Mailbox) -> Result<Vec<u8>, AllocError> {
 }
 
 /// Inserts a row, and returns what a session is sent that asks.
-fn whole<L: Ledger, R: Wait + Clock>(
+fn whole<L: Ledger, R: Threads + Wait + Clock + Sync>(
     rt: &R,
     alloc: Global,
     hub: &Hub<L>,
@@ -195,7 +197,7 @@ fn whole<L: Ledger, R: Wait + Clock>(
 
 /// Returns the number of bytes at which a writer that stops isn't written just these, and then the rest, if there is
 /// one.
-fn first_wrong<L: Ledger, R: Wait + Clock>(
+fn first_wrong<L: Ledger, R: Threads + Wait + Clock + Sync>(
     session: &mut WrittenSession<'_, L, R>,
     seat: &mut Seat<L>,
     whole: &[u8],
@@ -214,7 +216,7 @@ fn first_wrong<L: Ledger, R: Wait + Clock>(
     Ok(None)
 }
 
-fn trial<L: Ledger, R: Wait + Clock>(
+fn trial<L: Ledger, R: Threads + Wait + Clock + Sync>(
     rt: &R,
     alloc: Global,
     core: Core,
@@ -225,7 +227,7 @@ fn trial<L: Ledger, R: Wait + Clock>(
     requires ledger { (blank.name ≡ L.name) × (blank.parts ≡ L.parts) }
     requires parts { blank.parts ≡ 3 }
 {
-    let hub: Hub<L> = Hub::new(alloc, core, blank, 2);
+    let hub: Hub<L> = Hub::new(alloc, core, blank, 2, Workers::new(1, 0));
     let whole = whole(rt, alloc, &hub, sizes.text)?;
     let (mut seat, mailbox) = open(rt, alloc, &hub)?;
     let mut outbox = Outbox::new(alloc, mailbox);

@@ -41,6 +41,6 @@ Instant-sync : IsSync Instant.the_row
 Instant-sync = search (sendable, heap.crosses) depth 20
 
 pub Daemon-sync : (L : RattleType) (g : Ghosts L.Denot) → IsSend L → IsSync (Daemon.the_field L g).row
-Daemon-sync L g s = search (Hub-sync, Desk-sync, Notices-sync, Patience-sync, Pace-sync, Workers-sync, Instant-sync, sendable, heap.crosses) depth 40 fits 20000
+Daemon-sync L g s = search (Hub-sync, Desk-sync, Notices-sync, notices.the_field_sync, Patience-sync, Pace-sync, Workers-sync, Instant-sync, sendable, heap.crosses) depth 40 fits 20000
 
 pub ruleset crosses = (Daemon-sync, Desk-sync, Poll-send, sendable, heap.crosses)

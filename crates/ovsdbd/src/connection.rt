@@ -296,7 +296,7 @@ impl<L: Ledger> Connection<L> {
     }
 
     /// Writes what the session is given, as far as the peer takes it. Steps: `writes`, `takes`, `looks`, `refills`.
-    fn write<R: Wait>(&mut self, tools: &Tools<'_, L, R>) -> io::Result<Written> {
+    fn write<R: Threads + Wait + Sync>(&mut self, tools: &Tools<'_, L, R>) -> io::Result<Written> {
         if !self.is_writable {
             return Ok(Written::Blocked);
         }
@@ -320,7 +320,7 @@ impl<L: Ledger> Connection<L> {
 
     /// Has what is held back sent, and the peer asked where that is due, once all else is written. True says that there may
     /// be more to write.
-    fn refill<R: Wait>(&mut self, tools: &Tools<'_, L, R>) -> io::Result<bool> {
+    fn refill<R: Threads + Wait + Sync>(&mut self, tools: &Tools<'_, L, R>) -> io::Result<bool> {
         if self.asks {
             self.asks = false;
             return Ok(self.outbox.ask()?);

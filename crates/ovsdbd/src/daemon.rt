@@ -1,13 +1,14 @@
 //! What all threads of the daemon share. [P 15.2]
 
 use crate::desk::Desk;
-use crate::log::{Happened, Line};
+use crate::log::{Happened, Line, Said};
 use crate::notices::Notices;
 use crate::pace::Pace;
 use crate::serve::Terms;
 use odb_core::{Core, MAX_SESSIONS, Refused, SessionId};
 use odb_hub::{Hub, Inbox, Seat};
 use odb_par::{Open, Workers};
+use odb_schema::Schema;
 use odb_waking::PumpPlace;
 use std::alloc::Global;
 use std::io;
@@ -39,6 +40,33 @@ pub(crate) struct Begun {
     pub(crate) alloc: Global,
     pub(crate) core: Core,
     pub(crate) start: Instant,
+    /// The schema by which it is told why transactions failed, where that is logged.
+    pub(crate) schema: Option<Schema>,
+}
+
+impl Begun {
+    ghost use Rattle.std.specs.Prelude.{◌≡◌};
+
+    /// Has transactions that fail logged, with the names of the schema, if there is one.
+    pub(crate) fn naming_failures(self, schema: Option<Schema>) -> Begun
+        ensures { result.core ≡ self.core }
+    {
+        let Begun {
+            alloc,
+            mut core,
+            start,
+            schema: _,
+        } = self;
+        if schema.is_some() {
+            core.note_failures();
+        }
+        Begun {
+            alloc,
+            core,
+            start,
+            schema,
+        }
+    }
 }
 
 /// How many milliseconds the daemon bears a peer; none: for ever.
@@ -89,13 +117,24 @@ impl<L: Ledger> Daemon<L> {
         requires ledger { (blank.name ≡ L.name) × (blank.parts ≡ L.parts) }
         requires parts { blank.parts ≡ seats + 1 }
     {
-        let Begun { alloc, core, start } = begun;
+        let Begun {
+            alloc,
+            core,
+            start,
+            schema,
+        } = begun;
         Daemon {
             alloc,
-            hub: Hub::new(alloc, core, blank, seats),
+            hub: Hub::new(alloc, core, blank, seats, terms.workers),
             pace: Pace::new(),
             desks,
-            notices: Notices::new(alloc, terms.max_message, MAX_SESSIONS, terms.has_log),
+            notices: Notices::new(
+                alloc,
+                terms.max_message,
+                MAX_SESSIONS,
+                terms.has_log,
+                schema,
+            ),
             patience: terms.patience,
             max_message: terms.max_message,
             workers: terms.workers,
@@ -115,12 +154,21 @@ impl<L: Ledger> Daemon<L> {
     /// Has it logged what happened to a client's connection now.
     pub(crate) fn log<R: Wait + Clock>(&self, rt: &R, client: SocketAddr, happened: Happened) {
         let moment = self.now(rt);
-        let line = Line {
-            moment,
-            client,
-            happened,
-        };
-        self.notices.add_line(rt, line);
+        let said = Said::OfClient(client, happened);
+        self.notices.add_line(rt, Line { moment, said });
+    }
+
+    /// Has it logged which transactions failed since it was last called, where that is logged.
+    fn log_failures<R: Wait + Clock>(&self, rt: &R) {
+        if !self.notices.logs_errors() {
+            return;
+        }
+        let failures = self.hub.enter(rt).take_failures();
+        for failure in &failures {
+            let moment = self.now(rt);
+            let said = Said::OfTransaction(*failure);
+            self.notices.add_line(rt, Line { moment, said });
+        }
     }
 
     /// Ends the pump, and the thread that writes notices.
@@ -158,6 +206,7 @@ impl<L: Ledger> Daemon<L> {
         let submitted = inbox.submit_turn(rt, &mut *hub, seat, now);
         drop(hub);
         let is_slow = is_slow(rt, begun);
+        self.log_failures(rt);
         let taken = before.saturating_sub(inbox.pending());
         if submitted.due_sooner {
             self.pace.alarm.call();
@@ -186,8 +235,8 @@ impl<L: Ledger> Daemon<L> {
 
     /// Gives a session what it is owed, as its ring has room again. False says that memory was refused, and that the pump
     /// does it.
-    pub(crate) fn refill<R: Wait>(&self, rt: &R, session: SessionId) -> bool {
-        let given = self.hub.enter(rt).rounds_for(session).is_ok();
+    pub(crate) fn refill<R: Threads + Wait + Sync>(&self, rt: &R, session: SessionId) -> bool {
+        let given = self.hub.enter(rt).rounds_for(rt, session).is_ok();
         if !given {
             self.pace.alarm.tell(1);
         }
@@ -237,6 +286,7 @@ impl<L: Ledger> Daemon<L> {
         self.pace.alarm.begin(place);
         let now = self.now(rt);
         drop(self.hub.enter(rt).tick(now));
+        self.log_failures(rt);
         let round = self.hub.enter(rt).round(rt, self.workers, &Open);
         self.wake_called();
         match round {
@@ -252,10 +302,10 @@ impl<L: Ledger> Daemon<L> {
 
     /// Gives each session alone what it is owed, as memory was refused for all together, so that the others go on where it
     /// is refused for one; that one is to end where this goes on for a second.
-    fn give_each<R: Wait>(&self, rt: &R, now: u64) {
+    fn give_each<R: Threads + Wait + Sync>(&self, rt: &R, now: u64) {
         let mut from = 0;
         for _ in rt.forever() {
-            let given = self.hub.enter(rt).give_next(from, now);
+            let given = self.hub.enter(rt).give_next(rt, from, now);
             match given {
                 Some(session) => from = session.saturating_add(1),
                 None => break,

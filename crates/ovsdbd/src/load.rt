@@ -15,6 +15,7 @@ use std::random::RandomSource;
 use std::rt::Files;
 use std::sync::ledger::Ledger;
 use std::sync::{Arc, Wait};
+use std::thread::Threads;
 use std::time::Clock;
 
 /// How many bytes are read at once.
@@ -40,7 +41,7 @@ struct Loader<'a, L: Ledger, R> {
 /// Submits the messages of a file, one after the other, as one session's, which ends then, and reads each reply. It stops at
 /// the first message that didn't go through; what those before it committed stays. O(bytes of the file), and what the
 /// transactions cost.
-pub(crate) fn load_file<L: Ledger, R: Files + Wait + Clock + RandomSource>(
+pub(crate) fn load_file<L: Ledger, R: Files + Threads + Wait + Clock + RandomSource + Sync>(
     rt: &R,
     daemon: &Daemon<L>,
     path: &str,
@@ -83,7 +84,7 @@ impl<'a, L: Ledger, R> Drop for Loader<'a, L, R> {
     }
 }
 
-impl<'a, L: Ledger, R: Wait + Clock> Loader<'a, L, R> {
+impl<'a, L: Ledger, R: Threads + Wait + Clock + Sync> Loader<'a, L, R> {
     /// Submits all messages of the file.
     fn load_all<F: Read>(mut self, file: &mut F) -> Result<(), ProgramFault> {
         let mut piece = Vec::new(self.daemon.alloc);

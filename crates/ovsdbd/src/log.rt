@@ -1,6 +1,9 @@
-//! The log: which connections are opened and closed, and why. [P 15.2]
+//! The log: which connections are opened and closed, and why; and which transactions fail. [P 15.2]
 
+use crate::cause_text::CauseText;
 use odb_core::SessionId;
+use odb_hub::TransactionFailure;
+use odb_schema::Schema;
 use std::alloc::Global;
 use std::io::Eprint;
 use std::mem;
@@ -39,7 +42,7 @@ pub(crate) enum Reason {
     Stalled,
 }
 
-/// What happened.
+/// What happened to a client's connection.
 #[derive(Clone, Copy)]
 pub(crate) enum Happened {
     /// A session was opened for a connection.
@@ -50,19 +53,35 @@ pub(crate) enum Happened {
     Refused,
 }
 
-/// A line of the log: what happened to a client's connection, and when, in milliseconds since the start.
+/// What a line of the log says.
+#[derive(Clone, Copy)]
+pub(crate) enum Said {
+    /// What happened to this client's connection.
+    OfClient(SocketAddr, Happened),
+    /// That a transaction failed.
+    OfTransaction(TransactionFailure),
+}
+
+/// A line of the log: what it says, and of which moment, in milliseconds since the start.
 #[derive(Clone, Copy)]
 pub(crate) struct Line {
     pub(crate) moment: u64,
-    pub(crate) client: SocketAddr,
-    pub(crate) happened: Happened,
+    pub(crate) said: Said,
 }
 
 impl Line {
-    /// Writes it. Whether it could be written doesn't matter.
-    fn write<R: Eprint>(&self, rt: &R) {
-        let (moment, client) = (self.moment, self.client);
-        match self.happened {
+    /// Writes it. Whether it could be written doesn't matter. The schema has the names of what a transaction failed for.
+    fn write<R: Eprint>(&self, rt: &R, schema: Option<&Schema>) {
+        match self.said {
+            Said::OfClient(client, happened) => self.write_client(rt, client, happened),
+            Said::OfTransaction(failure) => self.write_failure(rt, failure, schema),
+        }
+    }
+
+    /// Writes what happened to a client's connection.
+    fn write_client<R: Eprint>(&self, rt: &R, client: SocketAddr, happened: Happened) {
+        let moment = self.moment;
+        match happened {
             Happened::Opened(session) => {
                 drop(eprintln!(rt; "ovsdbd: {moment} ms: {client}: session {session} is open"));
             }
@@ -75,6 +94,25 @@ impl Line {
                 drop(eprintln!(rt; "ovsdbd: {moment} ms: {client}: no session can be opened"));
             }
         }
+    }
+
+    /// Writes that a transaction failed.
+    fn write_failure<R: Eprint>(
+        &self,
+        rt: &R,
+        failure: TransactionFailure,
+        schema: Option<&Schema>,
+    ) {
+        let Some(schema) = schema else {
+            return;
+        };
+        let moment = self.moment;
+        let session = failure.session;
+        let text = CauseText {
+            cause: failure.cause,
+            schema,
+        };
+        drop(eprintln!(rt; "ovsdbd: {moment} ms: session {session}: transaction failed: {text}"));
     }
 }
 
@@ -110,9 +148,9 @@ impl Log {
     }
 
     /// Writes the lines, and how many were left out, and returns whether there was something.
-    pub(crate) fn write<R: Eprint>(&self, rt: &R) -> bool {
+    pub(crate) fn write<R: Eprint>(&self, rt: &R, schema: Option<&Schema>) -> bool {
         for line in &self.lines {
-            line.write(rt);
+            line.write(rt, schema);
         }
         let left_out = self.left_out;
         if left_out > 0 {

@@ -7,6 +7,7 @@
 //! command line are wrong.
 #![tactic(auto)]
 
+mod cause_text;
 mod clerk;
 mod connection;
 mod daemon;
@@ -155,6 +156,9 @@ fn schema_file<'a>(matches: &ArgMatches<'a>) -> &'a str {
 /// Where the daemon listens if nothing else is asked for (RFC 7047, 6).
 const ADDRESS: &str = "127.0.0.1:6640";
 
+/// What the log has besides connections, where it is asked for.
+const ERRORS: &str = "errors";
+
 /// How many milliseconds a client may be waited for at most: a day.
 const LONGEST: u64 = 86_400_000;
 
@@ -279,8 +283,14 @@ fn load_word<'a>(alloc: Global) -> Arg<'a> {
 fn log_word<'a>(alloc: Global) -> Arg<'a> {
     Arg::new(alloc, "log")
         .long("log")
-        .help("Say on standard error which connections are opened and closed, and why")
-        .action(ArgAction::SetTrue)
+        .value_name("WHAT")
+        .help(
+            "Say on standard error which connections are opened and closed, and why; with --log=errors also which transactions fail, and for what",
+        )
+        .num_args(0..=1)
+        .require_equals(true)
+        .value_parser(ValueParser::Names(&[ERRORS]))
+        .action(ArgAction::Set)
 }
 
 fn sessions_word<'a>(alloc: Global) -> Arg<'a> {
@@ -408,9 +418,25 @@ fn serve_schema<
         address: word(words, "listen", ADDRESS),
         file: words.get_str("load"),
     };
+    let names = names_to_log(alloc, &schema, words)?;
     match begin(rt, alloc, schema, hashing, memory) {
-        Ok(begun) => serve_all(rt, begun, start, terms(rt, words)),
+        Ok(begun) => serve_all(rt, begun.naming_failures(names), start, terms(rt, words)),
         Err(fault) => Err(ProgramFault::Run(fault)),
+    }
+}
+
+/// Makes an equal schema, where transactions that fail are to be logged.
+fn names_to_log(
+    alloc: Global,
+    schema: &Schema,
+    words: &ArgMatches<'_>,
+) -> Result<Option<Schema>, ProgramFault> {
+    if words.get_str("log").is_none() {
+        return Ok(None);
+    }
+    match schema.try_copy(alloc) {
+        Ok(names) => Ok(Some(names)),
+        Err(_) => Err(ProgramFault::Run(RunFault::Memory)),
     }
 }
 
@@ -430,7 +456,7 @@ fn terms<R: Threads>(rt: &R, words: &ArgMatches<'_>) -> Terms {
             stall: milliseconds(words, "stall"),
         },
         max_message: words.get_one("max-message").unwrap_or(MAX_MESSAGE as u64) as usize,
-        has_log: words.get_flag("log"),
+        has_log: words.contains_id("log"),
         threads: threads(rt, words, "threads"),
         workers: Workers::new(threads(rt, words, "workers"), HEAVY),
     }

@@ -84,7 +84,12 @@ pub(crate) fn begin<R: Clock>(
     let Ok(start) = Instant::now(rt) else {
         return Err(RunFault::Read);
     };
-    Ok(Begun { alloc, core, start })
+    Ok(Begun {
+        alloc,
+        core,
+        start,
+        schema: None,
+    })
 }
 
 /// Loads the file, listens, prints the address, and serves all that connect. With `terms.sessions` it accepts so many
@@ -136,10 +141,12 @@ fn begin_to_listen<
     L: Ledger,
     R: Files
         + Net<Listener = TcpListener, Stream = TcpStream>
+        + Threads
         + Wait
         + Clock
         + RandomSource
-        + Print,
+        + Print
+        + Sync,
 >(rt: &R, daemon: &Daemon<L>, start: Start<'_>) -> Result<TcpListener, ProgramFault> {
     if let Some(file) = start.file {
         load_file(rt, daemon, file)?;

@@ -227,7 +227,7 @@ pub(crate) fn play_to_hub<L: Ledger, R: Threads + Wait + Clock + Sync>(
     requires ledger { (blank.name ≡ L.name) × (blank.parts ≡ L.parts) }
     requires parts { blank.parts ≡ 3 }
 {
-    let hub: Hub<L> = Hub::new(alloc, core, blank, 2);
+    let hub: Hub<L> = Hub::new(alloc, core, blank, 2, Workers::new(1, 0));
     let stage = Stage {
         rt,
         alloc,

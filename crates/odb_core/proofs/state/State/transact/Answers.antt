@@ -1,4 +1,4 @@
-use Rattle.std.proofs.Common.{rules, ◌≡◌, ◌++◌, ◌∷◌, [], not, OnOk, Option, None, refl, sym, ap, ◌∙◌}
+use Rattle.std.proofs.Common.{rules, ◌≡◌, ◌++◌, ◌∷◌, [], not, OnOk, Option, None, refl, sym, ap, subst, ◌∙◌}
 use Rattle.std.proofs.lemmas.Result.{on_ok_weaker}
 use borrow.Author.Tests.{eq-eqb}
 use Rattle.odb_commit.specs.Represented.Outcome.{Answers}
@@ -53,10 +53,11 @@ returns-in-Ok-Failed-clause-ok c =
     let v : Server = c.reply-ended.new.self in
     let failed : Answers s w.db (outcome.Failed c.in-Ok-Failed.results) (outcome_in s w a) = search rules in
     let ended : OnOk c.reply-ended.result (by_service (ends a c.in-Ok-Failed.results None) c.args.self.now ≡ v) = c.reply-ended.ensures.ok in
-    ok_together (by_service (runs a) c.args.self.now ≡ v) c.back_on_error.result c.reply-ended.result c.back_on_error.ensures.ok
+    subst (λ (u : Server). OnOk c.note_failed.result (by_service (runs a) c.args.self.now ≡ u)) (sym c.note_failed.ensures.same)
+    (ok_together (by_service (runs a) c.args.self.now ≡ v) c.note_failed.result c.reply-ended.result c.note_failed.ensures.ok
     (on_ok_weaker c.reply-ended.result (λ e. ap (placed c.args.self.now) (runs_alone h p w v.world
     (fails_as s w a None w.commits c.in-Ok-Failed.results failed ∙ (λ i. let t : World × Option Waiting = ((e i).world, None) in t))
-    (ap (λ (u : Server). untried h u.world) c.reply-ended.ensures.rest ∙ c.requires.tried h)) ∙ framed c.args.self.now v _ e) ended)
+    (ap (λ (u : Server). untried h u.world) c.reply-ended.ensures.rest ∙ c.requires.tried h)) ∙ framed c.args.self.now v _ e) ended))
 
 pub returns-in-Ok-Failed-clause-tried : goal.returns-in-Ok-Failed-clause-tried
-returns-in-Ok-Failed-clause-tried c = λ h. ap (λ (u : Server). untried h u.world) c.reply-ended.ensures.rest ∙ c.requires.tried h
+returns-in-Ok-Failed-clause-tried c = λ h. ap (λ (u : Server). untried h u.world) c.note_failed.ensures.same ∙ ap (λ (u : Server). untried h u.world) c.reply-ended.ensures.rest ∙ c.requires.tried h

@@ -19,10 +19,10 @@ returns c =
     let cs = c.in_ok-change.change in
     let leads : all_changed_by i.sessions.now.db cs ≡ all_left i.sessions.now.db es =
     ap (λ (db : Db). all_changed_by db cs) (sym c.self.invariant.base) ∙ c.in_ok-change.ensures.leads_to ∙ c.self.invariant.pending whole in
-    let planned : IsPlanOf v (record { ended = i.ended; change = cs; left = i.waiting }) = record {
+    let planned : IsPlanOf v (record { ended = i.ended; change = cs; left = i.waiting; failed = i.failed }) = record {
       each = c.self.invariant.each;
       whole = subst (λ (db : Db). IsChangeOf db cs) c.self.invariant.base c.in_ok-change.ensures.change_of;
       leads_to = leads;
       sound = subst (IsSound s) (sym leads) c.self.invariant.sound;
     } in
-    subst (λ (u : Upcoming). Leads u.base (record { ended = i.ended; change = cs; left = i.waiting }) u.next) c.self.view_is (planned, refl)
+    subst (λ (u : Upcoming). Leads u.base (record { ended = i.ended; change = cs; left = i.waiting; failed = i.failed }) u.next) c.self.view_is (planned, refl)

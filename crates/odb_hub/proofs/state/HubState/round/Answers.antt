@@ -1,4 +1,4 @@
-use Rattle.std.proofs.Common.{rules, ◌≡◌, ℕ, List, [], ◌∷◌, ◌++◌, filter, length, map, Ok, sym, ap, subst, ◌∙◌}
+use Rattle.std.proofs.Common.{rules, ◌≡◌, ℕ, List, [], ◌∷◌, ◌++◌, filter, length, map, Ok, refl, sym, ap, subst, ◌∙◌}
 use Rattle.std.specs.BTreeSet.{contains}
 use Rattle.std.specs.Ordering.{nat_cmp}
 use Rattle.std.proofs.lemmas.List.{length-map}
@@ -63,3 +63,9 @@ invariant_of-self-in_err-outs g c =
     let k : Kept = record { server = i.core; base = i.journal.base; events = i.journal.events; rings = i.rings } in
     let same : c.round_by.new.core ≡ i.core = search rules in
     flushed_state k c.ready.new.self c.round_by.new.core i.since_base same c.ready.ensures.flushed c.self.invariant.0 c.self.invariant.1 c.self.invariant.2
+
+pub invariant_of-self : goal.invariant_of-self
+invariant_of-self g c =
+    let i = c.self.inside in
+    let k : Kept = record { server = i.core; base = i.journal.base; events = i.journal.events; rings = i.rings } in
+    flushed_state k c.ready.new.self i.core i.since_base refl c.ready.ensures.flushed c.self.invariant.0 c.self.invariant.1 c.self.invariant.2

@@ -1,27 +1,19 @@
-use Rattle.std.proofs.Common.{rules, ◌≡◌, List, [], ◌∷◌, ◌++◌, map, Ok, refl, subst, sym, ◌∙◌}
+use Rattle.std.proofs.Common.{rules, ◌≡◌, [], map, OnErr, OnOk, sym, subst}
 use Rattle.odb_atoms.specs.Represented.Atom.{uuid_of}
-use Rattle.odb_atoms.specs.Uuid.{Uuid}
-use Rattle.odb_schema.specs.Json.{Data}
 use Rattle.odb_wire.specs.Shown.{request_data}
 use Rattle.odb_service.specs.Run.{Event, submitted}
-use Rattle.odb_service.specs.Server.{serve}
-use Rattle.odb_hub.specs.Kept.{AreUnused, Kept, Takes}
-use Rattle.odb_hub.proofs.Keeping.{counted_more, same_opened, submitted_kept}
+use Rattle.odb_hub.specs.Kept.{Kept, Takes}
 use Rattle.odb_hub.proofs.state.HubState.submit.Goals as goal
 
-pub invariant_of-self : goal.invariant_of-self
-invariant_of-self c =
-    let i = c.self.inside in
-    let d : Data = request_data c.args.submission.request in
-    let fresh : List Uuid = map uuid_of c.args.submission.fresh.items in
-    let e : Event = submitted c.args.session d fresh c.args.now in
-    let k : Kept = record { server = i.core; base = i.journal.base; events = i.journal.events; rings = i.rings } in
-    let n : Kept = record { server = c.submit.new.self; base = c.with-grown.result.base; events = c.with-grown.result.events; rings = i.rings } in
-    let went : serve e i.core ≡ Ok (c.submit.new.self, []) = search rules in
-    let events : n.events ≡ k.events ++ e ∷ [] = search rules in
-    let base : n.base ≡ k.base = search rules in
-    let takes : Takes e k n [] = (went, events, base) in (
-      submitted_kept k n c.self.invariant.0 c.args.session d fresh c.args.now takes refl,
-      subst (AreUnused i.rings) (sym (same_opened e i.core c.submit.new.self [] went)) c.self.invariant.1,
-      c.saturating_add-self-inside.ensures ∙ counted_more i.since_base k.events n.events e c.self.invariant.2 events,
-    )
+pub returns-clause-ok : goal.returns-clause-ok
+returns-clause-ok c =
+    let e : Event = submitted c.args.session (request_data c.args.submission.request) (map uuid_of c.args.submission.fresh.items) c.args.now in
+    subst (λ (v : Kept). OnOk c.receive-taken.result (Takes e c.args.self.now v [])) (sym c.note_causes.ensures) c.receive-taken.ensures.ok
+
+pub returns-clause-rings : goal.returns-clause-rings
+returns-clause-rings c =
+    subst (λ (v : Kept). OnOk c.receive-taken.result (v.rings ≡ c.args.self.now.rings)) (sym c.note_causes.ensures) c.receive-taken.ensures.rings
+
+pub returns-clause-err : goal.returns-clause-err
+returns-clause-err c =
+    subst (λ (v : Kept). OnErr c.receive-taken.result (v ≡ c.args.self.now)) (sym c.note_causes.ensures) c.receive-taken.ensures.err
