@@ -18,7 +18,7 @@ use Rattle.odb_atoms.proofs.Lists.{any-map, or_right}
 use Rattle.odb_cond.specs.Filter.{Filter, TellsApart, member_holds, selects}
 use Rattle.odb_cond.specs.Represented.Filter.{member_of}
 use Rattle.odb_cond.specs.Represented.Keyed.{asks, asks_some, is_among}
-use Rattle.odb_cond.specs.Represented.Prepared.{GainsLacking, IsFound, some_holds}
+use Rattle.odb_cond.specs.Represented.Prepared.{GainsLacking, IsFound, holds_at, some_holds}
 use Rattle.odb_cond.specs.declared.filter.Member.{Member}
 
 -- where the condition with an atom holds that is among them, one of theirs does
@@ -34,6 +34,12 @@ pub any_at : {X : Type 0} (p : X → Bool) (xs : List X) (k : ℕ) (x : X) → k
 any_at p [] k x low at h = absurd (omega arith)
 any_at p (y ∷ ys) zero x low at h = ap (λ b. b || list_any p ys) (ap p (sym at) ∙ h)
 any_at p (y ∷ ys) (suc k) x low at h = or_right (p y) (list_any p ys) (any_at p ys k x (omega arith) at h)
+
+-- where the member at a place holds, some member does
+pub held_at : (ms : List Member) (k : ℕ) (u : Uuid) (r : Row) → holds_at u r ms k ≡ true → some_holds u r ms ≡ true
+held_at [] k u r h = absurd (true≢false (sym h))
+held_at (m ∷ ms) zero u r h = ap (λ b. b || some_holds u r ms) h
+held_at (m ∷ ms) (suc k) u r h = or_right (member_holds u r (member_of m)) (some_holds u r ms) (held_at ms k u r h)
 
 -- ---- members that one filter lacks
 

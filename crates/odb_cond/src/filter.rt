@@ -1,6 +1,6 @@
 //! The filters of conditional monitors (ovsdb-server(7), "monitor_cond"). [P 9.1]
 
-ghost use Rattle.std.specs.Prelude.{◌≡◌, ◌||◌, ◌==◌, length, map, true, IfOk, OnOk};
+ghost use Rattle.std.specs.Prelude.{◌≡◌, ◌||◌, ◌==◌, length, map, true, IfOk, IfSome, OnOk};
 ghost use Rattle.std.specs.Bool.{Decides};
 ghost use Rattle.std.specs.List.{list_any};
 ghost use Rattle.odb_atoms.specs.Represented.Atom.{uuid_of};
@@ -9,11 +9,14 @@ ghost use Rattle.odb_cond.specs.Represented.Filter.{member_of};
 ghost use Rattle.odb_cond.specs.Represented.Prepared.{GainsLacking, IsFound};
 
 use crate::clause::Clause;
-use crate::prepared::Prepared;
+use crate::prepared::{Prepared, is_at};
 use odb_atoms::Row;
 use std::alloc::{AllocError, Global};
 use std::marker::Model;
 use uuid::Uuid;
+
+/// At how many places of another filter a member is looked for before it is searched there.
+const NEAR: usize = 4;
 
 /// A member of a filter (ovsdb-server(7), "monitor_cond").
 pub enum Member {
@@ -154,12 +157,41 @@ impl Filter {
     ) -> Result<(), AllocError>
         ensures { OnOk result (GainsLacking self.now other.now list.old.items list.new.items) }
     {
+        let mut near = 0;
         for member in &self.members {
-            if !other.has(member) {
+            if !other.has_from(&mut near, member) {
                 list.push(member.try_copy(alloc)?)?;
             }
         }
         Ok(())
+    }
+
+    /// Returns whether it is certain that a member is like this one. It looks at the next places from `near` on before it
+    /// searches, and `near` becomes the place after the one that it finds there: so two filters of which one has a few
+    /// members more cost a comparison for each member.
+    fn has_from(&self, near: &mut usize, member: &Member) -> bool
+        ensures { result ≡ true → IsFound member.now (λ u r. list_any (member_holds u r) self.now) }
+    {
+        match self.find_near(*near, member) {
+            Some(place) => {
+                *near = place.saturating_add(1);
+                true
+            }
+            None => self.has(member),
+        }
+    }
+
+    /// Returns the place of a member like this one among the next ones from a place on, if there is one.
+    fn find_near(&self, near: usize, member: &Member) -> Option<usize>
+        ensures { IfSome result (λ place. IsFound member.now (λ u r. list_any (member_holds u r) self.now)) }
+    {
+        let end = near.saturating_add(NEAR).min(self.members.len());
+        for place in near..end {
+            if is_at(place, &self.members, member) {
+                return Some(place);
+            }
+        }
+        None
     }
 
     /// Returns whether it is certain that a member is like this one.

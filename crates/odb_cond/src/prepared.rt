@@ -186,7 +186,7 @@ fn is_other(places: &[usize], members: &[Member], member: &Member) -> bool
 }
 
 /// Returns whether the member is like the one at the place.
-fn is_at(place: usize, members: &[Member], member: &Member) -> bool
+pub(crate) fn is_at(place: usize, members: &[Member], member: &Member) -> bool
     ensures { result ≡ true → IsFound member.now (λ u r. holds_at u r members.now place) }
 {
     match members.get(place) {
