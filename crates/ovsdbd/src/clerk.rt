@@ -3,7 +3,7 @@ ghost use Rattle.std.specs.Prelude.{◌≡◌};
 ghost use Rattle.odb_waking.specs.Loop as loops;
 
 use crate::connection::{Connection, Next, PIECE, RandomIdentifiers, Tools};
-use crate::daemon::Daemon;
+use crate::daemon::{Daemon, has_lasted};
 use crate::desk::Desk;
 use crate::log::Happened;
 use mio::net::TcpStream;
@@ -20,13 +20,16 @@ use std::random::RandomSource;
 use std::sync::ledger::Ledger;
 use std::sync::{Arc, Wait};
 use std::thread::Threads;
-use std::time::{Clock, Duration};
+use std::time::{Clock, Duration, Instant};
 
 /// How many events are taken at once.
 const EVENTS: usize = 256;
 
 /// How many of those that ask something, and of the others, have a turn before it looks for events again.
 const TURNS: usize = 32;
+
+/// After how many microseconds of such turns it looks for events all the same.
+const BATCH: u64 = 1_000;
 
 /// How many times as often as its patience is long the daemon looks whether that is at its end.
 const LOOKS: u64 = 8;
@@ -394,20 +397,34 @@ impl<'a, L: Ledger, R: Wait + Clock> Clerk<'a, L, R> {
 
 impl<'a, L: Ledger, R: Threads + Wait + Clock + Sync> Clerk<'a, L, R> {
     /// Gives a turn to some of those that ask something, and to as many of the others, so that neither wait for all of the
-    /// others; and then to one that was slow, so that the others wait for one of these at most.
+    /// others; and then to one that was slow, so that the others wait for one of these at most. The first is the one that
+    /// came last, and after a while it goes on to look for others: so who asks little waits for a few of many that came
+    /// before and ask much, and each of these has its turn.
     fn serve_some(&mut self) {
+        let begun = Instant::now(self.tools.rt);
+        if let Some(place) = self.asking.pop_back() {
+            self.serve(place);
+        }
         for _ in 0..TURNS {
             if self.asking.is_empty() && self.queue.is_empty() {
                 break;
             }
-            if let Some(place) = self.asking.pop_front() {
-                self.serve(place);
-            }
-            if let Some(place) = self.queue.pop_front() {
-                self.serve(place);
+            self.serve_next();
+            if has_lasted(self.tools.rt, &begun, BATCH) {
+                break;
             }
         }
         if let Some(place) = self.slow.pop_front() {
+            self.serve(place);
+        }
+    }
+
+    /// Gives a turn to the first of those that ask something, and to the first of the others.
+    fn serve_next(&mut self) {
+        if let Some(place) = self.asking.pop_front() {
+            self.serve(place);
+        }
+        if let Some(place) = self.queue.pop_front() {
             self.serve(place);
         }
     }

@@ -205,7 +205,7 @@ impl<L: Ledger> Daemon<L> {
         let begun = Instant::now(rt);
         let submitted = inbox.submit_turn(rt, &mut *hub, seat, now);
         drop(hub);
-        let is_slow = is_slow(rt, begun);
+        let is_slow = has_lasted(rt, &begun, SLOW);
         self.log_failures(rt);
         let taken = before.saturating_sub(inbox.pending());
         if submitted.due_sooner {
@@ -322,13 +322,13 @@ impl<L: Ledger> Daemon<L> {
     }
 }
 
-/// Returns whether a millisecond or longer is over since the moment, if the clock could be read.
-fn is_slow<R: Clock>(rt: &R, begun: io::Result<Instant>) -> bool {
+/// Returns whether so many microseconds or more are over since the moment, if the clock could be read.
+pub(crate) fn has_lasted<R: Clock>(rt: &R, begun: &io::Result<Instant>, micros: u64) -> bool {
     let Ok(begun) = begun else {
         return false;
     };
     match begun.elapsed(rt) {
-        Ok(elapsed) => elapsed >= Duration::from_micros(SLOW),
+        Ok(elapsed) => elapsed >= Duration::from_micros(micros),
         Err(_) => false,
     }
 }
