@@ -61,6 +61,7 @@ impl Atom {
     }
 
     /// Returns the atomic type that the atom is of.
+    #[inline(always)]
     pub fn kind(&self) -> Kind
         ensures { kind_in result ≡ kind_of (atom_of self.now) }
     {
@@ -74,6 +75,7 @@ impl Atom {
     }
 
     /// Returns whether the atom is of the kind.
+    #[inline(always)]
     pub fn is_a(&self, kind: Kind) -> bool
         ensures { result ≡ is_a (kind_in kind) (atom_of self.now) }
     {
@@ -95,6 +97,7 @@ impl Atom {
 
     /// Makes an equal atom, whose text is shared with copies of it. A text takes memory, O(its length), unless it is
     /// shared already.
+    #[inline(always)]
     pub fn shared_copy(&self, alloc: Global) -> Result<Atom, AllocError>
         ensures { IfOk result (λ copy. atom_of copy ≡ atom_of self.now) }
     {
@@ -117,6 +120,7 @@ impl Ord for Atom {
 
     ghost matches_eq = { λ _ _. refl };
 
+    #[inline(always)]
     fn cmp(&self, other: &Atom) -> Ordering {
         match (self, other) {
             (Atom::Integer(x), Atom::Integer(y)) => x.cmp(y),
@@ -132,6 +136,7 @@ impl Ord for Atom {
 }
 
 /// Compares the identifiers as numbers.
+#[inline(always)]
 fn cmp_uuids(x: Uuid, y: Uuid) -> Ordering
     ensures { result ≡ uuid_cmp (uuid_of x) (uuid_of y) }
 {
@@ -140,6 +145,7 @@ fn cmp_uuids(x: Uuid, y: Uuid) -> Ordering
 
 /// Returns the identifier as a number, the highest byte first (RFC 4122, section 4.1.2). It is read as two words, where
 /// `Uuid::as_u128` reads it byte by byte: most of what a commit compares are identifiers. O(1).
+#[inline(always)]
 pub fn number_of(uuid: Uuid) -> u128
     ensures { result ≡ from_be_bytes w128 uuid }
 {
@@ -164,6 +170,7 @@ impl PartialEq for Atom {
 
     ghost laws = { atoms_partially_equivalent };
 
+    #[inline(always)]
     fn eq(&self, other: &Atom) -> bool {
         match (self, other) {
             (Atom::Integer(x), Atom::Integer(y)) => *x == *y,
@@ -181,6 +188,7 @@ impl Eq for Atom {
 
 // Written, and not derived, so that each end of a scope is one call to prove.
 impl Drop for Atom {
+    #[inline(always)]
     fn drop(self) {
         match self {
             Atom::Integer(_) => {}

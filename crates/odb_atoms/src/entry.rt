@@ -42,10 +42,12 @@ pub trait Entry: Drop {
 impl Entry for Atom {
     ghost entry = { λ a. (atom_of a, None) };
 
+    #[inline(always)]
     fn key(&self) -> &Atom {
         self
     }
 
+    #[inline(always)]
     fn is_alike(&self, _other: &Atom) -> bool {
         true
     }
@@ -54,6 +56,7 @@ impl Entry for Atom {
         Atom::try_copy(self, alloc)
     }
 
+    #[inline(always)]
     fn shared_copy(&self, alloc: Global) -> Result<Atom, AllocError> {
         Atom::shared_copy(self, alloc)
     }
@@ -62,10 +65,12 @@ impl Entry for Atom {
 impl Entry for (Atom, Atom) {
     ghost entry = { λ p. (atom_of p.0, Some (atom_of p.1)) };
 
+    #[inline(always)]
     fn key(&self) -> &Atom {
         &self.0
     }
 
+    #[inline(always)]
     fn is_alike(&self, other: &(Atom, Atom)) -> bool {
         self.1 == other.1
     }
@@ -74,6 +79,7 @@ impl Entry for (Atom, Atom) {
         Ok((self.0.try_copy(alloc)?, self.1.try_copy(alloc)?))
     }
 
+    #[inline(always)]
     fn shared_copy(&self, alloc: Global) -> Result<(Atom, Atom), AllocError> {
         Ok((self.0.shared_copy(alloc)?, self.1.shared_copy(alloc)?))
     }
@@ -125,6 +131,7 @@ fn has<E: Entry>(entries: &[E], entry: &E) -> bool
 
 /// Returns whether to look for `few` entries one by one among `many`, and not to go through both: where
 /// those are 16 times as many, as a search is 16 comparisons among 65,536 entries.
+#[inline(always)]
 fn are_few(few: usize, many: usize) -> bool {
     few < many / 16
 }
@@ -204,6 +211,16 @@ fn excludes_by_pass<E: Entry>(entries: &[E], unwanted: &[E]) -> bool
     true
 }
 
+/// Returns for how many entries room is made at once where two lists are gone through: for all, where one has few, so that
+/// nearly all of them come out; else for none.
+fn room_for(old: usize, new: usize) -> usize {
+    if are_few(old, new) || are_few(new, old) {
+        old.saturating_add(new)
+    } else {
+        0
+    }
+}
+
 /// Returns how many entries at the front are copied at once, of which each has a key less than this one: all those
 /// where the others are few, else the first. O(log n) comparisons.
 fn run_before<E: Entry>(entries: &[E], key: &Atom, others: usize) -> usize
@@ -252,7 +269,7 @@ pub fn changed<E: Entry>(alloc: Global, old: &[E], new: &[E]) -> Result<Vec<E>, 
     ensures changed { IfOk result (λ v.
         IsChange (map E.entry old.now) (map E.entry new.now) (map E.entry v.items)) }
 {
-    let mut change = Vec::new(alloc);
+    let mut change = Vec::with_capacity(alloc, room_for(old.len(), new.len()))?;
     let mut old_left = old;
     let mut new_left = new;
     while let [first, rest @ ..] = old_left {
@@ -301,12 +318,13 @@ fn append_copies<E: Entry>(
     copies.reserve(entries.len())?;
     let shares = entries.len() >= SHARED;
     for entry in entries {
-        copies.push(copy_of(alloc, entry, shares)?)?;
+        copies.push_reserved(copy_of(alloc, entry, shares)?);
     }
     Ok(())
 }
 
 /// Makes an equal entry, whose texts are shared with copies of it where that is wanted.
+#[inline(always)]
 fn copy_of<E: Entry>(alloc: Global, entry: &E, shares: bool) -> Result<E, AllocError>
     ensures { IfOk result (λ copy. E.entry copy ≡ E.entry entry.now) }
 {

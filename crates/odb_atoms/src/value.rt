@@ -202,6 +202,7 @@ impl Value {
     }
 
     /// Returns the elements or the pairs, in ascending order. O(1).
+    #[inline(always)]
     pub fn entries(&self) -> Entries<'_>
         ensures listed { Lists result self.now }
         ensures value { value_in result ≡ self.now }
