@@ -29,6 +29,7 @@ impl Entry for Atom {
 
     ghost same = { same_elements };
 
+    #[inline(always)]
     fn tags(&self) -> (Option<Key>, Option<Key>) {
         (key_of(self), None)
     }
@@ -39,12 +40,14 @@ impl Entry for (Atom, Atom) {
 
     ghost same = { same_pairs };
 
+    #[inline(always)]
     fn tags(&self) -> (Option<Key>, Option<Key>) {
         (key_of(&self.0), key_of(&self.1))
     }
 }
 
 /// Returns the key that the atom is, if it is an identifier. O(1).
+#[inline(always)]
 pub(crate) fn key_of(atom: &Atom) -> Option<Key>
     ensures { result ≡ identifier_in (atom_of atom.now) }
 {
@@ -87,6 +90,7 @@ pub(crate) fn pairs_of(value: Option<&Value>) -> &[(Atom, Atom)]
 
 /// Passes over the ascending entries that are less than this one, and over the one that is equal. Returns those that
 /// are left, and whether one was equal. O(those passed over).
+#[inline(always)]
 pub(crate) fn pass_over<'a, E: Entry>(entries: &'a [E], entry: &E) -> (&'a [E], bool)
     ensures left { (tag : model_uuid.Uuid) → list_any (E.mentions tag) result.0.now ≡ true
         → list_any (E.mentions tag) entries.now ≡ true }

@@ -40,6 +40,7 @@ impl Model for Key {
 
 impl Key {
     /// Returns the identifier as a key. O(1).
+    #[inline(always)]
     pub fn of(uuid: Uuid) -> Key
         ensures { result ≡ uuid_of uuid }
     {
