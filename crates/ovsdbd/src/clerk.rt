@@ -47,6 +47,8 @@ pub(crate) struct Clerk<'a, L: Ledger, R> {
     asking: VecDeque<usize>,
     slow: VecDeque<usize>,
     queue: VecDeque<usize>,
+    /// Whether the last events added some to those that ask something.
+    has_newer: bool,
     /// Whether no connection will come any more.
     is_closed: bool,
     /// When it is looked next whether patience is at its end, in milliseconds since the start.
@@ -78,6 +80,7 @@ pub(crate) fn serve_desk<L: Ledger, R: Threads + Wait + Clock + RandomSource + S
         asking: VecDeque::new(daemon.alloc),
         slow: VecDeque::new(daemon.alloc),
         queue: VecDeque::new(daemon.alloc),
+        has_newer: false,
         is_closed: false,
         looks: 0,
     };
@@ -110,6 +113,7 @@ impl<'a, L: Ledger, R: Threads + Wait + Clock + RandomSource + Sync> Clerk<'a, L
             asking: _,
             slow: _,
             queue: _,
+            has_newer: _,
             is_closed: _,
             looks: _,
         } = clerk;
@@ -335,6 +339,7 @@ impl<'a, L: Ledger, R: Wait + Clock> Clerk<'a, L, R> {
         if !self.tools.daemon.patience.is_endless() {
             self.tools.moment = self.tools.daemon.now(self.tools.rt);
         }
+        let before = self.asking.len();
         for event in events.iter() {
             let place = event.token().0;
             if let Some(connection) = at(self.connections.as_mut_slice(), place) {
@@ -342,6 +347,7 @@ impl<'a, L: Ledger, R: Wait + Clock> Clerk<'a, L, R> {
             }
             self.enqueue(place);
         }
+        self.has_newer = self.asking.len() > before;
     }
 
     /// Returns how often to look whether the daemon's patience is at its end; not at all where it has none.
@@ -397,12 +403,15 @@ impl<'a, L: Ledger, R: Wait + Clock> Clerk<'a, L, R> {
 
 impl<'a, L: Ledger, R: Threads + Wait + Clock + Sync> Clerk<'a, L, R> {
     /// Gives a turn to some of those that ask something, and to as many of the others, so that neither wait for all of the
-    /// others; and then to one that was slow, so that the others wait for one of these at most. The first is the one that
-    /// came last, and after a while it goes on to look for others: so who asks little waits for a few of many that came
+    /// others; and then to one that was slow, so that the others wait for one of these at most. The first is the last that
+    /// events brought, and after a while it looks for further events: so who asks little waits for a few of many that came
     /// before and ask much, and each of these has its turn.
     fn serve_some(&mut self) {
         let begun = Instant::now(self.tools.rt);
-        if let Some(place) = self.asking.pop_back() {
+        if self.has_newer
+            && let Some(place) = self.asking.pop_back()
+        {
+            self.has_newer = false;
             self.serve(place);
         }
         for _ in 0..TURNS {
