@@ -1,5 +1,5 @@
 -- What is put together of all tables of a job is the text of what is sent of it.
-use Rattle.std.proofs.Common.{◌≡◌, ℕ, Bool, true, false, not, ◌||◌, List, [], ◌∷◌, ◌++◌, flat_map, length, map, nat_lt, None, Some, option_map, refl, sym, ap, subst, ◌∙◌, if◌then◌else◌}
+use Rattle.std.proofs.Common.{◌≡◌, ℕ, Bool, true, false, not, ◌||◌, List, [], ◌∷◌, ◌++◌, flat_map, length, nat_lt, None, Some, option_map, sym, ap, ◌∙◌, if◌then◌else◌}
 use Rattle.std.specs.List.{list_all, list_any}
 use Rattle.json.specs.Print.{print}
 use Rattle.json.specs.Token.{begin_object, end_object, key}

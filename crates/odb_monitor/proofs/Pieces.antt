@@ -1,9 +1,9 @@
 -- Texts of pieces, put together: they are the text of the whole.
-use Rattle.std.proofs.Common.{◌≡◌, ℕ, zero, suc, ◌+◌, ◌<◌, Bool, true, false, not, ◌&&◌, ◌||◌, cond, if◌then◌else◌, List, [], ◌∷◌, ◌++◌, drop, flat_map, fold, length, map, nat_lt, take, refl, sym, ap, subst, ◌∙◌, arith, append_assoc, append-nil, length-append, take-append-drop, true≢false}
+use Rattle.std.proofs.Common.{◌≡◌, ℕ, zero, suc, Bool, true, false, not, ◌&&◌, ◌||◌, if◌then◌else◌, List, [], ◌∷◌, ◌++◌, drop, flat_map, fold, length, map, nat_lt, take, refl, sym, ap, subst, ◌∙◌, arith, append_assoc, append-nil, length-append, take-append-drop, true≢false}
 use Rattle.std.specs.List.{drop-map, list_all, take-map}
 use Rattle.std.proofs.lemmas.Bool.Decides.{nat_tests}
 use Rattle.std.proofs.lemmas.Grind.{flat_map-append, fold-append}
-use Rattle.json.specs.Print.{ends, print, print_from, separator, token_text}
+use Rattle.json.specs.Print.{ends, print, print_from}
 use Rattle.json.specs.Token.{Token, begin_object, end_object, key}
 use Rattle.json.proofs.Printed.Tokens.{ends_push, print_from-append}
 use Rattle.odb_monitor.specs.Listing.{AreOfRows, Listing, all_tokens, listed_tokens, rows_text}

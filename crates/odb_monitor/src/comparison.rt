@@ -62,30 +62,31 @@ impl<'a> Comparison<'a> {
             return None;
         }
         Some(Line {
-            uuid: sides.uuid,
+            uuid: sides.key.uuid(),
             change,
         })
     }
 
     /// Returns what becomes of a row, also where that is switched off.
     fn change<'r>(&self, sides: &Sides<'r>) -> Option<Change<'r>>
-        ensures { option_map (change_in self.now.request.now.shape.columns (uuid_of sides.now.uuid)) result
+        ensures { option_map (change_in self.now.request.now.shape.columns sides.now.key) result
             ≡ change
-            (option_map (cut self.now.request.now.shape.columns (uuid_of sides.now.uuid)) (passed (tells self.now.told self.now.request.now.filter) (uuid_of sides.now.uuid) (option_copied sides.now.old)))
-            (option_map (cut self.now.request.now.shape.columns (uuid_of sides.now.uuid)) (passed (selects self.now.request.now.filter) (uuid_of sides.now.uuid) (option_copied sides.now.new))) }
+            (option_map (cut self.now.request.now.shape.columns sides.now.key) (passed (tells self.now.told self.now.request.now.filter) sides.now.key (option_copied sides.now.old)))
+            (option_map (cut self.now.request.now.shape.columns sides.now.key) (passed (selects self.now.request.now.filter) sides.now.key (option_copied sides.now.new))) }
     {
         let old = self.old(sides);
         let new = self.new(sides);
-        self.between(sides.uuid, old, new)
+        self.between(sides.key.uuid(), old, new)
     }
 
     /// Returns the row of which the client was told.
     fn old<'r>(&self, sides: &Sides<'r>) -> Option<&'r Row>
         ensures { option_copied result ≡ passed (tells self.now.told self.now.request.now.filter)
-            (uuid_of sides.now.uuid) (option_copied sides.now.old) }
+            sides.now.key (option_copied sides.now.old) }
     {
+        let uuid = sides.key.uuid();
         match sides.old {
-            Some(row) if self.told.tells(self.request.filter(), sides.uuid, row) => Some(row),
+            Some(row) if self.told.tells(self.request.filter(), uuid, row) => Some(row),
             _ => None,
         }
     }
@@ -93,10 +94,11 @@ impl<'a> Comparison<'a> {
     /// Returns the row that is asked for.
     fn new<'r>(&self, sides: &Sides<'r>) -> Option<&'r Row>
         ensures { option_copied result ≡ passed (selects self.now.request.now.filter)
-            (uuid_of sides.now.uuid) (option_copied sides.now.new) }
+            sides.now.key (option_copied sides.now.new) }
     {
+        let uuid = sides.key.uuid();
         match sides.new {
-            Some(row) if self.request.filter().holds(sides.uuid, row) => Some(row),
+            Some(row) if self.request.filter().holds(uuid, row) => Some(row),
             _ => None,
         }
     }

@@ -18,6 +18,7 @@ use odb_request::Kind;
 use std::alloc::{AllocError, Global};
 use std::marker::Model;
 use std::mem;
+use std::thread::Threads;
 
 /// What is owed to the client of a monitor: the difference between what it was told and what is asked, table
 /// by table, in the order of the parts.
@@ -123,14 +124,20 @@ impl<'a> Job<'a> {
     /// Lists the rows of the table of the part at this place of which something may be shown, by ascending identifier, so
     /// that several may print pieces of them.
     ///
-    /// Of n rows O(n log n): the rows changed, and where another filter was asked also those that the two may tell apart;
-    /// where nothing was told yet, the rows that are asked for. `odb_tables::Rows::selected` says what finding them costs.
-    pub fn list(&self, alloc: Global, place: usize) -> Result<Listing<'_>, AllocError>
+    /// Of n rows O(n log n), and a thread for each processor but one where there are 4,096 or more: the rows changed, and
+    /// where another filter was asked also those that the two may tell apart; where nothing was told yet, the rows that are
+    /// asked for. `odb_tables::Rows::selected` says what finding them costs.
+    pub fn list<R: Threads + Sync>(
+        &self,
+        rt: &R,
+        alloc: Global,
+        place: usize,
+    ) -> Result<Listing<'_>, AllocError>
         requires { place < length self.now.parts }
         ensures { IfOk result (λ listing. (p : model_job.Part) → slice_get self.now.parts place ≡ Some p
             → listed_tokens listing ≡ part_tokens self.now.notation self.now.first p) }
     {
-        self.parts[place].list(alloc, self.kind, self.first)
+        self.parts[place].list(rt, alloc, self.kind, self.first)
     }
 }
 

@@ -3,7 +3,6 @@ ghost use Rattle.std.specs.Prelude.{◌≡◌, ◌++◌, Bool, IfOk, IfSome, IsP
 ghost use Rattle.std.specs.Arc.{arc_value};
 ghost use Rattle.std.specs.List.{list_any};
 ghost use Rattle.std.specs.List.Sorted.{IsSortedByKey};
-ghost use Rattle.odb_atoms.specs.Represented.Atom.{uuid_of};
 ghost use Rattle.odb_atoms.specs.Uuid.{uuid_cmp};
 ghost use Rattle.odb_monitor.specs.Listing.{listed_tokens};
 ghost use Rattle.odb_monitor.specs.Represented.Bare.{part_bare};
@@ -29,10 +28,12 @@ use crate::told::Told;
 use odb_atoms::Row;
 use odb_print::Printer;
 use odb_request::{Kind, Request};
-use odb_tables::{Key, RowChange, Rows, TableChange};
+use odb_tables::{RowChange, Rows, TableChange};
+use rayon::prelude::*;
 use std::alloc::{AllocError, Global};
 use std::marker::Model;
 use std::sync::Arc;
+use std::thread::Threads;
 use uuid::Uuid;
 
 /// One table of a job: what the client was told of its rows, and what is asked; and the rows that are looked for in it,
@@ -143,9 +144,11 @@ impl<'a> Part<'a> {
         Ok(has_line(&comparison, &sides))
     }
 
-    /// Lists the rows of which something may be shown, by ascending identifier.
-    pub(crate) fn list(
+    /// Lists the rows of which something may be shown, by ascending identifier: where there are many, several threads put
+    /// them in order.
+    pub(crate) fn list<R: Threads + Sync>(
         &self,
+        rt: &R,
         alloc: Global,
         kind: Kind,
         first: bool,
@@ -160,7 +163,7 @@ impl<'a> Part<'a> {
             rows_of(&self.bare.changes),
             &self.bare.rows,
         )?;
-        sort_sides(&mut sides);
+        sort_by_several(rt, &mut sides);
         Ok(Listing::new(comparison, kind, sides))
     }
 
@@ -170,16 +173,15 @@ impl<'a> Part<'a> {
             ≡ (changes_shown first self.now).entries) }
     {
         let comparison = Comparison::of(alloc, first, self.bare.told, self.bare.request);
-        let sides = sides_of(
+        let mut sides = sides_of(
             alloc,
             &comparison,
             &self.found,
             rows_of(&self.bare.changes),
             &self.bare.rows,
         )?;
-        let mut lines = lines_of(alloc, &comparison, &sides)?;
-        sort(&mut lines);
-        Ok(lines)
+        sort(&mut sides);
+        lines_of(alloc, &comparison, &sides)
     }
 }
 
@@ -299,20 +301,20 @@ fn has_line(comparison: &Comparison<'_>, sides: &[Sides<'_>]) -> bool
     sides.iter().any(|row| comparison.line(row).is_some())
 }
 
-/// Puts the lines in the order of their identifiers. O(n log n).
-fn sort(lines: &mut Vec<Line<'_>>)
-    ensures permutation { IsPermutation lines.old.items lines.new.items }
-    ensures sorted { IsSortedByKey (λ line. uuid_of line.uuid) uuid_cmp lines.new.items }
+/// Puts the rows in the order of their identifiers. O(n log n).
+fn sort(sides: &mut Vec<Sides<'_>>)
+    ensures permutation { IsPermutation sides.old.items sides.new.items }
+    ensures sorted { IsSortedByKey (λ row. row.key) uuid_cmp sides.new.items }
 {
-    lines.sort_unstable_by_key(|line| Key::of(line.uuid));
+    sides.sort_unstable_by_key(|row| row.key);
 }
 
-/// Puts the rows in the order of their identifiers. O(n log n).
-fn sort_sides(sides: &mut Vec<Sides<'_>>)
+/// Puts the rows in the order of their identifiers, by several threads where there are 4,096 or more. O(n log n).
+fn sort_by_several<R: Threads + Sync>(rt: &R, sides: &mut Vec<Sides<'_>>)
     ensures permutation { IsPermutation sides.old.items sides.new.items }
-    ensures sorted { IsSortedByKey (λ row. uuid_of row.uuid) uuid_cmp sides.new.items }
+    ensures sorted { IsSortedByKey (λ row. row.key) uuid_cmp sides.new.items }
 {
-    sides.sort_unstable_by_key(|row| Key::of(row.uuid));
+    par_sort_unstable_by_key(rt, sides, |row| row.key);
 }
 
 // Written, and not derived, so that each end of a scope is one call to prove.

@@ -17,8 +17,8 @@ use uuid::Uuid;
 /// A row as it was when the client was told, and as it is now.
 #[derive(Clone, Copy)]
 pub struct Sides<'a> {
-    /// Its identifier.
-    pub uuid: Uuid,
+    /// Its identifier, as a key: that is made once, and compared often.
+    pub key: Key,
     /// The row as it was.
     pub old: Option<&'a Row>,
     /// The row as it is.
@@ -31,11 +31,7 @@ pub fn fresh<'a>(alloc: Global, rows: &[(Uuid, &'a Row)]) -> Result<Vec<Sides<'a
 {
     let mut all = Vec::with_capacity(alloc, rows.len())?;
     for row in rows {
-        let sides = Sides {
-            uuid: row.0,
-            old: None,
-            new: Some(row.1),
-        };
+        let sides = coming(row);
         if all.push(sides).is_err() {
             return Err(AllocError);
         }
@@ -54,7 +50,7 @@ pub fn changed<'a>(
     let mut all = Vec::with_capacity(alloc, changes.len())?;
     for change in changes {
         let sides = Sides {
-            uuid: change.uuid(),
+            key: Key::of(change.uuid()),
             old: change.old(),
             new: rows.get(change.uuid()),
         };
@@ -89,11 +85,7 @@ pub fn add_others<'a>(
         if is_among(keys, row.0) {
             continue;
         }
-        let sides = Sides {
-            uuid: row.0,
-            old: Some(row.1),
-            new: Some(row.1),
-        };
+        let sides = staying(row);
         if all.push(sides).is_err() {
             return Err(AllocError);
         }
@@ -105,4 +97,26 @@ fn is_among(keys: &BTreeSet<Key>, uuid: Uuid) -> bool
     ensures { result ≡ contains uuid_cmp keys.now (uuid_of uuid) }
 {
     keys.contains(&Key::of(uuid))
+}
+
+/// Returns the row as one that comes in.
+fn coming<'a>(row: &(Uuid, &'a Row)) -> Sides<'a>
+    ensures { sides_in result ≡ fresh_in (listed row.now) }
+{
+    Sides {
+        key: Key::of(row.0),
+        old: None,
+        new: Some(row.1),
+    }
+}
+
+/// Returns the row as one that stays.
+fn staying<'a>(row: &(Uuid, &'a Row)) -> Sides<'a>
+    ensures { sides_in result ≡ stayed_in (listed row.now) }
+{
+    Sides {
+        key: Key::of(row.0),
+        old: Some(row.1),
+        new: Some(row.1),
+    }
 }

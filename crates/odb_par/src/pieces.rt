@@ -30,7 +30,7 @@ pub(crate) fn compose_by_pieces<R: Threads + Sync>(
 {
     let mut joining = Joining::new(alloc)?;
     for place in 0..job.tables() {
-        let listing = job.list(alloc, place)?;
+        let listing = job.list(rt, alloc, place)?;
         let pieces = pieces_of(rt, alloc, &listing, workers)?;
         joining.put(alloc, &listing, &pieces)?;
     }

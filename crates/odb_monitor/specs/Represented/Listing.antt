@@ -1,5 +1,5 @@
 -- What a listing of the code stands for.
-use Rattle.std.specs.Prelude.{ℕ, [], Bool, List, Option, Some, None, map, refl}
+use Rattle.std.specs.Prelude.{ℕ, [], List, Option, Some, None, map, refl}
 use Rattle.std.specs.Coded.{Coded, code_by, coded×, coded_list, coded_ℕ}
 use Rattle.json.specs.Token.{Token, tokens_code}
 use Rattle.odb_atoms.specs.Uuid.{Uuid}

@@ -2,7 +2,6 @@
 use Rattle.std.specs.Prelude.{Bool, if◌then◌else◌, false, Option, Some, None, option_and_then, option_map}
 use Rattle.std.specs.Option.{option_copied}
 use Rattle.odb_atoms.specs.FinMap as finite
-use Rattle.odb_atoms.specs.Represented.Atom.{uuid_of}
 use Rattle.odb_atoms.specs.Row.{Row, cell}
 use Rattle.odb_atoms.specs.Uuid.{Uuid}
 use Rattle.odb_atoms.specs.Value.{same_value}
@@ -39,7 +38,7 @@ abbrev pub Pair : Type 0
 Pair = Option Row × Option Row
 
 abbrev pub sides_in : Sides → Uuid × Pair
-sides_in s = (uuid_of s.uuid, (option_copied s.old, option_copied s.new))
+sides_in s = (s.key, (option_copied s.old, option_copied s.new))
 
 -- whether two rows have the same in a column
 abbrev pub is_same_in : Uuid × Row → Uuid × Row → Selector → Bool

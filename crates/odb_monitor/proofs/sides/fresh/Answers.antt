@@ -1,13 +1,11 @@
-use Rattle.std.proofs.Common.{rules, ◌≡◌, ◌++◌, ◌∷◌, [], None, Some, refl}
+use Rattle.std.proofs.Common.{rules, ◌≡◌, ◌++◌, ◌∷◌, []}
 use Rattle.odb_monitor.specs.Represented.Candidates.{fresh_in}
 use Rattle.odb_monitor.specs.Represented.Sides.{sides_in}
-use Rattle.odb_monitor.specs.declared.sides.Sides.{Sides}
 use Rattle.odb_tables.specs.Represented.Table.{listed}
 use Rattle.odb_monitor.proofs.Loops.{mapped_more}
 use Rattle.odb_monitor.proofs.sides.fresh.Goals as goal
 
 pub loop-row-preserved : goal.loop-row-preserved
 loop-row-preserved c =
-    let sides : Sides = record { uuid = c.row-item.result.0; old = None; new = Some c.row-item.result.1 } in
-    let grown : c.push.new.self.items ≡ c.loop-row.all.items ++ sides ∷ [] = search rules in
-    mapped_more sides_in fresh_in listed c.args.rows.now c.loop-row.row-index c.row-item.result c.loop-row.all.items c.push.new.self.items sides c.loop-row-test.true c.row-item.is grown refl c.loop-row.invariant
+    let grown : c.push.new.self.items ≡ c.loop-row.all.items ++ c.coming-sides.result ∷ [] = search rules in
+    mapped_more sides_in fresh_in listed c.args.rows.now c.loop-row.row-index c.row-item.result c.loop-row.all.items c.push.new.self.items c.coming-sides.result c.loop-row-test.true c.row-item.is grown c.coming-sides.ensures c.loop-row.invariant

@@ -8,7 +8,7 @@ use Rattle.odb_request.specs.Represented.Kind.{notation_of}
 use Rattle.odb_monitor.proofs.job.Job.list.Goals as goal
 
 pub returns : goal.returns
-returns c =
+returns g c =
     let i = c.self.inside in
     let n = notation_of i.kind in
     let low : c.args.place < length i.parts.items = subst (λ (j : Job). c.args.place < length j.parts) (sym c.self.view_is) c.requires in

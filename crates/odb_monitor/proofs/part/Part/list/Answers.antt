@@ -1,4 +1,4 @@
-use Rattle.std.proofs.Common.{rules, ◌≡◌, ◌∙◌, ap, filter_map, map, option_map, refl, subst}
+use Rattle.std.proofs.Common.{◌≡◌, ◌∙◌, ap, filter_map, map, option_map, refl, subst}
 use Rattle.std.proofs.lemmas.List.Sorted.{IsPermutation-map}
 use Rattle.std.specs.Arc.{arc_value}
 use Rattle.odb_monitor.specs.Job.{Part}
@@ -15,7 +15,7 @@ use Rattle.odb_request.specs.Represented.Kind.{notation_of}
 use Rattle.odb_monitor.proofs.part.Part.list.Goals as goal
 
 pub returns : goal.returns
-returns c =
+returns g c =
     let i = c.self.inside.bare in
     let q = i.request.now in
     let t = i.rows in
@@ -26,9 +26,9 @@ returns c =
     let same = c.of-comparison.ensures in
     let covered : Covers es by.first by.told by.request.now (table_then changes t) t = c.in_ok-sides.ensures (table_then changes t) (c.rows_of.ensures.was t) in
     let covers : Covers es first i.told q (table_then changes t) t = compares es (table_then changes t) t by.first first by.told i.told by.request.now q same.first same.told same.request covered in
-    let sorted = c.sort_sides.new.sides.items in
+    let sorted = c.sort_by_several.new.sides.items in
     let lines : filter_map (line_at first i.told q) (map sides_in sorted) ≡ (changes_shown first (part_of q i.told t changes)).entries =
-    sorted_lines first q i.told t changes es (map sides_in sorted) covers (IsPermutation-map sides_in c.in_ok-sides.sides.items sorted c.sort_sides.ensures.permutation) (ranked_entries sides_in sorted c.sort_sides.ensures.sorted) in
+    sorted_lines first q i.told t changes es (map sides_in sorted) covers (IsPermutation-map sides_in c.in_ok-sides.sides.items sorted c.sort_by_several.ensures.permutation) (ranked_entries sides_in sorted c.sort_by_several.ensures.sorted) in
     let is : c.new.result ≡ listing_in (notation_of c.args.kind) by sorted = c.new.ensures in
     subst (λ (p : Part). listed_tokens c.new.result ≡ part_tokens (notation_of c.args.kind) first p) c.self.view_is
     (ap listed_tokens is ∙ listed_part (notation_of c.args.kind) by sorted first i.told q (part_of q i.told t changes) same.first same.told same.request refl lines)
