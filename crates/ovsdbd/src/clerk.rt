@@ -412,28 +412,44 @@ impl<'a, L: Ledger, R: Threads + Wait + Clock + Sync> Clerk<'a, L, R> {
             && let Some(place) = self.asking.pop_back()
         {
             self.has_newer = false;
-            self.serve(place);
+            self.serve_asking(place);
         }
         for _ in 0..TURNS {
             if self.asking.is_empty() && self.queue.is_empty() {
                 break;
             }
-            self.serve_next();
+            if let Some(place) = self.asking.pop_front() {
+                self.serve_asking(place);
+            }
+            self.serve_others(1);
             if has_lasted(self.tools.rt, &begun, BATCH) {
                 break;
             }
         }
         if let Some(place) = self.slow.pop_front() {
-            self.serve(place);
+            self.serve_asking(place);
         }
     }
 
-    /// Gives a turn to the first of those that ask something, and to the first of the others.
-    fn serve_next(&mut self) {
-        if let Some(place) = self.asking.pop_front() {
-            self.serve(place);
+    /// Gives a turn to one that asks something. Where that was slow others have theirs before the next is asked for, so that
+    /// long replies go out before there are more of them.
+    fn serve_asking(&mut self, place: usize) {
+        self.serve(place);
+        let is_slow = match at(self.connections.as_mut_slice(), place) {
+            Some(connection) => connection.is_slow,
+            None => false,
+        };
+        if is_slow {
+            self.serve_others(TURNS);
         }
-        if let Some(place) = self.queue.pop_front() {
+    }
+
+    /// Gives a turn to so many of those that ask nothing.
+    fn serve_others(&mut self, most: usize) {
+        for _ in 0..most {
+            let Some(place) = self.queue.pop_front() else {
+                break;
+            };
             self.serve(place);
         }
     }

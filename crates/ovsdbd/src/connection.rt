@@ -230,10 +230,10 @@ impl<L: Ledger> Connection<L> {
         Ok(self.next(tools, written))
     }
 
-    /// Returns whether a request may be submitted: none waits since it met Busy, and no message is held back, since
-    /// then the client doesn't read what it was given. Step: `checks`.
+    /// Returns whether a request may be submitted: none waits since it met Busy, and the client takes what it was given, so
+    /// that the socket isn't full and no message is held back. Step: `checks`.
     fn may_submit(&self) -> bool {
-        !self.is_busy && !self.outbox.bell().is_held_back()
+        !self.is_busy && self.is_writable && !self.outbox.bell().is_held_back()
     }
 
     /// Returns whether more may be read: all that was read was submitted.
