@@ -1,4 +1,4 @@
-mod Adds
+pub mod Adds
 mod Aheads
 pub mod AsRead
 mod Books
@@ -39,7 +39,7 @@ mod Posts
 mod Quiet
 mod QuietSessions
 mod Refreshed
-mod Releases
+pub mod Releases
 mod Replays
 mod Rests
 mod Room

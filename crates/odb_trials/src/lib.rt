@@ -10,6 +10,8 @@ mod interest;
 #[cfg(test)]
 mod mailboxes;
 #[cfg(test)]
+mod marks;
+#[cfg(test)]
 mod refusals;
 #[cfg(test)]
 mod requests;
