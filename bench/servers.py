@@ -31,6 +31,7 @@ SCHEMA: dict[str, Any] = {"name": "bench", "version": "1.0.0", "tables": {"T": {
 WINDOW = 32
 OPENS, CLOSES = b"{}"
 NO_BRACKETS = bytes({*range(256)} - {OPENS, CLOSES})
+ROOM = memoryview(bytearray(1 << 20))
 
 
 def schema_in(folder: str) -> str:
@@ -122,6 +123,15 @@ class Client(daemon.Client):
         count = 0
         while not count:
             count += self.ended(self.socket.recv(65536))
+
+    def skip(self, data: bytes, ends: tuple[bytes, ...]) -> None:
+        """Sends a request, and waits until what comes ends in one of these, which the message has nowhere else: so a large one costs
+        the client no more than to receive it."""
+        self.send(data)
+        longest, last = max(map(len, ends)), b""
+        while not last.endswith(ends):
+            count = self.socket.recv_into(ROOM)
+            last = (last + bytes(ROOM[max(0, count - longest) : count]))[-longest:]
 
     def reply(self, data: bytes) -> Any:
         """The reply, where ovsdb-server may ask in between whether the client is there."""
