@@ -1,8 +1,9 @@
 -- Monitors that are foreseen: their marks, the first that has an id, and what becomes of it.
-use Rattle.std.proofs.Common.{◌≡◌, ℕ, zero, suc, ◌+◌, ◌<◌, arith, Bool, true, false, cond, not, nat_lt, List, [], ◌∷◌, ◌++◌, find, get_or, length, map, position, slice_index_or, slice_set, Option, Some, None, refl, sym, ap, ◌∙◌}
+use Rattle.std.proofs.Common.{◌≡◌, ℕ, zero, suc, ◌+◌, ◌<◌, arith, Bool, true, false, cond, not, nat_lt, List, [], ◌∷◌, ◌++◌, find, get_or, length, map, position, slice_index_or, slice_set, Option, Some, None, option_map, refl, sym, ap, subst, ◌∙◌}
 use Rattle.std.specs.Prelude.{flat_map, option_and_then}
 use Rattle.std.specs.List.{position_or_len}
 use Rattle.std.proofs.lemmas.Bool.Decides.{nat_tests}
+use Rattle.std.proofs.lemmas.List.{length-map}
 use Rattle.std.proofs.lemmas.Option.{none-some, same_Some}
 use Rattle.odb_chain.specs.Chains.{Chains}
 use Rattle.odb_monitor.specs.View.{query}
@@ -12,16 +13,18 @@ use Rattle.odb_schema.specs.Schema.{Schema}
 use Rattle.odb_service.specs.Server.{served_by}
 use Rattle.odb_service.specs.Session.{Monitor, at_first, leaves, refilter}
 use Rattle.odb_sessions.specs.Asked.{is_same}
-use Rattle.odb_sessions.specs.Foreseen.{Ahead, Filters, as_told, marks_ahead, seen_ahead}
-use Rattle.odb_sessions.specs.Held.{Held, marks_in, monitor_of}
+use Rattle.odb_sessions.specs.Foreseen.{Ahead, Filters, as_told, held_ahead, marks_ahead, seen_ahead}
+use Rattle.odb_sessions.specs.Held.{Held, Sessions, marks_in, monitor_of}
 use Rattle.odb_sessions.specs.Planned.{Due, due, update_of}
 use Rattle.odb_sessions.specs.Represented.Under.{filters_in, item_in}
 use Rattle.odb_sessions.specs.Tied.{AreLive}
+use Rattle.odb_sessions.specs.Watches.{AreKnownAs, IsKnownAs}
 use Rattle.odb_sessions.specs.declared.under.Under.{Under}
 use Rattle.odb_sessions.specs.declared.under.Under.TheVariants.{Asked, Changed}
 use Rattle.odb_sessions.proofs.NamedReplays.{made_found, made_nowhere}
 use Rattle.odb_sessions.proofs.Releases.{live-left, live-right}
 use Rattle.odb_sessions.proofs.Updates.{refilter_none, told_as}
+use Rattle.odb_sessions.proofs.WatchNumbers.{known_at}
 use Rattle.odb_tables.specs.Database.{Db}
 
 -- ---- marks
@@ -33,6 +36,29 @@ marks_told (x ∷ xs) = ap (λ ms. marks_in x ++ ms) (marks_told xs)
 pub seen_told : (db : Db) (xs : List Held) → map (seen_ahead db) (map as_told xs) ≡ map monitor_of xs
 seen_told db [] = refl
 seen_told db (x ∷ xs) = ap (λ ms. monitor_of x ∷ ms) (seen_told db xs)
+
+pub held_told : (xs : List Held) → held_ahead (map as_told xs) ≡ xs
+held_told [] = refl
+held_told (x ∷ xs) = ap (λ hs. x ∷ hs) (held_told xs)
+
+-- where the monitor at a place is foreseen otherwise
+pub still_held : (xs : List Ahead) (i : ℕ) (d y : Ahead) → i < length xs → y.held ≡ (get_or xs i d).held → held_ahead (slice_set xs i y) ≡ held_ahead xs
+still_held [] i d y low is = absurd (omega (arith, low))
+still_held (x ∷ xs) zero d y low is = ap (λ h. h ∷ held_ahead xs) is
+still_held (x ∷ xs) (suc i) d y low is = ap (λ hs. x.held ∷ hs) (still_held xs i d y (omega (arith, low)) is)
+
+held_at : (xs : List Ahead) (i : ℕ) (d : Ahead) → get_or (held_ahead xs) i d.held ≡ (get_or xs i d).held
+held_at [] i d = refl
+held_at (x ∷ xs) zero d = refl
+held_at (x ∷ xs) (suc i) d = held_at xs i d
+
+-- the monitor at a place of a session that has a number is known by both
+pub known_ahead : (m : Sessions) (w : Option ℕ) (v : Option (ℕ × ℕ)) (xs : List Ahead) (i : ℕ) (x : Ahead) → i < length xs → x ≡ get_or xs i x → v ≡ option_map (λ n. (n, i)) w → AreKnownAs m w (held_ahead xs) → IsKnownAs m v x.held
+known_ahead m None v xs i x low at is h = subst (λ (o : Option (ℕ × ℕ)). IsKnownAs m o x.held) (sym is) tt
+known_ahead m (Some n) v xs i x low at is h =
+    let long : length (held_ahead xs) ≡ length xs = length-map xs (λ (a : Ahead). a.held) in
+    let known : IsKnownAs m (Some (n, i)) (get_or (held_ahead xs) i x.held) = known_at m n i (held_ahead xs) x.held (omega (arith, low, long)) h in
+    subst (λ (o : Option (ℕ × ℕ)). IsKnownAs m o x.held) (sym is) (subst (IsKnownAs m (Some (n, i))) (held_at xs i x ∙ ap (λ (a : Ahead). a.held) (sym at)) known)
 
 pub live_ahead : (k : Chains) (xs : List Ahead) (i : ℕ) (d : Ahead) → i < length xs → AreLive k (marks_ahead xs) → AreLive k (marks_in (get_or xs i d).held)
 live_ahead k [] i d low live = absurd (omega (arith, low))

@@ -15,6 +15,7 @@ use Rattle.odb_sessions.proofs.Moved.{tied_moved}
 use Rattle.odb_sessions.proofs.Moves.{came_late, moved_live, same_version, stood}
 use Rattle.odb_sessions.proofs.Releases.{live-left, live-right, still_live, uses-++}
 use Rattle.odb_sessions.proofs.Ties.{has_all}
+use Rattle.odb_sessions.specs.Watches.{KeepsWatch}
 
 -- ---- one step
 
@@ -192,8 +193,8 @@ module _ (a b c : Chains) (xs ys zs : List Mark) (now : IsNow a) (f : Carries a 
 
 -- ---- among all sessions
 
-pub tied_carried : (k new : Chains) (m : Sessions) (s : ℕ) (x y : Kept) → IsTied k m → finite.get m s ≡ Some x → Carries k new (marks_of x) (marks_of y) → IsTied new (finite.insert m s y)
-tied_carried k new m s x y h there f = tied_moved k new m s x y h there (λ t p. sym (f.2 t p)) f.4 f.5 f.6
+pub tied_carried : (k new : Chains) (m : Sessions) (s : ℕ) (x y : Kept) → IsTied k m → finite.get m s ≡ Some x → Carries k new (marks_of x) (marks_of y) → KeepsWatch x y → IsTied new (finite.insert m s y)
+tied_carried k new m s x y h there f same = tied_moved k new m s x y h there (λ t p. sym (f.2 t p)) f.4 f.5 f.6 same
 
 pub ready_at : (k : Chains) (m : Sessions) (s : ℕ) (x : Kept) → IsTied k m → finite.get m s ≡ Some x → IsReady k (marks_of x)
 ready_at k m s x h there = (h.0, has_all k m s x h there)

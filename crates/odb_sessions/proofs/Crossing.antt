@@ -34,6 +34,7 @@ use Rattle.odb_sessions.specs.contracts.queue.Queue as Queue
 use Rattle.odb_sessions.specs.contracts.refreshing.Refreshing as Refreshing
 use Rattle.odb_sessions.specs.contracts.session.Session as Session
 use Rattle.odb_sessions.specs.contracts.sessions.Sessions as Sessions
+use Rattle.odb_sessions.specs.contracts.watch.Watch as Watch
 
 Id-send : IsSend (Id.the_field).row
 Id-send = search (Value-send, sendable, heap.crosses) depth 20
@@ -98,8 +99,11 @@ Item-send = search (Finished-send, Start-send, Id-send, Id-sync, Shift-send, Ren
 Queue-send : IsSend (Queue.the_field).row
 Queue-send = search (Item-send, sendable, heap.crosses) depth 20
 
+Watch-send : IsSend (Watch.the_field).row
+Watch-send = search (sendable, heap.crosses) depth 20
+
 Session-send : IsSend (Session.the_field).row
-Session-send = search (Queue-send, Monitor-send, sendable, heap.crosses) depth 20
+Session-send = search (Queue-send, Monitor-send, Watch-send, sendable, heap.crosses) depth 20
 
 Numbered-send : IsSend (Numbered.the_field).row
 Numbered-send = search (Session-send, slab.the_send, sendable, heap.crosses, maps.crosses) depth 20

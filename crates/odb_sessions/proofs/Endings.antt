@@ -17,6 +17,7 @@ use Rattle.odb_sessions.proofs.Posts.{at_open}
 use Rattle.odb_sessions.proofs.Replays.{asked_ids, map-map}
 use Rattle.odb_sessions.proofs.Seen.{at_tied}
 use Rattle.odb_sessions.proofs.Ties.{get-seen, seen-insert}
+use Rattle.odb_sessions.proofs.WatchNumbers.{keeps_so}
 
 module _ {A : Type 0} (g : A → Data) (reply : Item) where
   abbrev pub ending_of : List A → List Queued
@@ -31,7 +32,7 @@ module _ {A : Type 0} (g : A → Data) (reply : Item) where
   syncs_seen (i ∷ ids) = ap (λ is. sync (g i) ∷ is) (syncs_seen ids)
 
   pub ending_tied : (k : Chains) (m : Sessions) (s : ℕ) (qs : List Queued) (ids : List A) → qs ≡ ending_of ids → IsTied k m → IsTied k (at_number (with_items qs) m s)
-  ending_tied k m s qs ids is h = at_tied k (with_items qs) m s (λ x. marks-with qs x ∙ ap (λ ms. marks_of x ++ ms) (ap (flat_map marks_due) is ∙ no_marks ids) ∙ append-nil (marks_of x)) h
+  ending_tied k m s qs ids is h = at_tied k (with_items qs) m s (λ x. marks-with qs x ∙ ap (λ ms. marks_of x ++ ms) (ap (flat_map marks_due) is ∙ no_marks ids) ∙ append-nil (marks_of x)) (λ x. keeps_so x (with_items qs x) refl refl) h
 
   pub ending_seen : (schema : Schema) (m : Sessions) (s : ℕ) (x : Kept) (qs : List Queued) (ids : List A) → get m s ≡ Some x → qs ≡ ending_of ids → map g ids ≡ ids_asked (seen x) → all_seen (at_number (with_items qs) m s) ≡ at_number (ended_in schema reply) (all_seen m) s
   ending_seen schema m s x qs ids there is asks =

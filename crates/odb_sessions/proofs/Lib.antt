@@ -45,6 +45,7 @@ mod Rests
 mod Room
 pub mod Rounds
 mod Seen
+mod SharedPlaces
 mod Steps
 mod StillQuiet
 mod Stops
@@ -55,5 +56,8 @@ mod Ties
 mod Untouched
 mod Updates
 mod Used
+mod WatchBounds
+mod WatchNumbers
+mod WatchTies
 mod Watches
 mod Ways

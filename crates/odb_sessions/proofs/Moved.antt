@@ -15,6 +15,8 @@ use Rattle.odb_sessions.proofs.Posts.{at_open, at_shut, reinserted}
 use Rattle.odb_sessions.proofs.Releases.{live-left, live-right, still_live, uses-++}
 use Rattle.odb_sessions.proofs.Sums.{slot}
 use Rattle.odb_sessions.proofs.Ties.{used-insert, used_within, weight}
+use Rattle.odb_sessions.specs.Watches.{KeepsWatch}
+use Rattle.odb_sessions.proofs.WatchNumbers.{alike_put, joins_kept, keeps_so}
 
 get-itself : (m : Sessions) (s : ℕ) (x : Kept) → finite.get (finite.insert m s x) s ≡ Some x
 get-itself m s x = get-insert m s x s ∙ ap (λ b. cond b (Some x) (finite.get m s)) (key-itself s)
@@ -33,8 +35,8 @@ module _ (k new : Chains) (m : Sessions) (s : ℕ) (x y : Kept) (h : IsTied k m)
       still_live k new (marks_of z) keeps live
       (λ t p. let within : weight t p z ≤ used t p (finite.insert m s y) = used_within t p (finite.insert m s y) q z at in let sum : count new t p ≡ used t p (finite.insert m s y) = counted t p in omega (arith, within, sum))
 
-  pub tied_moved : AreLive new (marks_of y) → IsTied new (finite.insert m s y)
-  tied_moved own = (now, counted, λ q z at. by q z (eq_by_cmp nat_cmp q s) refl (sym (get-insert m s y q) ∙ at) at)
+  pub tied_moved : AreLive new (marks_of y) → KeepsWatch x y → IsTied new (finite.insert m s y)
+  tied_moved own same = (now, counted, (λ q z at. by q z (eq_by_cmp nat_cmp q s) refl (sym (get-insert m s y q) ∙ at) at), alike_put m s y h.3 (joins_kept m s x y h.3 there same))
     where
       by : (q : ℕ) (z : Kept) (b : Bool) → eq_by_cmp nat_cmp q s ≡ b → cond b (Some y) (finite.get m q) ≡ Some z → finite.get (finite.insert m s y) q ≡ Some z → AreLive new (marks_of z)
       by q z true is found at = subst (λ (w : Kept). AreLive new (marks_of w)) (same_Some y z found) own
@@ -52,8 +54,8 @@ has_some k m s x kept gone h there is = (
       omega (arith, within, counted, sum),
 )
 
-pub tied_less : (k new : Chains) (m : Sessions) (s : ℕ) (x y : Kept) (gone : List Mark) → IsTied k m → finite.get m s ≡ Some x → marks_of x ≡ marks_of y ++ gone → Frees k new gone → IsTied new (finite.insert m s y)
-tied_less k new m s x y gone h there is f = tied_moved k new m s x y h there sums f.3 (f.4 h.0) (lives k new m s x y h there sums f.3 (f.4 h.0) s y (get-itself m s y) (live-left k (marks_of y) gone (subst (AreLive k) is (h.2 s x there))))
+pub tied_less : (k new : Chains) (m : Sessions) (s : ℕ) (x y : Kept) (gone : List Mark) → IsTied k m → finite.get m s ≡ Some x → marks_of x ≡ marks_of y ++ gone → Frees k new gone → KeepsWatch x y → IsTied new (finite.insert m s y)
+tied_less k new m s x y gone h there is f same = tied_moved k new m s x y h there sums f.3 (f.4 h.0) (lives k new m s x y h there sums f.3 (f.4 h.0) s y (get-itself m s y) (live-left k (marks_of y) gone (subst (AreLive k) is (h.2 s x there)))) same
   where
     sums : (t p : ℕ) → count new t p + weight t p x ≡ count k t p + weight t p y
     sums t p =
@@ -63,8 +65,8 @@ tied_less k new m s x y gone h there is f = tied_moved k new m s x y h there sum
 
 -- ---- marks are made for one session
 
-pub tied_more : (k new : Chains) (m : Sessions) (s : ℕ) (x y : Kept) (made : List Mark) → IsTied k m → finite.get m s ≡ Some x → marks_of y ≡ marks_of x ++ made → Adds k new made → IsTied new (finite.insert m s y)
-tied_more k new m s x y made h there is f = tied_moved k new m s x y h there sums (keeps_made k new f.4) f.6 (subst (AreLive new) (sym is) (live_joined new (marks_of x) made (held_live k new (marks_of x) f.4 (h.2 s x there)) f.5))
+pub tied_more : (k new : Chains) (m : Sessions) (s : ℕ) (x y : Kept) (made : List Mark) → IsTied k m → finite.get m s ≡ Some x → marks_of y ≡ marks_of x ++ made → Adds k new made → KeepsWatch x y → IsTied new (finite.insert m s y)
+tied_more k new m s x y made h there is f same = tied_moved k new m s x y h there sums (keeps_made k new f.4) f.6 (subst (AreLive new) (sym is) (live_joined new (marks_of x) made (held_live k new (marks_of x) f.4 (h.2 s x there)) f.5)) same
   where
     sums : (t p : ℕ) → count new t p + weight t p x ≡ count k t p + weight t p y
     sums t p =
@@ -76,16 +78,19 @@ tied_more k new m s x y made h there is f = tied_moved k new m s x y h there sum
 pub tied_handed : (k new : Chains) (m : Sessions) (s : ℕ) (q : Queued) → IsTied k m → (x : Kept) → finite.get m s ≡ Some x → Adds k new (marks_due q) → IsTied new (at_number (with_item q) m s)
 tied_handed k new m s q h x there f =
     subst (IsTied new) (sym (at_open (with_item q) m s x there))
-    (tied_more k new m s x (with_item q x) (marks_due q) h there (marks-with (q ∷ []) x ∙ ap (λ ms. marks_of x ++ ms) (append-nil (marks_due q))) f)
+    (tied_more k new m s x (with_item q x) (marks_due q) h there (marks-with (q ∷ []) x ∙ ap (λ ms. marks_of x ++ ms) (append-nil (marks_due q))) f (keeps_so x (with_item q x) refl refl))
 
 -- marks that were made are given back
 pub given_back : (k made new : Chains) (m : Sessions) (ms : List Mark) → IsTied k m → Adds k made ms → Frees made new ms → IsTied new m
 given_back k made new m ms h f g = (
   g.4 f.6,
   counted,
-  λ s x there.
+  (
+      λ s x there.
       still_live made new (marks_of x) g.3 (held_live k made (marks_of x) f.4 (h.2 s x there))
-      (λ t p. let within : weight t p x ≤ used t p m = used_within t p m s x there in let sum : count new t p ≡ used t p m = counted t p in omega (arith, within, sum)),
+      (λ t p. let within : weight t p x ≤ used t p m = used_within t p m s x there in let sum : count new t p ≡ used t p m = counted t p in omega (arith, within, sum))
+      ),
+  h.3,
 )
   where
     counted : (t p : ℕ) → count new t p ≡ used t p m
@@ -109,7 +114,7 @@ pub tied_taken_back : (k new : Chains) (m : Sessions) (s : ℕ) (q : Queued) →
 tied_taken_back k new m s q h e f =
     let found : (x : Kept) × (finite.get m s ≡ Some x) × (newest x.queue ≡ Some q) = newest_of m s q e in
     subst (IsTied new) (sym (at_open without_newest m s found.0 found.1))
-    (tied_less k new m s found.0 (without_newest found.0) (marks_due q) h found.1 (marks-without found.0 q found.2) f)
+    (tied_less k new m s found.0 (without_newest found.0) (marks_due q) h found.1 (marks-without found.0 q found.2) f (keeps_so found.0 (without_newest found.0) refl refl))
 
 pub has_newest : (k : Chains) (m : Sessions) (s : ℕ) (q : Queued) → IsTied k m → newest_at m s ≡ Some q → HasAll k (marks_due q)
 has_newest k m s q h e =

@@ -72,4 +72,4 @@ none_newest (q ∷ r ∷ qs) e = absurd (some_newest q r qs e)
     some_newest q r (s ∷ qs) e = some_newest r s qs e
 
 pub nothing_newest : (x : Kept) → newest x.queue ≡ None → without_newest x ≡ x
-nothing_newest x e = λ i. record { queue = (ap but_newest (none_newest x.queue e) ∙ sym (none_newest x.queue e)) i; monitors = x.monitors }
+nothing_newest x e = λ i. record { queue = (ap but_newest (none_newest x.queue e) ∙ sym (none_newest x.queue e)) i; monitors = x.monitors; watch = x.watch }

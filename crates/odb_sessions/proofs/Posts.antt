@@ -47,7 +47,7 @@ kept_unposted-append (t ∷ ts) s m = ap (λ k. at_number without_newest k t) (k
 
 -- an item that goes to the end is the newest
 pushed_back : (q : Queued) (x : Kept) → without_newest (with_item q x) ≡ x
-pushed_back q x = λ k. record { queue = last_dropped x.queue q k; monitors = x.monitors }
+pushed_back q x = λ k. record { queue = last_dropped x.queue q k; monitors = x.monitors; watch = x.watch }
 
 -- ---- one session is written
 
@@ -84,7 +84,7 @@ with_more q qs m s = by (get m s) refl
         ap (λ (n : Sessions). at_number (with_items qs) n s) (at_open (with_item q) m s x is)
         ∙ at_open (with_items qs) (insert m s y) s y (get-insert m s y s ∙ ap (λ b. cond b (Some y) (get m s)) (key-itself s))
         ∙ inserted_twice m s (with_items qs y) y
-        ∙ ap (insert m s) (λ i. let z : Kept = record { queue = append_assoc x.queue (q ∷ []) qs i; monitors = x.monitors } in z)
+        ∙ ap (insert m s) (λ i. let z : Kept = record { queue = append_assoc x.queue (q ∷ []) qs i; monitors = x.monitors; watch = x.watch } in z)
         ∙ sym (at_open (with_items (q ∷ qs)) m s x is)
 
 pub with_none : (m : Sessions) (s : ℕ) → at_number (with_items []) m s ≡ m
@@ -93,5 +93,5 @@ with_none m s = by (get m s) refl
     by : (o : Option Kept) → get m s ≡ o → at_number (with_items []) m s ≡ m
     by None is = at_shut (with_items []) m s is
     by (Some x) is =
-        at_open (with_items []) m s x is ∙ ap (insert m s) (λ i. let z : Kept = record { queue = append-nil x.queue i; monitors = x.monitors } in z)
+        at_open (with_items []) m s x is ∙ ap (insert m s) (λ i. let z : Kept = record { queue = append-nil x.queue i; monitors = x.monitors; watch = x.watch } in z)
         ∙ reinserted m s x is

@@ -14,6 +14,8 @@ use Rattle.odb_sessions.proofs.Newest.{marks-with, seen-with, seen-without}
 use Rattle.odb_sessions.proofs.Posts.{at_open, at_shut}
 use Rattle.odb_sessions.proofs.Sums.{slot}
 use Rattle.odb_sessions.proofs.Ties.{get-seen, seen-insert, tied_put}
+use Rattle.odb_sessions.specs.Watches.{KeepsWatch}
+use Rattle.odb_sessions.proofs.WatchNumbers.{joins_kept, keeps_so}
 
 -- ---- at one number
 
@@ -24,14 +26,14 @@ at_seen f g m s same = by (get m s) refl
     by None is = ap all_seen (at_shut f m s is) ∙ sym (at_shut g (all_seen m) s (get-seen m s ∙ ap (option_map seen) is))
     by (Some x) is = ap all_seen (at_open f m s x is) ∙ seen-insert m s (f x) ∙ ap (insert (all_seen m) s) (same x) ∙ sym (at_open g (all_seen m) s (seen x) (get-seen m s ∙ ap (option_map seen) is))
 
-pub at_tied : (k : Chains) (f : Kept → Kept) (m : Sessions) (s : ℕ) → ((x : Kept) → marks_of (f x) ≡ marks_of x) → IsTied k m → IsTied k (at_number f m s)
-at_tied k f m s same h = by (get m s) refl
+pub at_tied : (k : Chains) (f : Kept → Kept) (m : Sessions) (s : ℕ) → ((x : Kept) → marks_of (f x) ≡ marks_of x) → ((x : Kept) → KeepsWatch x (f x)) → IsTied k m → IsTied k (at_number f m s)
+at_tied k f m s same keeps h = by (get m s) refl
   where
     by : (o : Option Kept) → get m s ≡ o → IsTied k (at_number f m s)
     by None is = subst (IsTied k) (sym (at_shut f m s is)) h
     by (Some x) is =
         subst (IsTied k) (sym (at_open f m s x is))
-        (tied_put k m s (f x) h (λ t p. ap (uses t p) (same x) ∙ sym (ap (slot (λ (y : Kept). uses t p (marks_of y))) is)) (subst (AreLive k) (sym (same x)) (h.2 s x is)))
+        (tied_put k m s (f x) h (λ t p. ap (uses t p) (same x) ∙ sym (ap (slot (λ (y : Kept). uses t p (marks_of y))) is)) (subst (AreLive k) (sym (same x)) (h.2 s x is)) (joins_kept m s x (f x) h.3 is (keeps x)))
 
 -- ---- posts
 
@@ -41,7 +43,7 @@ posts_seen m (p ∷ ps) = posts_seen (kept_posted m p) ps ∙ ap (λ (n : FinMap
 
 pub posts_tied : (k : Chains) (m : Sessions) (ps : List (ℕ × Item)) → IsTied k m → IsTied k (all_kept_posted m ps)
 posts_tied k m [] h = h
-posts_tied k m (p ∷ ps) h = posts_tied k (kept_posted m p) ps (at_tied k (with_item (plain p.1)) m p.0 (λ x. marks-with (plain p.1 ∷ []) x ∙ append-nil (marks_of x)) h)
+posts_tied k m (p ∷ ps) h = posts_tied k (kept_posted m p) ps (at_tied k (with_item (plain p.1)) m p.0 (λ x. marks-with (plain p.1 ∷ []) x ∙ append-nil (marks_of x)) (λ x. keeps_so x (with_item (plain p.1) x) refl refl) h)
 
 pub unposts_seen : (ss : List ℕ) (m : Sessions) → all_seen (kept_unposted ss m) ≡ unposted ss (all_seen m)
 unposts_seen [] m = refl

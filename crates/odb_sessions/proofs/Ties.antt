@@ -14,8 +14,10 @@ use Rattle.odb_tables.specs.Change.{Changes}
 use Rattle.odb_tables.specs.Database.{Db}
 use Rattle.odb_sessions.specs.Held.{Kept, Sessions, all_seen, marks_of, nothing_kept, seen, seen_entry}
 use Rattle.odb_sessions.specs.Tied.{AreLive, Frees, HasAll, IsTied, total, used, uses}
+use Rattle.odb_sessions.specs.Watches.{Joins}
 use Rattle.odb_sessions.proofs.Releases.{still_live}
 use Rattle.odb_sessions.proofs.Sums.{slot, total-put, total-without, weight_within}
+use Rattle.odb_sessions.proofs.WatchNumbers.{alike_less, alike_none, alike_put, joins_none}
 
 abbrev pub weight : ℕ → ℕ → Kept → ℕ
 weight t p x = uses t p (marks_of x)
@@ -95,7 +97,7 @@ pub has_all : (k : Chains) (m : Sessions) (s : ℕ) (x : Kept) → IsTied k m �
 has_all k m s x h there = (h.2 s x there, λ t p. let within : weight t p x ≤ used t p m = used_within t p m s x there in let counted : count k t p ≡ used t p m = h.1 t p in omega (arith, within, counted))
 
 pub tied_closed : (k new : Chains) (m : Sessions) (s : ℕ) (x : Kept) → IsTied k m → finite.get m s ≡ Some x → Frees k new (marks_of x) → IsTied new (finite.remove m s)
-tied_closed k new m s x h there f = (f.4 h.0, counted, λ q y at. by q y (eq_by_cmp nat_cmp q s) refl (sym (get-remove m s q) ∙ at) at)
+tied_closed k new m s x h there f = (f.4 h.0, counted, (λ q y at. by q y (eq_by_cmp nat_cmp q s) refl (sym (get-remove m s q) ∙ at) at), alike_less m s h.3)
   where
     counted : (t p : ℕ) → count new t p ≡ used t p (finite.remove m s)
     counted t p =
@@ -118,15 +120,16 @@ tied_shut k m s h none = subst (IsTied k) (sym (same_map (finite.remove m s) m (
     by q true is = sym none ∙ ap (finite.get m) (sym (same_key q s is))
     by q false is = refl
 
-pub tied_put : (k : Chains) (m : Sessions) (s : ℕ) (x : Kept) → IsTied k m → ((t p : ℕ) → weight t p x ≡ slot (weight t p) (finite.get m s)) → AreLive k (marks_of x) → IsTied k (finite.insert m s x)
-tied_put k m s x h same live = (
+pub tied_put : (k : Chains) (m : Sessions) (s : ℕ) (x : Kept) → IsTied k m → ((t p : ℕ) → weight t p x ≡ slot (weight t p) (finite.get m s)) → AreLive k (marks_of x) → Joins m x → IsTied k (finite.insert m s x)
+tied_put k m s x h same live joins = (
   h.0,
   λ t p.
       let sum : used t p (finite.insert m s x) + slot (weight t p) (finite.get m s) ≡ used t p m + weight t p x = used-insert t p m s x in
       let all : count k t p ≡ used t p m = h.1 t p in
       let own : weight t p x ≡ slot (weight t p) (finite.get m s) = same t p in
       omega (arith, sum, all, own),
-  λ q y at. by q y (eq_by_cmp nat_cmp q s) refl (sym (get-insert m s x q) ∙ at),
+  (λ q y at. by q y (eq_by_cmp nat_cmp q s) refl (sym (get-insert m s x q) ∙ at)),
+  alike_put m s x h.3 joins,
 )
   where
     by : (q : ℕ) (y : Kept) (b : Bool) → eq_by_cmp nat_cmp q s ≡ b → cond b (Some x) (finite.get m q) ≡ Some y → AreLive k (marks_of y)
@@ -142,7 +145,7 @@ none_kept m s e = by (finite.get m s) refl (sym (get-seen m s) ∙ e)
     by (Some x) is t = absurd (none-some (seen x) (sym t))
 
 pub tied_opened : (k : Chains) (m : Sessions) (s : ℕ) → IsTied k m → finite.get m s ≡ None → IsTied k (finite.insert m s nothing_kept)
-tied_opened k m s h shut = tied_put k m s nothing_kept h (λ t p. sym (ap (slot (weight t p)) shut)) tt
+tied_opened k m s h shut = tied_put k m s nothing_kept h (λ t p. sym (ap (slot (weight t p)) shut)) tt (joins_none m nothing_kept refl)
 
 pub on_err : {A E : Type 0} (r : Result A E) (Q : Type 0) → Q → OnErr r Q
 on_err (Ok x) Q q = tt
@@ -153,7 +156,7 @@ either (Ok a) p q f g = f p
 either (Err e) p q f g = g q
 
 pub tied_absorbed : (k new : Chains) (cs : List Changes) (m : Sessions) → IsTied k m → new ≡ absorbed cs k → IsNow new → IsTied new m
-tied_absorbed k new cs m h is now = subst (λ (c : Chains). IsNow c → IsTied c m) (sym is) (λ n. (n, h.1, λ s x there. live (marks_of x) (h.2 s x there))) now
+tied_absorbed k new cs m h is now = subst (λ (c : Chains). IsNow c → IsTied c m) (sym is) (λ n. (n, h.1, (λ s x there. live (marks_of x) (h.2 s x there)), h.3)) now
   where
     live : (ms : List Mark) → AreLive k ms → AreLive (absorbed cs k) ms
     live [] h = tt
@@ -166,7 +169,7 @@ none_live (d ∷ db) (suc t) = none_live db t
 
 pub tied_none : (k : Chains) (db : Db) → k ≡ chains_of db → IsNow k → IsTied k finite.empty
 unfolding finite.empty
-tied_none k db is now = subst (λ (c : Chains). IsNow c → IsTied c finite.empty) (sym is) (λ n. (n, λ t p. ap marks_at (ap (λ (l : Live). finite.get l p) (none_live db t) ∙ get-nothing p), λ s x there. absurd (none-some x (sym (get-empty s) ∙ there)))) now
+tied_none k db is now = subst (λ (c : Chains). IsNow c → IsTied c finite.empty) (sym is) (λ n. (n, λ t p. ap marks_at (ap (λ (l : Live). finite.get l p) (none_live db t) ∙ get-nothing p), (λ s x there. absurd (none-some x (sym (get-empty s) ∙ there))), alike_none)) now
   where
     get-nothing : (p : ℕ) → finite.get (let l : Live = finite.empty in l) p ≡ None
     get-nothing p = get-empty p

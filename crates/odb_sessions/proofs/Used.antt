@@ -1,5 +1,5 @@
 -- Items that are used up one by one, and then monitors that are brought to now: sessions, texts, marks and room.
-use Rattle.std.proofs.Common.{◌≡◌, ℕ, zero, suc, ◌+◌, ◌≤◌, arith, false, cond, List, [], ◌∷◌, ◌++◌, drop, flat_map, map, slice_get, Result, Ok, Err, refl, sym, ap, subst, ◌∙◌, append_assoc, true≢false}
+use Rattle.std.proofs.Common.{◌≡◌, ℕ, zero, suc, ◌+◌, ◌≤◌, arith, false, cond, List, [], ◌∷◌, ◌++◌, drop, flat_map, map, slice_get, None, Result, Ok, Err, refl, sym, ap, subst, ◌∙◌, append_assoc, true≢false}
 use Rattle.std.specs.Prelude.{OnOk, is_err, option_and_then}
 use Rattle.odb_chain.specs.Chains.{Chains, Mark}
 use Rattle.std.proofs.lemmas.List.Sums.{sum_by-cons}
@@ -64,11 +64,11 @@ module _ (k : Chains) (q : Queued) (qs : List Queued) (xs : List Held) where
   grouped : (ys : List Held) → (flat ys ++ marks_due q) ++ rest ≡ flat ys ++ (marks_due q ++ rest)
   grouped ys = append_assoc (flat ys) (marks_due q) rest
 
-  pub item_ready : IsReady k (marks_of (record { queue = q ∷ qs; monitors = xs })) → IsReady k (marks_due q ++ flat xs)
+  pub item_ready : IsReady k (marks_of (record { queue = q ∷ qs; monitors = xs; watch = None })) → IsReady k (marks_due q ++ flat xs)
   item_ready h = ready_turned k (flat xs) (marks_due q) (ready_part k [] (flat xs ++ marks_due q) rest (subst (IsReady k) (sym (grouped xs)) h))
 
-  pub item_carried : (new : Chains) (ys : List Held) → IsReady k (marks_of (record { queue = q ∷ qs; monitors = xs })) → Carries k new (marks_due q ++ flat xs) (flat ys)
-      → Carries k new (marks_of (record { queue = q ∷ qs; monitors = xs })) (marks_of (record { queue = qs; monitors = ys }))
+  pub item_carried : (new : Chains) (ys : List Held) → IsReady k (marks_of (record { queue = q ∷ qs; monitors = xs; watch = None })) → Carries k new (marks_due q ++ flat xs) (flat ys)
+      → Carries k new (marks_of (record { queue = q ∷ qs; monitors = xs; watch = None })) (marks_of (record { queue = qs; monitors = ys; watch = None }))
   item_carried new ys h f =
       let turned : Carries k new (flat xs ++ marks_due q) (flat ys) = carried_from k new (marks_due q ++ flat xs) (flat ys) (flat xs ++ marks_due q) (λ t p. turned_uses t p (flat xs) (marks_due q)) f in
       subst (λ ms. Carries k new ms (flat ys ++ rest)) (grouped xs)
@@ -76,11 +76,11 @@ module _ (k : Chains) (q : Queued) (qs : List Queued) (xs : List Held) where
 
 -- ---- monitors alone
 
-pub monitors_ready : (k : Chains) (qs : List Queued) (xs : List Held) → IsReady k (marks_of (record { queue = qs; monitors = xs })) → IsReady k (flat xs)
+pub monitors_ready : (k : Chains) (qs : List Queued) (xs : List Held) → IsReady k (marks_of (record { queue = qs; monitors = xs; watch = None })) → IsReady k (flat xs)
 monitors_ready k qs xs h = ready_part k [] (flat xs) (flat_map marks_due qs) h
 
-pub monitors_carried : (k new : Chains) (qs : List Queued) (xs ys : List Held) → IsReady k (marks_of (record { queue = qs; monitors = xs })) → Carries k new (flat xs) (flat ys)
-    → Carries k new (marks_of (record { queue = qs; monitors = xs })) (marks_of (record { queue = qs; monitors = ys }))
+pub monitors_carried : (k new : Chains) (qs : List Queued) (xs ys : List Held) → IsReady k (marks_of (record { queue = qs; monitors = xs; watch = None })) → Carries k new (flat xs) (flat ys)
+    → Carries k new (marks_of (record { queue = qs; monitors = xs; watch = None })) (marks_of (record { queue = qs; monitors = ys; watch = None }))
 monitors_carried k new qs xs ys h f = carried_among k new [] (flat_map marks_due qs) (flat xs) (flat ys) h f
 
 -- ---- room

@@ -10,6 +10,7 @@ use Rattle.odb_sessions.specs.Held.{Kept, Queued, Sessions, due, marks_of, plain
 use Rattle.odb_sessions.specs.Planned.{Due, first_due, grant_due, text_due, update_due, used_up}
 use Rattle.odb_sessions.specs.Represented.Origin.{granted}
 use Rattle.odb_sessions.specs.Tied.{AreLive, HasAll, KeepsContents, uses}
+use Rattle.odb_sessions.specs.Watches.{KeepsWatch}
 use Rattle.odb_tables.specs.Database.{Db}
 
 -- the marks are live and counted, and no place is later than now
@@ -57,5 +58,5 @@ all_begin (q ∷ qs) = begins q + all_begin qs
 -- the session is carried so far, and its marks and the chains with it; where it isn't open nothing changes
 abbrev pub IsCarriedOut : Chains → Chains → Sessions → Sessions → ℕ → ℕ → ℕ → Type 0
 IsCarriedOut old new m then s n k =
-    ((x : Kept) → get m s ≡ Some x → (y : Kept) × (then ≡ insert m s y) × Carries old new (marks_of x) (marks_of y) × ((schema : Schema) → seen y ≡ used_by (served_by schema) old.db n k (seen x)))
+    ((x : Kept) → get m s ≡ Some x → (y : Kept) × (then ≡ insert m s y) × Carries old new (marks_of x) (marks_of y) × ((schema : Schema) → seen y ≡ used_by (served_by schema) old.db n k (seen x)) × KeepsWatch x y)
     × (get m s ≡ None → (then ≡ m) × (new ≡ old))

@@ -1,5 +1,5 @@
 -- What a plan foresees: what clients have once so much of a queue was taken, and the text that comes. [P 10.1]
-use Rattle.std.specs.Prelude.{ℕ, zero, suc, List, [], ◌∷◌, Option, Some, None, flat_map, slice_get}
+use Rattle.std.specs.Prelude.{ℕ, zero, suc, List, [], ◌∷◌, Option, Some, None, flat_map, map, slice_get}
 use Rattle.std.specs.List.{AllByRecursion}
 use Rattle.serde_json.specs.Written.{compact_text}
 use Rattle.odb_chain.specs.Chains.{Chains, Mark}
@@ -16,6 +16,7 @@ use Rattle.odb_sessions.specs.Composed.{asked_of}
 use Rattle.odb_sessions.specs.Held.{Held, Watched, marks_in, view_of, watch_of}
 use Rattle.odb_sessions.specs.OfSchema.{AreOfSchema}
 use Rattle.odb_sessions.specs.Planned.{Due, out_of}
+use Rattle.odb_sessions.specs.Watches.{Basis}
 use Rattle.odb_tables.specs.Database.{Db, table_at}
 use Rattle.odb_wire.specs.Message.{id_of}
 
@@ -23,9 +24,9 @@ use Rattle.odb_wire.specs.Message.{id_of}
 abbrev pub Filters : Type 0
 Filters = List (List ℕ × Filter)
 
--- the schema, the database with its past, its last commits, the jobs so far, and a session's monitors once so much of its queue was taken
+-- what the round stands on, the database with its past, its last commits, the jobs so far, and a session's monitors once so much of its queue was taken
 pub record Foreseen : Type 0 where
-  pub schema : Schema
+  pub basis : Basis
   pub chains : Chains
   pub recent : Recent
   pub jobs : List Job
@@ -50,6 +51,9 @@ marks_ahead xs = flat_map (λ a. marks_in a.held) xs
 -- what they ask is of the schema
 abbrev pub AreAheadOf : Schema → List Ahead → Type 0
 AreAheadOf s xs = AllByRecursion (λ a. AreOfSchema s (asked_of a.held.tables)) xs
+
+abbrev pub held_ahead : List Ahead → List Held
+held_ahead xs = map (λ a. a.held) xs
 
 -- nothing is foreseen of it
 abbrev pub as_told : Held → Ahead

@@ -1,5 +1,5 @@
 -- What is kept of sessions: marks in place of what clients have.
-use Rattle.std.specs.Prelude.{ℕ, List, [], ◌++◌, map, flat_map, Option}
+use Rattle.std.specs.Prelude.{ℕ, List, [], ◌++◌, map, flat_map, Option, None}
 use Rattle.std.specs.Ordering.{nat_cmp}
 use Rattle.odb_atoms.specs.FinMap.{FinMap, entries_of, from_entries}
 use Rattle.odb_atoms.specs.Uuid.{Uuid}
@@ -27,9 +27,11 @@ pub data Queued : Type 0 where
   plain : Item → Queued
   due : Data → Held → Queued
 
+-- a session, and the number of what its monitors ask, if that has one
 pub record Kept : Type 0 where
   pub queue : List Queued
   pub monitors : List Held
+  pub watch : Option ℕ
 
 abbrev pub Sessions : Type 0
 Sessions = FinMap nat_cmp Kept
@@ -76,4 +78,4 @@ marks_of x = flat_map marks_in x.monitors ++ flat_map marks_due x.queue
 
 -- nothing is queued, and there is no monitor
 abbrev pub nothing_kept : Kept
-nothing_kept = record { queue = []; monitors = [] }
+nothing_kept = record { queue = []; monitors = []; watch = None }

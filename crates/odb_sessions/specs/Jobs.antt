@@ -16,6 +16,7 @@ use Rattle.odb_sessions.specs.Book.{Book, revision_in}
 use Rattle.odb_sessions.specs.Planned.{plan}
 use Rattle.odb_sessions.specs.Sending.{Framed, framed_due}
 use Rattle.odb_sessions.specs.Taken.{Pending, Text, composed_text, last_text, no_text, whole_text}
+use Rattle.odb_sessions.specs.Watches.{Basis}
 
 -- what is composed of a job: a text, where something is sent
 abbrev pub composition : Job → Option (List ℕ)
@@ -40,15 +41,21 @@ certainly x = Some x
 abbrev pub IsFor : List Job → Option Job → Option ℕ → Type 0
 IsFor js job place = (all : List Job) → Keeps js all → option_map (slice_get all) place ≡ option_map certainly job
 
--- the schema, the database with its past, its last commits, and the jobs so far
+-- what the round stands on, the database with its past, its last commits, and the jobs so far
 pub record Wanted : Type 0 where
-  pub schema : Schema
+  pub basis : Basis
   pub chains : Chains
   pub recent : Recent
   pub jobs : List Job
 
 -- a likeness, and the place of its job, if something is sent
 pub record Decision : Type 0 where
+  pub likeness : Likeness
+  pub place : Option ℕ
+
+-- the number of what a session's monitors ask and the place of one of them, the likeness of what its client lacks, and the place of its job, if something is sent
+pub record Shared : Type 0 where
+  pub watch : ℕ × ℕ
   pub likeness : Likeness
   pub place : Option ℕ
 

@@ -22,3 +22,4 @@ pub mod Started
 pub mod Stopped
 pub mod Taken
 pub mod Tied
+pub mod Watches

@@ -36,13 +36,13 @@ but_newest (q ∷ []) = []
 but_newest (q ∷ r ∷ qs) = q ∷ but_newest (r ∷ qs)
 
 abbrev pub with_items : List Queued → Kept → Kept
-with_items qs x = record { queue = x.queue ++ qs; monitors = x.monitors }
+with_items qs x = record { queue = x.queue ++ qs; monitors = x.monitors; watch = x.watch }
 
 abbrev pub with_item : Queued → Kept → Kept
 with_item q = with_items (q ∷ [])
 
 abbrev pub without_newest : Kept → Kept
-without_newest x = record { queue = but_newest x.queue; monitors = x.monitors }
+without_newest x = record { queue = but_newest x.queue; monitors = x.monitors; watch = x.watch }
 
 -- the newest item of a session's queue
 abbrev pub newest_at : FinMap nat_cmp Kept → ℕ → Option Queued

@@ -1,9 +1,10 @@
--- How the marks of sessions hang together with the chains: each is live, and the chains count these marks and no others.
+-- How the marks of sessions hang together with the chains: each is live, and the chains count these marks and no others; and how sessions hang together that ask the same.
 use Rattle.std.specs.Prelude.{◌≡◌, ℕ, ◌+◌, ◌<◌, ◌≤◌, List, [], ◌∷◌, ◌++◌, flat_map, length, Some}
 use Rattle.odb_atoms.specs.FinMap.{entries_of, get}
 use Rattle.odb_chain.specs.Chains.{Chains, IsNow, Live, Mark, Standing, count, standing}
 pub use Rattle.odb_chain.specs.Marks.{AreLive, bit, is_at, uses}
 use Rattle.odb_sessions.specs.Held.{Kept, Sessions, marks_of}
+use Rattle.odb_sessions.specs.Watches.{AreAlike}
 
 -- the marks of all sessions are live
 abbrev pub AreAllLive : Chains → Sessions → Type 0
@@ -19,7 +20,7 @@ abbrev pub used : ℕ → ℕ → Sessions → ℕ
 used t p m = total (λ x. uses t p (marks_of x)) (entries_of m)
 
 abbrev pub IsTied : Chains → Sessions → Type 0
-IsTied k m = IsNow k × ((t p : ℕ) → count k t p ≡ used t p m) × AreAllLive k m
+IsTied k m = IsNow k × ((t p : ℕ) → count k t p ≡ used t p m) × AreAllLive k m × AreAlike m
 
 -- ---- marks that are copied
 

@@ -86,7 +86,11 @@ impl Session {
         let mut monitors = copy_monitors(alloc, self.monitors.as_slice(), given)?;
         let queue = self.queue.copy(alloc, given)?;
         make_room(&queue, &mut monitors)?;
-        Ok(Session { queue, monitors })
+        Ok(Session {
+            queue,
+            monitors,
+            watch: self.watch,
+        })
     }
 
     /// Adds its marks: those of its monitors, and those of monitors whose first reply is due.

@@ -61,7 +61,7 @@ fn feed_place(state: &mut DefaultHasher, place: Option<(TableId, u64)>)
 }
 
 /// Feeds the atoms in each member of the filter.
-fn feed_filter(state: &mut DefaultHasher, filter: &Filter)
+pub(crate) fn feed_filter(state: &mut DefaultHasher, filter: &Filter)
     ensures { state.new ≡ spec.after_filter state.old filter.now }
 {
     feed_members(state, filter.members());

@@ -8,7 +8,7 @@ ghost use Rattle.odb_sessions.specs.Asked.{is_same};
 ghost use Rattle.std.specs.List.{All, AllByRecursion};
 ghost use Rattle.odb_sessions.specs.FirstTexts.{AreFirstTexts, IsOfNow};
 ghost use Rattle.odb_sessions.specs.Composed.{asked_of};
-ghost use Rattle.odb_sessions.specs.Foreseen.{AreAheadOf, as_told, marks_ahead, seen_ahead};
+ghost use Rattle.odb_sessions.specs.Foreseen.{AreAheadOf, as_told, held_ahead, marks_ahead, seen_ahead};
 ghost use Rattle.odb_sessions.specs.Held.{marks_in, monitor_of, watch_of};
 ghost use Rattle.odb_sessions.specs.OfSchema.{AreOfSchema, IsMonitorOf};
 ghost use Rattle.odb_sessions.specs.Planned.{due, plan_rest};
@@ -17,14 +17,17 @@ ghost use Rattle.odb_sessions.specs.Represented.Composed.{Tells};
 ghost use Rattle.odb_sessions.specs.Represented.Under.{filters_in, item_in};
 ghost use Rattle.odb_sessions.specs.Sending.{due_sending, update_sending};
 ghost use Rattle.odb_sessions.specs.Tied.{AreLive};
+ghost use Rattle.odb_sessions.specs.Watches.{AreAlike, AreKnownAs, IsKnownAs};
 ghost use Rattle.odb_sessions.specs.Book.{revision_at};
 
+use crate::basis::Basis;
 use crate::composing::Envelope;
 use crate::first_texts::FirstTexts;
 use crate::id::Id;
 use crate::monitor::Monitor;
 use crate::under::Under;
 use crate::wanted::{Listed, Wanted};
+use crate::watch::WatchId;
 use odb_chain::Chains;
 use odb_recent::Recent;
 use std::alloc::{AllocError, Global};
@@ -68,19 +71,21 @@ impl<'a> Ahead<'a> {
         &self,
         wanted: &mut Wanted<'a>,
         under: Under<'a>,
+        watch: Option<WatchId>,
     ) -> Result<Option<Envelope>, AllocError>
         requires live { AreLive wanted.old.chains (marks_in self.now.held) }
-        requires of { AreOfSchema wanted.old.schema (asked_of self.now.held.tables) }
+        requires of { AreOfSchema wanted.old.basis.schema (asked_of self.now.held.tables) }
+        requires known { IsKnownAs wanted.old.basis.sessions watch self.now.held }
         ensures text { IfOk result (λ message. (h : Service) → Tells wanted.new.jobs message
             (update_sending h (revision_at wanted.old.chains wanted.old.recent) (refilter (filters_in under.entry) (watch_of self.now.held).requests) (seen_ahead wanted.old.chains.db self.now))) }
         ensures jobs { Keeps wanted.old.jobs wanted.new.jobs }
         ensures chains { wanted.new.chains ≡ wanted.old.chains }
         ensures recent { wanted.new.recent ≡ wanted.old.recent }
-        ensures schema { wanted.new.schema ≡ wanted.old.schema }
+        ensures basis { wanted.new.basis ≡ wanted.old.basis }
     {
         let monitor = self.monitor;
         match self.told {
-            None => monitor.update(wanted, under),
+            None => monitor.update(wanted, under, watch),
             Some(told) => monitor.update_again(wanted, told, under),
         }
     }
@@ -130,7 +135,7 @@ fn pass<'a>(
     under: Under<'a>,
 ) -> Result<Option<Envelope>, AllocError>
     requires live { AreLive wanted.old.chains (marks_ahead monitors.old.items) }
-    requires of { AreAheadOf wanted.old.schema monitors.old.items }
+    requires of { AreAheadOf wanted.old.basis.schema monitors.old.items }
     ensures text { IfOk result (λ message. (s : Schema) → Tells wanted.new.jobs message
         (option_map (due_sending (served_by s) (revision_at wanted.old.chains wanted.old.recent)) (due (served_by s) wanted.old.chains.db (item_in id.now under.entry) (map (seen_ahead wanted.old.chains.db) monitors.old.items)))) }
     ensures passed { OnOk result ((s : Schema) → map (seen_ahead wanted.old.chains.db) monitors.new.items
@@ -138,14 +143,15 @@ fn pass<'a>(
     ensures jobs { Keeps wanted.old.jobs wanted.new.jobs }
     ensures chains { wanted.new.chains ≡ wanted.old.chains }
     ensures recent { wanted.new.recent ≡ wanted.old.recent }
-    ensures schema { wanted.new.schema ≡ wanted.old.schema }
+    ensures basis { wanted.new.basis ≡ wanted.old.basis }
     ensures live { AreLive wanted.old.chains (marks_ahead monitors.new.items) }
-    ensures of { AreAheadOf wanted.old.schema monitors.new.items }
+    ensures of { AreAheadOf wanted.old.basis.schema monitors.new.items }
+    ensures held { held_ahead monitors.new.items ≡ held_ahead monitors.old.items }
 {
     let Some(place) = place_of(monitors.as_slice(), id) else {
         return Ok(None);
     };
-    let message = monitors[place].update(wanted, under)?;
+    let message = monitors[place].update(wanted, under, None)?;
     monitors[place] = monitors[place].brought(under);
     Ok(message)
 }
@@ -158,11 +164,26 @@ pub(crate) struct Rest {
     pub(crate) message: Option<Envelope>,
 }
 
-/// Returns what these monitors have due. The costs are those of `Ahead::update` for each monitor up to the first that
-/// is owed something.
-fn rest_due<'a>(wanted: &mut Wanted<'a>, monitors: &[Ahead<'a>]) -> Result<Rest, AllocError>
+/// Returns the number with the place, if there is one.
+fn watch_at(watch: Option<u64>, place: usize) -> Option<WatchId>
+    ensures { result ≡ option_map (λ n. (n, place)) watch }
+{
+    match watch {
+        Some(number) => Some((number, place)),
+        None => None,
+    }
+}
+
+/// Returns what these monitors have due, which are those of a session that has the number, if there is one. The costs are
+/// those of `Ahead::update` for each monitor up to the first that is owed something.
+fn rest_due<'a>(
+    wanted: &mut Wanted<'a>,
+    monitors: &[Ahead<'a>],
+    watch: Option<u64>,
+) -> Result<Rest, AllocError>
     requires live { AreLive wanted.old.chains (marks_ahead monitors.now) }
-    requires of { AreAheadOf wanted.old.schema monitors.now }
+    requires of { AreAheadOf wanted.old.basis.schema monitors.now }
+    requires known { AreKnownAs wanted.old.basis.sessions watch (held_ahead monitors.now) }
     ensures monitors { IfOk result (λ rest. (h : Service)
         → rest.monitors ≡ (plan_rest h wanted.old.chains.db (map (seen_ahead wanted.old.chains.db) monitors.now)).monitors) }
     ensures text { IfOk result (λ rest. (h : Service) → Tells wanted.new.jobs rest.message
@@ -170,10 +191,10 @@ fn rest_due<'a>(wanted: &mut Wanted<'a>, monitors: &[Ahead<'a>]) -> Result<Rest,
     ensures jobs { Keeps wanted.old.jobs wanted.new.jobs }
     ensures chains { wanted.new.chains ≡ wanted.old.chains }
     ensures recent { wanted.new.recent ≡ wanted.old.recent }
-    ensures schema { wanted.new.schema ≡ wanted.old.schema }
+    ensures basis { wanted.new.basis ≡ wanted.old.basis }
 {
     for place in 0..monitors.len() {
-        let message = monitors[place].update(wanted, Under::Asked)?;
+        let message = monitors[place].update(wanted, Under::Asked, watch_at(watch, place))?;
         if message.is_some() {
             return Ok(Rest {
                 monitors: place + 1,
@@ -187,59 +208,70 @@ fn rest_due<'a>(wanted: &mut Wanted<'a>, monitors: &[Ahead<'a>]) -> Result<Rest,
     })
 }
 
-/// The database with its past and its last commits, the jobs so far, and what a plan foresees of a session's monitors. All
-/// requests are of the schema.
+/// The database with its past and its last commits, the jobs so far, and what a plan foresees of a session's monitors, with
+/// the number of what these ask, if it has one.
 pub(crate) struct Planner<'a> {
     pub(crate) wanted: Wanted<'a>,
     monitors: Vec<Ahead<'a>>,
+    watch: Option<u64>,
 }
 
 impl<'a> Model for Planner<'a> {
     ghost use Rattle.std.specs.Prelude.{map};
     ghost use Rattle.odb_sessions.specs.Foreseen as model;
-    ghost use Rattle.odb_sessions.specs.Foreseen.{AreAheadOf, marks_ahead, seen_ahead};
+    ghost use Rattle.odb_sessions.specs.Foreseen.{AreAheadOf, held_ahead, marks_ahead, seen_ahead};
     ghost use Rattle.odb_sessions.specs.Represented.Codes.{foreseen_code};
     ghost use Rattle.odb_sessions.specs.Tied.{AreLive};
+    ghost use Rattle.odb_sessions.specs.Watches.{AreKnownAs};
 
     ghost Value = { model.Foreseen };
 
     ghost coded = { foreseen_code };
 
-    ghost view = { λ p. record { schema = p.wanted.schema; chains = p.wanted.chains; recent = p.wanted.recent; jobs = p.wanted.jobs; monitors = map (seen_ahead p.wanted.chains.db) p.monitors.items } };
+    ghost view = { λ p. record { basis = p.wanted.basis; chains = p.wanted.chains; recent = p.wanted.recent; jobs = p.wanted.jobs; monitors = map (seen_ahead p.wanted.chains.db) p.monitors.items } };
 
-    ghost invariant = { λ p. AreLive p.wanted.chains (marks_ahead p.monitors.items) × AreAheadOf p.wanted.schema p.monitors.items };
+    ghost invariant = { λ p. AreLive p.wanted.chains (marks_ahead p.monitors.items) × AreAheadOf p.wanted.basis.schema p.monitors.items × AreKnownAs p.wanted.basis.sessions p.watch (held_ahead p.monitors.items) };
 }
 
 impl<'a> Planner<'a> {
     /// Makes a planner of no jobs and no monitors. O(1).
     pub(crate) fn new(
         alloc: Global,
-        schema: &'a odb_schema::Schema,
+        basis: Basis<'a>,
         chains: &'a Chains,
         recent: &'a Recent,
         firsts: &'a FirstTexts,
     ) -> Planner<'a>
-        requires { AreFirstTexts chains.now.db firsts.now }
-        ensures { result ≡ record { schema = schema.now; chains = chains.now; recent = recent.now; jobs = []; monitors = [] } }
+        requires firsts { AreFirstTexts chains.now.db firsts.now }
+        requires alike { AreAlike basis.sessions }
+        ensures { result ≡ record { basis = basis.entry; chains = chains.now; recent = recent.now; jobs = []; monitors = [] } }
     {
         Planner {
-            wanted: Wanted::new(alloc, schema, chains, recent, firsts),
+            wanted: Wanted::new(alloc, basis, chains, recent, firsts),
             monitors: Vec::new(alloc),
+            watch: None,
         }
     }
 
-    /// Takes these monitors in the place of those that it had, with nothing foreseen of them. O(n) for n monitors.
-    pub(crate) fn turn_to(&mut self, monitors: &'a [Monitor]) -> Result<(), AllocError>
+    /// Takes these monitors in the place of those that it had, with nothing foreseen of them: they are those of a session
+    /// that has the number, if there is one. O(n) for n monitors.
+    pub(crate) fn turn_to(
+        &mut self,
+        monitors: &'a [Monitor],
+        watch: Option<u64>,
+    ) -> Result<(), AllocError>
         requires live { AreLive self.old.chains (flat_map marks_in monitors.now) }
-        requires of { AllByRecursion (IsMonitorOf self.old.schema) (map monitor_of monitors.now) }
+        requires of { AllByRecursion (IsMonitorOf self.old.basis.schema) (map monitor_of monitors.now) }
+        requires known { AreKnownAs self.old.basis.sessions watch monitors.now }
         ensures monitors { OnOk result (self.new.monitors ≡ map monitor_of monitors.now) }
         ensures jobs { self.new.jobs ≡ self.old.jobs }
         ensures chains { self.new.chains ≡ self.old.chains }
         ensures recent { self.new.recent ≡ self.old.recent }
-        ensures schema { self.new.schema ≡ self.old.schema }
+        ensures basis { self.new.basis ≡ self.old.basis }
     {
         let ahead = all_ahead(self.wanted.alloc(), monitors)?;
         self.monitors = ahead;
+        self.watch = watch;
         Ok(())
     }
 
@@ -253,7 +285,7 @@ impl<'a> Planner<'a> {
         ensures jobs { Keeps self.old.jobs self.new.jobs }
         ensures chains { self.new.chains ≡ self.old.chains }
         ensures recent { self.new.recent ≡ self.old.recent }
-        ensures schema { self.new.schema ≡ self.old.schema }
+        ensures basis { self.new.basis ≡ self.old.basis }
     {
         pass(&mut self.wanted, &mut self.monitors, id, under)
     }
@@ -268,9 +300,9 @@ impl<'a> Planner<'a> {
         ensures jobs { Keeps self.old.jobs self.new.jobs }
         ensures chains { self.new.chains ≡ self.old.chains }
         ensures recent { self.new.recent ≡ self.old.recent }
-        ensures schema { self.new.schema ≡ self.old.schema }
+        ensures basis { self.new.basis ≡ self.old.basis }
     {
-        rest_due(&mut self.wanted, self.monitors.as_slice())
+        rest_due(&mut self.wanted, self.monitors.as_slice(), self.watch)
     }
 
     /// Returns the jobs, and what each is composed for.
@@ -282,6 +314,7 @@ impl<'a> Planner<'a> {
         let Planner {
             wanted,
             monitors: _,
+            watch: _,
         } = self;
         wanted.into_jobs()
     }
@@ -293,6 +326,7 @@ impl Drop for Planner<'_> {
         let Planner {
             wanted: _,
             monitors: _,
+            watch: _,
         } = self;
     }
 }

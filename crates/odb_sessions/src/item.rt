@@ -1,15 +1,17 @@
 //! What is queued for a session. [P 10.1]
-ghost use Rattle.std.specs.Prelude.{◌≡◌};
+ghost use Rattle.std.specs.Prelude.{◌≡◌, option_map};
 ghost use Rattle.odb_service.specs.Session.{is_answer, label};
 ghost use Rattle.odb_sessions.specs.Held.{item_seen, marks_due, marks_in};
 ghost use Rattle.odb_sessions.specs.Represented.Queued.{queued_of};
 ghost use Rattle.odb_sessions.specs.Tied.{Frees, HasAll};
+ghost use Rattle.odb_sessions.specs.Watches.{watch_after};
 
 use crate::granted::Granted;
 use crate::id::Id;
 use crate::monitor::Monitor;
 use crate::origin::Origin;
 use crate::past::Past;
+use crate::watch::Watch;
 use odb_queue::Finished;
 use odb_request::Change;
 use odb_schema::Schema;
@@ -82,6 +84,21 @@ impl Item {
             Item::Shift(_) => false,
             Item::Renamed(_) => true,
             Item::Stopped(_) => true,
+        }
+    }
+
+    /// Returns the number of what a session's monitors ask once it is carried out, where they had this: none, where it may
+    /// change what they ask.
+    pub(crate) fn watch_after(&self, watch: Option<Watch>) -> Option<Watch>
+        ensures { option_map (λ w. w.number) result ≡ watch_after (item_seen (queued_of self.now)) (option_map (λ w. w.number) watch) }
+    {
+        match self {
+            Item::Say(_) => watch,
+            Item::Start(_) => None,
+            Item::Sync(_) => watch,
+            Item::Shift(_) => watch,
+            Item::Renamed(_) => None,
+            Item::Stopped(_) => None,
         }
     }
 

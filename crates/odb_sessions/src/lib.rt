@@ -7,6 +7,7 @@
 mod alike;
 mod applying;
 mod asked;
+mod basis;
 mod changing;
 mod composing;
 mod copying;
@@ -39,10 +40,12 @@ mod resting;
 mod round;
 mod session;
 mod sessions;
+mod shared;
 mod starting;
 mod taking;
 mod under;
 mod wanted;
+mod watch;
 mod way;
 
 pub use changing::Changing;

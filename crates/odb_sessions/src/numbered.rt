@@ -1,21 +1,24 @@
 //! The open sessions by their numbers.
-ghost use Rattle.std.specs.Prelude.{◌≡◌, ◌≤◌, true, map, is_some, option_and_then, option_map, Some, IfErr, IfOk, IfSome, OnErr, OnOk};
+ghost use Rattle.std.specs.Prelude.{◌≡◌, ◌≤◌, ℕ, true, map, is_some, option_and_then, option_map, Some, IfErr, IfOk, IfSome, OnErr, OnOk};
 ghost use Rattle.std.specs.Borrow.{sem};
 ghost use Rattle.std.specs.Option.{option_copied, option_copied_mut};
 ghost use Rattle.odb_atoms.specs.FinMap as finite;
 ghost use Rattle.odb_queue.specs.Represented.Item.{item_of};
 ghost use Rattle.odb_queue.specs.Represented.Post.{post_of};
 ghost use Rattle.odb_sessions.specs.Carried.{IsCarriedOut, IsReady, last_finished};
-ghost use Rattle.odb_sessions.specs.Held.{Kept, marks_of, seen};
+ghost use Rattle.odb_chain.specs.Chains.{Chains};
+ghost use Rattle.odb_sessions.specs.Held.{Kept, all_seen, marks_of, seen};
 ghost use Rattle.odb_sessions.specs.Represented.LentSession.{lends_session};
 ghost use Rattle.odb_sessions.specs.Posts.{all_kept_posted, at_number, kept_unposted, newest_at, with_item, with_items, without_newest};
 ghost use Rattle.odb_sessions.specs.Represented.Queued.{queued_of};
-ghost use Rattle.odb_sessions.specs.Tied.{all_marks};
+ghost use Rattle.odb_sessions.specs.Tied.{IsTied, all_marks};
+ghost use Rattle.odb_sessions.specs.Watches.{AreAlike, IsWatchFor, Joins, with_watch};
 
 use crate::copying::Given;
 use crate::item::Item;
 use crate::past::Past;
 use crate::session::Session;
+use crate::watch::Watch;
 use odb_chain::Mark;
 use odb_locks::SessionId;
 use odb_queue::{Finished, Post};
@@ -244,6 +247,102 @@ impl Numbered {
         of.carry_out(items, monitors, past)
     }
 
+    /// Gives what a session's monitors ask a number, where it is open and they have none: that of a session whose monitors
+    /// ask the same, or else one that no session has. O(n) for n sessions, O(n) for n tables and the members of
+    /// their filters, and a comparison of what is asked for each session of which the digest is the same.
+    pub(crate) fn recognise(&mut self, session: SessionId)
+        requires { AreAlike self.old }
+        ensures seen { all_seen self.new ≡ all_seen self.old }
+        ensures tied { (k : Chains) → IsTied k self.old → IsTied k self.new }
+    {
+        let Some(watch) = self.watch_for(session) else {
+            return;
+        };
+        self.set_watch(session, watch);
+    }
+
+    /// Gives what a session's monitors ask this number, if it is open.
+    fn set_watch(&mut self, session: SessionId, watch: Watch)
+        ensures { self.new ≡ at_number (with_watch watch.number) self.old session }
+    {
+        let Some(of) = self.get_mut(session) else {
+            return;
+        };
+        of.set_watch(watch);
+    }
+
+    /// Returns a number for what a session's monitors ask, where it is open and they have none.
+    fn watch_for(&self, session: SessionId) -> Option<Watch>
+        requires { AreAlike self.now }
+        ensures { IfSome result (λ w. IsWatchFor self.now session w.number) }
+    {
+        let Some(of) = self.get(session) else {
+            return None;
+        };
+        if of.watch.is_some() {
+            return None;
+        }
+        self.watch_of(of)
+    }
+
+    /// Returns a number for what the monitors of this session ask.
+    fn watch_of(&self, of: &Session) -> Option<Watch>
+        requires { AreAlike self.now }
+        ensures { IfSome result (λ w. Joins self.now (with_watch w.number of.now)) }
+    {
+        let digest = of.digest();
+        match self.watch_like(of, digest) {
+            Some(number) => Some(Watch { number, digest }),
+            None => self.new_watch(digest),
+        }
+    }
+
+    /// Returns a number that no session has.
+    fn new_watch(&self, digest: u64) -> Option<Watch>
+        ensures { IfSome result (λ w. (x : Kept) → Joins self.now (with_watch w.number x)) }
+    {
+        let number = self.greatest_watch().checked_add(1)?;
+        Some(Watch { number, digest })
+    }
+
+    /// Returns the number of a session with this digest whose monitors ask what those of this one do, if there is one.
+    fn watch_like(&self, of: &Session, digest: u64) -> Option<u64>
+        requires { AreAlike self.now }
+        ensures { IfSome result (λ n. Joins self.now (with_watch n of.now)) }
+    {
+        for (_, key) in self.keys.iter() {
+            if let Some(number) = self.watch_if_like(*key, of, digest) {
+                return Some(number);
+            }
+        }
+        None
+    }
+
+    /// Returns the number of the session with this key, where it has the digest, and its monitors ask what those of the other
+    /// do.
+    fn watch_if_like(&self, key: usize, of: &Session, digest: u64) -> Option<u64>
+        requires { AreAlike self.now }
+        ensures { IfSome result (λ n. Joins self.now (with_watch n of.now)) }
+    {
+        let Some(other) = self.sessions.get(key) else {
+            return None;
+        };
+        other.watch_if_like(of, digest)
+    }
+
+    /// Returns the greatest of the numbers that sessions have; 0 where there is none.
+    fn greatest_watch(&self) -> u64
+        ensures { (s n : ℕ) (x : Kept) → finite.get self.now s ≡ Some x → x.watch ≡ Some n → n ≤ result }
+    {
+        let mut greatest = 0;
+        for (_, key) in self.keys.iter() {
+            if let Some(session) = self.sessions.get(*key) {
+                greatest = greater(session.watch_number(), greatest);
+            }
+        }
+        greatest
+    }
+
     /// Lends the marks of all sessions, by the sessions' numbers.
     pub(crate) fn marks(&self, alloc: Global) -> Result<Vec<&Mark>, AllocError>
         ensures { IfOk result (λ marks. map (λ m. m.now) marks.items ≡ all_marks self.now) }
@@ -271,4 +370,15 @@ impl Numbered {
         }
         Ok(copy)
     }
+}
+
+/// Returns the greater of two numbers.
+fn greater(number: u64, other: u64) -> u64
+    ensures number { number ≤ result }
+    ensures other { other ≤ result }
+{
+    if number < other {
+        return other;
+    }
+    number
 }

@@ -16,6 +16,7 @@ ghost use Rattle.odb_sessions.specs.Represented.Composed.{IsFrame, Tells, sendin
 ghost use Rattle.odb_sessions.specs.Represented.Under.{filters_in};
 ghost use Rattle.odb_sessions.specs.Sending.{notifying, sent_with, update_sending};
 ghost use Rattle.odb_sessions.specs.Tied.{AreLive};
+ghost use Rattle.odb_sessions.specs.Watches.{IsKnownAs};
 ghost use Rattle.odb_sessions.specs.Book.{revision_at};
 ghost use Rattle.serde_json.specs.Data.{Data};
 ghost use Rattle.serde_json.specs.Written.{compact_text};
@@ -26,6 +27,7 @@ use crate::monitor::{Monitor, Watching};
 use crate::owed::{Owed, all_owed, all_owed_as};
 use crate::under::Under;
 use crate::wanted::Wanted;
+use crate::watch::WatchId;
 use crate::way::Way;
 use odb_chain::Chains;
 use odb_monitor::Part;
@@ -43,45 +45,52 @@ impl Monitor {
         all_owed(alloc, self.tables.as_slice())
     }
 
-    /// Returns the update that its client is owed under these filters, where nothing of it was foreseen; `None` where
-    /// it is owed nothing. The costs are those of `Wanted::updates` under what it asks, and else those of
+    /// Returns the update that its client is owed under these filters, where nothing of it was foreseen, and it is known so;
+    /// `None` where it is owed nothing. The costs are those of `Wanted::updates` under what it asks, and else those of
     /// `Wanted::want`.
     pub(crate) fn update<'a>(
         &'a self,
         wanted: &mut Wanted<'a>,
         under: Under<'a>,
+        watch: Option<WatchId>,
     ) -> Result<Option<Envelope>, AllocError>
         requires live { AreLive wanted.old.chains (marks_in self.now) }
-        requires of { AreOfSchema wanted.old.schema (asked_of self.now.tables) }
+        requires of { AreOfSchema wanted.old.basis.schema (asked_of self.now.tables) }
+        requires known { IsKnownAs wanted.old.basis.sessions watch self.now }
         ensures text { IfOk result (λ message. (h : Service) → Tells wanted.new.jobs message
             (update_sending h (revision_at wanted.old.chains wanted.old.recent) (refilter (filters_in under.entry) (watch_of self.now).requests) (seen_ahead wanted.old.chains.db (as_told self.now)))) }
         ensures jobs { Keeps wanted.old.jobs wanted.new.jobs }
         ensures chains { wanted.new.chains ≡ wanted.old.chains }
         ensures recent { wanted.new.recent ≡ wanted.old.recent }
-        ensures schema { wanted.new.schema ≡ wanted.old.schema }
+        ensures basis { wanted.new.basis ≡ wanted.old.basis }
     {
         match under {
-            Under::Asked => self.update_asked(wanted),
+            Under::Asked => self.update_asked(wanted, watch),
             Under::Changed(_) => self.update_under(wanted, under),
         }
     }
 
     /// Returns the update that its client is owed.
-    fn update_asked<'a>(&'a self, wanted: &mut Wanted<'a>) -> Result<Option<Envelope>, AllocError>
+    fn update_asked<'a>(
+        &'a self,
+        wanted: &mut Wanted<'a>,
+        watch: Option<WatchId>,
+    ) -> Result<Option<Envelope>, AllocError>
         requires live { AreLive wanted.old.chains (marks_in self.now) }
-        requires of { AreOfSchema wanted.old.schema (asked_of self.now.tables) }
+        requires of { AreOfSchema wanted.old.basis.schema (asked_of self.now.tables) }
+        requires known { IsKnownAs wanted.old.basis.sessions watch self.now }
         ensures text { IfOk result (λ message. (h : Service) → Tells wanted.new.jobs message
             (update_sending h (revision_at wanted.old.chains wanted.old.recent) (watch_of self.now).requests (monitor_of self.now))) }
         ensures jobs { Keeps wanted.old.jobs wanted.new.jobs }
         ensures chains { wanted.new.chains ≡ wanted.old.chains }
         ensures recent { wanted.new.recent ≡ wanted.old.recent }
-        ensures schema { wanted.new.schema ≡ wanted.old.schema }
+        ensures basis { wanted.new.basis ≡ wanted.old.basis }
     {
         if are_now(self.tables.as_slice(), wanted.chains()) {
             return Ok(None);
         }
         let number = wanted.number();
-        let place = wanted.updates(self)?;
+        let place = wanted.updates(self, watch)?;
         self.notification(wanted.alloc(), number, place)
     }
 
@@ -92,13 +101,13 @@ impl Monitor {
         under: Under<'a>,
     ) -> Result<Option<Envelope>, AllocError>
         requires live { AreLive wanted.old.chains (marks_in self.now) }
-        requires of { AreOfSchema wanted.old.schema (asked_of self.now.tables) }
+        requires of { AreOfSchema wanted.old.basis.schema (asked_of self.now.tables) }
         ensures text { IfOk result (λ message. (h : Service) → Tells wanted.new.jobs message
             (update_sending h (revision_at wanted.old.chains wanted.old.recent) (refilter (filters_in under.entry) (watch_of self.now).requests) (monitor_of self.now))) }
         ensures jobs { Keeps wanted.old.jobs wanted.new.jobs }
         ensures chains { wanted.new.chains ≡ wanted.old.chains }
         ensures recent { wanted.new.recent ≡ wanted.old.recent }
-        ensures schema { wanted.new.schema ≡ wanted.old.schema }
+        ensures basis { wanted.new.basis ≡ wanted.old.basis }
     {
         let number = wanted.number();
         let place = wanted.want(self, Way::Changed(under))?;
@@ -114,13 +123,13 @@ impl Monitor {
         under: Under<'a>,
     ) -> Result<Option<Envelope>, AllocError>
         requires live { AreLive wanted.old.chains (marks_in self.now) }
-        requires of { AreOfSchema wanted.old.schema (asked_of self.now.tables) }
+        requires of { AreOfSchema wanted.old.basis.schema (asked_of self.now.tables) }
         ensures text { IfOk result (λ message. (h : Service) → Tells wanted.new.jobs message
             (update_sending h (revision_at wanted.old.chains wanted.old.recent) (refilter (filters_in under.entry) (watch_of self.now).requests) (seen_ahead wanted.old.chains.db (record { held = self.now; told = Some (filters_in told.entry) })))) }
         ensures jobs { Keeps wanted.old.jobs wanted.new.jobs }
         ensures chains { wanted.new.chains ≡ wanted.old.chains }
         ensures recent { wanted.new.recent ≡ wanted.old.recent }
-        ensures schema { wanted.new.schema ≡ wanted.old.schema }
+        ensures basis { wanted.new.basis ≡ wanted.old.basis }
     {
         let number = wanted.number();
         let place = wanted.want(self, Way::Again(told, under))?;

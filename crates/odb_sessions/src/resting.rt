@@ -42,6 +42,7 @@ impl Sessions {
         if cover(&mut self.interest, session, self.sessions.get(session)).is_err() {
             return;
         }
+        self.sessions.recognise(session);
         self.owed.remove(&session);
     }
 }

@@ -22,6 +22,7 @@ ghost use Rattle.odb_sessions.specs.Taken.{AreOf, AreReady, IsReadyFor, given_by
 ghost use Rattle.odb_sessions.specs.Tied.{AreAllLive};
 ghost use Rattle.odb_sessions.specs.Book.{book_with, revision_at, revision_in};
 
+use crate::basis::Basis;
 use crate::first_texts::FirstText;
 use crate::foreseen::Planner;
 use crate::jobs::{Jobs, Planned, Prepared};
@@ -49,7 +50,8 @@ fn taking_at<'a>(
     planner: &mut Planner<'a>,
 ) -> Result<Planned, AllocError>
     requires live { AreAllLive planner.old.chains sessions.now }
-    requires of { AreSessionsOf planner.old.schema (all_seen sessions.now) }
+    requires of { AreSessionsOf planner.old.basis.schema (all_seen sessions.now) }
+    requires known { planner.old.basis.sessions ≡ sessions.now }
     ensures session { IfOk result (λ planned. planned.session ≡ session) }
     ensures ready { IfOk result (λ planned. (s : Schema) (all : List model_job.Job) → Keeps planner.new.jobs all
         → IsReadyFor s (revision_at planner.old.chains planner.old.recent) (option_map seen (finite.get sessions.now session)) (ready_by all planned.taking)) }
@@ -58,7 +60,7 @@ fn taking_at<'a>(
     ensures jobs { Keeps planner.old.jobs planner.new.jobs }
     ensures chains { planner.new.chains ≡ planner.old.chains }
     ensures recent { planner.new.recent ≡ planner.old.recent }
-    ensures schema { planner.new.schema ≡ planner.old.schema }
+    ensures basis { planner.new.basis ≡ planner.old.basis }
 {
     let Some(of) = sessions.get(session) else {
         return Ok(Planned::none(session));
@@ -79,7 +81,8 @@ fn takings_at<'a>(
     planner: &mut Planner<'a>,
 ) -> Result<Vec<Planned>, AllocError>
     requires live { AreAllLive planner.old.chains sessions.now }
-    requires of { AreSessionsOf planner.old.schema (all_seen sessions.now) }
+    requires of { AreSessionsOf planner.old.basis.schema (all_seen sessions.now) }
+    requires known { planner.old.basis.sessions ≡ sessions.now }
     ensures sessions { IfOk result (λ planned. map (λ p. p.session) planned.items ≡ listed.now) }
     ensures ready { IfOk result (λ planned. (s : Schema) (all : List model_job.Job) → Keeps planner.new.jobs all
         → AreReady s (book_with planner.old.chains.db planner.old.recent (all_seen sessions.now)) (map (pending_by all) planned.items)) }
@@ -87,7 +90,7 @@ fn takings_at<'a>(
         → AreMadeOf s (book_with planner.old.chains.db planner.old.recent (all_seen sessions.now)) all (map (pending_by all) planned.items)) }
     ensures chains { OnOk result (planner.new.chains ≡ planner.old.chains) }
     ensures recent { OnOk result (planner.new.recent ≡ planner.old.recent) }
-    ensures schema { OnOk result (planner.new.schema ≡ planner.old.schema) }
+    ensures basis { OnOk result (planner.new.basis ≡ planner.old.basis) }
 {
     let mut takings = Vec::with_capacity(alloc, listed.len())?;
     for session in listed {
@@ -128,9 +131,13 @@ impl Sessions {
         ensures now { IfOk result (λ jobs. All (IsOfNow self.now.db) jobs.jobs) }
         ensures once { IfOk result (λ jobs. AreEachOnce (revision_in self.now) jobs.jobs jobs.likenesses) }
     {
+        let basis = Basis {
+            schema,
+            sessions: &self.sessions,
+        };
         let mut planner = Planner::new(
             self.alloc,
-            schema,
+            basis,
             self.past.chains(),
             &self.recent,
             self.past.firsts(),

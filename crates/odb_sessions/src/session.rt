@@ -15,6 +15,7 @@ ghost use Rattle.odb_sessions.specs.Named.{named_asked};
 ghost use Rattle.odb_sessions.specs.Posts.{newest, with_item, without_newest};
 ghost use Rattle.odb_sessions.specs.Represented.Queued.{queued_of};
 ghost use Rattle.odb_sessions.specs.Tied.{Frees, HasAll};
+ghost use Rattle.odb_sessions.specs.Watches.{KeepsWatch, with_watch};
 ghost use Rattle.odb_wire.specs.Shown.{request_data};
 
 use crate::applying::bring_first;
@@ -25,6 +26,7 @@ use crate::monitor::Monitor;
 use crate::named::{Named, all_named};
 use crate::past::Past;
 use crate::queue::Queue;
+use crate::watch::Watch;
 use odb_queue::Finished;
 use odb_rpc::has_reply;
 use odb_wire::Request;
@@ -35,14 +37,16 @@ use std::sync::Arc;
 /// How many replies a session may be owed.
 const MAX_OWED: usize = 256;
 
-/// A session: what is queued for it, and the monitors whose first reply was taken, the earliest first.
+/// A session: what is queued for it, and the monitors whose first reply was taken, the earliest first; and the number of what
+/// these ask, once it has one.
 pub(crate) struct Session {
     pub(crate) queue: Queue,
     pub(crate) monitors: Vec<Monitor>,
+    pub(crate) watch: Option<Watch>,
 }
 
 impl Model for Session {
-    ghost use Rattle.std.specs.Prelude.{◌+◌, ◌≤◌, vec_capacity, vec_len};
+    ghost use Rattle.std.specs.Prelude.{◌+◌, ◌≤◌, option_map, vec_capacity, vec_len};
     ghost use Rattle.odb_sessions.specs.Carried.{all_begin};
     ghost use Rattle.odb_sessions.specs.Held as model;
     ghost use Rattle.odb_sessions.specs.Represented.Codes.{kept_code};
@@ -51,7 +55,7 @@ impl Model for Session {
 
     ghost coded = { kept_code };
 
-    ghost view = { λ s. record { queue = s.queue; monitors = s.monitors.items } };
+    ghost view = { λ s. record { queue = s.queue; monitors = s.monitors.items; watch = option_map (λ w. w.number) s.watch } };
 
     ghost invariant = { λ s. vec_len s.monitors + all_begin s.queue ≤ vec_capacity s.monitors };
 }
@@ -64,6 +68,7 @@ impl Session {
         Session {
             queue: Queue::new(alloc),
             monitors: Vec::new(alloc),
+            watch: None,
         }
     }
 
@@ -85,6 +90,13 @@ impl Session {
             return Err(AllocFailed { value: item });
         }
         self.queue.push(item)
+    }
+
+    /// Gives what its monitors ask this number.
+    pub(crate) fn set_watch(&mut self, watch: Watch)
+        ensures { self.new ≡ with_watch watch.number self.old }
+    {
+        self.watch = Some(watch);
     }
 
     /// Takes the newest item of the queue out, if there is one.
@@ -119,11 +131,13 @@ impl Session {
         requires { IsReady past.old (marks_of self.old) }
         ensures session { (s : Schema) → seen self.new ≡ used_by (served_by s) past.old.db 1 0 (seen self.old) }
         ensures carried { Carries past.old past.new (marks_of self.old) (marks_of self.new) }
+        ensures watch { KeepsWatch self.old self.new }
         ensures text { option_map item_of result ≡ last_finished 1 (seen self.old).queue }
     {
         let Some(item) = self.queue.pop() else {
             return None;
         };
+        self.watch = item.watch_after(self.watch);
         item.carry_out(&mut self.monitors, past)
     }
 
@@ -133,6 +147,7 @@ impl Session {
         requires { IsReady past.old (marks_of self.old) }
         ensures session { (s : Schema) → seen self.new ≡ used_by (served_by s) past.old.db items 0 (seen self.old) }
         ensures carried { Carries past.old past.new (marks_of self.old) (marks_of self.new) }
+        ensures watch { KeepsWatch self.old self.new }
         ensures text { option_map item_of result ≡ last_finished items (seen self.old).queue }
     {
         let mut text = None;
@@ -147,6 +162,7 @@ impl Session {
         requires { IsReady past.old (marks_of self.old) }
         ensures session { (s : Schema) → seen self.new ≡ used_by (served_by s) past.old.db 0 count (seen self.old) }
         ensures carried { Carries past.old past.new (marks_of self.old) (marks_of self.new) }
+        ensures watch { KeepsWatch self.old self.new }
     {
         bring_first(&mut self.monitors, count, past);
     }
@@ -162,6 +178,7 @@ impl Session {
         requires { IsReady past.old (marks_of self.old) }
         ensures session { (s : Schema) → seen self.new ≡ used_by (served_by s) past.old.db items monitors (seen self.old) }
         ensures carried { Carries past.old past.new (marks_of self.old) (marks_of self.new) }
+        ensures watch { KeepsWatch self.old self.new }
         ensures text { option_map item_of result ≡ last_finished items (seen self.old).queue }
     {
         let text = self.use_up(items, past);
@@ -174,7 +191,11 @@ impl Session {
         requires { HasAll past.old (marks_of self) }
         ensures { Frees past.old past.new (marks_of self) }
     {
-        let Session { queue, monitors } = self;
+        let Session {
+            queue,
+            monitors,
+            watch: _,
+        } = self;
         release_all(monitors, past);
         queue.release(past);
     }
@@ -226,6 +247,7 @@ impl Drop for Session {
         let Session {
             queue: _,
             monitors: _,
+            watch: _,
         } = self;
     }
 }

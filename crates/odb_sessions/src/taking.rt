@@ -1,6 +1,7 @@
 //! Takings as they are planned: what they use up, and the text that comes. Nothing changes by them. [P 9.8, 10.1]
-ghost use Rattle.std.specs.Prelude.{◌≡◌, ◌≤◌, true, false, IfOk, IfSome, List, OnOk, Option, Some, flat_map, is_some, length, map, option_and_then, option_map};
+ghost use Rattle.std.specs.Prelude.{◌≡◌, ◌≤◌, ℕ, true, false, IfOk, IfSome, List, OnOk, Option, Some, flat_map, is_some, length, map, option_and_then, option_map};
 ghost use Rattle.std.specs.List.{AllByRecursion};
+ghost use Rattle.odb_atoms.specs.FinMap as finite;
 ghost use Rattle.odb_atoms.specs.Represented.Atom.{uuid_of};
 ghost use Rattle.odb_monitor.specs.Job as model_job;
 ghost use Rattle.odb_recent.specs.Recent.{commits_ago};
@@ -70,13 +71,13 @@ impl Start {
     /// bytes, O(n).
     fn first_reply<'a>(&'a self, wanted: &mut Wanted<'a>) -> Result<Envelope, AllocError>
         requires live { AreLive wanted.old.chains (marks_in self.now.monitor) }
-        requires of { AreOfSchema wanted.old.schema (asked_of self.now.monitor.tables) }
+        requires of { AreOfSchema wanted.old.basis.schema (asked_of self.now.monitor.tables) }
         ensures text { IfOk result (λ message. (h : Service) (all : List model_job.Job) → Keeps wanted.new.jobs all
             → sending_under all message ≡ Some (due_sending h (revision_at wanted.old.chains wanted.old.recent) (first_due self.now.origin (watch_of self.now.monitor)))) }
         ensures jobs { Keeps wanted.old.jobs wanted.new.jobs }
         ensures chains { wanted.new.chains ≡ wanted.old.chains }
         ensures recent { wanted.new.recent ≡ wanted.old.recent }
-        ensures schema { wanted.new.schema ≡ wanted.old.schema }
+        ensures basis { wanted.new.basis ≡ wanted.old.basis }
     {
         let _now = wanted.chains().db();
         match self.monitor.since {
@@ -88,13 +89,13 @@ impl Start {
     /// Returns the first reply, where no commit was named.
     fn whole_reply<'a>(&'a self, wanted: &mut Wanted<'a>) -> Result<Envelope, AllocError>
         requires live { AreLive wanted.old.chains (marks_in self.now.monitor) }
-        requires of { AreOfSchema wanted.old.schema (asked_of self.now.monitor.tables) }
+        requires of { AreOfSchema wanted.old.basis.schema (asked_of self.now.monitor.tables) }
         ensures text { IfOk result (λ message. (all : List model_job.Job) → Keeps wanted.new.jobs all
             → sending_under all message ≡ Some (whole_sending wanted.old.chains.db self.now.origin self.now.monitor)) }
         ensures jobs { Keeps wanted.old.jobs wanted.new.jobs }
         ensures chains { wanted.new.chains ≡ wanted.old.chains }
         ensures recent { wanted.new.recent ≡ wanted.old.recent }
-        ensures schema { wanted.new.schema ≡ wanted.old.schema }
+        ensures basis { wanted.new.basis ≡ wanted.old.basis }
     {
         let job = wanted.first_reply(&self.monitor)?;
         self.origin.reply(wanted.alloc(), job)
@@ -107,14 +108,14 @@ impl Start {
         since: Uuid,
     ) -> Result<Envelope, AllocError>
         requires live { AreLive wanted.old.chains (marks_in self.now.monitor) }
-        requires of { AreOfSchema wanted.old.schema (asked_of self.now.monitor.tables) }
+        requires of { AreOfSchema wanted.old.basis.schema (asked_of self.now.monitor.tables) }
         ensures text { IfOk result (λ message. (all : List model_job.Job) → Keeps wanted.new.jobs all
             → sending_under all message ≡ Some (sending_since wanted.old.recent wanted.old.chains.db self.now.origin self.now.monitor (uuid_of since))) }
         ensures kept { IfSome (commits_ago wanted.old.recent.most wanted.old.recent.run wanted.old.recent.commits (uuid_of since)) (λ ago. ago ≤ length wanted.old.recent.undos) }
         ensures jobs { Keeps wanted.old.jobs wanted.new.jobs }
         ensures chains { wanted.new.chains ≡ wanted.old.chains }
         ensures recent { wanted.new.recent ≡ wanted.old.recent }
-        ensures schema { wanted.new.schema ≡ wanted.old.schema }
+        ensures basis { wanted.new.basis ≡ wanted.old.basis }
     {
         let number = wanted.number();
         match wanted.ago(since) {
@@ -130,13 +131,13 @@ impl Start {
         number: Uuid,
     ) -> Result<Envelope, AllocError>
         requires live { AreLive wanted.old.chains (marks_in self.now.monitor) }
-        requires of { AreOfSchema wanted.old.schema (asked_of self.now.monitor.tables) }
+        requires of { AreOfSchema wanted.old.basis.schema (asked_of self.now.monitor.tables) }
         ensures text { IfOk result (λ message. (all : List model_job.Job) → Keeps wanted.new.jobs all
             → sending_under all message ≡ Some (missed_sending (uuid_of number) wanted.old.chains.db self.now.origin self.now.monitor)) }
         ensures jobs { Keeps wanted.old.jobs wanted.new.jobs }
         ensures chains { wanted.new.chains ≡ wanted.old.chains }
         ensures recent { wanted.new.recent ≡ wanted.old.recent }
-        ensures schema { wanted.new.schema ≡ wanted.old.schema }
+        ensures basis { wanted.new.basis ≡ wanted.old.basis }
     {
         let job = wanted.first_reply(&self.monitor)?;
         self.origin
@@ -146,14 +147,14 @@ impl Start {
     /// Returns the first reply, where the commit that was named is found so many commits ago.
     fn found<'a>(&'a self, wanted: &mut Wanted<'a>, ago: usize) -> Result<Envelope, AllocError>
         requires live { AreLive wanted.old.chains (marks_in self.now.monitor) }
-        requires of { AreOfSchema wanted.old.schema (asked_of self.now.monitor.tables) }
+        requires of { AreOfSchema wanted.old.basis.schema (asked_of self.now.monitor.tables) }
         requires kept { ago ≤ length wanted.old.recent.undos }
         ensures text { IfOk result (λ message. (all : List model_job.Job) → Keeps wanted.new.jobs all
             → sending_under all message ≡ Some (found_sending wanted.old.recent ago wanted.old.chains.db self.now.origin self.now.monitor)) }
         ensures jobs { Keeps wanted.old.jobs wanted.new.jobs }
         ensures chains { wanted.new.chains ≡ wanted.old.chains }
         ensures recent { wanted.new.recent ≡ wanted.old.recent }
-        ensures schema { wanted.new.schema ≡ wanted.old.schema }
+        ensures basis { wanted.new.basis ≡ wanted.old.basis }
     {
         let number = wanted.number();
         let job = wanted.resume(&self.monitor, ago)?;
@@ -182,14 +183,14 @@ impl<'a> Planner<'a> {
     /// Makes the first reply, which comes.
     fn begin(&mut self, start: &'a Start) -> Result<Option<Coming>, AllocError>
         requires live { AreLive self.old.chains (marks_in start.now.monitor) }
-        requires of { AreOfSchema self.old.schema (asked_of start.now.monitor.tables) }
+        requires of { AreOfSchema self.old.basis.schema (asked_of start.now.monitor.tables) }
         ensures comes { IfOk result (λ coming. is_some coming ≡ true) }
         ensures text { IfOk result (λ coming. (h : Service) (last : Option machine.Item) → Comes self.new.jobs coming last
             (Some (due_sending h (revision_at self.old.chains self.old.recent) (first_due start.now.origin (watch_of start.now.monitor))))) }
         ensures jobs { Keeps self.old.jobs self.new.jobs }
         ensures chains { self.new.chains ≡ self.old.chains }
         ensures recent { self.new.recent ≡ self.old.recent }
-        ensures schema { self.new.schema ≡ self.old.schema }
+        ensures basis { self.new.basis ≡ self.old.basis }
     {
         let message = start.first_reply(&mut self.wanted)?;
         Ok(composed(Some(message)))
@@ -206,7 +207,7 @@ impl<'a> Planner<'a> {
         ensures jobs { Keeps self.old.jobs self.new.jobs }
         ensures chains { self.new.chains ≡ self.old.chains }
         ensures recent { self.new.recent ≡ self.old.recent }
-        ensures schema { self.new.schema ≡ self.old.schema }
+        ensures basis { self.new.basis ≡ self.old.basis }
     {
         let message = self.pass(id, under)?;
         Ok(composed(message))
@@ -216,7 +217,7 @@ impl<'a> Planner<'a> {
     /// The costs are those of `Planner::pass` and of `Start::first_reply`.
     fn give(&mut self, item: &'a Item) -> Result<Option<Coming>, AllocError>
         requires live { AreLive self.old.chains (marks_due (queued_of item.now)) }
-        requires of { IsItemOf self.old.schema (item_seen (queued_of item.now)) }
+        requires of { IsItemOf self.old.basis.schema (item_seen (queued_of item.now)) }
         ensures comes { IfOk result (λ coming. (s : Schema) → is_some coming
             ≡ is_some (due (served_by s) self.old.chains.db (item_seen (queued_of item.now)) self.old.monitors)) }
         ensures text { IfOk result (λ coming. (s : Schema) → Comes self.new.jobs coming (Some (item_seen (queued_of item.now)))
@@ -226,7 +227,7 @@ impl<'a> Planner<'a> {
         ensures jobs { Keeps self.old.jobs self.new.jobs }
         ensures chains { self.new.chains ≡ self.old.chains }
         ensures recent { self.new.recent ≡ self.old.recent }
-        ensures schema { self.new.schema ≡ self.old.schema }
+        ensures basis { self.new.basis ≡ self.old.basis }
     {
         match item {
             Item::Say(_) => Ok(Some(Coming::Queued)),
@@ -264,7 +265,7 @@ fn at_once(items: &VecDeque<Item>) -> Option<Taking>
 /// up to the first that gives something and, where none does, of `Planner::rest`.
 fn taking_of<'a>(items: &'a VecDeque<Item>, planner: &mut Planner<'a>) -> Result<Taking, AllocError>
     requires live { AreLive planner.old.chains (flat_map marks_due (map queued_of items.now.items)) }
-    requires of { AllByRecursion (IsItemOf planner.old.schema) (map item_seen (map queued_of items.now.items)) }
+    requires of { AllByRecursion (IsItemOf planner.old.basis.schema) (map item_seen (map queued_of items.now.items)) }
     ensures items { IfOk result (λ taking. (s : Schema) → taking.items
         ≡ (plan_from (served_by s) planner.old.chains.db (map item_seen (map queued_of items.now.items)) planner.old.monitors).items) }
     ensures monitors { IfOk result (λ taking. (s : Schema) → taking.monitors
@@ -275,7 +276,7 @@ fn taking_of<'a>(items: &'a VecDeque<Item>, planner: &mut Planner<'a>) -> Result
     ensures jobs { Keeps planner.old.jobs planner.new.jobs }
     ensures chains { planner.new.chains ≡ planner.old.chains }
     ensures recent { planner.new.recent ≡ planner.old.recent }
-    ensures schema { planner.new.schema ≡ planner.old.schema }
+    ensures basis { planner.new.basis ≡ planner.old.basis }
 {
     for place in 0..items.len() {
         let coming = planner.give(&items[place])?;
@@ -300,7 +301,8 @@ impl Session {
     /// `taking_of`.
     pub(crate) fn taking<'a>(&'a self, planner: &mut Planner<'a>) -> Result<Taking, AllocError>
         requires live { AreLive planner.old.chains (marks_of self.now) }
-        requires of { IsSessionOf planner.old.schema (seen self.now) }
+        requires of { IsSessionOf planner.old.basis.schema (seen self.now) }
+        requires known { (s : ℕ) × (finite.get planner.old.basis.sessions s ≡ Some self.now) }
         ensures items { IfOk result (λ taking. (s : Schema)
             → taking.items ≡ (plan (served_by s) planner.old.chains.db (seen self.now)).items) }
         ensures monitors { IfOk result (λ taking. (s : Schema)
@@ -310,12 +312,12 @@ impl Session {
         ensures jobs { Keeps planner.old.jobs planner.new.jobs }
         ensures chains { planner.new.chains ≡ planner.old.chains }
         ensures recent { planner.new.recent ≡ planner.old.recent }
-        ensures schema { planner.new.schema ≡ planner.old.schema }
+        ensures basis { planner.new.basis ≡ planner.old.basis }
     {
         if let Some(taking) = self.queue.at_once() {
             return Ok(taking);
         }
-        planner.turn_to(self.monitors.as_slice())?;
+        planner.turn_to(self.monitors.as_slice(), self.number())?;
         self.queue.taking(planner)
     }
 }
@@ -338,7 +340,7 @@ impl Queue {
     /// Returns what a taking of a session with this queue uses up, and what comes. The costs are those of `taking_of`.
     fn taking<'a>(&'a self, planner: &mut Planner<'a>) -> Result<Taking, AllocError>
         requires live { AreLive planner.old.chains (flat_map marks_due self.now) }
-        requires of { AllByRecursion (IsItemOf planner.old.schema) (map item_seen self.now) }
+        requires of { AllByRecursion (IsItemOf planner.old.basis.schema) (map item_seen self.now) }
         ensures items { IfOk result (λ taking. (s : Schema)
             → taking.items ≡ (plan_from (served_by s) planner.old.chains.db (map item_seen self.now) planner.old.monitors).items) }
         ensures monitors { IfOk result (λ taking. (s : Schema)
@@ -349,7 +351,7 @@ impl Queue {
         ensures jobs { Keeps planner.old.jobs planner.new.jobs }
         ensures chains { planner.new.chains ≡ planner.old.chains }
         ensures recent { planner.new.recent ≡ planner.old.recent }
-        ensures schema { planner.new.schema ≡ planner.old.schema }
+        ensures basis { planner.new.basis ≡ planner.old.basis }
     {
         taking_of(&self.items, planner)
     }

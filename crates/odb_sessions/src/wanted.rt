@@ -14,16 +14,19 @@ ghost use Rattle.odb_sessions.specs.Represented.Alike.{IsFoundIn, likeness_in};
 ghost use Rattle.odb_sessions.specs.Represented.Decided.{IsSame, Puts};
 ghost use Rattle.odb_sessions.specs.Represented.Job.{job_in};
 ghost use Rattle.odb_sessions.specs.Tied.{AreLive};
+ghost use Rattle.odb_sessions.specs.Watches.{AreAlike, IsKnownAs};
 ghost use Rattle.odb_sessions.specs.declared.way.Way.TheVariants as way;
 
+use crate::basis::Basis;
 use crate::decided::{Decided, Decision};
 use crate::first_texts::FirstTexts;
 use crate::job::Job;
 use crate::monitor::Monitor;
+use crate::shared::{SharedJob, SharedJobs};
+use crate::watch::WatchId;
 use crate::way::Way;
 use odb_chain::Chains;
 use odb_recent::Recent;
-use odb_schema::Schema;
 use std::alloc::{AllocError, Global};
 use std::marker::Model;
 use uuid::Uuid;
@@ -93,51 +96,54 @@ impl<'a> Listed<'a> {
 }
 
 /// The jobs that a round needs, in the database with its past and its last commits, with the texts of first replies that
-/// are kept, and what was decided. All requests are of the schema.
+/// are kept, and what was decided.
 pub(crate) struct Wanted<'a> {
     alloc: Global,
-    schema: &'a Schema,
+    basis: Basis<'a>,
     chains: &'a Chains,
     recent: &'a Recent,
     firsts: &'a FirstTexts,
     listed: Listed<'a>,
     decided: Decided<'a>,
+    shared: SharedJobs<'a>,
 }
 
 impl<'a> Model for Wanted<'a> {
     ghost use Rattle.odb_sessions.specs.Jobs as model;
     ghost use Rattle.odb_sessions.specs.Represented.Codes.{wanted_code};
-    ghost use Rattle.odb_sessions.specs.Represented.Decided.{AreDecisionsOf, IsPlanned};
+    ghost use Rattle.odb_sessions.specs.Represented.Decided.{AreDecisionsOf, AreShared, IsPlanned};
 
     ghost Value = { model.Wanted };
 
     ghost coded = { wanted_code };
 
-    ghost view = { λ w. record { schema = w.schema.now; chains = w.chains.now; recent = w.recent.now; jobs = w.listed.jobs.items } };
+    ghost view = { λ w. record { basis = w.basis; chains = w.chains.now; recent = w.recent.now; jobs = w.listed.jobs.items } };
 
-    ghost invariant = { λ w. IsPlanned w.chains.now w.recent.now.undos w.firsts.now w.listed.jobs.items w.listed.askings.items w.decided × AreDecisionsOf w.schema.now w.decided };
+    ghost invariant = { λ w. IsPlanned w.chains.now w.recent.now.undos w.firsts.now w.listed.jobs.items w.listed.askings.items w.decided × AreDecisionsOf w.basis.schema w.decided × AreShared w.basis w.chains.now w.recent.now.undos w.listed.jobs.items w.shared };
 }
 
 impl<'a> Wanted<'a> {
     /// Wants no job yet. O(1).
     pub(crate) fn new(
         alloc: Global,
-        schema: &'a Schema,
+        basis: Basis<'a>,
         chains: &'a Chains,
         recent: &'a Recent,
         firsts: &'a FirstTexts,
     ) -> Wanted<'a>
-        requires { AreFirstTexts chains.now.db firsts.now }
-        ensures { result ≡ record { schema = schema.now; chains = chains.now; recent = recent.now; jobs = [] } }
+        requires firsts { AreFirstTexts chains.now.db firsts.now }
+        requires alike { AreAlike basis.sessions }
+        ensures { result ≡ record { basis = basis.entry; chains = chains.now; recent = recent.now; jobs = [] } }
     {
         Wanted {
             alloc,
-            schema,
+            basis,
             chains,
             recent,
             firsts,
             listed: Listed::new(alloc),
             decided: Decided::new(alloc),
+            shared: SharedJobs::new(alloc),
         }
     }
 
@@ -182,28 +188,65 @@ impl<'a> Wanted<'a> {
     {
         let Wanted {
             alloc: _,
-            schema: _,
+            basis: _,
             chains: _,
             recent: _,
             firsts: _,
             listed,
             decided: _,
+            shared: _,
         } = self;
         listed
     }
 
     /// Returns the place of the job for the client of a monitor, for the table updates that it is owed; `None` where
-    /// nothing is sent. The costs are those of `want`.
-    pub(crate) fn updates(&mut self, monitor: &'a Monitor) -> Result<Option<usize>, AllocError>
+    /// nothing is sent. Where it is known by a number, and what was decided of one that asks the same serves again, the costs
+    /// are those of `SharedJobs::find`; else those of `want` too.
+    pub(crate) fn updates(
+        &mut self,
+        monitor: &'a Monitor,
+        watch: Option<WatchId>,
+    ) -> Result<Option<usize>, AllocError>
         requires live { AreLive self.old.chains (marks_in monitor.now) }
-        requires of { AreOfSchema self.old.schema (asked_of monitor.now.tables) }
+        requires of { AreOfSchema self.old.basis.schema (asked_of monitor.now.tables) }
+        requires known { IsKnownAs self.old.basis.sessions watch monitor.now }
         ensures place { IfOk result (λ place. IsFor self.new.jobs (if_sent (owed_job self.old.chains.db monitor.now)) place) }
         ensures jobs { Keeps self.old.jobs self.new.jobs }
         ensures chains { self.new.chains ≡ self.old.chains }
         ensures recent { self.new.recent ≡ self.old.recent }
-        ensures schema { self.new.schema ≡ self.old.schema }
+        ensures basis { self.new.basis ≡ self.old.basis }
     {
-        self.want(monitor, Way::Asked)
+        if let Some(place) = self.find_shared(monitor, watch) {
+            return Ok(place);
+        }
+        let place = self.want(monitor, Way::Asked)?;
+        self.share(monitor, watch, place);
+        Ok(place)
+    }
+
+    /// Returns the place of the job for the client of a monitor, of what it lacks, if it is shared.
+    fn find_shared(&self, monitor: &'a Monitor, watch: Option<WatchId>) -> Option<Option<usize>>
+        requires live { AreLive self.now.chains (marks_in monitor.now) }
+        requires known { IsKnownAs self.now.basis.sessions watch monitor.now }
+        ensures { IfSome result (λ place. IsFor self.now.jobs (if_sent (owed_job self.now.chains.db monitor.now)) place) }
+    {
+        match watch {
+            Some(watch) => self.shared.find(monitor, watch),
+            None => None,
+        }
+    }
+
+    /// Lets the client of a monitor that is known by a number share the job at this place, of what it lacks.
+    fn share(&mut self, monitor: &'a Monitor, watch: Option<WatchId>, place: Option<usize>)
+        requires live { AreLive self.old.chains (marks_in monitor.now) }
+        requires known { IsKnownAs self.old.basis.sessions watch monitor.now }
+        requires place { IsFor self.old.jobs (if_sent (owed_job self.old.chains.db monitor.now)) place }
+        ensures { self.new ≡ self.old }
+    {
+        let Some(watch) = watch else {
+            return;
+        };
+        self.shared.keep(SharedJob::new(monitor, watch, place));
     }
 
     /// Returns the place of the job for the client of a monitor; `None` where nothing is sent. What was decided of what
@@ -214,13 +257,13 @@ impl<'a> Wanted<'a> {
         way: Way<'a>,
     ) -> Result<Option<usize>, AllocError>
         requires live { AreLive self.old.chains (marks_in monitor.now) }
-        requires of { AreOfSchema self.old.schema (asked_of monitor.now.tables) }
+        requires of { AreOfSchema self.old.basis.schema (asked_of monitor.now.tables) }
         requires found { IsFoundIn self.old.recent way }
         ensures place { IfOk result (λ place. IsFor self.new.jobs (if_sent (job_in self.old.chains.db monitor.now way.entry)) place) }
         ensures jobs { Keeps self.old.jobs self.new.jobs }
         ensures chains { self.new.chains ≡ self.old.chains }
         ensures recent { self.new.recent ≡ self.old.recent }
-        ensures schema { self.new.schema ≡ self.old.schema }
+        ensures basis { self.new.basis ≡ self.old.basis }
     {
         if let Some(place) = self.decided.find(monitor, way) {
             return Ok(place);
@@ -258,13 +301,13 @@ impl<'a> Wanted<'a> {
     /// Returns the place of the job for the client of a monitor: its first reply. The costs are those of `want`.
     pub(crate) fn first_reply(&mut self, monitor: &'a Monitor) -> Result<usize, AllocError>
         requires live { AreLive self.old.chains (marks_in monitor.now) }
-        requires of { AreOfSchema self.old.schema (asked_of monitor.now.tables) }
+        requires of { AreOfSchema self.old.basis.schema (asked_of monitor.now.tables) }
         ensures place { IfOk result (λ place. (all : List model_job.Job) → Keeps self.new.jobs all
             → slice_get all place ≡ Some (job_in self.old.chains.db monitor.now way.First)) }
         ensures jobs { Keeps self.old.jobs self.new.jobs }
         ensures chains { self.new.chains ≡ self.old.chains }
         ensures recent { self.new.recent ≡ self.old.recent }
-        ensures schema { self.new.schema ≡ self.old.schema }
+        ensures basis { self.new.basis ≡ self.old.basis }
     {
         let place = self.want(monitor, Way::First)?;
         let Some(place) = place else {
@@ -277,14 +320,14 @@ impl<'a> Wanted<'a> {
     /// so many commits ago. The costs are those of `want`.
     pub(crate) fn resume(&mut self, monitor: &'a Monitor, ago: usize) -> Result<usize, AllocError>
         requires live { AreLive self.old.chains (marks_in monitor.now) }
-        requires of { AreOfSchema self.old.schema (asked_of monitor.now.tables) }
+        requires of { AreOfSchema self.old.basis.schema (asked_of monitor.now.tables) }
         requires kept { ago ≤ length self.old.recent.undos }
         ensures place { IfOk result (λ place. (all : List model_job.Job) → Keeps self.new.jobs all
             → slice_get all place ≡ Some (resumed_job (take ago self.old.recent.undos) self.old.chains.db monitor.now.notation (asked_of monitor.now.tables))) }
         ensures jobs { Keeps self.old.jobs self.new.jobs }
         ensures chains { self.new.chains ≡ self.old.chains }
         ensures recent { self.new.recent ≡ self.old.recent }
-        ensures schema { self.new.schema ≡ self.old.schema }
+        ensures basis { self.new.basis ≡ self.old.basis }
     {
         let recent = self.recent();
         let place = self.want(monitor, Way::Since(recent, ago))?;
@@ -300,12 +343,13 @@ impl Drop for Wanted<'_> {
     fn drop(self) {
         let Wanted {
             alloc: _,
-            schema: _,
+            basis: _,
             chains: _,
             recent: _,
             firsts: _,
             listed: _,
             decided: _,
+            shared: _,
         } = self;
     }
 }

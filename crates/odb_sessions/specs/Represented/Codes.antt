@@ -26,10 +26,11 @@ use Rattle.odb_sessions.specs.Book.{Book}
 use Rattle.odb_sessions.specs.FirstTexts.{FirstText}
 use Rattle.odb_sessions.specs.Foreseen.{Ahead, Filters, Foreseen}
 use Rattle.odb_sessions.specs.Held.{Held, Kept, Queued, Sessions, Watched, due, plain}
-use Rattle.odb_sessions.specs.Jobs.{Decision, Round, Wanted}
+use Rattle.odb_sessions.specs.Jobs.{Decision, Round, Shared, Wanted}
 use Rattle.odb_sessions.specs.Named.{Named}
 use Rattle.odb_sessions.specs.Started.{Starting}
 use Rattle.odb_sessions.specs.Stopped.{Changing}
+use Rattle.odb_sessions.specs.Watches.{Basis}
 use Rattle.odb_sessions.specs.Taken.{Pending, Ready, Text, composed_text, last_text, no_text}
 
 abbrev pub watched_code : Coded Watched
@@ -54,7 +55,7 @@ abbrev pub queued_code : Coded Queued
 queued_code = code_by (Item ⊎ (Data × Held)) (coded⊎ item_code (coded× data_code held_code)) queued_parts queued_from queued_from-queued_parts
 
 abbrev pub kept_code : Coded Kept
-kept_code = code_by (List Queued × List Held) (coded× (coded_list queued_code) (coded_list held_code)) (λ x. (x.queue, x.monitors)) (λ p. record { queue = p.0; monitors = p.1 }) (λ x. refl)
+kept_code = code_by (List Queued × (List Held × Option ℕ)) (coded× (coded_list queued_code) (coded× (coded_list held_code) (coded_option coded_ℕ))) (λ x. (x.queue, (x.monitors, x.watch))) (λ p. record { queue = p.0; monitors = p.1.0; watch = p.1.1 }) (λ x. refl)
 
 abbrev pub sessions_code : Coded Sessions
 sessions_code = map.code coded_ℕ kept_code
@@ -73,10 +74,13 @@ changing_code =
 abbrev pub named_code : Coded Named
 named_code = code_by (Data × (Notation × List Shape)) (coded× data_code (coded× notation_code (coded_list shape_code))) (λ n. (n.id, (n.notation, n.shapes))) (λ p. record { id = p.0; notation = p.1.0; shapes = p.1.1 }) (λ n. refl)
 
+abbrev pub basis_code : Coded Basis
+basis_code = code_by (Schema × Sessions) (coded× schema_code sessions_code) (λ g. (g.schema, g.sessions)) (λ p. record { schema = p.0; sessions = p.1 }) (λ g. refl)
+
 abbrev pub foreseen_code : Coded Foreseen
 foreseen_code =
-    code_by (Schema × (Chains × (Recent × (List Job × List Monitor)))) (coded× schema_code (coded× chains_code (coded× recent_code (coded× (coded_list job_code) (coded_list monitor_code)))))
-    (λ f. (f.schema, (f.chains, (f.recent, (f.jobs, f.monitors))))) (λ p. record { schema = p.0; chains = p.1.0; recent = p.1.1.0; jobs = p.1.1.1.0; monitors = p.1.1.1.1 }) (λ f. refl)
+    code_by (Basis × (Chains × (Recent × (List Job × List Monitor)))) (coded× basis_code (coded× chains_code (coded× recent_code (coded× (coded_list job_code) (coded_list monitor_code)))))
+    (λ f. (f.basis, (f.chains, (f.recent, (f.jobs, f.monitors))))) (λ p. record { basis = p.0; chains = p.1.0; recent = p.1.1.0; jobs = p.1.1.1.0; monitors = p.1.1.1.1 }) (λ f. refl)
 
 abbrev pub filters_code : Coded Filters
 filters_code = coded_list (coded× (coded_list coded_ℕ) filter_code)
@@ -97,6 +101,9 @@ likeness_code =
 abbrev pub decision_code : Coded Decision
 decision_code = code_by (Likeness × Option ℕ) (coded× likeness_code (coded_option coded_ℕ)) (λ d. (d.likeness, d.place)) (λ p. record { likeness = p.0; place = p.1 }) (λ d. refl)
 
+abbrev pub shared_code : Coded Shared
+shared_code = code_by ((ℕ × ℕ) × (Likeness × Option ℕ)) (coded× (coded× coded_ℕ coded_ℕ) (coded× likeness_code (coded_option coded_ℕ))) (λ s. (s.watch, (s.likeness, s.place))) (λ p. record { watch = p.0; likeness = p.1.0; place = p.1.1 }) (λ s. refl)
+
 abbrev pub bucket_code : Coded (List Decision)
 bucket_code = coded_list decision_code
 
@@ -106,10 +113,13 @@ first_text_code = code_by (Notation × (List Request × List ℕ)) (coded× nota
 abbrev pub first_texts_code : Coded (List FirstText)
 first_texts_code = coded_list first_text_code
 
+abbrev pub shareds_code : Coded (List Shared)
+shareds_code = coded_list shared_code
+
 abbrev pub wanted_code : Coded Wanted
 wanted_code =
-    code_by (Schema × (Chains × (Recent × List Job))) (coded× schema_code (coded× chains_code (coded× recent_code (coded_list job_code))))
-    (λ w. (w.schema, (w.chains, (w.recent, w.jobs)))) (λ p. record { schema = p.0; chains = p.1.0; recent = p.1.1.0; jobs = p.1.1.1 }) (λ w. refl)
+    code_by (Basis × (Chains × (Recent × List Job))) (coded× basis_code (coded× chains_code (coded× recent_code (coded_list job_code))))
+    (λ w. (w.basis, (w.chains, (w.recent, w.jobs)))) (λ p. record { basis = p.0; chains = p.1.0; recent = p.1.1.0; jobs = p.1.1.1 }) (λ w. refl)
 
 -- ---- takings
 

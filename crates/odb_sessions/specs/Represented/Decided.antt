@@ -1,17 +1,20 @@
 -- What was decided in a round, by digests, and what a call changes of that.
-use Rattle.std.specs.Prelude.{◌≡◌, ◌≢◌, ◌<◌, ℕ, ◌==◌, if◌then◌else◌, List, [], ◌∷◌, ◌++◌, length, slice_get, slice_index_or, Some, unwrap_or}
+use Rattle.std.specs.Prelude.{◌≡◌, ◌≢◌, ◌<◌, ℕ, ◌==◌, if◌then◌else◌, List, [], ◌∷◌, ◌++◌, length, map, slice_get, slice_index_or, Option, Some, unwrap_or}
 use Rattle.std.specs.BTreeMap as tree
 use Rattle.std.specs.List.{All, AllZip}
 use Rattle.std.specs.Ordering.{nat_cmp}
+use Rattle.odb_atoms.specs.FinMap.{get}
 use Rattle.odb_chain.specs.Chains.{Chains}
 use Rattle.odb_monitor.specs.Job.{Job}
 use Rattle.odb_recent.specs.Undo.{Undo}
 use Rattle.odb_schema.specs.Schema.{Schema}
 use Rattle.odb_sessions.specs.Alike.{AreUnlike, IsLike, Likeness, job_like}
 use Rattle.odb_sessions.specs.FirstTexts.{AreFirstTexts, FirstText, IsOfNow}
-use Rattle.odb_sessions.specs.Jobs.{Decision, IsFor, if_sent}
+use Rattle.odb_sessions.specs.Held.{Kept, Sessions}
+use Rattle.odb_sessions.specs.Jobs.{Decision, IsFor, Shared, if_sent}
 use Rattle.odb_sessions.specs.Represented.Alike.{IsLikenessOf, contents}
 use Rattle.odb_sessions.specs.Represented.Digest.{digest}
+use Rattle.odb_sessions.specs.Watches.{AreAlike, Basis, asking_in}
 use Rattle.odb_sessions.specs.declared.decided.Decided.{Decided}
 
 -- the decisions that are found by this digest
@@ -50,6 +53,24 @@ IsDecided k us js d = IsFor js (if_sent (job_like (contents k) us k.db d.likenes
 
 abbrev pub AreDecided : Chains → List Undo → List Job → Decided → Type 0
 AreDecided k us js d = (n : ℕ) → All (IsDecided k us js) (bucket_at d n)
+
+-- ---- of monitors that are known by numbers
+
+-- it is of the monitor that stands at this place in a session that has this number
+abbrev pub IsSharedIn : Sessions → Shared → Type 0
+IsSharedIn m e = (s : ℕ) × (x : Kept) × (get m s ≡ Some x) × (x.watch ≡ Some e.watch.0) × (slice_get (asking_in x) e.watch.1 ≡ Some (e.likeness.notation, map (λ t. t.request) e.likeness.stands))
+
+-- the place is that of the job of the likeness
+abbrev pub IsPlaceOf : Chains → List Undo → List Job → Likeness → Option ℕ → Type 0
+IsPlaceOf k us js l place = IsFor js (if_sent (job_like (contents k) us k.db l)) place
+
+abbrev pub ArePlacesOf : Chains → List Undo → List Job → List Shared → Type 0
+ArePlacesOf k us js es = All (λ e. IsPlaceOf k us js e.likeness e.place) es
+
+abbrev pub AreShared : Basis → Chains → List Undo → List Job → List Shared → Type 0
+AreShared g k us js es = AreAlike g.sessions × All (IsSharedIn g.sessions) es × ArePlacesOf k us js es
+
+-- ---- all
 
 -- each likeness of a job is found
 abbrev pub AreNoted : List Likeness → Decided → Type 0

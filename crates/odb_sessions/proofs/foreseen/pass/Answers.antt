@@ -9,7 +9,7 @@ use Rattle.odb_sessions.specs.Jobs.{certainly}
 use Rattle.odb_sessions.specs.Held.{marks_in}
 use Rattle.odb_sessions.specs.Tied.{AreLive}
 use Rattle.odb_sessions.specs.Sending.{due_sending}
-use Rattle.odb_sessions.proofs.Aheads.{due_found, due_nowhere, leaves_found, leaves_nowhere, live_ahead, same_marks}
+use Rattle.odb_sessions.proofs.Aheads.{due_found, due_nowhere, leaves_found, leaves_nowhere, live_ahead, same_marks, still_held}
 use Rattle.odb_sessions.proofs.OneSchema.{ahead_of, still_of}
 use Rattle.odb_sessions.proofs.Places.{keeps_itself}
 use Rattle.odb_sessions.proofs.foreseen.pass.Goals as goal
@@ -36,7 +36,7 @@ update-requires-clause-live c =
 
 pub update-requires-clause-of : goal.update-requires-clause-of
 update-requires-clause-of c =
-    let s : Schema = c.args.wanted.now.schema in
+    let s : Schema = c.args.wanted.now.basis.schema in
     let xs : List Ahead = c.args.monitors.now.items in
     let k = c.in-Some.place in
     let x : Ahead = c.index.result.now in
@@ -80,7 +80,16 @@ returns-clause-of c =
     let x : Ahead = c.index-2.result.now in
     let low : k < length xs = search rules in
     let at : x ≡ slice_index_or xs k x = search rules in
-    still_of c.args.wanted.now.schema xs k x c.brought.result low (ap (λ (a : Ahead). a.held) c.brought.ensures ∙ ap (λ (a : Ahead). a.held) at) c.requires.of
+    still_of c.args.wanted.now.basis.schema xs k x c.brought.result low (ap (λ (a : Ahead). a.held) c.brought.ensures ∙ ap (λ (a : Ahead). a.held) at) c.requires.of
+
+pub returns-clause-held : goal.returns-clause-held
+returns-clause-held c =
+    let xs : List Ahead = c.args.monitors.now.items in
+    let k = c.in-Some.place in
+    let x : Ahead = c.index-2.result.now in
+    let low : k < length xs = search rules in
+    let at : x ≡ slice_index_or xs k x = search rules in
+    still_held xs k x c.brought.result low (ap (λ (a : Ahead). a.held) c.brought.ensures ∙ ap (λ (a : Ahead). a.held) at)
 
 pub returns-in_default-clause-jobs : goal.returns-in_default-clause-jobs
 returns-in_default-clause-jobs c = keeps_itself c.args.wanted.now.jobs

@@ -19,10 +19,14 @@ use Rattle.odb_sessions.proofs.Places.{is_told, keeps_itself, keeps_on, still_to
 use Rattle.odb_sessions.proofs.Rests.{found_monitors, found_out, none_yet, rest_done, rest_none, rest_of, sending_at}
 use Rattle.odb_sessions.proofs.foreseen.rest_due.Goals as goal
 use Rattle.odb_sessions.specs.Book.{revision_at}
+use Rattle.odb_sessions.specs.Watches.{Basis}
+use Rattle.odb_sessions.specs.Watches.{IsKnownAs}
+use Rattle.odb_sessions.specs.Held.{Sessions}
+use Rattle.odb_sessions.proofs.Aheads.{known_ahead}
 
 pub loop-place-init : goal.loop-place-init
 loop-place-init c = record {
-  schema = refl;
+  basis = refl;
   chains = refl;
   recent = refl;
   jobs = keeps_itself c.args.wanted.now.jobs;
@@ -43,14 +47,25 @@ update-requires-clause-live c =
 
 pub update-requires-clause-of : goal.update-requires-clause-of
 update-requires-clause-of c =
-    let s : Schema = c.args.wanted.now.schema in
+    let s : Schema = c.args.wanted.now.basis.schema in
     let xs : List Ahead = c.args.monitors.now in
     let i = c.loop-place.place in
     let x : Ahead = c.index-monitors-place.result in
     let low : i < length xs = search rules in
     let at : x ≡ slice_index_or xs i x = search rules in
     let of : AreOfSchema s (asked_of x.held.tables) = subst (λ (y : Ahead). AreOfSchema s (asked_of y.held.tables)) (sym at) (ahead_of s xs i x low c.requires.of) in
-    subst (λ (r : Schema). AreOfSchema r (asked_of x.held.tables)) (sym c.loop-place.invariant.schema) of
+    subst (λ (g : Basis). AreOfSchema g.schema (asked_of x.held.tables)) (sym c.loop-place.invariant.basis) of
+
+pub update-requires-clause-known : goal.update-requires-clause-known
+update-requires-clause-known c =
+    let m : Sessions = c.args.wanted.now.basis.sessions in
+    let xs : List Ahead = c.args.monitors.now in
+    let i = c.loop-place.place in
+    let x : Ahead = c.index-monitors-place.result in
+    let low : i < length xs = search rules in
+    let at : x ≡ slice_index_or xs i x = search rules in
+    let known : IsKnownAs m c.watch_at.result x.held = known_ahead m c.args.watch c.watch_at.result xs i x low at c.watch_at.ensures c.requires.known in
+    subst (λ (g : Basis). IsKnownAs g.sessions c.watch_at.result x.held) (sym c.loop-place.invariant.basis) known
 
 pub loop-place-preserved : goal.loop-place-preserved
 loop-place-preserved c =
@@ -65,7 +80,7 @@ loop-place-preserved c =
     let sent = option_and_then (sending_under js) c.in_ok-message.message in
     let none : is_some c.in_ok-message.message ≡ false = search rules in
     record {
-      schema = c.update.ensures.schema ∙ c.loop-place.invariant.schema;
+      basis = c.update.ensures.basis ∙ c.loop-place.invariant.basis;
       chains = c.update.ensures.chains ∙ c.loop-place.invariant.chains;
       recent = c.update.ensures.recent ∙ c.loop-place.invariant.recent;
       jobs = keeps_on c.args.wanted.now.jobs c.loop-place.wanted.jobs js c.loop-place.invariant.jobs c.update.ensures.jobs;
@@ -118,8 +133,8 @@ returns-then-is_some-clause-chains c = c.update.ensures.chains ∙ c.loop-place.
 pub returns-then-is_some-clause-recent : goal.returns-then-is_some-clause-recent
 returns-then-is_some-clause-recent c = c.update.ensures.recent ∙ c.loop-place.invariant.recent
 
-pub returns-then-is_some-clause-schema : goal.returns-then-is_some-clause-schema
-returns-then-is_some-clause-schema c = c.update.ensures.schema ∙ c.loop-place.invariant.schema
+pub returns-then-is_some-clause-basis : goal.returns-then-is_some-clause-basis
+returns-then-is_some-clause-basis c = c.update.ensures.basis ∙ c.loop-place.invariant.basis
 
 pub returns-in_err-message-clause-jobs : goal.returns-in_err-message-clause-jobs
 returns-in_err-message-clause-jobs c = keeps_on c.args.wanted.now.jobs c.loop-place.wanted.jobs c.update.new.wanted.jobs c.loop-place.invariant.jobs c.update.ensures.jobs
@@ -146,5 +161,5 @@ returns-clause-chains c = c.loop-place.invariant.chains
 pub returns-clause-recent : goal.returns-clause-recent
 returns-clause-recent c = c.loop-place.invariant.recent
 
-pub returns-clause-schema : goal.returns-clause-schema
-returns-clause-schema c = c.loop-place.invariant.schema
+pub returns-clause-basis : goal.returns-clause-basis
+returns-clause-basis c = c.loop-place.invariant.basis

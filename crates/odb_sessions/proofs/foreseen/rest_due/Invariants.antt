@@ -6,7 +6,7 @@ use Rattle.odb_sessions.proofs.foreseen.rest_due.Given as goal
 
 abbrev pub invariant-loop-place : goal.invariant-loop-place
 invariant-loop-place l = record {
-  schema : l.wanted.schema ≡ l.initial.wanted.schema;
+  basis : l.wanted.basis ≡ l.initial.wanted.basis;
   chains : l.wanted.chains ≡ l.initial.wanted.chains;
   recent : l.wanted.recent ≡ l.initial.wanted.recent;
   jobs : Keeps l.initial.wanted.jobs l.wanted.jobs;

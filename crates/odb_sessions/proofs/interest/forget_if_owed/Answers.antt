@@ -1,7 +1,7 @@
-use Rattle.std.proofs.Common.{rules, ◌≡◌, true, false}
+use Rattle.std.proofs.Common.{rules, ◌≡◌, true}
 use Rattle.std.specs.BTreeSet.{contains}
 use Rattle.std.specs.Ordering.{nat_cmp}
-use Rattle.odb_sessions.proofs.Interests.{forgets_it, forgotten_in, leaves_it}
+use Rattle.odb_sessions.proofs.Interests.{forgets_it, forgotten_in}
 use Rattle.odb_sessions.proofs.interest.forget_if_owed.Goals as goal
 
 pub returns-clause-resting : goal.returns-clause-resting

@@ -1,4 +1,4 @@
-use Rattle.std.proofs.Common.{rules, ◌≡◌, ◌+◌, ◌≤◌, ◌∷◌, List, [], ℕ, drop, length, refl, slice_index_or, sym, ap, ◌∙◌}
+use Rattle.std.proofs.Common.{rules, ◌≡◌, ◌+◌, ◌≤◌, ◌∷◌, List, ℕ, drop, length, refl, slice_index_or, sym, ap, ◌∙◌}
 use Rattle.std.proofs.lemmas.List.{drop_all, drop_more}
 use Rattle.odb_interest.specs.Keys.{asked_at}
 use Rattle.odb_sessions.proofs.Interests.{forgets_one, forgotten, nobody}

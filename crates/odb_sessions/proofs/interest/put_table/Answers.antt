@@ -1,6 +1,6 @@
 use Rattle.std.proofs.Common.{rules, ◌≡◌, ap, ◌∙◌}
 use Rattle.std.specs.Arc.{arc_value}
-use Rattle.odb_interest.specs.Keys.{Asked, Interests, asked_at}
+use Rattle.odb_interest.specs.Keys.{Interests, asked_at}
 use Rattle.odb_interest.specs.Represented.Lists.{Asks, with_filter}
 use Rattle.odb_sessions.specs.Held.{Watched}
 use Rattle.odb_sessions.specs.Owed.{filter_asked}

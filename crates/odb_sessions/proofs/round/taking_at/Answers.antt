@@ -2,7 +2,7 @@ use Rattle.std.proofs.Common.{rules, ◌≡◌, Option, Some, None, option_map, 
 use Rattle.odb_atoms.specs.FinMap as finite
 use Rattle.odb_service.specs.Server.{served_by}
 use Rattle.odb_sessions.specs.Foreseen.{last_used}
-use Rattle.odb_sessions.specs.Held.{Kept, seen}
+use Rattle.odb_sessions.specs.Held.{Kept, Sessions, seen}
 use Rattle.odb_sessions.specs.Jobs.{IsOfJob}
 use Rattle.odb_sessions.specs.Planned.{plan}
 use Rattle.odb_sessions.specs.Represented.Taking.{ready_by, text_planned}
@@ -32,6 +32,11 @@ pub taking-requires-clause-of : goal.taking-requires-clause-of
 taking-requires-clause-of c =
     let there : finite.get c.args.sessions.now c.args.session ≡ Some c.in-Some.of.now = search rules in
     c.requires.of c.args.session (seen c.in-Some.of.now) (get-seen c.args.sessions.now c.args.session ∙ ap (option_map seen) there)
+
+pub taking-requires-clause-known : goal.taking-requires-clause-known
+taking-requires-clause-known c =
+    let there : finite.get c.args.sessions.now c.args.session ≡ Some c.in-Some.of.now = search rules in
+    (c.args.session, ap (λ (m : Sessions). finite.get m c.args.session) c.requires.known ∙ there)
 
 pub returns-clause-ready : goal.returns-clause-ready
 returns-clause-ready c = λ s all kept.

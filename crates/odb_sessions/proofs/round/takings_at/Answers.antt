@@ -20,6 +20,7 @@ use Rattle.odb_sessions.proofs.Places.{keeps_on}
 use Rattle.odb_sessions.proofs.Rounds.{ready-append}
 use Rattle.odb_sessions.proofs.Ties.{get-seen}
 use Rattle.odb_sessions.proofs.round.takings_at.Goals as goal
+use Rattle.odb_sessions.specs.Watches.{Basis}
 
 abbrev book : Chains → Recent → Sessions → Book
 book k r m = book_with k.db r (all_seen m)
@@ -86,7 +87,7 @@ loop-session-preserved c =
           (c.loop-session.invariant.5 s all (keeps_on c.loop-session.planner.jobs now all c.taking_at.ensures.jobs kept))
           (subst (λ (n : ℕ). IsOfJob s (revision_at k r) all (get (all_seen m) n) (text_planned all p.taking.coming)) (sym named) (made s all kept))),
       c.taking_at.ensures.recent ∙ commits,
-      c.taking_at.ensures.schema ∙ c.loop-session.invariant.7,
+      c.taking_at.ensures.basis ∙ c.loop-session.invariant.7,
     )
 
 pub returns-clause-sessions : goal.returns-clause-sessions
@@ -98,7 +99,10 @@ pub taking_at-requires-clause-live : goal.taking_at-requires-clause-live
 taking_at-requires-clause-live c = subst (λ (k : Chains). AreAllLive k c.args.sessions.now) (sym c.loop-session.invariant.4) c.requires.live
 
 pub taking_at-requires-clause-of : goal.taking_at-requires-clause-of
-taking_at-requires-clause-of c = subst (λ (s : Schema). AreSessionsOf s (all_seen c.args.sessions.now)) (sym c.loop-session.invariant.7) c.requires.of
+taking_at-requires-clause-of c = subst (λ (g : Basis). AreSessionsOf g.schema (all_seen c.args.sessions.now)) (sym c.loop-session.invariant.7) c.requires.of
+
+pub taking_at-requires-clause-known : goal.taking_at-requires-clause-known
+taking_at-requires-clause-known c = ap (λ (g : Basis). g.sessions) c.loop-session.invariant.7 ∙ c.requires.known
 
 pub returns-clause-ready : goal.returns-clause-ready
 returns-clause-ready c = c.loop-session.invariant.1
@@ -112,5 +116,5 @@ returns-clause-chains c = c.loop-session.invariant.4
 pub returns-clause-recent : goal.returns-clause-recent
 returns-clause-recent c = c.loop-session.invariant.6
 
-pub returns-clause-schema : goal.returns-clause-schema
-returns-clause-schema c = c.loop-session.invariant.7
+pub returns-clause-basis : goal.returns-clause-basis
+returns-clause-basis c = c.loop-session.invariant.7

@@ -18,4 +18,4 @@ invariant-loop-session l =
     × (l.planner.chains ≡ l.initial.planner.chains)
     × ((s : Schema) (all : List Job) → Keeps l.planner.jobs all → AreMadeOf s (book_with l.initial.planner.chains.db l.initial.planner.recent (all_seen l.sessions)) all (map (pending_by all) l.takings.items))
     × (l.planner.recent ≡ l.initial.planner.recent)
-    × (l.planner.schema ≡ l.initial.planner.schema)
+    × (l.planner.basis ≡ l.initial.planner.basis)

@@ -1,7 +1,6 @@
 use Rattle.std.proofs.Common.{rules, ◌≡◌, ◌+◌, ◌<◌, ◌≤◌, arith, true, false, List, ◌∷◌, drop, flat_map, is_some, length, map, option_map, slice_index_or, refl, subst, sym, ap, ◌∙◌}
 use Rattle.std.proofs.lemmas.List.{drop_more}
 use Rattle.odb_chain.specs.Chains.{Chains}
-use Rattle.odb_schema.specs.Schema.{Schema}
 use Rattle.odb_service.specs.Server.{served_by}
 use Rattle.odb_service.specs.Session.{Monitor, Revision, leaves}
 use Rattle.odb_sessions.specs.Held.{marks_due}
@@ -19,10 +18,11 @@ use Rattle.odb_sessions.proofs.Places.{keeps_itself, keeps_on, told_sending}
 use Rattle.odb_sessions.proofs.taking.taking_of.Goals as goal
 use Rattle.odb_tables.specs.Database.{Db}
 use Rattle.odb_sessions.specs.Book.{revision_at}
+use Rattle.odb_sessions.specs.Watches.{Basis}
 
 pub loop-place-init : goal.loop-place-init
 loop-place-init c = record {
-  schema = refl;
+  basis = refl;
   within = omega arith;
   chains = refl;
   recent = refl;
@@ -48,8 +48,8 @@ give-requires-clause-of c =
     let x : Item = c.index.result.now in
     let low : i < length xs = search rules in
     let at : x ≡ slice_index_or xs i x = search rules in
-    let of : IsItemOf c.args.planner.now.schema (seen_item x) = subst (λ (y : Item). IsItemOf c.args.planner.now.schema (seen_item y)) (sym at) (item_of c.args.planner.now.schema xs i x low c.requires.of) in
-    subst (λ (s : Schema). IsItemOf s (seen_item x)) (sym c.loop-place.invariant.schema) of
+    let of : IsItemOf c.args.planner.now.basis.schema (seen_item x) = subst (λ (y : Item). IsItemOf c.args.planner.now.basis.schema (seen_item y)) (sym at) (item_of c.args.planner.now.basis.schema xs i x low c.requires.of) in
+    subst (λ (g : Basis). IsItemOf g.schema (seen_item x)) (sym c.loop-place.invariant.basis) of
 
 pub loop-place-preserved : goal.loop-place-preserved
 loop-place-preserved c =
@@ -65,7 +65,7 @@ loop-place-preserved c =
     let none : is_some c.in_ok-coming.coming ≡ false = search rules in
     record {
       within = omega (arith, low);
-      schema = c.give.ensures.schema ∙ c.loop-place.invariant.schema;
+      basis = c.give.ensures.basis ∙ c.loop-place.invariant.basis;
       chains = c.give.ensures.chains ∙ c.loop-place.invariant.chains;
       recent = c.give.ensures.recent ∙ c.loop-place.invariant.recent;
       jobs = keeps_on c.args.planner.now.jobs c.loop-place.planner.jobs c.give.new.self.jobs c.loop-place.invariant.jobs c.give.ensures.jobs;

@@ -7,7 +7,7 @@ use Rattle.odb_sessions.proofs.taking.taking_of.Given as goal
 abbrev pub invariant-loop-place : goal.invariant-loop-place
 invariant-loop-place l = record {
   within : l.place ≤ length l.items.items;
-  schema : l.planner.schema ≡ l.initial.planner.schema;
+  basis : l.planner.basis ≡ l.initial.planner.basis;
   chains : l.planner.chains ≡ l.initial.planner.chains;
   recent : l.planner.recent ≡ l.initial.planner.recent;
   jobs : Keeps l.initial.planner.jobs l.planner.jobs;

@@ -1,9 +1,8 @@
 use Rattle.std.proofs.Common.{List, Some, subst, sym, ap, ◌∙◌}
 use Rattle.odb_chain.specs.Chains.{Chains}
 use Rattle.odb_monitor.specs.Job.{Job}
-use Rattle.odb_schema.specs.Schema.{Schema}
 use Rattle.odb_sessions.specs.Composed.{asked_of}
-use Rattle.odb_sessions.specs.Foreseen.{AreAheadOf, Foreseen, marks_ahead}
+use Rattle.odb_sessions.specs.Foreseen.{AreAheadOf, Foreseen, held_ahead, marks_ahead}
 use Rattle.odb_sessions.specs.Held.{marks_in, watch_of}
 use Rattle.odb_sessions.specs.Jobs.{Keeps}
 use Rattle.odb_sessions.specs.OfSchema.{AreOfSchema}
@@ -12,23 +11,26 @@ use Rattle.odb_sessions.specs.Tied.{AreLive}
 use Rattle.odb_sessions.specs.Sending.{due_sending}
 use Rattle.odb_sessions.proofs.foreseen.Planner.begin.Goals as goal
 use Rattle.odb_sessions.specs.Book.{revision_at}
+use Rattle.odb_sessions.specs.Watches.{AreKnownAs, Basis}
 
 pub first_reply-requires-clause-live : goal.first_reply-requires-clause-live
 first_reply-requires-clause-live c = subst (λ (f : Foreseen). AreLive f.chains (marks_in c.args.start.now.monitor)) (sym c.self.view_is) c.requires.live
 
 pub first_reply-requires-clause-of : goal.first_reply-requires-clause-of
-first_reply-requires-clause-of c = subst (λ (f : Foreseen). AreOfSchema f.schema (asked_of c.args.start.now.monitor.tables)) (sym c.self.view_is) c.requires.of
+first_reply-requires-clause-of c = subst (λ (f : Foreseen). AreOfSchema f.basis.schema (asked_of c.args.start.now.monitor.tables)) (sym c.self.view_is) c.requires.of
 
 pub invariant_of-self : goal.invariant_of-self
 invariant_of-self c = (
   subst (λ (k : Chains). AreLive k (marks_ahead c.self.inside.monitors.items)) (sym c.first_reply.ensures.chains) c.self.invariant.0,
-  subst (λ (s : Schema). AreAheadOf s c.self.inside.monitors.items) (sym c.first_reply.ensures.schema) c.self.invariant.1,
+  subst (λ (g : Basis). AreAheadOf g.schema c.self.inside.monitors.items) (sym c.first_reply.ensures.basis) c.self.invariant.1,
+  subst (λ (g : Basis). AreKnownAs g.sessions c.self.inside.watch (held_ahead c.self.inside.monitors.items)) (sym c.first_reply.ensures.basis) c.self.invariant.2,
 )
 
 pub invariant_of-self-2 : goal.invariant_of-self-2
 invariant_of-self-2 c = (
   subst (λ (k : Chains). AreLive k (marks_ahead c.self.inside.monitors.items)) (sym c.first_reply.ensures.chains) c.self.invariant.0,
-  subst (λ (s : Schema). AreAheadOf s c.self.inside.monitors.items) (sym c.first_reply.ensures.schema) c.self.invariant.1,
+  subst (λ (g : Basis). AreAheadOf g.schema c.self.inside.monitors.items) (sym c.first_reply.ensures.basis) c.self.invariant.1,
+  subst (λ (g : Basis). AreKnownAs g.sessions c.self.inside.watch (held_ahead c.self.inside.monitors.items)) (sym c.first_reply.ensures.basis) c.self.invariant.2,
 )
 
 pub returns-clause-text : goal.returns-clause-text

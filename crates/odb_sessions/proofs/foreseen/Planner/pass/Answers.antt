@@ -1,10 +1,9 @@
 use Rattle.std.proofs.Common.{◌≡◌, IfOk, List, OnOk, map, option_map, subst, sym, ap}
 use Rattle.odb_chain.specs.Chains.{Chains}
 use Rattle.odb_monitor.specs.Job.{Job}
-use Rattle.odb_schema.specs.Schema.{Schema}
 use Rattle.odb_service.specs.Server.{served_by}
 use Rattle.odb_service.specs.Session.{leaves}
-use Rattle.odb_sessions.specs.Foreseen.{AreAheadOf, Foreseen, marks_ahead, seen_ahead}
+use Rattle.odb_sessions.specs.Foreseen.{AreAheadOf, Foreseen, held_ahead, marks_ahead, seen_ahead}
 use Rattle.odb_sessions.specs.Jobs.{Keeps}
 use Rattle.odb_sessions.specs.Planned.{due}
 use Rattle.odb_sessions.specs.Represented.Composed.{Tells}
@@ -13,11 +12,14 @@ use Rattle.odb_sessions.specs.Tied.{AreLive}
 use Rattle.odb_sessions.specs.Sending.{due_sending}
 use Rattle.odb_sessions.proofs.foreseen.Planner.pass.Goals as goal
 use Rattle.odb_sessions.specs.Book.{revision_at}
+use Rattle.odb_sessions.specs.Watches.{AreKnownAs, Basis}
+use Rattle.odb_schema.specs.Schema.{Schema}
 
 pub invariant_of-self : goal.invariant_of-self
 invariant_of-self c = (
   subst (λ (k : Chains). AreLive k (marks_ahead c.pass.new.monitors.items)) (sym c.pass.ensures.chains) c.pass.ensures.live,
-  subst (λ (s : Schema). AreAheadOf s c.pass.new.monitors.items) (sym c.pass.ensures.schema) c.pass.ensures.of,
+  subst (λ (g : Basis). AreAheadOf g.schema c.pass.new.monitors.items) (sym c.pass.ensures.basis) c.pass.ensures.of,
+  subst (λ (g : Basis). AreKnownAs g.sessions c.self.inside.watch (held_ahead c.pass.new.monitors.items)) (sym c.pass.ensures.basis) (subst (AreKnownAs c.self.inside.wanted.basis.sessions c.self.inside.watch) (sym c.pass.ensures.held) c.self.invariant.2),
 )
 
 pub returns-clause-text : goal.returns-clause-text

@@ -2,19 +2,20 @@ use Rattle.std.proofs.Common.{rules, ◌≡◌, List, map, option_map, subst, sy
 use Rattle.std.proofs.lemmas.Result.{IfOk-weaker}
 use Rattle.odb_chain.specs.Chains.{Chains}
 use Rattle.odb_monitor.specs.Job.{Job}
-use Rattle.odb_schema.specs.Schema.{Schema}
-use Rattle.odb_sessions.specs.Foreseen.{Ahead, AreAheadOf, Foreseen, marks_ahead, seen_ahead}
+use Rattle.odb_sessions.specs.Foreseen.{Ahead, AreAheadOf, Foreseen, held_ahead, marks_ahead, seen_ahead}
 use Rattle.odb_sessions.specs.Jobs.{Keeps, certainly}
 use Rattle.odb_sessions.specs.Planned.{plan_rest}
 use Rattle.odb_sessions.specs.Tied.{AreLive}
 use Rattle.odb_sessions.specs.Sending.{due_sending}
 use Rattle.odb_sessions.proofs.foreseen.Planner.rest.Goals as goal
 use Rattle.odb_sessions.specs.Book.{revision_at}
+use Rattle.odb_sessions.specs.Watches.{AreKnownAs, Basis}
 
 pub invariant_of-self : goal.invariant_of-self
 invariant_of-self c = (
   subst (λ (k : Chains). AreLive k (marks_ahead c.self.inside.monitors.items)) (sym c.rest_due.ensures.chains) c.self.invariant.0,
-  subst (λ (s : Schema). AreAheadOf s c.self.inside.monitors.items) (sym c.rest_due.ensures.schema) c.self.invariant.1,
+  subst (λ (g : Basis). AreAheadOf g.schema c.self.inside.monitors.items) (sym c.rest_due.ensures.basis) c.self.invariant.1,
+  subst (λ (g : Basis). AreKnownAs g.sessions c.self.inside.watch (held_ahead c.self.inside.monitors.items)) (sym c.rest_due.ensures.basis) c.self.invariant.2,
 )
 
 pub returns-clause-monitors : goal.returns-clause-monitors

@@ -2,11 +2,12 @@ use Rattle.std.proofs.Common.{List, flat_map, map, subst, sym, ap, ◌∙◌}
 use Rattle.std.specs.List.{AllByRecursion}
 use Rattle.odb_chain.specs.Chains.{Chains}
 use Rattle.odb_schema.specs.Schema.{Schema}
-use Rattle.odb_sessions.specs.Foreseen.{Ahead, AreAheadOf, Foreseen, marks_ahead, seen_ahead}
+use Rattle.odb_sessions.specs.Foreseen.{Ahead, AreAheadOf, Foreseen, held_ahead, marks_ahead, seen_ahead}
 use Rattle.odb_sessions.specs.Held.{marks_in, monitor_of}
 use Rattle.odb_sessions.specs.OfSchema.{IsMonitorOf}
 use Rattle.odb_sessions.specs.Tied.{AreLive}
-use Rattle.odb_sessions.proofs.Aheads.{marks_told, seen_told}
+use Rattle.odb_sessions.specs.Watches.{AreKnownAs}
+use Rattle.odb_sessions.proofs.Aheads.{held_told, marks_told, seen_told}
 use Rattle.odb_sessions.proofs.OneSchema.{told_of}
 use Rattle.odb_sessions.proofs.foreseen.Planner.turn_to.Goals as goal
 
@@ -14,10 +15,12 @@ pub invariant_of-self : goal.invariant_of-self
 invariant_of-self c =
     let k : Chains = c.self.inside.wanted.chains in
     let live : AreLive k (flat_map marks_in c.args.monitors.now) = subst (λ (f : Foreseen). AreLive f.chains (flat_map marks_in c.args.monitors.now)) (sym c.self.view_is) c.requires.live in
-    let s : Schema = c.self.inside.wanted.schema in
-    let of : AllByRecursion (IsMonitorOf s) (map monitor_of c.args.monitors.now) = subst (λ (f : Foreseen). AllByRecursion (IsMonitorOf f.schema) (map monitor_of c.args.monitors.now)) (sym c.self.view_is) c.requires.of in (
+    let s : Schema = c.self.inside.wanted.basis.schema in
+    let of : AllByRecursion (IsMonitorOf s) (map monitor_of c.args.monitors.now) = subst (λ (f : Foreseen). AllByRecursion (IsMonitorOf f.basis.schema) (map monitor_of c.args.monitors.now)) (sym c.self.view_is) c.requires.of in (
       subst (AreLive k) (sym (ap marks_ahead c.in_ok-ahead.ensures ∙ marks_told c.args.monitors.now)) live,
       subst (AreAheadOf s) (sym c.in_ok-ahead.ensures) (told_of s c.args.monitors.now of),
+      subst (λ (xs : List Ahead). AreKnownAs c.self.inside.wanted.basis.sessions c.args.watch (held_ahead xs)) (sym c.in_ok-ahead.ensures)
+          (subst (AreKnownAs c.self.inside.wanted.basis.sessions c.args.watch) (sym (held_told c.args.monitors.now)) (subst (λ (f : Foreseen). AreKnownAs f.basis.sessions c.args.watch c.args.monitors.now) (sym c.self.view_is) c.requires.known)),
     )
 
 pub returns-clause-monitors : goal.returns-clause-monitors

@@ -1,5 +1,4 @@
-use Rattle.std.proofs.Common.{◌≡◌, [], ◌∷◌, subst, sym}
-use Rattle.odb_chain.specs.Chains.{Chains, Mark}
+use Rattle.std.proofs.Common.{[], ◌∷◌, subst, sym}
 use Rattle.odb_sessions.specs.Held.{Watched}
 use Rattle.odb_sessions.specs.Moved.{Moves}
 use Rattle.odb_sessions.specs.Tied.{HasAll}

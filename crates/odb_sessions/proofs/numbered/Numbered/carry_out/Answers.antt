@@ -26,7 +26,7 @@ returns-clause-carried c =
     let x : Kept = c.in-Some.of.now in
     let y : Kept = c.carry_out.new.self in
     let there : finite.get c.args.self.now c.args.session ≡ Some x = search rules in
-    carried_out c.args.past.now c.carry_out.new.past c.args.self.now _ c.args.session c.args.items c.args.monitors x y there refl c.carry_out.ensures.carried c.carry_out.ensures.session
+    carried_out c.args.past.now c.carry_out.new.past c.args.self.now _ c.args.session c.args.items c.args.monitors x y there refl c.carry_out.ensures.carried c.carry_out.ensures.session c.carry_out.ensures.watch
 
 pub returns-clause-text : goal.returns-clause-text
 returns-clause-text c =

@@ -6,6 +6,7 @@ use Rattle.odb_sessions.specs.Held.{Kept, marks_of, seen}
 use Rattle.odb_sessions.proofs.Carried.{carried_on, ready_then}
 use Rattle.odb_sessions.proofs.Used.{used_both}
 use Rattle.odb_sessions.proofs.session.Session.carry_out.Goals as goal
+use Rattle.odb_sessions.proofs.WatchNumbers.{keeps_on}
 
 pub bring-requires : goal.bring-requires
 bring-requires c = ready_then c.args.past.now c.use_up-text.new.past (marks_of c.args.self.now) (marks_of c.use_up-text.new.self) c.requires c.use_up-text.ensures.carried
@@ -19,3 +20,6 @@ returns-clause-session c = λ s.
 
 pub returns-clause-carried : goal.returns-clause-carried
 returns-clause-carried c = carried_on c.args.past.now c.use_up-text.new.past c.bring.new.past (marks_of c.args.self.now) (marks_of c.use_up-text.new.self) (marks_of c.bring.new.self) c.requires.0 c.use_up-text.ensures.carried c.bring.ensures.carried
+
+pub returns-clause-watch : goal.returns-clause-watch
+returns-clause-watch c = keeps_on c.args.self.now c.use_up-text.new.self c.bring.new.self c.use_up-text.ensures.watch c.bring.ensures.watch

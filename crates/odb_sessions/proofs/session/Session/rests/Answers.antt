@@ -1,4 +1,4 @@
-use Rattle.std.proofs.Common.{rules, ◌≡◌, ◌++◌, true, [], List, flat_map, subst, sym}
+use Rattle.std.proofs.Common.{rules, ◌≡◌, ◌++◌, true, [], List, flat_map, option_map, subst, sym}
 use Rattle.std.specs.List.{All}
 use Rattle.odb_chain.specs.Chains.{Chains, Mark}
 use Rattle.odb_sessions.specs.Composed.{AreNow}
@@ -22,7 +22,7 @@ are_told-requires c =
 pub returns : goal.returns
 returns c = λ told.
     let db : Db = c.args.chains.now.db in
-    let x : Kept = record { queue = c.self.inside.queue; monitors = c.self.inside.monitors.items } in
+    let x : Kept = record { queue = c.self.inside.queue; monitors = c.self.inside.monitors.items; watch = option_map (λ w. w.number) c.self.inside.watch } in
     let slice : c.as_slice.result.now ≡ c.self.inside.monitors.items = search rules in
     let empty : c.is_empty.result ≡ true = search rules in
     let none : c.self.inside.queue ≡ [] = c.is_empty.ensures empty in

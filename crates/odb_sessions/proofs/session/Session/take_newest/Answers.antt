@@ -10,7 +10,7 @@ use Rattle.odb_sessions.proofs.session.Session.take_newest.Goals as goal
 
 pub returns-clause-session : goal.returns-clause-session
 returns-clause-session c =
-    (λ i. let x : Kept = record { queue = newest_out c.self.inside.queue c.pop_newest.new.self c.pop_newest.result c.pop_newest.ensures.last c.pop_newest.ensures.none i; monitors = c.self.inside.monitors.items } in x)
+    (λ i. let x : Kept = record { queue = newest_out c.self.inside.queue c.pop_newest.new.self c.pop_newest.result c.pop_newest.ensures.last c.pop_newest.ensures.none i; monitors = c.self.inside.monitors.items; watch = option_map (λ w. w.number) c.self.inside.watch } in x)
     ∙ ap without_newest c.self.view_is
 
 pub returns-clause-item : goal.returns-clause-item

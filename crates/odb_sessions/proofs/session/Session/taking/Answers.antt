@@ -5,7 +5,7 @@ use Rattle.odb_chain.specs.Chains.{Chains, Mark}
 use Rattle.odb_schema.specs.Schema.{Schema}
 use Rattle.odb_service.specs.Server.{served_by}
 use Rattle.odb_service.specs.Session.{Monitor}
-use Rattle.odb_sessions.specs.Held.{Held, Kept, item_seen, marks_due, marks_in, marks_of, monitor_of, seen}
+use Rattle.odb_sessions.specs.Held.{Held, Kept, Sessions, item_seen, marks_due, marks_in, marks_of, monitor_of, seen}
 use Rattle.odb_sessions.specs.OfSchema.{IsItemOf, IsMonitorOf, IsSessionOf}
 use Rattle.odb_sessions.specs.Planned.{plan, plan_from}
 use Rattle.odb_sessions.specs.Represented.Taking.{taking_sending}
@@ -15,10 +15,12 @@ use Rattle.odb_sessions.proofs.Places.{keeps_itself, keeps_on, keeps_same}
 use Rattle.odb_sessions.proofs.Releases.{live-left, live-right}
 use Rattle.odb_sessions.proofs.session.Session.taking.Goals as goal
 use Rattle.odb_sessions.specs.Book.{revision_at}
+use Rattle.odb_sessions.specs.Watches.{AreKnownAs, Basis}
+use Rattle.odb_sessions.proofs.WatchNumbers.{known_session}
 
 pub returns-in-Some-clause-text : goal.returns-in-Some-clause-text
 returns-in-Some-clause-text c = λ s all kept.
-    let x : Kept = record { queue = c.self.inside.queue; monitors = c.self.inside.monitors.items } in
+    let x : Kept = record { queue = c.self.inside.queue; monitors = c.self.inside.monitors.items; watch = option_map (λ w. w.number) c.self.inside.watch } in
     let revision = revision_at c.args.planner.now.chains c.args.planner.now.recent in
     subst (λ (y : Kept). taking_sending all c.in-Some.taking (seen y).queue ≡ option_map (due_sending (served_by s) revision) (plan (served_by s) revision.db (seen y)).out) c.self.view_is
     (c.in-Some.ensures.text s revision (seen x).monitors all)
@@ -34,16 +36,25 @@ turn_to-requires-clause-live c =
 
 pub turn_to-requires-clause-of : goal.turn_to-requires-clause-of
 turn_to-requires-clause-of c =
-    let s : Schema = c.args.planner.now.schema in
+    let s : Schema = c.args.planner.now.basis.schema in
     let slice : c.as_slice.result.now ≡ c.self.inside.monitors.items = search rules in
-    let of : IsSessionOf s (seen (record { queue = c.self.inside.queue; monitors = c.self.inside.monitors.items })) = subst (λ (x : Kept). IsSessionOf s (seen x)) (sym c.self.view_is) c.requires.of in
+    let of : IsSessionOf s (seen (record { queue = c.self.inside.queue; monitors = c.self.inside.monitors.items; watch = option_map (λ w. w.number) c.self.inside.watch })) = subst (λ (x : Kept). IsSessionOf s (seen x)) (sym c.self.view_is) c.requires.of in
     subst (λ (xs : List Held). AllByRecursion (IsMonitorOf s) (map monitor_of xs)) (sym slice) of.1
+
+pub turn_to-requires-clause-known : goal.turn_to-requires-clause-known
+turn_to-requires-clause-known c =
+    let m : Sessions = c.args.planner.now.basis.sessions in
+    let x : Kept = c.args.self.now in
+    let slice : c.as_slice.result.now ≡ c.self.inside.monitors.items = search rules in
+    let monitors : c.as_slice.result.now ≡ x.monitors = slice ∙ ap (λ (y : Kept). y.monitors) c.self.view_is in
+    let number : c.number.result ≡ x.watch = search rules in
+    subst (λ (xs : List Held). AreKnownAs m c.number.result xs) (sym monitors) (subst (λ w. AreKnownAs m w x.monitors) (sym number) (known_session m c.requires.known.0 x c.requires.known.1))
 
 pub taking-requires-clause-of : goal.taking-requires-clause-of
 taking-requires-clause-of c =
-    let s : Schema = c.args.planner.now.schema in
-    let of : IsSessionOf s (seen (record { queue = c.self.inside.queue; monitors = c.self.inside.monitors.items })) = subst (λ (x : Kept). IsSessionOf s (seen x)) (sym c.self.view_is) c.requires.of in
-    subst (λ (r : Schema). AllByRecursion (IsItemOf r) (map item_seen c.self.inside.queue)) (sym c.turn_to.ensures.schema) of.0
+    let s : Schema = c.args.planner.now.basis.schema in
+    let of : IsSessionOf s (seen (record { queue = c.self.inside.queue; monitors = c.self.inside.monitors.items; watch = option_map (λ w. w.number) c.self.inside.watch })) = subst (λ (x : Kept). IsSessionOf s (seen x)) (sym c.self.view_is) c.requires.of in
+    subst (λ (g : Basis). AllByRecursion (IsItemOf g.schema) (map item_seen c.self.inside.queue)) (sym c.turn_to.ensures.basis) of.0
 
 pub taking-requires-clause-live : goal.taking-requires-clause-live
 taking-requires-clause-live c =
@@ -55,7 +66,7 @@ taking-requires-clause-live c =
 
 pub returns-clause-items : goal.returns-clause-items
 returns-clause-items c =
-    let x : Kept = record { queue = c.self.inside.queue; monitors = c.self.inside.monitors.items } in
+    let x : Kept = record { queue = c.self.inside.queue; monitors = c.self.inside.monitors.items; watch = option_map (λ w. w.number) c.self.inside.watch } in
     let slice : c.as_slice.result.now ≡ c.self.inside.monitors.items = search rules in
     let monitors : c.turn_to.new.self.monitors ≡ map monitor_of x.monitors = c.in_ok-turn_to.ensures.monitors ∙ ap (map monitor_of) slice in
     let chains : c.turn_to.new.self.chains ≡ c.args.planner.now.chains = c.turn_to.ensures.chains in
@@ -66,7 +77,7 @@ returns-clause-items c =
 
 pub returns-clause-monitors : goal.returns-clause-monitors
 returns-clause-monitors c =
-    let x : Kept = record { queue = c.self.inside.queue; monitors = c.self.inside.monitors.items } in
+    let x : Kept = record { queue = c.self.inside.queue; monitors = c.self.inside.monitors.items; watch = option_map (λ w. w.number) c.self.inside.watch } in
     let slice : c.as_slice.result.now ≡ c.self.inside.monitors.items = search rules in
     let monitors : c.turn_to.new.self.monitors ≡ map monitor_of x.monitors = c.in_ok-turn_to.ensures.monitors ∙ ap (map monitor_of) slice in
     let chains : c.turn_to.new.self.chains ≡ c.args.planner.now.chains = c.turn_to.ensures.chains in
@@ -77,7 +88,7 @@ returns-clause-monitors c =
 
 pub returns-clause-text : goal.returns-clause-text
 returns-clause-text c =
-    let x : Kept = record { queue = c.self.inside.queue; monitors = c.self.inside.monitors.items } in
+    let x : Kept = record { queue = c.self.inside.queue; monitors = c.self.inside.monitors.items; watch = option_map (λ w. w.number) c.self.inside.watch } in
     let slice : c.as_slice.result.now ≡ c.self.inside.monitors.items = search rules in
     let monitors : c.turn_to.new.self.monitors ≡ map monitor_of x.monitors = c.in_ok-turn_to.ensures.monitors ∙ ap (map monitor_of) slice in
     let chains : c.turn_to.new.self.chains ≡ c.args.planner.now.chains = c.turn_to.ensures.chains in

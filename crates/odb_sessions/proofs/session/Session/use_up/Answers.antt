@@ -7,12 +7,14 @@ use Rattle.odb_sessions.specs.Held.{Kept, marks_of, seen}
 use Rattle.odb_sessions.proofs.Carried.{carried_on, nothing_carried, ready_then}
 use Rattle.odb_sessions.proofs.Used.{next_text, used_left, used_more}
 use Rattle.odb_sessions.proofs.session.Session.use_up.Goals as goal
+use Rattle.odb_sessions.proofs.WatchNumbers.{keeps_on, keeps_same}
 
 pub loop-used-init : goal.loop-used-init
 loop-used-init c = record {
   session = λ s. refl;
   carried = nothing_carried c.args.past.now (marks_of c.args.self.now) c.requires;
   text = λ s. refl;
+  watch = keeps_same c.args.self.now;
 }
 
 pub use_one-text-requires : goal.use_one-text-requires
@@ -32,9 +34,13 @@ loop-used-preserved c =
       text = λ s.
           c.use_one-text.ensures.text ∙ ap (λ (y : Session). last_finished 1 y.queue) (old.invariant.session s)
           ∙ ap (last_finished 1) (used_left (served_by s) first.db n (seen x)) ∙ next_text n (seen x).queue;
+      watch = keeps_on x old.self c.use_one-text.new.self old.invariant.watch c.use_one-text.ensures.watch;
     }
 
 pub returns-clause-session : goal.returns-clause-session
 returns-clause-session c = λ s.
     let same : c.loop-used.used ≡ c.args.items = search rules in
     c.loop-used.invariant.session s ∙ ap (λ n. used_by (served_by s) c.args.past.now.db n 0 (seen c.args.self.now)) same
+
+pub returns-clause-watch : goal.returns-clause-watch
+returns-clause-watch c = c.loop-used.invariant.watch

@@ -3,11 +3,12 @@ use Rattle.std.specs.BTreeSet.{Updates}
 use Rattle.std.specs.Option.{option_copied}
 use Rattle.std.specs.Ordering.{nat_cmp}
 use Rattle.odb_interest.specs.Keys.{asked_at}
-use Rattle.odb_sessions.specs.Book.{Book}
+use Rattle.odb_recent.specs.Recent.{recent_of}
+use Rattle.odb_sessions.specs.Book.{Book, book_with}
 use Rattle.odb_sessions.specs.Held.{Sessions, seen}
 use Rattle.odb_sessions.specs.Owed.{IsAtRest, book_seen, interest_if}
 use Rattle.odb_sessions.specs.Quiet.{IsQuietAt}
-use Rattle.odb_sessions.proofs.OwedSessions.{resting_rest}
+use Rattle.odb_sessions.proofs.OwedSessions.{resting_rest, together}
 use Rattle.odb_sessions.proofs.Ties.{get-seen}
 use Rattle.odb_sessions.proofs.sessions.Sessions.forget_if_resting.Goals as goal
 
@@ -25,4 +26,11 @@ invariant_of-self-2 c =
       subst (λ (d : Book). IsQuietAt d s) (sym c.self.view_is) rests,
       covered ∙ ap (λ o. interest_if (option_map seen o)) c.get.ensures ∙ ap interest_if (sym (get-seen m s)),
     ) in
-    (c.self.invariant.0, resting_rest old.owed c.remove.new.self old.interest i b s c.self.invariant.1 gone c.cover.ensures.others rest)
+    together old.past c.recognise.new.self c.remove.new.self i b (c.recognise.ensures.tied old.past c.self.invariant.0) (λ j. book_with old.past.db (recent_of 0 0) (c.recognise.ensures.seen j))
+    (resting_rest old.owed c.remove.new.self old.interest i b s c.self.invariant.1 gone c.cover.ensures.others rest)
+
+pub recognise-requires : goal.recognise-requires
+recognise-requires c = c.self.invariant.0.3
+
+pub returns : goal.returns
+returns c = (λ j. book_with c.self.inside.past.db c.self.inside.recent (c.recognise.ensures.seen j)) ∙ c.self.view_is

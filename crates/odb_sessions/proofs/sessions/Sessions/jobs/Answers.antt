@@ -20,8 +20,14 @@ use Rattle.odb_sessions.proofs.sessions.Sessions.jobs.Goals as goal
 
 pub takings_at-requires-clause-of : goal.takings_at-requires-clause-of
 takings_at-requires-clause-of c =
-    let planner : c.new-planner.result.schema ≡ c.args.schema.now = ap (λ (f : Foreseen). f.schema) c.new-planner.ensures in
+    let planner : c.new-planner.result.basis.schema ≡ c.args.schema.now = ap (λ (f : Foreseen). f.basis.schema) c.new-planner.ensures in
     subst (λ (s : Schema). AreSessionsOf s (all_seen c.self.inside.sessions)) (sym planner) (subst (λ (b : Book). AreSessionsOf c.args.schema.now b.sessions) (sym c.self.view_is) c.requires)
+
+pub takings_at-requires-clause-known : goal.takings_at-requires-clause-known
+takings_at-requires-clause-known c = ap (λ (f : Foreseen). f.basis.sessions) c.new-planner.ensures
+
+pub new-planner-requires-clause-alike : goal.new-planner-requires-clause-alike
+new-planner-requires-clause-alike c = c.self.invariant.0.3
 
 pub takings_at-requires-clause-live : goal.takings_at-requires-clause-live
 takings_at-requires-clause-live c =

@@ -12,7 +12,7 @@ use Rattle.odb_sessions.specs.FirstTexts.{FirstText, IsOfNow}
 use Rattle.odb_sessions.specs.Held.{Held, marks_in}
 use Rattle.odb_sessions.specs.Jobs.{Decision, IsFor, Keeps, Wanted, if_sent}
 use Rattle.odb_sessions.specs.Represented.Alike.{IsFoundIn, contents, likeness_in}
-use Rattle.odb_sessions.specs.Represented.Decided.{Differs, IsPlanned, IsThere, Puts, bucket_at}
+use Rattle.odb_sessions.specs.Represented.Decided.{AreShared, Differs, IsPlanned, IsThere, Puts, bucket_at}
 use Rattle.odb_sessions.specs.Represented.Digest.{digest}
 use Rattle.odb_sessions.specs.Represented.Job.{job_in}
 use Rattle.odb_sessions.specs.Tied.{AreLive}
@@ -23,6 +23,7 @@ use Rattle.odb_sessions.proofs.Likenesses.{like_job, of_commits, of_requests}
 use Rattle.odb_sessions.proofs.OneSchema.{likeness_of, more_decided, same_decided}
 use Rattle.odb_sessions.proofs.Places.{added_at, keeps_added, keeps_itself, keeps_same, none_for, some_for}
 use Rattle.odb_sessions.proofs.wanted.Wanted.want.Goals as goal
+use Rattle.odb_sessions.proofs.SharedPlaces.{still_shared}
 
 pub returns-in-Some-clause-place : goal.returns-in-Some-clause-place
 returns-in-Some-clause-place c =
@@ -35,8 +36,8 @@ returns-in-Some-clause-place c =
     let live : AreLive k (marks_in x) = subst (λ (w : Wanted). AreLive w.chains (marks_in x)) (sym c.self.view_is) c.requires.live in
     let own : IsFoundIn r c.args.way = subst (λ (w : Wanted). IsFoundIn w.recent c.args.way) (sym c.self.view_is) c.requires.found in
     let place = c.in-Some.place in
-    let s : Schema = c.self.inside.schema.now in
-    let of : AreOfSchema s (asked_of x.tables) = subst (λ (w : Wanted). AreOfSchema w.schema (asked_of x.tables)) (sym c.self.view_is) c.requires.of in
+    let s : Schema = c.self.inside.basis.schema in
+    let of : AreOfSchema s (asked_of x.tables) = subst (λ (w : Wanted). AreOfSchema w.basis.schema (asked_of x.tables)) (sym c.self.view_is) c.requires.of in
     let there : IsThere c.self.inside.decided (record { likeness = l; place = place }) = c.in-Some.ensures.some s c.self.invariant.1 (likeness_of s x c.args.way of) in
     let here : IsFor js (if_sent (job_like (contents k) us k.db l)) place = found k us js c.self.inside.decided there.0 (record { likeness = l; place = place }) c.self.invariant.0.0 there.1 in
     subst (λ (w : Wanted). IsFor w.jobs (if_sent (job_in w.chains.db x c.args.way)) place) c.self.view_is
@@ -50,7 +51,8 @@ invariant_of-self c =
     let js : List Job = c.self.inside.listed.jobs.items in
     let ls : List Likeness = c.self.inside.listed.askings.items in (
       same_planned c.self.inside.chains.now c.self.inside.recent.now.undos c.self.inside.firsts.now js js ls ls c.self.inside.decided c.put.new.self refl refl c.in_err-put.ensures.err c.self.invariant.0,
-      same_decided c.self.inside.schema.now c.self.inside.decided c.put.new.self c.in_err-put.ensures.err c.self.invariant.1,
+      same_decided c.self.inside.basis.schema c.self.inside.decided c.put.new.self c.in_err-put.ensures.err c.self.invariant.1,
+      c.self.invariant.2,
     )
 
 pub invariant_of-self-then-not-is_sent : goal.invariant_of-self-then-not-is_sent
@@ -71,9 +73,9 @@ invariant_of-self-then-not-is_sent c =
     let silent : is_some (updates_of job) ≡ false = search rules in
     let none : is_some (updates_of (job_like (contents k) us k.db l)) ≡ false = ap (λ (j : Job). is_some (updates_of j)) (sym is) ∙ silent in
     let puts : Puts d c.put.new.self (record { likeness = l; place = None }) = subst (λ (e : Decision). Puts d c.put.new.self e) c.new.ensures c.in_ok-put.ensures.ok in
-    let s : Schema = c.self.inside.schema.now in
-    let of : AreOfSchema s (asked_of x.tables) = subst (λ (w : Wanted). AreOfSchema w.schema (asked_of x.tables)) (sym c.self.view_is) c.requires.of in
-    (silent_planned k us fs js ls d c.put.new.self l none puts c.self.invariant.0, more_decided s d c.put.new.self (record { likeness = l; place = None }) puts (likeness_of s x c.args.way of) c.self.invariant.1)
+    let s : Schema = c.self.inside.basis.schema in
+    let of : AreOfSchema s (asked_of x.tables) = subst (λ (w : Wanted). AreOfSchema w.basis.schema (asked_of x.tables)) (sym c.self.view_is) c.requires.of in
+    (silent_planned k us fs js ls d c.put.new.self l none puts c.self.invariant.0, more_decided s d c.put.new.self (record { likeness = l; place = None }) puts (likeness_of s x c.args.way of) c.self.invariant.1, c.self.invariant.2)
 
 pub invariant_of-self-in_err-place : goal.invariant_of-self-in_err-place
 invariant_of-self-in_err-place c =
@@ -81,7 +83,10 @@ invariant_of-self-in_err-place c =
     same_planned c.self.inside.chains.now c.self.inside.recent.now.undos c.self.inside.firsts.now c.self.inside.listed.jobs.items c.add.new.self.jobs.items c.self.inside.listed.askings.items c.add.new.self.askings.items c.self.inside.decided c.add.new.decided
     c.in_err-place.ensures.kept c.in_err-place.ensures.known c.in_err-place.ensures.undecided c.self.invariant.0
     in
-    (planned, same_decided c.self.inside.schema.now c.self.inside.decided c.add.new.decided c.in_err-place.ensures.undecided c.self.invariant.1)
+    let shared : AreShared c.self.inside.basis c.self.inside.chains.now c.self.inside.recent.now.undos c.add.new.self.jobs.items c.self.inside.shared =
+    subst (λ (js : List Job). AreShared c.self.inside.basis c.self.inside.chains.now c.self.inside.recent.now.undos js c.self.inside.shared) (sym c.in_err-place.ensures.kept) c.self.invariant.2
+    in
+    (planned, same_decided c.self.inside.basis.schema c.self.inside.decided c.add.new.decided c.in_err-place.ensures.undecided c.self.invariant.1, shared)
 
 pub invariant_of-self-2 : goal.invariant_of-self-2
 invariant_of-self-2 c =
@@ -107,9 +112,9 @@ invariant_of-self-2 c =
     subst (λ (bs : List Job). IsPlanned k us fs bs c.add.new.self.askings.items c.add.new.decided) (sym c.in_ok-place.ensures.jobs)
     (subst (λ (ms : List Likeness). IsPlanned k us fs (js ++ job ∷ []) ms c.add.new.decided) (sym c.in_ok-place.ensures.askings) more)
     in
-    let s : Schema = c.self.inside.schema.now in
-    let of : AreOfSchema s (asked_of x.tables) = subst (λ (w : Wanted). AreOfSchema w.schema (asked_of x.tables)) (sym c.self.view_is) c.requires.of in
-    (planned, more_decided s d c.add.new.decided (record { likeness = l; place = Some (length js) }) c.in_ok-place.ensures.decided (likeness_of s x c.args.way of) c.self.invariant.1)
+    let s : Schema = c.self.inside.basis.schema in
+    let of : AreOfSchema s (asked_of x.tables) = subst (λ (w : Wanted). AreOfSchema w.basis.schema (asked_of x.tables)) (sym c.self.view_is) c.requires.of in
+    (planned, more_decided s d c.add.new.decided (record { likeness = l; place = Some (length js) }) c.in_ok-place.ensures.decided (likeness_of s x c.args.way of) c.self.invariant.1, still_shared c.self.inside.basis k us js c.add.new.self.jobs.items c.self.inside.shared (keeps_added js c.add.new.self.jobs.items job c.in_ok-place.ensures.jobs) c.self.invariant.2)
 
 pub returns-then-not-is_sent-clause-place : goal.returns-then-not-is_sent-clause-place
 returns-then-not-is_sent-clause-place c =
