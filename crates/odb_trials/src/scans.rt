@@ -8,12 +8,12 @@ use std::hash::RandomState;
 use std::sync::Arc;
 use std::test::Fail;
 
-/// How many rows there are: from 2,048 on several threads test them.
-const ROWS: usize = 2_100;
+/// How many rows there are: from 2,048 on several threads test and print them, and from 4,096 on put them in order.
+const ROWS: usize = 4_200;
 
 /// A monitor of the first rows and of the last, by so many conditions that 16,384 tests are made and more.
 const ASKS: &[u8] =
-    br#"{"id":2,"method":"monitor_cond","params":["net",null,{"T":[{"columns":["k"],"where":[["k","<",1001],["k","<",1002],["k","<",1003],["k","<",1004],["k",">",3095],["k",">",3096],["k",">",3097],["k",">",3098]]}]}]}"#;
+    br#"{"id":2,"method":"monitor_cond","params":["net",null,{"T":[{"columns":["k"],"where":[["k","<",1001],["k","<",1002],["k","<",1003],["k","<",1004],["k",">",5195],["k",">",5196],["k",">",5197],["k",">",5198]]}]}]}"#;
 
 /// Returns a request that inserts the rows, whose numbers are 1,000 and up.
 fn inserts(alloc: Global) -> Result<Vec<u8>, AllocError> {
