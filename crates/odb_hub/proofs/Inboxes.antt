@@ -1,7 +1,7 @@
 -- The requests of a stream: which are submitted, and which are pending.
-use Rattle.std.proofs.Common.{◌≡◌, ℕ, ◌+◌, ◌-◌, true, false, List, [], ◌∷◌, ◌++◌, map, length, take, refl, sym, ap, subst, ◌∙◌, true≢false, append-nil, append_assoc, arith}
+use Rattle.std.proofs.Common.{◌≡◌, ℕ, ◌+◌, ◌-◌, ◌<◌, ◌≤◌, zero, suc, true, false, List, [], ◌∷◌, ◌++◌, drop, get_or, map, length, take, refl, sym, ap, subst, ◌∙◌, true≢false, append-nil, append_assoc, arith, length-drop, take-append-drop}
 use Rattle.std.specs.Prelude.{Result, reverse}
-use Rattle.std.proofs.lemmas.List.{length-append, length-map, length-reverse, map-append, reverse-append, reverse-reverse, take_at}
+use Rattle.std.proofs.lemmas.List.{drop_at, get_or-map, get_or-reverse, length-append, length-map, length-reverse, map-append, nil_from_length, reverse-append, reverse-reverse, take_at}
 use Rattle.std.proofs.lemmas.List.Elements.{filter-append}
 use Rattle.serde_json.specs.Data.{Data, null}
 use Rattle.odb_core.specs.declared.refused.Refused.{Refused}
@@ -12,9 +12,10 @@ use Rattle.odb_wire.specs.Shown.{request_data}
 use Rattle.odb_hub.specs.Batch.{Submits}
 use Rattle.odb_hub.specs.Kept.{Kept}
 use Rattle.odb_hub.specs.Inbox.{Inbox, IsInOrder, Pending, is_asked, messages_of, events_at, requests_in}
-use Rattle.odb_hub.specs.Represented.Inbox.{pending_in, pending_of}
+use Rattle.odb_hub.specs.Represented.Inbox.{pending_in, pending_of, submitted_in}
 use Rattle.odb_hub.specs.Represented.Submission.{events_of}
 use Rattle.odb_hub.specs.declared.submission.Submission.{Submission}
+use Rattle.odb_hub.specs.declared.submitted.Step.{Step}
 
 map-reverse : {A B : Type 0} (f : A → B) (xs : List A) → map f (reverse xs) ≡ reverse (map f xs)
 map-reverse f [] = refl
@@ -53,7 +54,7 @@ pub turn_front : {A : Type 0} (r : Result A Refused) (s now : ℕ) (xs ys : List
 turn_front r s now xs ys old new h =
     (map asked_in h.1.0, front_is s now (pending_of xs) (pending_of ys) h.1.0 (sym (events_are s now xs) ∙ h.1.1 ∙ ap (λ es. h.1.0 ++ es) (events_are s now ys)))
 
-length_pending : (xs : List Submission) → length (pending_of xs) ≡ length xs
+pub length_pending : (xs : List Submission) → length (pending_of xs) ≡ length xs
 length_pending xs = length-reverse (map pending_in xs) ∙ length-map xs pending_in
 
 -- the front is as long as what is gone
@@ -64,6 +65,62 @@ front_taken xs ys front e =
     let after : length (pending_of ys) ≡ length ys = length_pending ys in
     let long : length front ≡ length xs - length ys = omega (arith, whole, before, after) in
     ap (take (length xs - length ys)) e ∙ take_at front (pending_of ys) (length xs - length ys) long
+
+-- what is gone of a batch is the front of what was pending
+pub noted : (step : Step) (xs ys : List Submission) (front : List Pending) → step.before.value.items ≡ xs → step.left.value.items ≡ ys → pending_of xs ≡ front ++ pending_of ys → submitted_in step ≡ messages_of front
+noted step xs ys front before left e =
+    (λ i. messages_of (take (length (before i) - length (left i)) (pending_of (before i)))) ∙ ap messages_of (front_taken xs ys front e)
+
+-- ---- parts of a batch
+
+-- the request at a place
+pub request_at : (xs : List Submission) (k : ℕ) (d : Submission) → k < length xs → request_data (get_or xs (length xs - 1 - k) d).request ≡ get_or (messages_of (pending_of xs)) k null
+request_at xs k d low =
+    let f : Submission → Data = λ x. request_data x.request in
+    let all : messages_of (pending_of xs) ≡ reverse (map f xs) = map-reverse (λ (p : Pending). p.message) (map pending_in xs) ∙ ap reverse (map-map (λ (p : Pending). p.message) pending_in xs) in
+    let long : length (map f xs) ≡ length xs = length-map xs f in
+    let inside : k < length (map f xs) = omega (arith, long, low) in
+    let place : length xs - 1 - k < length xs = omega (arith, low) in
+    sym (ap (λ ds. get_or ds k null) all ∙ get_or-reverse (map f xs) k null inside ∙ ap (λ n. get_or (map f xs) (n - 1 - k) null) long ∙ get_or-map f xs (length xs - 1 - k) d null place)
+
+-- the last of a batch is the first that is pending
+pub popped_front : (xs ys : List Submission) (x : Submission) → xs ≡ ys ++ x ∷ [] → pending_of xs ≡ (pending_in x ∷ []) ++ pending_of ys
+popped_front xs ys x e = ap pending_of e ∙ ap reverse (map-append pending_in ys (x ∷ [])) ∙ reverse-append (map pending_in ys) (pending_in x ∷ [])
+
+-- the later part is pending first
+pub parts_pending : (front back : List Submission) → pending_of (front ++ back) ≡ pending_of back ++ pending_of front
+parts_pending front back = ap reverse (map-append pending_in front back) ∙ reverse-append (map pending_in front) (map pending_in back)
+
+pub run_parts : (xs : List Submission) (n : ℕ) → pending_of xs ≡ pending_of (drop n xs) ++ pending_of (take n xs)
+run_parts xs n = ap pending_of (sym (take-append-drop n xs)) ∙ parts_pending (take n xs) (drop n xs)
+
+run_long : (xs : List Submission) (n most : ℕ) → n ≡ length xs - most → 0 < n → length (pending_of (drop n xs)) ≡ most
+run_long xs n most is some =
+    let long : length (drop n xs) ≡ length xs - n = length-drop n xs in
+    length_pending (drop n xs) ∙ omega (arith, long, is, some)
+
+-- the first are those of the run, the others are those of the rest
+pub run_first : (xs : List Submission) (n most : ℕ) → n ≡ length xs - most → 0 < n → take most (pending_of xs) ≡ pending_of (drop n xs)
+run_first xs n most is some = ap (take most) (run_parts xs n) ∙ take_at (pending_of (drop n xs)) (pending_of (take n xs)) most (run_long xs n most is some)
+
+pub run_rest : (xs : List Submission) (n most : ℕ) → n ≡ length xs - most → 0 < n → drop most (pending_of xs) ≡ pending_of (take n xs)
+run_rest xs n most is some = ap (drop most) (run_parts xs n) ∙ drop_at (pending_of (drop n xs)) (pending_of (take n xs)) most (run_long xs n most is some)
+
+-- where no others are, all are the first
+pub none_dropped : (ps : List Pending) (n : ℕ) → length ps ≤ n → drop n ps ≡ []
+none_dropped ps n low = let long = length-drop n ps in nil_from_length (drop n ps) (omega (arith, long, low))
+
+pub all_kept : (ps : List Pending) (n : ℕ) → length ps ≤ n → take n ps ≡ ps
+all_kept ps n low = sym (append-nil (take n ps)) ∙ ap (λ qs. take n ps ++ qs) (sym (none_dropped ps n low)) ∙ take-append-drop n ps
+
+pub some_others : (n : ℕ) → (n ≡ 0 → ⊥) → 0 < n
+some_others zero none = absurd (none refl)
+some_others (suc n) none = omega arith
+
+-- what a turn takes of the run it takes of all
+pub run_taken : (rest run left : List Submission) (front : List Pending) → pending_of run ≡ front ++ pending_of left → pending_of (rest ++ run) ≡ front ++ pending_of (rest ++ left)
+run_taken rest run left front e =
+    parts_pending rest run ∙ ap (λ ps. ps ++ pending_of rest) e ∙ append_assoc front (pending_of left) (pending_of rest) ∙ ap (λ ps. front ++ ps) (sym (parts_pending rest left))
 
 -- ---- order
 

@@ -1,5 +1,5 @@
 -- The stream of a session's client as far as it was read: which of its requests were submitted, and which are still to be. [P 7.1, 7.2, 15.2]
-use Rattle.std.specs.Prelude.{◌≡◌, ℕ, Bool, true, false, is_some, List, [], ◌++◌, filter, map, refl, Result}
+use Rattle.std.specs.Prelude.{◌≡◌, ℕ, Bool, true, false, is_some, List, [], ◌∷◌, ◌++◌, drop, filter, map, refl, take, Result}
 use Rattle.std.specs.Coded.{Coded, code_by, coded×, coded_ℕ, coded_list, coded_bool}
 use Rattle.serde_json.specs.Data.{Data}
 use Rattle.odb_atoms.specs.Uuid.{Uuid, uuid_code}
@@ -66,3 +66,12 @@ MovesOn old new = (front : List Pending) × (old.pending ≡ front ++ new.pendin
 -- these were submitted at a moment for the session, up to what is left, of which the first is refused for the reason of the result; then come rounds of the session alone
 abbrev pub SubmitsFrom : {A : Type 0} → Result A Refused → ℕ → ℕ → Inbox → Inbox → Kept → Kept → Type 0
 SubmitsFrom result session now old new before after = Submits result session (events_at session now old.pending) (events_at session now new.pending) before after
+
+-- of what was pending this, the first, went on elsewhere
+abbrev pub HandsOn : Pending → Inbox → Inbox → Type 0
+HandsOn p old new = (old.pending ≡ p ∷ new.pending) × (new ≡ record old { submitted = old.submitted ++ p.message ∷ []; pending = new.pending })
+
+-- of the first `most` that were pending these were submitted, up to what is left of them, as `SubmitsFrom` says; the others stay
+abbrev pub SubmitsRun : {A : Type 0} → Result A Refused → ℕ → ℕ → ℕ → Inbox → Inbox → Kept → Kept → Type 0
+SubmitsRun result session now most old new before after =
+    (left : List Pending) × (new.pending ≡ left ++ drop most old.pending) × Submits result session (events_at session now (take most old.pending)) (events_at session now left) before after

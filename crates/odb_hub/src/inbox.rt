@@ -1,9 +1,10 @@
 //! Where the requests of a session's client come in, and wait until they are submitted. [P 7.1, 15.2]
-ghost use Rattle.std.specs.Prelude.{◌≡◌, ◌+◌, ◌-◌, ◌++◌, ◌∷◌, ◌&&◌, [], All, is_none, length, map, not, true, false, option_map, option_to_list, IfOk, OnErr, OnOk};
+ghost use Rattle.std.specs.Prelude.{◌≡◌, ◌+◌, ◌-◌, ◌++◌, ◌∷◌, ◌≤◌, ◌&&◌, [], All, get_or, is_none, length, map, not, true, false, option_map, option_to_list, IfNone, IfOk, IfSome, OnErr, OnOk};
+ghost use Rattle.serde_json.specs.Data.{null};
 ghost use Rattle.odb_wire.specs.Feeding.{fault_of};
 ghost use Rattle.odb_wire.specs.Shown.{IsOfItsKind, message_data, request_data};
 ghost use Rattle.odb_wire.specs.Stream.{messages};
-ghost use Rattle.odb_hub.specs.Represented.Inbox.{pending_of};
+ghost use Rattle.odb_hub.specs.Represented.Inbox.{pending_in, pending_of};
 ghost use Rattle.odb_hub.specs.Inbox.{messages_of, requests_in};
 
 use crate::counted::{BatchOutcome, Counted};
@@ -62,7 +63,7 @@ impl Model for Inbox {
 impl Inbox {
     ghost use Rattle.odb_core.specs.Deadlines.{earliest};
     ghost use Rattle.odb_hub.specs.Batch.{IsSome, IsTurn, is_sooner};
-    ghost use Rattle.odb_hub.specs.Inbox.{IsInOrder, MovesOn, Stops, SubmitsFrom, TakesIn};
+    ghost use Rattle.odb_hub.specs.Inbox.{HandsOn, IsInOrder, MovesOn, Stops, SubmitsFrom, SubmitsRun, TakesIn};
     ghost use Rattle.odb_hub.specs.Kept.{IsQuiet};
     ghost use Rattle.odb_hub.specs.Own.{IsGiven};
 
@@ -142,6 +143,64 @@ impl Inbox {
         self.is_stopped = true;
     }
 
+    /// Returns the request at a place among those that are pending, of which the first is at 0. O(1).
+    pub fn request(&self, place: usize) -> Option<&Request>
+        ensures some { IfSome result (λ request. request_data request.now ≡ get_or (messages_of self.now.pending) place null) }
+        ensures none { IfNone result (length self.now.pending ≤ place) }
+    {
+        request_from_end(self.batch.as_slice(), place)
+    }
+
+    /// Takes the first request that is pending, which goes on elsewhere: it counts as submitted. O(1).
+    pub fn take(&mut self) -> Option<Submission>
+        ensures some { IfSome result (λ first. HandsOn (pending_in first) self.old self.new) }
+        ensures none { IfNone result ((self.old.pending ≡ []) × (self.new ≡ self.old)) }
+    {
+        let before = Snapshot::of(&self.batch);
+        let Some(first) = self.batch.pop() else {
+            return None;
+        };
+        let left = Snapshot::of(&self.batch);
+        let step = Step { before, left };
+        self.submitted = self.submitted.after(&step);
+        Some(first)
+    }
+
+    /// Submits a turn of the first `most` that are pending, as `submit_turn` does of all, and of the others none. Where
+    /// memory is refused for keeping these apart nothing happens. O(`most`) where others are pending.
+    pub fn submit_run<L: Ledger, R: Threads + Clock + Sync>(
+        &mut self,
+        rt: &R,
+        hub: &mut Counted<L>,
+        seat: &mut Seat<L>,
+        now: u64,
+        most: usize,
+    ) -> Result<BatchOutcome, AllocError>
+        ensures order { OnOk result (MovesOn self.old self.new) }
+        ensures submits { IfOk result (λ outcome. SubmitsRun outcome.owes seat.old.session now most self.old self.new hub.old.kept hub.new.kept) }
+        ensures given { IfOk result (λ outcome. OnOk outcome.given (IsGiven seat.old.session hub.new.kept)) }
+        ensures quiet { IfOk result (λ outcome. IfOk outcome.owes (λ owes. owes ≡ false → IsQuiet hub.new.kept.server)) }
+        ensures seat { seat.new ≡ record { session = seat.old.session; answered = seat.old.answered + (length self.old.pending - length self.new.pending) } }
+        ensures answered { hub.new.answered ≡ hub.old.answered + (length self.old.pending - length self.new.pending) }
+        ensures settled { hub.new.settled ≡ hub.old.settled }
+        ensures err { OnErr result ((self.new ≡ self.old) × (hub.new ≡ hub.old)) }
+    {
+        let others = self.batch.len().saturating_sub(most);
+        if others == 0 {
+            return Ok(self.submit_turn(rt, hub, seat, now));
+        }
+        let before = Snapshot::of(&self.batch);
+        let mut run = self.batch.split_off(others)?;
+        let outcome = hub.submit_turn(rt, seat, &mut run, now);
+        let Ok(()) = self.batch.append(&mut run) else {
+            unreachable!();
+        };
+        let left = Snapshot::of(&self.batch);
+        let step = Step { before, left };
+        self.submitted = self.submitted.after(&step);
+        Ok(outcome)
+    }
+
     /// Submits a turn of what is pending, from the first, as [`Counted::submit_turn`] does.
     pub fn submit_turn<L: Ledger, R: Threads + Clock + Sync>(
         &mut self,
@@ -170,6 +229,18 @@ impl Inbox {
         self.submitted = self.submitted.after(&step);
         outcome
     }
+}
+
+/// Returns the request at a place from the end of a batch, at which the first is.
+fn request_from_end(batch: &[Submission], place: usize) -> Option<&Request>
+    ensures some { IfSome result (λ request. request_data request.now ≡ get_or (messages_of (pending_of batch.now)) place null) }
+    ensures none { IfNone result (length (pending_of batch.now) ≤ place) }
+{
+    if place >= batch.len() {
+        return None;
+    }
+    let submission = &batch[batch.len() - 1 - place];
+    Some(&submission.request)
 }
 
 /// Returns the requests among the messages, and after them, at its end, what was pending, the first of all last.

@@ -1,5 +1,5 @@
 //! Where a session's messages are written, as far as a writer takes them.
-ghost use Rattle.std.specs.Prelude.{◌≡◌, ◌≢◌, ◌==◌, [], length, map, not, true, false, IfOk, OnErr, OnOk};
+ghost use Rattle.std.specs.Prelude.{◌≡◌, ◌≢◌, ◌==◌, ◌++◌, [], length, map, not, true, false, IfErr, IfOk, OnErr, OnOk};
 ghost use Rattle.std.specs.Io.KnownBytes.{Keeps};
 ghost use Rattle.odb_sessions.specs.Represented.Out.{text_of_out};
 ghost use Rattle.odb_hub.specs.Outbox.{bytes_of};
@@ -9,6 +9,7 @@ use crate::bell::Bell;
 use crate::buffer::{Buffer, PIECE};
 use crate::mailbox::Mailbox;
 use crate::rest::MessageRest;
+use odb_core::Out;
 use std::alloc::{AllocError, Global};
 use std::io::{self, Write};
 use std::marker::Model;
@@ -93,6 +94,22 @@ impl Outbox {
         }
         self.buffer.put(PROBE)?;
         Ok(true)
+    }
+
+    /// Adds a message that didn't come out of the mailbox, to be written whole after what is left, unless a message is in
+    /// the midst: then it comes back. It takes no memory. O(1). [P 15.3]
+    pub fn put(&mut self, out: Out) -> Result<(), Out>
+        ensures ok { OnOk result (self.new ≡ record { name = self.old.name; taken = self.old.taken; left = self.old.left ++ text_of_out out }) }
+        ensures err { OnErr result ((self.old.left ≢ []) × (self.new ≡ self.old)) }
+        ensures back { IfErr result (λ back. back ≡ out) }
+    {
+        let is_between = is_moved(&self.rest);
+        if !is_between {
+            return Err(out);
+        }
+        let rest = MessageRest::new(out);
+        self.rest = Some(rest);
+        Ok(())
     }
 
     /// Writes a piece of what is left. False: nothing is left, and the mailbox gave nothing.

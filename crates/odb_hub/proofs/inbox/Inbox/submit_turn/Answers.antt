@@ -1,4 +1,4 @@
-use Rattle.std.proofs.Common.{◌≡◌, ℕ, ◌-◌, Bool, List, ◌++◌, take, length, sym, ap, subst, ◌∙◌}
+use Rattle.std.proofs.Common.{◌≡◌, ℕ, Bool, List, ◌++◌, sym, ap, subst, ◌∙◌}
 use Rattle.std.specs.Prelude.{Result}
 use Rattle.serde_json.specs.Data.{Data}
 use Rattle.odb_core.specs.declared.refused.Refused.{Refused}
@@ -10,13 +10,8 @@ use Rattle.odb_hub.specs.Represented.Inbox.{pending_of, submitted_in}
 use Rattle.odb_hub.specs.Represented.Submission.{events_of}
 use Rattle.odb_hub.specs.declared.submission.Submission.{Submission}
 use Rattle.odb_hub.specs.declared.submitted.Step.{Step}
-use Rattle.odb_hub.proofs.Inboxes.{events_are, front_taken, moved_on, turn_front}
+use Rattle.odb_hub.proofs.Inboxes.{events_are, moved_on, noted, turn_front}
 use Rattle.odb_hub.proofs.inbox.Inbox.submit_turn.Goals as goal
-
--- what was taken of a batch is the front of what was pending
-noted : (step : Step) (xs ys : List Submission) (front : List Pending) → step.before.value.items ≡ xs → step.left.value.items ≡ ys → pending_of xs ≡ front ++ pending_of ys → submitted_in step ≡ messages_of front
-noted step xs ys front before left e =
-    (λ i. messages_of (take (length (before i) - length (left i)) (pending_of (before i)))) ∙ ap messages_of (front_taken xs ys front e)
 
 abbrev Fronts : List Submission → List Submission → Type 0
 Fronts xs ys = (front : List Pending) × (pending_of xs ≡ front ++ pending_of ys)

@@ -1,0 +1,7 @@
+use Rattle.std.proofs.Common.{◌≡◌, map, take}
+use Rattle.serde_json.specs.View.{view}
+use Rattle.odb_front.proofs.writes.copies.Given as goal
+
+-- those so far
+abbrev pub invariant-loop-value : goal.invariant-loop-value
+invariant-loop-value l = map view l.copies.items ≡ map view (take l.value-index l.values)

@@ -1,0 +1,4 @@
+pub mod Answers
+pub mod Front
+pub mod Represented
+pub mod Writes
