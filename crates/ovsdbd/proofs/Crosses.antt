@@ -6,6 +6,11 @@ use Rattle.mio.specs.contracts.poll.Poll as Poll
 use Rattle.std.proofs.Crossing as heap
 use Rattle.std.specs.contracts.time.Instant as Instant
 use Rattle.std.specs.declared.sync.ledger.Ledger.{Ghosts}
+use Rattle.odb_core.proofs.Crossing.{Core-send}
+use Rattle.odb_front.proofs.answers.Answers.TheSendSync as answers
+use Rattle.odb_front.proofs.ids.Ids.TheSendSync as ids
+use Rattle.odb_front.specs.contracts.answers.Answers as Answers
+use Rattle.odb_front.specs.contracts.ids.Ids as Ids
 use Rattle.odb_hub.proofs.Crossing.{Hub-sync}
 use Rattle.odb_par.proofs.workers.Workers.TheSendSync as workers
 use Rattle.odb_par.specs.contracts.workers.Workers as Workers
@@ -18,6 +23,7 @@ use Rattle.ovsdbd.specs.contracts.daemon.Patience as Patience
 use Rattle.ovsdbd.specs.contracts.desk.Desk as Desk
 use Rattle.ovsdbd.specs.contracts.notices.Notices as Notices
 use Rattle.ovsdbd.specs.contracts.pace.Pace as Pace
+use Rattle.ovsdbd.specs.contracts.server_database.ServerBegun as ServerBegun
 
 pub Poll-send : IsSend Poll.the_row
 Poll-send = poll.the_send
@@ -40,7 +46,16 @@ Workers-sync = workers.the_sync
 Instant-sync : IsSync Instant.the_row
 Instant-sync = search (sendable, heap.crosses) depth 20
 
+Answers-sync : IsSync Answers.the_row
+Answers-sync = answers.the_sync
+
+Ids-sync : IsSync (Ids.the_field).row
+Ids-sync = ids.the_sync
+
+ServerBegun-sync : IsSync ServerBegun.the_row
+ServerBegun-sync = search (Core-send, Answers-sync, Ids-sync, sendable, heap.crosses) depth 40
+
 pub Daemon-sync : (L : RattleType) (g : Ghosts L.Denot) → IsSend L → IsSync (Daemon.the_field L g).row
-Daemon-sync L g s = search (Hub-sync, Desk-sync, Notices-sync, notices.the_field_sync, Patience-sync, Pace-sync, Workers-sync, Instant-sync, sendable, heap.crosses) depth 40 fits 20000
+Daemon-sync L g s = search (Hub-sync, ServerBegun-sync, Desk-sync, Notices-sync, notices.the_field_sync, Patience-sync, Pace-sync, Workers-sync, Instant-sync, sendable, heap.crosses) depth 40 fits 20000
 
 pub ruleset crosses = (Daemon-sync, Desk-sync, Poll-send, sendable, heap.crosses)

@@ -2,25 +2,26 @@
 ghost use Rattle.std.specs.Prelude.{◌≡◌};
 ghost use Rattle.odb_waking.specs.Loop as loops;
 
-use crate::connection::{Connection, Next, PIECE, RandomIdentifiers, Tools};
+use crate::connection::{Connection, Next, PAUSE, PIECE, RandomIdentifiers, Tools};
 use crate::daemon::{Daemon, has_lasted};
 use crate::desk::Desk;
 use crate::log::Happened;
+use crate::server_database::ServerDatabase;
 use mio::net::TcpStream;
 use mio::{Events, Interest, Poll, Token};
-use odb_core::Refused;
+use odb_core::{Refused, SessionId};
 use odb_hub::{Bell, Calls};
 use odb_waking::LoopPlace;
 use rand::make_rng;
 use std::alloc::{AllocError, Global};
 use std::collections::VecDeque;
 use std::io::{self, Error, ErrorKind};
-use std::mem;
 use std::random::RandomSource;
 use std::sync::ledger::Ledger;
 use std::sync::{Arc, Wait};
 use std::thread::Threads;
 use std::time::{Clock, Duration, Instant};
+use std::{mem, thread};
 
 /// How many events are taken at once.
 const EVENTS: usize = 256;
@@ -71,6 +72,7 @@ pub(crate) fn serve_desk<L: Ledger, R: Threads + Wait + Clock + RandomSource + S
             daemon,
             piece,
             identifiers: RandomIdentifiers { rng: make_rng(rt)? },
+            server: start_server(rt, daemon)?,
             moment: daemon.now(rt),
         },
         desk,
@@ -104,6 +106,7 @@ impl<'a, L: Ledger, R: Threads + Wait + Clock + RandomSource + Sync> Clerk<'a, L
                 daemon,
                 piece: _,
                 identifiers: _,
+                server: _,
                 moment: _,
             },
             desk: _,
@@ -135,6 +138,18 @@ impl<'a, L: Ledger, R: Threads + Wait + Clock + RandomSource + Sync> Clerk<'a, L
         self.desk.gets_up(place);
         self.notice(events);
         self.look_at_all();
+        self.look_at_server();
+    }
+}
+
+/// Makes the thread's database `_Server`, where that is asked for.
+fn start_server<L: Ledger, R: Wait>(
+    rt: &R,
+    daemon: &Daemon<L>,
+) -> Result<Option<ServerDatabase>, AllocError> {
+    match &daemon.server {
+        Some(begun) => Ok(Some(begun.start(rt)?)),
+        None => Ok(None),
     }
 }
 
@@ -329,9 +344,50 @@ impl<'a, L: Ledger, R: Wait + Clock> Clerk<'a, L, R> {
         requires { place.old ≡ loops.sleeps }
         ensures { place.new ≡ loops.rises }
     {
-        let interval = self.interval();
+        let interval = sooner(self.interval(), self.until_deadline());
         drop(self.poll.poll(events, interval));
         place.slept();
+    }
+
+    /// Returns how long it is until a transaction that waits in `_Server` is due, a millisecond at least.
+    fn until_deadline(&self) -> Option<Duration> {
+        let Some(server) = &self.tools.server else {
+            return None;
+        };
+        let deadline = server.deadline()?;
+        let left = deadline.saturating_sub(self.tools.daemon.now(self.tools.rt));
+        Some(Duration::from_millis(left.max(1)))
+    }
+
+    /// Has the transactions tried that wait in `_Server` and are due, and their connections served.
+    fn look_at_server(&mut self) {
+        if !self.is_due() {
+            return;
+        }
+        for place in 0..self.connections.len() {
+            self.hear_server(place);
+        }
+    }
+
+    /// Tries the transactions that are due in `_Server`. False: none is, or memory was refused, and they are tried again.
+    fn is_due(&mut self) -> bool {
+        let now = self.tools.daemon.now(self.tools.rt);
+        let Some(server) = &mut self.tools.server else {
+            return false;
+        };
+        match server.deadline() {
+            Some(deadline) if deadline <= now => server.tick(now).is_ok(),
+            _ => false,
+        }
+    }
+
+    fn hear_server(&mut self, place: usize) {
+        let Some(connection) = at(self.connections.as_mut_slice(), place) else {
+            return;
+        };
+        if connection.hear_server(&mut self.tools) {
+            self.enqueue(place);
+        }
     }
 
     /// Learns what the poll tells.
@@ -392,7 +448,10 @@ impl<'a, L: Ledger, R: Wait + Clock> Clerk<'a, L, R> {
         let Some(slot) = self.connections.get_mut(place) else {
             return;
         };
-        if let Some(connection) = mem::replace(slot, None) {
+        if let Some(mut connection) = mem::replace(slot, None) {
+            if let Some(session) = connection.leave_server() {
+                leave_at_last(&mut self.tools, session);
+            }
             connection.close(self.tools.rt, self.tools.daemon);
             self.desk.let_go();
             // There is room for each place once.
@@ -473,6 +532,29 @@ fn at<L: Ledger>(
     place: usize,
 ) -> Option<&mut Connection<L>> {
     connections.get_mut(place)?.as_mut()
+}
+
+/// Ends a session in `_Server`. Where memory is refused it tries again.
+fn leave_at_last<L: Ledger, R: Wait + Clock>(tools: &mut Tools<'_, L, R>, session: SessionId) {
+    let Some(server) = &mut tools.server else {
+        return;
+    };
+    for _ in tools.rt.forever() {
+        if server.close(session) {
+            return;
+        }
+        thread::sleep(tools.rt, Duration::from_millis(PAUSE));
+    }
+    unreachable!()
+}
+
+/// Returns the shorter of two times, of which each may be absent.
+fn sooner(time: Option<Duration>, other: Option<Duration>) -> Option<Duration> {
+    match (time, other) {
+        (Some(time), Some(other)) => Some(time.min(other)),
+        (Some(time), None) => Some(time),
+        (None, other) => other,
+    }
 }
 
 /// Closes what is left of these connections.

@@ -1,13 +1,18 @@
 //! A connection and its session, as the thread that serves it has them. [P 15.2]
 
 use crate::daemon::{Daemon, Patience};
+use crate::front_seat::{FrontSeat, Noted};
 use crate::log::{Happened, Line, Reason};
+use crate::server_database::{ServerDatabase, ServerRequest};
 use mio::event::Event;
 use mio::net::TcpStream;
-use odb_core::{Refused, SessionId};
+use odb_core::{Out, Refused, SessionId};
+use odb_front::{Destination, IdText, Naming, destination_of, first_id, names_monitor};
 use odb_hub::{Identifiers, Inbox, Mailbox, Outbox, Seat};
-use odb_wire::WireFault;
+use odb_rpc::reply_id;
+use odb_wire::{Request, WireFault};
 use rand::rngs::StdRng;
+use std::alloc::{AllocError, Global};
 use std::io::{self, ErrorKind, Read};
 use std::net::{Shutdown, SocketAddr};
 use std::sync::Wait;
@@ -21,10 +26,13 @@ use uuid::Uuid;
 pub(crate) const PIECE: usize = 8_192;
 
 /// For how many milliseconds a thread pauses where memory was refused for the end of a session.
-const PAUSE: u64 = 1;
+pub(crate) const PAUSE: u64 = 1;
 
 /// How often what is held back is sent for, before other connections have their turn.
 const REFILLS: usize = 8;
+
+/// How many requests are looked at in a turn, where they may go to several places.
+const LOOKED_AT: usize = 64;
 
 /// Random identifiers (RFC 4122, 4.4).
 #[derive(Drop)]
@@ -45,6 +53,8 @@ pub(crate) struct Tools<'a, L: Ledger, R> {
     /// Where bytes are read.
     pub(crate) piece: Vec<u8>,
     pub(crate) identifiers: RandomIdentifiers,
+    /// The thread's database `_Server`, where that is asked for.
+    pub(crate) server: Option<ServerDatabase>,
     /// The milliseconds since the start, where the daemon's patience has an end.
     pub(crate) moment: u64,
 }
@@ -81,6 +91,8 @@ pub(crate) struct Connection<L: Ledger> {
     seat: Option<Seat<L>>,
     inbox: Inbox,
     outbox: Outbox,
+    /// What it has of `_Server`, from its first request on that concerns that.
+    front: Option<Box<FrontSeat>>,
     is_readable: bool,
     is_writable: bool,
     /// Whether the peer sends no more than what there is to read.
@@ -119,6 +131,7 @@ impl<L: Ledger> Connection<L> {
             seat: Some(seat),
             inbox: Inbox::new(alloc, daemon.max_message),
             outbox: Outbox::new(alloc, mailbox),
+            front: None,
             is_readable: true,
             is_writable: true,
             is_closed: false,
@@ -231,9 +244,19 @@ impl<L: Ledger> Connection<L> {
     }
 
     /// Returns whether a request may be submitted: none waits since it met Busy, and the client takes what it was given, so
-    /// that the socket isn't full and no message is held back. Step: `checks`.
+    /// that the socket isn't full, and no message is held back or is still to be written from the front. Step: `checks`.
     fn may_submit(&self) -> bool {
-        !self.is_busy && self.is_writable && !self.outbox.bell().is_held_back()
+        !self.is_busy
+            && self.is_writable
+            && !self.outbox.bell().is_held_back()
+            && !self.has_front_outs()
+    }
+
+    fn has_front_outs(&self) -> bool {
+        match &self.front {
+            Some(front) => front.has_outs(),
+            None => false,
+        }
     }
 
     /// Returns whether more may be read: all that was read was submitted.
@@ -300,6 +323,7 @@ impl<L: Ledger> Connection<L> {
         if !self.is_writable {
             return Ok(Written::Blocked);
         }
+        self.move_front();
         for _ in 0..REFILLS {
             let mut writer = &self.stream;
             match self.outbox.write_to(&mut writer) {
@@ -318,12 +342,23 @@ impl<L: Ledger> Connection<L> {
         Ok(Written::Some)
     }
 
+    /// Moves the next message of the front to where it is written, if one is there and none is in the midst.
+    fn move_front(&mut self) -> bool {
+        match &mut self.front {
+            Some(front) => front.move_to(&mut self.outbox),
+            None => false,
+        }
+    }
+
     /// Has what is held back sent, and the peer asked where that is due, once all else is written. True says that there may
     /// be more to write.
     fn refill<R: Threads + Wait + Sync>(&mut self, tools: &Tools<'_, L, R>) -> io::Result<bool> {
         if self.asks {
             self.asks = false;
             return Ok(self.outbox.ask()?);
+        }
+        if self.move_front() {
+            return Ok(true);
         }
         match &self.seat {
             Some(seat) if self.outbox.bell().is_held_back() => {
@@ -379,22 +414,226 @@ impl<L: Ledger> Connection<L> {
         }
     }
 
-    /// Submits a turn of the requests, and the other sessions are told. Step: `submits`.
-    fn submit<R: Threads + Wait + Clock + Sync>(&mut self, tools: &Tools<'_, L, R>) {
+    /// Submits a turn of the requests: all to the database that is served, or each where it goes. Step: `submits`.
+    fn submit<R: Threads + Wait + Clock + Sync>(&mut self, tools: &mut Tools<'_, L, R>) {
+        if tools.server.is_none() {
+            self.submit_first(tools, usize::MAX);
+        } else if self.submit_each(tools).is_err() {
+            self.give_up();
+        }
+    }
+
+    /// Ends the session as memory was refused for its requests.
+    fn give_up(&mut self) {
+        self.end_for(Reason::Memory);
+        self.inbox.stop();
+    }
+
+    /// Submits a turn of so many of the requests, the first, to the database that is served, and the other sessions are told.
+    fn submit_first<R: Threads + Wait + Clock + Sync>(
+        &mut self,
+        tools: &Tools<'_, L, R>,
+        most: usize,
+    ) {
         let Some(seat) = &mut self.seat else {
             return;
         };
         let daemon = tools.daemon;
-        let turn = daemon.submit_turn(tools.rt, seat, &mut self.inbox);
+        let turn = daemon.submit_turn(tools.rt, seat, &mut self.inbox, most);
         self.is_slow = turn.is_slow;
         match turn.outcome {
             Ok(()) => {}
             Err(Refused::Busy) => self.is_busy = true,
-            Err(_) => {
-                self.end_for(Reason::Memory);
-                self.inbox.stop();
+            Err(_) => self.give_up(),
+        }
+    }
+
+    /// Deals with the requests in their order, up to those of the database that is served, of which it submits a turn.
+    fn submit_each<R: Threads + Wait + Clock + Sync>(
+        &mut self,
+        tools: &mut Tools<'_, L, R>,
+    ) -> Result<(), AllocError> {
+        for _ in 0..LOOKED_AT {
+            match self.destination(tools, 0)? {
+                None => return Ok(()),
+                Some(Destination::Served) => return self.submit_served(tools),
+                Some(Destination::Front) => self.answer(tools)?,
+                Some(Destination::Server) => self.ask_server(tools)?,
+            }
+            if self.is_busy {
+                return Ok(());
             }
         }
+        Ok(())
+    }
+
+    /// Returns where the request at a place among those that are pending goes, if there is one.
+    fn destination<R>(
+        &self,
+        tools: &Tools<'_, L, R>,
+        place: usize,
+    ) -> Result<Option<Destination>, AllocError> {
+        let Some(begun) = &tools.daemon.server else {
+            return Ok(None);
+        };
+        let Some(request) = self.inbox.request(place) else {
+            return Ok(None);
+        };
+        let alloc = tools.daemon.alloc;
+        let ids = match &self.front {
+            Some(front) => &front.ids,
+            None => &begun.nothing,
+        };
+        let destination = destination_of(alloc, request, begun.name.as_str(), ids)?;
+        Ok(Some(destination))
+    }
+
+    /// Submits the first requests to the database that is served, up to the next that goes elsewhere or names a monitor; one
+    /// that names a monitor alone.
+    fn submit_served<R: Threads + Wait + Clock + Sync>(
+        &mut self,
+        tools: &Tools<'_, L, R>,
+    ) -> Result<(), AllocError> {
+        if !self.names_monitor(0) {
+            let most = self.run(tools)?;
+            self.submit_first(tools, most);
+            return Ok(());
+        }
+        let alloc = tools.daemon.alloc;
+        let Some(request) = self.inbox.request(0) else {
+            return Ok(());
+        };
+        let naming = Naming::of(alloc, request)?;
+        let before = self.inbox.pending();
+        self.submit_first(tools, 1);
+        if self.inbox.pending() == before {
+            return Ok(());
+        }
+        self.front(tools)?.ids.note(Destination::Served, naming)
+    }
+
+    /// Returns how many of the requests, from the first, go to the database that is served and name no monitor: one at least
+    /// and a turn at most.
+    fn run<R>(&self, tools: &Tools<'_, L, R>) -> Result<usize, AllocError> {
+        for place in 1..LOOKED_AT {
+            let goes_on = match self.destination(tools, place)? {
+                Some(Destination::Served) => !self.names_monitor(place),
+                _ => false,
+            };
+            if !goes_on {
+                return Ok(place);
+            }
+        }
+        Ok(LOOKED_AT)
+    }
+
+    /// Returns whether the request at a place among those that are pending names a monitor.
+    fn names_monitor(&self, place: usize) -> bool {
+        match self.inbox.request(place) {
+            Some(request) => names_monitor(request),
+            None => false,
+        }
+    }
+
+    /// Returns what the connection has of `_Server`, which begins with this call if it has nothing.
+    fn front<R>(&mut self, tools: &Tools<'_, L, R>) -> Result<&mut FrontSeat, AllocError> {
+        let alloc = tools.daemon.alloc;
+        if self.front.is_none() {
+            self.front = Some(Box::new(alloc, FrontSeat::new(alloc))?);
+        }
+        match &mut self.front {
+            Some(front) => Ok(&mut **front),
+            None => Err(AllocError),
+        }
+    }
+
+    /// Answers the first request, which goes to neither database.
+    fn answer<R>(&mut self, tools: &Tools<'_, L, R>) -> Result<(), AllocError> {
+        let Some(begun) = &tools.daemon.server else {
+            return Ok(());
+        };
+        let Some(submission) = self.inbox.take() else {
+            return Ok(());
+        };
+        let alloc = tools.daemon.alloc;
+        let text = begun.answers.reply_to(alloc, &submission.request)?;
+        let session = self.session;
+        self.front(tools)?.push(Out {
+            session,
+            before: text,
+            body: None,
+            after: Vec::new(alloc),
+        })
+    }
+
+    /// Submits the first request to `_Server`, unless as many wait there as may.
+    fn ask_server<R: Clock>(&mut self, tools: &mut Tools<'_, L, R>) -> Result<(), AllocError> {
+        let needs_reply = match self.inbox.request(0) {
+            Some(request) => !request.is_notification(),
+            None => return Ok(()),
+        };
+        if needs_reply && self.front(tools)?.is_full() {
+            self.is_busy = true;
+            return Ok(());
+        }
+        let session = self.server_session(tools)?;
+        let Some(submission) = self.inbox.take() else {
+            return Ok(());
+        };
+        let alloc = tools.daemon.alloc;
+        let noted = noted_of(alloc, &submission.request)?;
+        let asked = ServerRequest::of(alloc, submission, &mut tools.identifiers)?;
+        let now = tools.daemon.now(tools.rt);
+        let Some(server) = &mut tools.server else {
+            return Ok(());
+        };
+        let outs = server.submit(alloc, session, asked, now)?;
+        self.front(tools)?.take_in(noted, outs)
+    }
+
+    /// Returns its session in `_Server`, which is opened if there is none.
+    fn server_session<R>(&mut self, tools: &mut Tools<'_, L, R>) -> Result<SessionId, AllocError> {
+        if let Some(session) = self.front(tools)?.session {
+            return Ok(session);
+        }
+        let Some(server) = &mut tools.server else {
+            return Err(AllocError);
+        };
+        let Ok(session) = server.open() else {
+            return Err(AllocError);
+        };
+        self.front(tools)?.session = Some(session);
+        Ok(session)
+    }
+
+    /// Takes its session in `_Server` out, if it has one: it is to end.
+    pub(crate) fn leave_server(&mut self) -> Option<SessionId> {
+        match &mut self.front {
+            Some(front) => front.session.take(),
+            None => None,
+        }
+    }
+
+    /// Takes in what its session in `_Server` is owed, where transactions of it wait there. False: nothing of it waits.
+    pub(crate) fn hear_server<R>(&mut self, tools: &mut Tools<'_, L, R>) -> bool {
+        let Some(front) = &mut self.front else {
+            return false;
+        };
+        let (Some(session), Some(server)) = (front.session, &mut tools.server) else {
+            return false;
+        };
+        if !front.waits() {
+            return false;
+        }
+        self.is_busy = false;
+        let taken = match server.take(tools.daemon.alloc, session) {
+            Ok(outs) => front.take_all(outs),
+            Err(refused) => Err(refused),
+        };
+        if taken.is_err() {
+            self.cut_off(Reason::Memory);
+        }
+        true
     }
 
     /// Returns why the daemon's patience with the peer is at its end, if it is at this moment. Before that the peer is asked
@@ -462,6 +701,7 @@ impl<L: Ledger> Connection<L> {
             seat,
             inbox: _,
             outbox: _,
+            front: _,
             is_readable: _,
             is_writable: _,
             is_closed: _,
@@ -492,4 +732,21 @@ pub(crate) fn part_at_last<L: Ledger, R: Wait + Clock>(rt: &R, daemon: &Daemon<L
         thread::sleep(rt, Duration::from_millis(PAUSE));
     }
     unreachable!()
+}
+
+/// Returns what is to be noted of a request to `_Server`.
+fn noted_of(alloc: Global, request: &Request) -> Result<Noted, AllocError> {
+    let mut noted = Noted {
+        naming: None,
+        transaction: None,
+        canceled: None,
+    };
+    if request.is_notification() {
+        noted.canceled = first_id(alloc, request)?;
+    } else if names_monitor(request) {
+        noted.naming = Some(Naming::of(alloc, request)?);
+    } else {
+        noted.transaction = Some(IdText::new(alloc, reply_id(request))?);
+    }
+    Ok(noted)
 }

@@ -5,6 +5,7 @@ use crate::log::{Happened, Line, Said};
 use crate::notices::Notices;
 use crate::pace::Pace;
 use crate::serve::Terms;
+use crate::server_database::ServerBegun;
 use odb_core::{Core, MAX_SESSIONS, Refused, SessionId};
 use odb_hub::{Hub, Inbox, Seat};
 use odb_par::{Open, Workers};
@@ -42,6 +43,8 @@ pub(crate) struct Begun {
     pub(crate) start: Instant,
     /// The schema by which it is told why transactions failed, where that is logged.
     pub(crate) schema: Option<Schema>,
+    /// What `_Server` begins with, where that is asked for.
+    pub(crate) server: Option<ServerBegun>,
 }
 
 impl Begun {
@@ -56,6 +59,7 @@ impl Begun {
             mut core,
             start,
             schema: _,
+            server,
         } = self;
         if schema.is_some() {
             core.note_failures();
@@ -65,6 +69,27 @@ impl Begun {
             core,
             start,
             schema,
+            server,
+        }
+    }
+
+    /// Has `_Server` served beside, if it is there.
+    pub(crate) fn beside(self, server: Option<ServerBegun>) -> Begun
+        ensures { result.core ≡ self.core }
+    {
+        let Begun {
+            alloc,
+            core,
+            start,
+            schema,
+            server: _,
+        } = self;
+        Begun {
+            alloc,
+            core,
+            start,
+            schema,
+            server,
         }
     }
 }
@@ -95,6 +120,8 @@ pub(crate) struct Daemon<L: Ledger> {
     pub(crate) patience: Patience,
     /// The most bytes of a message.
     pub(crate) max_message: usize,
+    /// What `_Server` begins with, where that is asked for.
+    pub(crate) server: Option<ServerBegun>,
     workers: Workers,
     start: Instant,
     ended: AtomicU64,
@@ -122,6 +149,7 @@ impl<L: Ledger> Daemon<L> {
             core,
             start,
             schema,
+            server,
         } = begun;
         Daemon {
             alloc,
@@ -137,6 +165,7 @@ impl<L: Ledger> Daemon<L> {
             ),
             patience: terms.patience,
             max_message: terms.max_message,
+            server,
             workers: terms.workers,
             start,
             ended: AtomicU64::new(0),
@@ -192,20 +221,27 @@ impl<L: Ledger> Daemon<L> {
         }
     }
 
-    /// Submits a turn of what is pending, gives their session what it is owed, and tells the other sessions.
+    /// Submits a turn of the first `most` that are pending, gives their session what it is owed, and tells the other sessions.
     pub(crate) fn submit_turn<R: Threads + Wait + Clock + Sync>(
         &self,
         rt: &R,
         seat: &mut Seat<L>,
         inbox: &mut Inbox,
+        most: usize,
     ) -> SubmittedTurn {
         let before = inbox.pending();
         let now = self.now(rt);
         let mut hub = self.hub.enter(rt);
         let begun = Instant::now(rt);
-        let submitted = inbox.submit_turn(rt, &mut *hub, seat, now);
+        let submitted = inbox.submit_run(rt, &mut *hub, seat, now, most);
         drop(hub);
         let is_slow = has_lasted(rt, &begun, SLOW);
+        let Ok(submitted) = submitted else {
+            return SubmittedTurn {
+                outcome: Err(Refused::Memory),
+                is_slow,
+            };
+        };
         self.log_failures(rt);
         let taken = before.saturating_sub(inbox.pending());
         if submitted.due_sooner {
@@ -349,6 +385,7 @@ impl<L: Ledger> Drop for Daemon<L> {
             notices: _,
             patience: _,
             max_message: _,
+            server: _,
             workers: _,
             start: _,
             ended: _,

@@ -13,15 +13,18 @@ mod connection;
 mod daemon;
 mod desk;
 mod fault;
+mod front_seat;
 mod load;
 mod log;
 mod notices;
 mod pace;
 mod serve;
+mod server_database;
 
 use crate::daemon::Patience;
 use crate::fault::ProgramFault;
 use crate::serve::{Memory, Start, Terms, begin, serve_all};
+use crate::server_database::ServerBegun;
 use clap::builder::ValueParser;
 use clap::error::ErrorKind;
 use clap::{Arg, ArgAction, ArgMatches, Command, Error};
@@ -159,6 +162,9 @@ const ADDRESS: &str = "127.0.0.1:6640";
 /// What the log has besides connections, where it is asked for.
 const ERRORS: &str = "errors";
 
+/// The word by which the database `_Server` is asked for.
+const SERVER_DATABASE: &str = "server-database";
+
 /// How many milliseconds a client may be waited for at most: a day.
 const LONGEST: u64 = 86_400_000;
 
@@ -250,6 +256,7 @@ fn serve_command<'a>(alloc: Global) -> Result<Command<'a>, Error> {
         .arg(listen_word(alloc))?
         .arg(load_word(alloc))?
         .arg(log_word(alloc))?
+        .arg(server_database_word(alloc))?
         .arg(sessions_word(alloc))?
         .arg(probe_word(alloc))?
         .arg(stall_word(alloc))?
@@ -291,6 +298,15 @@ fn log_word<'a>(alloc: Global) -> Arg<'a> {
         .require_equals(true)
         .value_parser(ValueParser::Names(&[ERRORS]))
         .action(ArgAction::Set)
+}
+
+fn server_database_word<'a>(alloc: Global) -> Arg<'a> {
+    Arg::new(alloc, SERVER_DATABASE)
+        .long(SERVER_DATABASE)
+        .help(
+            "Serve the database _Server too, which says what is served: clients that ask it for that ask for the rest by conditions, and are told what changed when they come back",
+        )
+        .action(ArgAction::SetTrue)
 }
 
 fn sessions_word<'a>(alloc: Global) -> Arg<'a> {
@@ -419,10 +435,27 @@ fn serve_schema<
         file: words.get_str("load"),
     };
     let names = names_to_log(alloc, &schema, words)?;
+    let server = server_beside(rt, alloc, &schema, words)?;
     match begin(rt, alloc, schema, hashing, memory) {
-        Ok(begun) => serve_all(rt, begun.naming_failures(names), start, terms(rt, words)),
+        Ok(begun) => {
+            let begun = begun.naming_failures(names).beside(server);
+            serve_all(rt, begun, start, terms(rt, words))
+        }
         Err(fault) => Err(ProgramFault::Run(fault)),
     }
+}
+
+/// Makes what the database `_Server` begins with, where that is asked for.
+fn server_beside<R: RandomSource>(
+    rt: &R,
+    alloc: Global,
+    schema: &Schema,
+    words: &ArgMatches<'_>,
+) -> Result<Option<ServerBegun>, ProgramFault> {
+    if !words.get_flag(SERVER_DATABASE) {
+        return Ok(None);
+    }
+    Ok(Some(ServerBegun::new(rt, alloc, schema)?))
 }
 
 /// Makes an equal schema, where transactions that fail are to be logged.

@@ -89,6 +89,7 @@ pub(crate) fn begin<R: Clock>(
         core,
         start,
         schema: None,
+        server: None,
     })
 }
 

@@ -1,0 +1,338 @@
+//! The database `_Server`, in which a server says what it serves (ovsdb-server(5)). [P 15.3]
+
+use crate::connection::RandomIdentifiers;
+use crate::fault::ProgramFault;
+use odb_core::{Core, Out, Refused, SessionId};
+use odb_front::{Answers, Ids, after_write, has_writes, names_database, params_for, with_refusal};
+use odb_hub::{Submission, submission_of};
+use odb_rpc::operations;
+use odb_schema::Schema;
+use odb_script::RunFault;
+use odb_wire::{Framer, Message, Request};
+use rand::make_rng;
+use rand_core::Rng;
+use serde_json::{Value, json};
+use std::alloc::{AllocError, Global};
+use std::collections::VecDeque;
+use std::hash::RandomState;
+use std::mem;
+use std::random::RandomSource;
+use std::sync::{Mutex, Wait};
+use uuid::Uuid;
+
+/// Its name.
+const NAME: &str = "_Server";
+
+/// The name of its schema here: one in a file may not begin with `_`, which is for servers alone.
+const OWN: &str = "Server";
+
+/// Its schema, as ovsdb-server has it.
+const SCHEMA: &[u8] =
+    b"{\"name\":\"Server\",\"version\":\"1.2.0\",\"cksum\":\"3009684573 744\",\"tables\":{\"Database\":{\"columns\":{\
+\"name\":{\"type\":\"string\"},\"model\":{\"type\":{\"key\":{\"type\":\"string\",\"enum\":[\"set\",[\"standalone\",\"clustered\",\"relay\"]]}}},\
+\"connected\":{\"type\":\"boolean\"},\"leader\":{\"type\":\"boolean\"},\"schema\":{\"type\":{\"key\":{\"type\":\"string\"},\"min\":0,\"max\":1}},\
+\"cid\":{\"type\":{\"key\":{\"type\":\"uuid\"},\"min\":0,\"max\":1}},\"sid\":{\"type\":{\"key\":{\"type\":\"uuid\"},\"min\":0,\"max\":1}},\
+\"index\":{\"type\":{\"key\":{\"type\":\"integer\"},\"min\":0,\"max\":1}}},\"isRoot\":true}}}";
+
+/// How its printed schema begins, up to the name.
+const SCHEMA_BEGIN: &[u8] = b"{\"cksum\":\"3009684573 744\",\"name\":\"";
+
+/// How the reply to what fills it begins.
+const FILLED: &[u8] = b"{\"error\":null,\"id\":0,\"result\":[{\"uuid\":";
+
+/// Of how many of its commits the contents can be found: of the one that fills it.
+const KEPT: usize = 1;
+
+/// What the threads that serve connections begin with: `_Server` as it is filled, and what neither database answers.
+pub(crate) struct ServerBegun {
+    pub(crate) name: String,
+    core: Mutex<Core>,
+    pub(crate) answers: Answers,
+    /// The ids of a connection that has named nothing.
+    pub(crate) nothing: Ids,
+}
+
+impl ServerBegun {
+    /// Makes and fills `_Server`, for a server of this schema.
+    pub(crate) fn new<R: RandomSource>(
+        rt: &R,
+        alloc: Global,
+        served: &Schema,
+    ) -> Result<ServerBegun, ProgramFault> {
+        let schema = Schema::read(alloc, SCHEMA).map_err(ProgramFault::Schema)?;
+        let mut identifiers = RandomIdentifiers {
+            rng: make_rng(rt).map_err(|_| memory())?,
+        };
+        let answers = answers_of(alloc, served, &schema, &mut identifiers)?;
+        let hashing = RandomState::new(rt).map_err(|_| memory())?;
+        let run = identifiers.rng.next_u64();
+        let Ok(mut core) = Core::with_run(alloc, schema, hashing, run, KEPT) else {
+            return Err(memory());
+        };
+        fill(alloc, &mut core, &answers, &mut identifiers)?;
+        Ok(ServerBegun {
+            name: String::from_str(alloc, served.name())?,
+            core: Mutex::new(core),
+            answers,
+            nothing: Ids::new(alloc),
+        })
+    }
+
+    /// Makes the database of a thread, which has the same rows, identifiers and versions as that of each other.
+    pub(crate) fn start<R: Wait>(&self, rt: &R) -> Result<ServerDatabase, AllocError> {
+        Ok(ServerDatabase {
+            core: self.core.lock(rt).try_copy()?,
+        })
+    }
+}
+
+// Written, and not derived, so that each end of a scope is one call to prove.
+impl Drop for ServerBegun {
+    fn drop(self) {
+        let ServerBegun {
+            name: _,
+            core: _,
+            answers: _,
+            nothing: _,
+        } = self;
+    }
+}
+
+fn answers_of(
+    alloc: Global,
+    served: &Schema,
+    schema: &Schema,
+    identifiers: &mut RandomIdentifiers,
+) -> Result<Answers, AllocError> {
+    let name = served.name();
+    let id = Uuid::new_v4(&mut identifiers.rng);
+    Ok(Answers {
+        name: String::from_str(alloc, name)?,
+        names: json!(in alloc; [name, NAME])?.to_vec(alloc)?,
+        schema: served.to_json(alloc)?,
+        server_schema: own_schema(alloc, schema)?,
+        server_id: identifier_text(alloc, id)?,
+    })
+}
+
+/// Returns the printed schema of `_Server`, with its own name.
+fn own_schema(alloc: Global, schema: &Schema) -> Result<Vec<u8>, AllocError> {
+    let printed = schema.to_json(alloc)?;
+    let Some(rest) = printed.as_slice().get(SCHEMA_BEGIN.len()..) else {
+        return Err(AllocError);
+    };
+    let mut text = Vec::from_slice(alloc, SCHEMA_BEGIN)?;
+    text.push(b'_')?;
+    text.extend_from_slice(rest)?;
+    Ok(text)
+}
+
+/// Returns an identifier as JSON.
+fn identifier_text(alloc: Global, id: Uuid) -> Result<Vec<u8>, AllocError> {
+    let mut buffer = [0; 36];
+    let text = id.hyphenated().encode_lower(&mut buffer);
+    json!(in alloc; text)?.to_vec(alloc)
+}
+
+/// Inserts the rows of both databases, by a session that ends then.
+fn fill(
+    alloc: Global,
+    core: &mut Core,
+    answers: &Answers,
+    identifiers: &mut RandomIdentifiers,
+) -> Result<(), ProgramFault> {
+    let served = insert_of(alloc, answers.name.as_str(), answers.schema.as_slice())?;
+    let own = insert_of(alloc, NAME, answers.server_schema.as_slice())?;
+    let message = json!(in alloc; {"id": 0, "method": "transact", "params": [OWN, served, own]})?;
+    let request = request_of(alloc, &message)?;
+    let Submission { request, fresh } = submission_of(alloc, request, identifiers)?;
+    let Ok(session) = core.open() else {
+        return Err(memory());
+    };
+    if core.submit(session, request, fresh.as_slice(), 0).is_err() {
+        return Err(memory());
+    }
+    for out in core.round(&[session])? {
+        if !out.before.as_slice().starts_with(FILLED) {
+            return Err(memory());
+        }
+    }
+    match core.close(session) {
+        Ok(()) => Ok(()),
+        Err(_) => Err(memory()),
+    }
+}
+
+/// Makes the insert of the row of a database.
+fn insert_of(alloc: Global, name: &str, schema: &[u8]) -> Result<Value, ProgramFault> {
+    let Ok(text) = str::from_utf8(schema) else {
+        return Err(memory());
+    };
+    Ok(json!(in alloc; {
+        "op": "insert",
+        "table": "Database",
+        "row": {"name": name, "model": "standalone", "connected": true, "leader": true, "schema": text}
+    })?)
+}
+
+/// Returns the request that a message is.
+fn request_of(alloc: Global, message: &Value) -> Result<Request, AllocError> {
+    let text = message.to_vec(alloc)?;
+    let mut framer = Framer::new(alloc, usize::MAX);
+    let mut fed = framer.feed(text.as_slice())?;
+    match fed.messages.pop() {
+        Some(Message::Request(request)) => Ok(request),
+        _ => Err(AllocError),
+    }
+}
+
+/// The database `_Server` of a thread that serves connections, of which each has a session from its first request on that
+/// names it.
+pub(crate) struct ServerDatabase {
+    core: Core,
+}
+
+impl ServerDatabase {
+    /// Opens a session.
+    pub(crate) fn open(&mut self) -> Result<SessionId, Refused> {
+        self.core.open()
+    }
+
+    /// Ends a session. False says that memory was refused.
+    pub(crate) fn close(&mut self, session: SessionId) -> bool {
+        match self.core.close(session) {
+            Ok(()) => true,
+            Err(Refused::Gone) => true,
+            Err(_) => false,
+        }
+    }
+
+    /// Takes a request of a session in, and then what the session is owed.
+    pub(crate) fn submit(
+        &mut self,
+        alloc: Global,
+        session: SessionId,
+        asked: ServerRequest,
+        now: u64,
+    ) -> Result<VecDeque<Out>, AllocError> {
+        let ServerRequest { submission, after } = asked;
+        let Submission { request, fresh } = submission;
+        if self
+            .core
+            .submit(session, request, fresh.as_slice(), now)
+            .is_err()
+        {
+            return Err(AllocError);
+        }
+        let outs = self.take(alloc, session)?;
+        match after {
+            Some(after) => refused_in(alloc, outs, after),
+            None => Ok(outs),
+        }
+    }
+
+    /// Takes all that a session is owed.
+    pub(crate) fn take(
+        &mut self,
+        alloc: Global,
+        session: SessionId,
+    ) -> Result<VecDeque<Out>, AllocError> {
+        let mut outs = VecDeque::new(alloc);
+        for _ in 0..u64::MAX {
+            let given = self.core.round(&[session])?;
+            if given.is_empty() {
+                break;
+            }
+            for out in given {
+                outs.push_back(out)?;
+            }
+        }
+        Ok(outs)
+    }
+
+    /// Returns the earliest moment, in milliseconds, at which a transaction that waits is due.
+    pub(crate) fn deadline(&self) -> Option<u64> {
+        self.core.next_deadline()
+    }
+
+    /// Tries the transactions that are due.
+    pub(crate) fn tick(&mut self, now: u64) -> Result<(), AllocError> {
+        self.core.tick(now)
+    }
+}
+
+// Written, and not derived, so that each end of a scope is one call to prove.
+impl Drop for ServerDatabase {
+    fn drop(self) {
+        let ServerDatabase { core: _ } = self;
+    }
+}
+
+/// What is submitted to `_Server`: a request of which nothing is written, and how many operations come after the first that
+/// would have been, if there is one.
+#[derive(Drop)]
+pub(crate) struct ServerRequest {
+    submission: Submission,
+    after: Option<usize>,
+}
+
+impl ServerRequest {
+    /// Makes that of a request: under the schema's name, with an `abort` in the place of each operation that writes.
+    pub(crate) fn of(
+        alloc: Global,
+        submission: Submission,
+        identifiers: &mut RandomIdentifiers,
+    ) -> Result<ServerRequest, AllocError> {
+        if submission.request.is_notification() || !names_database(&submission.request) {
+            return Ok(ServerRequest {
+                submission,
+                after: None,
+            });
+        }
+        let request = &submission.request;
+        let after = if has_writes(request) {
+            Some(after_write(operations(request)))
+        } else {
+            None
+        };
+        let renamed = renamed(alloc, request)?;
+        Ok(ServerRequest {
+            submission: submission_of(alloc, renamed, identifiers)?,
+            after,
+        })
+    }
+}
+
+fn renamed(alloc: Global, request: &Request) -> Result<Request, AllocError> {
+    let params = params_for(alloc, request, OWN)?;
+    let method = request.method();
+    let message = match request.id() {
+        Some(id) => json!(in alloc; {"id": id, "method": method, "params": params})?,
+        None => return Err(AllocError),
+    };
+    request_of(alloc, &message)
+}
+
+/// Returns these replies with `not allowed` where an operation that would have written ended the transaction.
+fn refused_in(
+    alloc: Global,
+    outs: VecDeque<Out>,
+    after: usize,
+) -> Result<VecDeque<Out>, AllocError> {
+    let mut refused = VecDeque::new(alloc);
+    for out in outs {
+        refused.push_back(refused_as(alloc, out, after)?)?;
+    }
+    Ok(refused)
+}
+
+fn refused_as(alloc: Global, out: Out, after: usize) -> Result<Out, AllocError> {
+    let mut out = out;
+    let before = mem::replace(&mut out.before, Vec::new(alloc));
+    out.before = with_refusal(alloc, before, after)?;
+    Ok(out)
+}
+
+fn memory() -> ProgramFault {
+    ProgramFault::Run(RunFault::Memory)
+}
