@@ -371,14 +371,15 @@ impl<'a, L: Ledger, R: Wait + Clock> Clerk<'a, L, R> {
 
     /// Tries the transactions that are due in `_Server`. False: none is, or memory was refused, and they are tried again.
     fn is_due(&mut self) -> bool {
-        let now = self.tools.daemon.now(self.tools.rt);
+        let (rt, daemon) = (self.tools.rt, self.tools.daemon);
         let Some(server) = &mut self.tools.server else {
             return false;
         };
-        match server.deadline() {
-            Some(deadline) if deadline <= now => server.tick(now).is_ok(),
-            _ => false,
-        }
+        let Some(deadline) = server.deadline() else {
+            return false;
+        };
+        let now = daemon.now(rt);
+        deadline <= now && server.tick(now).is_ok()
     }
 
     fn hear_server(&mut self, place: usize) {
