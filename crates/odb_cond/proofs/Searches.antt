@@ -1,15 +1,18 @@
 -- A search among atoms tells whether a condition that asks for one of them holds.
-use Rattle.std.specs.Prelude.{◌≡◌, Bool, true, false, not, ◌&&◌, ◌||◌, ◌==◌, List, [], ◌∷◌, length}
+use Rattle.std.specs.Prelude.{◌≡◌, ℕ, suc, ◌<◌, Bool, true, false, not, ◌&&◌, ◌||◌, ◌==◌, List, [], ◌∷◌, ◌++◌, length, get_or}
 use Rattle.std.specs.Borrow.{Bor}
-use Rattle.std.specs.BTreeSet.{insert_key}
 use Rattle.std.specs.List.{list_all, list_any}
 use Rattle.std.specs.declared.cmp.Ordering.{Ordering}
 use Rattle.std.specs.declared.cmp.Ordering.TheVariants.{Less, Equal, Greater}
-use Rattle.std.specs.Ordering.{match_ordering}
-use Rattle.std.proofs.Common.{arith}
+use Rattle.std.specs.List.Sorted.{IsNonDecreasingBy, IsPartitionPoint, IsSorted}
+use Rattle.std.specs.Ordering.{is_eq, ordering_index}
+use Rattle.std.proofs.Common.{arith, ⊎_elim}
+use Rattle.std.proofs.lemmas.Bool.{cases_lt}
 use Rattle.std.proofs.lemmas.Bool.Decides.{nat_tests}
 use Rattle.std.proofs.lemmas.Cmp.{eq_by_cmp_equiv}
 use Rattle.std.proofs.lemmas.List.{length-map}
+use Rattle.std.proofs.lemmas.List.Folds.{list_any-append, list_any_at}
+use Rattle.std.proofs.lemmas.List.Sorted.{searchable_from_sorted}
 use mathlib.Core.Path.{refl, sym, ap, ◌∙◌}
 use Rattle.odb_atoms.specs.Atom.{Atom, atom_cmp, same_atom}
 use Rattle.odb_atoms.specs.FinMap as finite
@@ -20,12 +23,11 @@ use Rattle.odb_atoms.specs.Represented.Value.{Lists}
 use Rattle.odb_atoms.specs.Value.{Atoms, Value, atoms, includes_all, map_of, same_value, set_of}
 use Rattle.odb_atoms.specs.declared.atom.Atom as code
 use Rattle.odb_atoms.specs.declared.value.Entries.TheVariants as entries
-use Rattle.odb_atoms.proofs.Atoms.{atom_cmp-IsAntisymmetric}
 use Rattle.odb_atoms.proofs.FinMaps.{contains_key-keys}
 use Rattle.odb_atoms.proofs.FinSets.{contains-from_list}
 use Rattle.odb_atoms.proofs.Lists.{any-map}
 use Rattle.odb_atoms.proofs.Values.{same_value-equal}
-use Rattle.odb_cond.specs.Represented.Keyed.{asks, asks_some, found_in, one}
+use Rattle.odb_cond.specs.Represented.Keyed.{asks, asks_some, found_in, is_among, one}
 
 -- ---- tests of lists
 
@@ -137,30 +139,29 @@ none_in_nothing is_equality ks = any_none (λ k. asks is_equality (set_of set.em
 
 -- ---- one atom more
 
-by_cases : (a b c : Bool) → a ≡ b → (b || c) ≡ ((b || c) || a)
-by_cases a true c e = refl
-by_cases a false true e = refl
-by_cases true false false e = sym e
-by_cases false false false e = refl
-
-in_front : (a b : Bool) → (a || b) ≡ (b || a)
-in_front true true = refl
-in_front true false = refl
-in_front false true = refl
-in_front false false = refl
-
-behind : (a b c d : Bool) → b ≡ (c || d) → (a || b) ≡ ((a || c) || d)
-behind true b c d e = refl
-behind false b c d e = e
-
-any_insert : {K : Type 0} (cmp : K → K → Ordering) (p : K → Bool) → ((k x : K) → cmp k x ≡ Equal → p k ≡ p x) → (xs : List K) (k : K) → list_any p (insert_key cmp xs k) ≡ (list_any p xs || p k)
-any_insert cmp p alike [] k = in_front (p k) false
-any_insert cmp p alike (x ∷ xs) k = by (cmp k x) refl (any_insert cmp p alike xs k)
+pub one_atom_more : (is_equality : Bool) (v : Value) (ks : List (code.Atom)) (k : code.Atom) → asks_some is_equality (ks ++ k ∷ []) v ≡ (asks_some is_equality ks v || asks is_equality v (atom_of k))
+one_atom_more is_equality v ks k = list_any-append (λ a. asks is_equality v (atom_of a)) ks (k ∷ []) ∙ ap (λ b. asks_some is_equality ks v || b) (or_false (asks is_equality v (atom_of k)))
   where
-    by : (o : Ordering) → cmp k x ≡ o → list_any p (insert_key cmp xs k) ≡ (list_any p xs || p k) → list_any p (match_ordering o (k ∷ x ∷ xs) (x ∷ xs) (x ∷ insert_key cmp xs k)) ≡ ((p x || list_any p xs) || p k)
-    by Less e rest = in_front (p k) (p x || list_any p xs)
-    by Equal e rest = by_cases (p k) (p x) (list_any p xs) (alike k x e)
-    by Greater e rest = behind (p x) (list_any p (insert_key cmp xs k)) (list_any p xs) (p k) rest
+    or_false : (b : Bool) → (b || false) ≡ b
+    or_false true = refl
+    or_false false = refl
 
-pub one_atom_more : (is_equality : Bool) (v : Value) (ks : List (code.Atom)) (k : code.Atom) → asks_some is_equality (insert_key (λ a b. atom_cmp (atom_of a) (atom_of b)) ks k) v ≡ (asks_some is_equality ks v || asks is_equality v (atom_of k))
-one_atom_more is_equality v ks k = any_insert (λ a b. atom_cmp (atom_of a) (atom_of b)) (λ a. asks is_equality v (atom_of a)) (λ a b e. ap (asks is_equality v) (atom_cmp-IsAntisymmetric (atom_of a) (atom_of b) e)) ks k
+-- ---- atoms in their order
+
+abbrev pub atoms_cmp : code.Atom → code.Atom → Ordering
+atoms_cmp x y = atom_cmp (atom_of x) (atom_of y)
+
+-- one that is at a place is among them
+pub among_at : (ks : List (code.Atom)) (i : ℕ) (k x : code.Atom) → i < length ks → atoms_cmp (get_or ks i k) x ≡ Equal → true ≡ is_among ks (atom_of x)
+among_at ks i k x low at = sym (list_any_at (λ b. same_atom (atom_of x) (atom_of b)) ks i k low (turned (atom_of x) (atom_of (get_or ks i k)) ∙ ap is_eq at))
+
+none_at : {X : Type 0} (p : X → Bool) (xs : List X) → ((i : ℕ) (d : X) → i < length xs → p (get_or xs i d) ≡ false) → list_any p xs ≡ false
+none_at p [] none = refl
+none_at p (x ∷ xs) none = ap (λ b. b || list_any p xs) (none 0 x (omega arith)) ∙ none_at p xs (λ i d low. none (suc i) d (omega arith))
+
+-- where a search finds no place, it isn't
+pub not_among : (ks : List (code.Atom)) (i : ℕ) (x : code.Atom) → IsSorted atoms_cmp ks → (IsNonDecreasingBy (λ k. ordering_index (atoms_cmp k x)) ks → IsPartitionPoint (λ k. atoms_cmp k x ≡ Less) (λ k. atoms_cmp k x ≡ Greater) ks i) → false ≡ is_among ks (atom_of x)
+not_among ks i x sorted found =
+    let parts = found (searchable_from_sorted atom_cmp_total atom_of ks (atom_of x) sorted) in
+    let apart : (k : ℕ) (d : code.Atom) → k < length ks → is_eq (atoms_cmp (get_or ks k d) x) ≡ false = λ k d low. ⊎_elim (λ early. ap is_eq (parts.0 k d (omega arith) early)) (λ late. ap is_eq (parts.1 k d late low)) (cases_lt k i) in
+    sym (none_at (λ b. same_atom (atom_of x) (atom_of b)) ks (λ k d low. turned (atom_of x) (atom_of (get_or ks k d)) ∙ apart k d low))

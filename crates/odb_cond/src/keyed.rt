@@ -1,19 +1,18 @@
 //! Members of a filter that ask for one atom of the same column, to be searched and not tried.
 
-ghost use Rattle.std.specs.Prelude.{◌≡◌, ◌||◌, [], OnOk};
+ghost use Rattle.std.specs.Prelude.{◌≡◌};
 ghost use Rattle.std.specs.Bool.{OnTrue};
 ghost use Rattle.std.specs.List.{list_any};
 ghost use Rattle.odb_atoms.specs.Represented.Atom.{atom_of, uuid_of};
 ghost use Rattle.odb_atoms.specs.Row as model_row;
 ghost use Rattle.odb_atoms.specs.Row.{cell};
 ghost use Rattle.odb_atoms.specs.Uuid as model_uuid;
-ghost use Rattle.odb_cond.specs.Represented.Clause.{selector_of};
-ghost use Rattle.odb_cond.specs.Represented.Keyed.{asks, asks_some, found_in, is_among, keyed_holds};
+ghost use Rattle.odb_cond.specs.Represented.Keyed.{asks_some, found_in, is_among, keyed_holds, listed_holds};
 
+use crate::ascending::Ascending;
 use crate::clause::Selector;
+use crate::gathered::Listed;
 use odb_atoms::{Atom, Entries, Row, Value};
-use std::alloc::{AllocError, Global};
-use std::collections::BTreeSet;
 use uuid::Uuid;
 
 /// Conditions on one column by one function, `==` or `includes`, each of them with the set of one atom
@@ -24,20 +23,23 @@ pub(crate) struct Keyed {
     /// By `==`, and not by `includes`.
     is_equality: bool,
     /// The atom of each.
-    atoms: BTreeSet<Atom>,
+    atoms: Ascending,
 }
 
 impl Keyed {
-    /// Makes one without conditions, which holds of no row. O(1).
-    pub(crate) fn new(alloc: Global, column: Selector, is_equality: bool) -> Keyed
-        ensures column { result.column ≡ column }
-        ensures is_equality { result.is_equality ≡ is_equality }
-        ensures empty { result.atoms.keys ≡ [] }
+    /// Prepares the conditions of the list. O(n log n) comparisons for n of them.
+    pub(crate) fn of(list: Listed) -> Keyed
+        ensures { (u : model_uuid.Uuid) (r : model_row.Row) → keyed_holds u r result ≡ listed_holds u r list }
     {
+        let Listed {
+            column,
+            is_equality,
+            atoms,
+        } = list;
         Keyed {
             column,
             is_equality,
-            atoms: BTreeSet::new(alloc),
+            atoms: Ascending::of(atoms),
         }
     }
 
@@ -48,22 +50,11 @@ impl Keyed {
         self.column == column && self.is_equality == is_equality
     }
 
-    /// Adds the condition with the atom. O(log n) comparisons for n atoms.
-    pub(crate) fn insert(&mut self, atom: Atom) -> Result<(), AllocError>
-        ensures { OnOk result ((u : model_uuid.Uuid) (r : model_row.Row)
-            → keyed_holds u r self.new
-            ≡ (keyed_holds u r self.old
-            || asks self.old.is_equality (cell u r (selector_of self.old.column)) (atom_of atom))) }
-    {
-        self.atoms.insert(atom)?;
-        Ok(())
-    }
-
     /// Returns whether the condition with the atom is one of these. O(log n) comparisons for n atoms.
     pub(crate) fn has(&self, atom: &Atom) -> bool
-        ensures { result ≡ is_among self.now.atoms.keys (atom_of atom.now) }
+        ensures { result ≡ is_among self.now.atoms (atom_of atom.now) }
     {
-        self.atoms.contains(atom)
+        self.atoms.has(atom)
     }
 
     /// Returns whether one of the conditions holds of the row with the identifier.
@@ -84,7 +75,7 @@ impl Keyed {
 
     /// Returns whether one of the conditions holds where the column has the value.
     fn holds_of(&self, value: &Value) -> bool
-        ensures { result ≡ asks_some self.now.is_equality self.now.atoms.keys value.now }
+        ensures { result ≡ asks_some self.now.is_equality self.now.atoms value.now }
     {
         match value.entries() {
             Entries::Set(elements) => self.is_found_in(elements),
@@ -94,7 +85,7 @@ impl Keyed {
 
     /// Returns whether one of the conditions holds where the column is the set of these elements.
     fn is_found_in(&self, elements: &[Atom]) -> bool
-        ensures { result ≡ found_in self.now.is_equality self.now.atoms.keys elements.now }
+        ensures { result ≡ found_in self.now.is_equality self.now.atoms elements.now }
     {
         if self.is_equality && elements.len() != 1 {
             return false;
@@ -104,8 +95,8 @@ impl Keyed {
 
     /// Returns whether one of the elements is the atom of a condition.
     fn has_some(&self, elements: &[Atom]) -> bool
-        ensures { result ≡ list_any (λ e. is_among self.now.atoms.keys (atom_of e)) elements.now }
+        ensures { result ≡ list_any (λ e. is_among self.now.atoms (atom_of e)) elements.now }
     {
-        elements.iter().any(|element| self.atoms.contains(element))
+        elements.iter().any(|element| self.atoms.has(element))
     }
 }

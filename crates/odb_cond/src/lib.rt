@@ -4,9 +4,11 @@
 //! unless its own page says otherwise. A call whose result has no such error takes no memory.
 #![tactic(auto)]
 
+mod ascending;
 mod clause;
 mod conditions;
 mod filter;
+mod gathered;
 mod keyed;
 mod prepared;
 

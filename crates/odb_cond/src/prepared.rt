@@ -1,6 +1,6 @@
 //! What is prepared from the members of a filter, so that a row is tested by a search.
 
-ghost use Rattle.std.specs.Prelude.{◌≡◌, ◌<◌, length, slice_get, true, IfOk, IfSome, List, OnOk, Some};
+ghost use Rattle.std.specs.Prelude.{◌≡◌, ◌<◌, length, true, IfOk, IfSome};
 ghost use Rattle.std.specs.List.{list_any, slice_index_or};
 ghost use Rattle.odb_atoms.specs.Represented.Atom.{atom_of, uuid_of};
 ghost use Rattle.odb_atoms.specs.Row as model_row;
@@ -9,14 +9,13 @@ ghost use Rattle.odb_atoms.specs.Uuid as model_uuid;
 ghost use Rattle.odb_cond.specs.Condition.{holds};
 ghost use Rattle.odb_cond.specs.Filter.{member_holds};
 ghost use Rattle.odb_cond.specs.Represented.Clause.{selector_of};
-ghost use Rattle.odb_cond.specs.Represented.Filter.{member_of};
-ghost use Rattle.odb_cond.specs.Represented.Keyed.{asks, keyed_holds};
-ghost use Rattle.odb_cond.specs.Represented.Prepared.{Gains, IsFound, finds, holds_at, some_holds};
-ghost use Rattle.odb_cond.specs.declared.filter.Member as code_member;
+ghost use Rattle.odb_cond.specs.Represented.Keyed.{asks, keyed_holds, listed_holds};
+ghost use Rattle.odb_cond.specs.Represented.Prepared.{IsFound, finds, holds_at, some_holds};
 ghost use Rattle.odb_cond.specs.declared.keyed.Keyed as code_keyed;
 
 use crate::clause::{Clause, Function, Selector, lone_atom};
 use crate::filter::Member;
+use crate::gathered::{Gathered, Listed};
 use crate::keyed::Keyed;
 use odb_atoms::{Atom, Row};
 use std::alloc::{AllocError, Global};
@@ -41,74 +40,9 @@ impl Prepared {
         ensures { IfOk result (λ prepared. (u : model_uuid.Uuid) (r : model_row.Row)
             → finds u r members.now prepared ≡ some_holds u r members.now) }
     {
-        let mut prepared = Prepared {
-            keyed: Vec::new(alloc),
-            others: Vec::new(alloc),
-        };
-        for place in 0..members.len() {
-            prepared.add(alloc, place, &members[place])?;
-        }
-        Ok(prepared)
-    }
-
-    /// Adds the member at the place.
-    fn add(&mut self, alloc: Global, place: usize, member: &Member) -> Result<(), AllocError>
-        ensures { OnOk result ((ms : List code_member.Member) → slice_get ms place ≡ Some member.now
-            → Gains (λ u r. member_holds u r (member_of member.now)) ms self.old self.new) }
-    {
-        match member {
-            Member::Always(_) => self.add_other(place),
-            Member::When(clause) => self.add_clause(alloc, place, clause),
-        }
-    }
-
-    /// Adds the condition at the place.
-    fn add_clause(&mut self, alloc: Global, place: usize, clause: &Clause) -> Result<(), AllocError>
-        ensures { OnOk result ((ms : List code_member.Member)
-            → ((u : model_uuid.Uuid) (r : model_row.Row) → holds_at u r ms place ≡ holds clause.now u r)
-            → Gains (λ u r. holds clause.now u r) ms self.old self.new) }
-    {
-        let Some(atom) = lone_atom(clause.value()) else {
-            return self.add_other(place);
-        };
-        match clause.function() {
-            Function::Equal => self.add_keyed(alloc, clause.column(), true, atom),
-            Function::Includes => self.add_keyed(alloc, clause.column(), false, atom),
-            _ => self.add_other(place),
-        }
-    }
-
-    /// Adds the place of a member that is tried.
-    fn add_other(&mut self, place: usize) -> Result<(), AllocError>
-        ensures { OnOk result ((ms : List code_member.Member)
-            → Gains (λ u r. holds_at u r ms place) ms self.old self.new) }
-    {
-        self.others.push(place)?;
-        Ok(())
-    }
-
-    /// Adds the condition on the column with the set of one atom, by `==` or by `includes`.
-    fn add_keyed(
-        &mut self,
-        alloc: Global,
-        column: Selector,
-        is_equality: bool,
-        atom: &Atom,
-    ) -> Result<(), AllocError>
-        ensures { OnOk result ((ms : List code_member.Member)
-            → Gains (λ u r. asks is_equality (cell u r (selector_of column)) (atom_of atom.now))
-            ms self.old self.new) }
-    {
-        let atom = atom.try_copy(alloc)?;
-        match find(&self.keyed, column, is_equality) {
-            Some(place) => self.keyed[place].insert(atom),
-            None => {
-                let mut keyed = Keyed::new(alloc, column, is_equality);
-                keyed.insert(atom)?;
-                self.keyed.push(keyed)?;
-                Ok(())
-            }
-        }
+        let Gathered { lists, others } = Gathered::of(alloc, members)?;
+        let keyed = prepare_all(alloc, lists)?;
+        Ok(Prepared { keyed, others })
     }
 
     /// Returns whether it is certain that the member is one of those that were prepared, or like one.
@@ -171,6 +105,18 @@ impl Prepared {
         some_keyed_holds(&self.keyed, uuid, row)
             || some_other_holds(&self.others, members, uuid, row)
     }
+}
+
+/// Prepares the conditions of each list.
+fn prepare_all(alloc: Global, lists: Vec<Listed>) -> Result<Vec<Keyed>, AllocError>
+    ensures { IfOk result (λ keyed. (u : model_uuid.Uuid) (r : model_row.Row)
+        → list_any (keyed_holds u r) keyed.items ≡ list_any (listed_holds u r) lists.items) }
+{
+    let mut keyed = Vec::with_capacity(alloc, lists.len())?;
+    for list in lists {
+        keyed.push(Keyed::of(list))?;
+    }
+    Ok(keyed)
 }
 
 /// Returns whether the member is like one at the places.

@@ -9,6 +9,7 @@ use Rattle.odb_atoms.specs.Uuid.{Uuid}
 use Rattle.odb_atoms.specs.Value.{Value, atoms, set_of}
 use Rattle.odb_cond.specs.Condition.{Function, equal, includes, relates}
 use Rattle.odb_cond.specs.Represented.Clause.{selector_of}
+use Rattle.odb_cond.specs.declared.gathered.Listed.{Listed}
 use Rattle.odb_cond.specs.declared.keyed.Keyed.{Keyed}
 
 abbrev pub one : Atom → Value
@@ -28,7 +29,10 @@ abbrev pub asks_some : Bool → List (code.Atom) → Value → Bool
 asks_some is_equality atoms v = list_any (λ a. asks is_equality v (atom_of a)) atoms
 
 abbrev pub keyed_holds : Uuid → Row → Keyed → Bool
-keyed_holds u r k = asks_some k.is_equality k.atoms.keys (cell u r (selector_of k.column))
+keyed_holds u r k = asks_some k.is_equality k.atoms (cell u r (selector_of k.column))
+
+abbrev pub listed_holds : Uuid → Row → Listed → Bool
+listed_holds u r l = asks_some l.is_equality l.atoms.items (cell u r (selector_of l.column))
 
 -- a is among the atoms
 abbrev pub is_among : List (code.Atom) → Atom → Bool

@@ -4,10 +4,11 @@ use Rattle.std.specs.List.{list_any}
 use Rattle.odb_atoms.specs.Row.{Row}
 use Rattle.odb_atoms.specs.Uuid.{Uuid}
 use Rattle.odb_cond.specs.Filter.{Filter, member_holds}
-use Rattle.odb_cond.specs.Represented.Keyed.{keyed_holds}
+use Rattle.odb_cond.specs.Represented.Keyed.{keyed_holds, listed_holds}
 use Rattle.odb_cond.specs.Represented.Filter.{member_of}
 use Rattle.odb_cond.specs.declared.filter.Filter.TheInside.{Inside}
 use Rattle.odb_cond.specs.declared.filter.Member.{Member}
+use Rattle.odb_cond.specs.declared.gathered.Gathered.{Gathered}
 use Rattle.odb_cond.specs.declared.prepared.Prepared.{Prepared}
 
 -- some member holds
@@ -21,9 +22,13 @@ holds_at u r ms k = unwrap_or (option_map (λ m. member_holds u r (member_of m))
 abbrev pub finds : Uuid → Row → List Member → Prepared → Bool
 finds u r ms p = list_any (keyed_holds u r) p.keyed.items || list_any (holds_at u r ms) p.others.items
 
--- it finds what it found, and the rows that pass the test
-abbrev pub Gains : (Uuid → Row → Bool) → List Member → Prepared → Prepared → Type 0
-Gains test ms old new = (u : Uuid) (r : Row) → finds u r ms new ≡ (finds u r ms old || test u r)
+-- the same before the lists are prepared
+abbrev pub gathers : Uuid → Row → List Member → Gathered → Bool
+gathers u r ms g = list_any (listed_holds u r) g.lists.items || list_any (holds_at u r ms) g.others.items
+
+-- it has what it had, and the rows that pass the test
+abbrev pub Gains : (Uuid → Row → Bool) → List Member → Gathered → Gathered → Type 0
+Gains test ms old new = (u : Uuid) (r : Row) → gathers u r ms new ≡ (gathers u r ms old || test u r)
 
 -- what is prepared finds the rows of which some member holds
 abbrev pub IsPrepared : Inside → Type 0

@@ -13,6 +13,6 @@ returns-in-None c =
     let self = c.args.self.now in
     let u = uuid_of c.args.uuid in
     let gone : slice_get c.args.row.now.columns c.in-Declared.place ≡ None = search rules in
-    sym ((λ i. asks_some self.is_equality self.atoms.keys (cell u c.args.row.now (selector_of (c.in-Declared.is i))))
-    ∙ ap (λ (o : Option Value). asks_some self.is_equality self.atoms.keys (unwrap_or o (set_of set.empty))) gone
-    ∙ none_in_nothing self.is_equality self.atoms.keys)
+    sym ((λ i. asks_some self.is_equality self.atoms (cell u c.args.row.now (selector_of (c.in-Declared.is i))))
+    ∙ ap (λ (o : Option Value). asks_some self.is_equality self.atoms (unwrap_or o (set_of set.empty))) gone
+    ∙ none_in_nothing self.is_equality self.atoms)

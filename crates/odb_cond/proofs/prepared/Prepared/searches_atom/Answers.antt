@@ -17,7 +17,7 @@ returns-in-Some c =
     let asked = c.in-Some.ensures.found x in
     let column : x.column ≡ c.args.column = ap (λ z. z.column) at ∙ ap (λ l. (get_or l k x).column) (sym there) ∙ asked.0 in
     let is_equality : x.is_equality ≡ c.args.is_equality = ap (λ z. z.is_equality) at ∙ ap (λ l. (get_or l k x).is_equality) (sym there) ∙ asked.1 in
-    let has : c.has.result ≡ is_among x.atoms.keys (atom_of c.args.atom.now) = search rules in
+    let has : c.has.result ≡ is_among x.atoms (atom_of c.args.atom.now) = search rules in
     λ found u r asks_it.
     let there_it_asks : asks x.is_equality (cell u r (selector_of x.column)) (atom_of c.args.atom.now) ≡ true = (λ i. asks (is_equality i) (cell u r (selector_of (column i))) (atom_of c.args.atom.now)) ∙ asks_it in
-    any_at (keyed_holds u r) all k x low at (asked_among x.is_equality (cell u r (selector_of x.column)) x.atoms.keys (atom_of c.args.atom.now) (sym has ∙ found) there_it_asks)
+    any_at (keyed_holds u r) all k x low at (asked_among x.is_equality (cell u r (selector_of x.column)) x.atoms (atom_of c.args.atom.now) (sym has ∙ found) there_it_asks)

@@ -3,7 +3,7 @@ use Rattle.std.proofs.lemmas.List.Folds.{list_any_more}
 use Rattle.std.proofs.lemmas.Option.{slice_get-get_or}
 use Rattle.odb_cond.specs.Filter.{member_holds}
 use Rattle.odb_cond.specs.Represented.Filter.{member_of}
-use Rattle.odb_cond.proofs.prepared.Prepared.of.Goals as goal
+use Rattle.odb_cond.proofs.gathered.Gathered.of.Goals as goal
 
 pub loop-place-preserved : goal.loop-place-preserved
 loop-place-preserved c =
