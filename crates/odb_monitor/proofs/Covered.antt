@@ -18,7 +18,7 @@ use Rattle.odb_monitor.specs.Represented.Sides.{Pair, only_shown, passed, shown_
 use Rattle.odb_monitor.specs.View.{Cells, Change, change, cut, differs}
 use Rattle.odb_monitor.specs.declared.told.Told.{Told}
 use Rattle.odb_monitor.specs.declared.told.Told.TheVariants.{Asked, Nothing}
-use Rattle.odb_monitor.proofs.Kept.{AreDistinct}
+use Rattle.odb_tables.proofs.Ordered.{AreDistinct}
 use Rattle.odb_monitor.proofs.Maps.{get-map_entries}
 use Rattle.odb_request.specs.Request.{Request}
 use Rattle.odb_tables.specs.Change.{before}

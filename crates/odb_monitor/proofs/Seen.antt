@@ -17,7 +17,8 @@ use Rattle.odb_monitor.specs.View.{change, cut, is_empty, is_shown, selected}
 use Rattle.odb_monitor.specs.declared.told.Told.{Told}
 use Rattle.odb_monitor.specs.declared.told.Told.TheVariants.{Asked, Nothing, Under}
 use Rattle.odb_monitor.proofs.Covered.{never}
-use Rattle.odb_monitor.proofs.Kept.{AreDistinct, distinct-kept, distinct-moved, find-kept, find-moved, kept_in_order}
+use Rattle.odb_tables.proofs.Ordered.{AreDistinct}
+use Rattle.odb_monitor.proofs.Kept.{distinct-kept, distinct-moved, find-kept, find-moved, kept_in_order}
 use Rattle.odb_monitor.proofs.Maps.{get-combine, get-empty, get-map_entries, key-itself}
 use Rattle.odb_request.specs.Request.{Request}
 use Rattle.odb_tables.specs.Change.{Changes, before}

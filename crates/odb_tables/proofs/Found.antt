@@ -1,19 +1,17 @@
 -- Identifiers that were found, each once: those of a part of a table after those of the rest, and in order they are the keys of the whole.
-use Rattle.std.proofs.Common.{◌≡◌, ◌+◌, ◌<◌, Bool, true, false, cond, not, ◌&&◌, ◌||◌, List, [], ◌∷◌, ◌++◌, length, map, filter, get_or, Option, Some, None, option_and_then, option_map, is_some, IsPermutation, IsTrue, refl, sym, ap, subst, ◌∙◌, arith}
+use Rattle.std.proofs.Common.{◌≡◌, ◌+◌, Bool, true, false, cond, not, ◌&&◌, ◌||◌, List, [], ◌∷◌, ◌++◌, map, filter, Option, Some, None, option_and_then, option_map, is_some, IsPermutation, IsTrue, refl, sym, ap, subst, ◌∙◌}
 use lib.Dec.{T}
 use mathlib.Core.Bool.{true≢false}
-use Rattle.std.proofs.lemmas.List.{get_or-map, length-map}
 use Rattle.std.proofs.lemmas.List.Sorted.{IsPermutation-map, list_any-IsPermutation}
-use Rattle.std.proofs.lemmas.Map.Keys.{IsDistinct-IsPermutation, IsDistinct-cons, IsDistinct-head, IsDistinct-tail, apart_from_distinct, sorted_from_all_adjacent, sorted_head, sorted_tail}
+use Rattle.std.proofs.lemmas.Map.Keys.{IsDistinct-IsPermutation, IsDistinct-cons, IsDistinct-head, IsDistinct-tail, sorted_head, sorted_tail}
 use Rattle.std.specs.Arc.{arc_value}
 use Rattle.std.specs.declared.sync.Arc.{Arc}
-use Rattle.std.specs.declared.cmp.Ordering.{Ordering}
-use Rattle.std.specs.declared.cmp.Ordering.TheVariants.{Less, Equal, Greater}
+use Rattle.std.specs.declared.cmp.Ordering.TheVariants.{Less}
 use Rattle.std.specs.FinMap.Entries.{below_all, find, is_sorted, same_entries}
 use Rattle.std.specs.List.{AllByRecursion, IsDistinct, list_any}
 use Rattle.std.specs.List.Sorted.{IsSortedByKey, IsStrictlySortedBy}
 use Rattle.std.specs.Map.{keys_of, lookup}
-use Rattle.std.specs.Ordering.{eq_by_cmp, is_eq, is_lt, ordering_reverse}
+use Rattle.std.specs.Ordering.{eq_by_cmp, is_lt}
 use Rattle.indexmap.specs.IndexMap.{IndexMap, IsUnique}
 use Rattle.odb_atoms.specs.FinMap as finite
 use Rattle.odb_atoms.specs.Row.{Row}
@@ -28,6 +26,7 @@ use Rattle.odb_tables.specs.Represented.Key.{keys_equivalent, uuid_cmp_total}
 use Rattle.odb_tables.specs.Represented.Overlay.{Touched, passes_now, row_of}
 use Rattle.odb_tables.specs.Represented.Keyed.{keyed}
 use Rattle.odb_tables.proofs.KeyedMaps.{get-keyed}
+use Rattle.odb_tables.proofs.Ordered.{ranked, rises, rising-none}
 use Rattle.odb_tables.proofs.Overlays.{get-overlaid}
 
 -- ---- the entries of a list that pass a test
@@ -289,39 +288,14 @@ rising-keys us t up is =
     (λ q. find-marked q us ∙ ap (λ b. cond b (Some tt) None) (is q ∙ contains_key-keys t q) ∙ sym (find-marked q ks)) in
     sym (unmarked us) ∙ ap (map (λ (e : Uuid × Unit {0}). e.0)) same ∙ unmarked ks
 
--- identifiers that don't fall, and differ, rise
-next : (r : Ordering) → is_lt (ordering_reverse r) ≡ false → is_eq r ≡ false → r ≡ Less
-next Less e f = refl
-next Equal e f = absurd (true≢false f)
-next Greater e f = absurd (true≢false e)
-
-rising-none : IsStrictlySortedBy uuid_cmp []
-unfolding IsStrictlySortedBy
-rising-none = tt
-
 rising-one : (u : Uuid) → IsStrictlySortedBy uuid_cmp (u ∷ [])
 unfolding IsStrictlySortedBy
 rising-one u = (tt, tt)
-
-rises : (us : List Uuid) → IsSortedByKey (λ u. u) uuid_cmp us → IsDistinct (eq_by_cmp uuid_cmp) us → IsStrictlySortedBy uuid_cmp us
-rises [] up apart = rising-none
-rises (u ∷ us) up apart =
-    sorted_from_all_adjacent uuid_cmp_total (u ∷ us) u
-    (λ k low.
-    let a = get_or (u ∷ us) k u in
-    let b = get_or (u ∷ us) (k + 1) u in
-    next (uuid_cmp a b) (ap is_lt (sym (uuid_cmp_total.antisymm b a)) ∙ up k u (omega arith) low) (apart_from_distinct (eq_by_cmp uuid_cmp) (u ∷ us) k (k + 1) u apart (omega arith) low))
 
 pub sorted-keys : (us ws : List Uuid) (t : Table) → Lists us t → IsPermutation us ws → IsSortedByKey (λ u. u) uuid_cmp ws → ws ≡ finite.keys t
 sorted-keys us ws t h moved up =
     rising-keys ws t (rises ws up (IsDistinct-IsPermutation (eq_by_cmp uuid_cmp) keys_equivalent.symm us ws moved h.0))
     (λ q. sym (list_any-IsPermutation (eq_by_cmp uuid_cmp q) us ws moved) ∙ h.1 q)
-
-ranked : {X : Type 0} (f : X → Uuid) (xs : List X) → IsSortedByKey f uuid_cmp xs → IsSortedByKey (λ u. u) uuid_cmp (map f xs)
-ranked f [] up = λ k d low high. absurd (omega (arith, high))
-ranked f (x ∷ xs) up = λ k d low high.
-    let long : k + 1 < length (x ∷ xs) = omega (arith, length-map (x ∷ xs) f, high) in
-    (λ i. is_lt (uuid_cmp (get_or-map f (x ∷ xs) (k + 1) x d long i) (get_or-map f (x ∷ xs) k x d (omega (arith, long)) i))) ∙ up k x low long
 
 -- the identifiers that were found in the two parts, the second after the first
 pub parts-Lists : (p : Uuid → Row → Bool) (o : Touched) (t : Table) (first second : List Uuid) → Appends [] first (passing p (untouched o t)) → Appends first second (passing p (standing o)) → Lists second (passing p (overlaid t o))

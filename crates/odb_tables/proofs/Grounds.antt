@@ -1,6 +1,8 @@
 -- Tables with changes put over them that aren't made yet, as a draft over these finds them.
-use Rattle.std.proofs.Common.{◌≡◌, ℕ, zero, suc, ◌<◌, ◌≤◌, arith, Bool, true, false, cond, not, ◌&&◌, ◌||◌, List, [], ◌∷◌, filter, get_or, length, map, slice_get, unwrap_or, Option, Some, None, is_some, option_and_then, refl, sym, ap, subst, ◌∙◌}
-use Rattle.std.proofs.lemmas.Option.{slice_get-get_or, slice_get_cases, slice_get_past}
+use Rattle.std.proofs.Common.{◌≡◌, ℕ, zero, suc, ◌<◌, ◌≤◌, arith, Bool, true, false, cond, not, ◌&&◌, ◌||◌, List, [], ◌∷◌, filter, get_or, length, map, slice_get, unwrap_or, Option, Some, None, is_some, IfSome, option_and_then, refl, sym, ap, subst, ◌∙◌}
+use Rattle.std.proofs.lemmas.Option.{none-some, slice_get-get_or, slice_get_cases, slice_get_past}
+use Rattle.std.specs.Borrow.{Bor}
+use Rattle.std.specs.Option.{option_copied}
 use mathlib.Core.Bool.{true≢false}
 use mathlib.Core.Logic.{inl, inr}
 use Rattle.std.specs.List.{list_any}
@@ -57,6 +59,14 @@ table-at db k t low at = at ∙ ap (λ o. unwrap_or o finite.empty) (slice_get-g
 -- and as a look-up finds it
 pub get-table : (db : Db) (k : ℕ) (t : Table) → k < length db → t ≡ table_at db k → Some t ≡ slice_get db k
 get-table db k t low at = ap Some (table-at db k t low at) ∙ sym (slice_get-get_or db k t low)
+
+-- the table at a place, if there is one and nothing is put over it
+pub bare-table : (db : Db) (os : List Touched) (k : ℕ) (o : Option (Bor Table)) (whole : Table) → ((t : Table) → ground t (slice_get os k) ≡ t) → option_copied o ≡ slice_get db k → table_at (grounds db os) k ≡ whole → IfSome o (λ found. found.now ≡ whole)
+bare-table db os k None whole bare got is = tt
+bare-table db os k (Some found) whole bare got is = elim (slice_get_cases db k).1 as (λ _. found.now ≡ whole) [
+  | inl at ↦ ap (λ o. unwrap_or o finite.empty) got ∙ sym (bare (table_at db k)) ∙ sym (at-grounds db os k at.1) ∙ is
+  | inr past ↦ absurd (none-some found.now (sym past.1 ∙ sym got))
+]
 
 -- ---- what is found in a table under them
 

@@ -14,6 +14,7 @@ pub mod KeyedMaps
 mod Keys
 pub mod Leading
 mod Mentions
+pub mod Ordered
 mod Overlays
 mod PairSets
 mod PutChanges

@@ -1,7 +1,9 @@
 -- The rows of a table as a list of entries: of those that pass a test, and of those under keys among which is each row's.
-use Rattle.std.proofs.Common.{◌≡◌, Bool, true, false, cond, ◌||◌, List, [], ◌∷◌, ◌++◌, filter, filter_map, Option, Some, None, is_some, option_and_then, option_map, refl, sym, ap, ◌∙◌}
+use Rattle.std.proofs.Common.{◌≡◌, Bool, true, false, cond, ◌||◌, List, [], ◌∷◌, ◌++◌, filter, Option, Some, None, is_some, option_and_then, option_map, refl, sym, ap, ◌∙◌}
+use mathlib.Core.Logic.{inl, inr}
 use Rattle.std.proofs.lemmas.List.{append-nil}
 use Rattle.std.proofs.lemmas.List.Elements.{filter_map-append}
+use Rattle.std.proofs.lemmas.Option.{none-some}
 use Rattle.std.proofs.lemmas.Map.Keys.{IsDistinct-cons, IsDistinct-head, IsDistinct-tail}
 use Rattle.std.specs.FinMap.Entries.{find}
 use Rattle.std.specs.List.{AllByRecursion, IsDistinct, cons_option, list_any}
@@ -11,11 +13,14 @@ use Rattle.odb_atoms.specs.FinMap as finite
 use Rattle.odb_atoms.specs.Row.{Row}
 use Rattle.odb_atoms.specs.Uuid.{Uuid, uuid_cmp}
 use Rattle.odb_atoms.proofs.Atoms.{uuid_cmp-IsAntisymmetric}
+use Rattle.odb_atoms.proofs.EachEntry.{get-entry}
 use Rattle.odb_atoms.proofs.FinMaps.{same_key, same_map}
+use Rattle.odb_atoms.proofs.Lists.{Member}
 use Rattle.odb_tables.specs.Database.{Table}
 use Rattle.odb_tables.specs.Represented.Found.{passing}
 use Rattle.odb_tables.specs.Represented.Keeping.{Covers}
 use Rattle.odb_tables.specs.Represented.Key.{uuid_cmp_total}
+use Rattle.odb_tables.specs.Represented.Table.{entries_at, entry_at}
 use Rattle.odb_tables.proofs.Found.{distinct_found, get-passing, if_passes, matches}
 use Rattle.odb_tables.proofs.KeyedMaps.{get-from_entries, none_behind}
 use Rattle.odb_tables.proofs.Overlays.{none_twice}
@@ -58,20 +63,13 @@ module _ (p : Uuid → Row → Bool) where
 -- ---- the rows under keys
 
 module _ (t : Table) where
-  -- the row under the key, with the key
-  abbrev pub entry_at : Uuid → Option (Uuid × Row)
-  entry_at u = option_map (λ r. let e : Uuid × Row = (u, r) in e) (finite.get t u)
+  pub entries-none : (us : List Uuid) (u : Uuid) → finite.get t u ≡ None → entries_at t us ≡ entries_at t (us ++ u ∷ [])
+  entries-none us u none = sym (append-nil (entries_at t us)) ∙ ap (λ o. entries_at t us ++ cons_option (option_map (λ r. let e : Uuid × Row = (u, r) in e) o) []) (sym none) ∙ sym (filter_map-append (entry_at t) us (u ∷ []))
 
-  abbrev pub entries_at : List Uuid → List (Uuid × Row)
-  entries_at us = filter_map entry_at us
+  pub entries-some : (us : List Uuid) (u : Uuid) (r : Row) → finite.get t u ≡ Some r → entries_at t us ++ (u, r) ∷ [] ≡ entries_at t (us ++ u ∷ [])
+  entries-some us u r some = ap (λ o. entries_at t us ++ cons_option (option_map (λ r. let e : Uuid × Row = (u, r) in e) o) []) (sym some) ∙ sym (filter_map-append (entry_at t) us (u ∷ []))
 
-  pub entries-none : (us : List Uuid) (u : Uuid) → finite.get t u ≡ None → entries_at us ≡ entries_at (us ++ u ∷ [])
-  entries-none us u none = sym (append-nil (entries_at us)) ∙ ap (λ o. entries_at us ++ cons_option (option_map (λ r. let e : Uuid × Row = (u, r) in e) o) []) (sym none) ∙ sym (filter_map-append entry_at us (u ∷ []))
-
-  pub entries-some : (us : List Uuid) (u : Uuid) (r : Row) → finite.get t u ≡ Some r → entries_at us ++ (u, r) ∷ [] ≡ entries_at (us ++ u ∷ [])
-  entries-some us u r some = ap (λ o. entries_at us ++ cons_option (option_map (λ r. let e : Uuid × Row = (u, r) in e) o) []) (sym some) ∙ sym (filter_map-append entry_at us (u ∷ []))
-
-  find-entries_at : (us : List Uuid) (q : Uuid) → find uuid_cmp q (entries_at us) ≡ cond (list_any (eq_by_cmp uuid_cmp q) us) (finite.get t q) None
+  find-entries_at : (us : List Uuid) (q : Uuid) → find uuid_cmp q (entries_at t us) ≡ cond (list_any (eq_by_cmp uuid_cmp q) us) (finite.get t q) None
   find-entries_at [] q = refl
   find-entries_at (u ∷ us) q = by (eq_by_cmp uuid_cmp q u) refl (finite.get t u) refl (find-entries_at us q)
     where
@@ -82,37 +80,60 @@ module _ (t : Table) where
       nothing true o e = refl
       nothing false o e = sym e
 
-      by : (a : Bool) → eq_by_cmp uuid_cmp q u ≡ a → (o : Option Row) → finite.get t u ≡ o → find uuid_cmp q (entries_at us) ≡ cond (list_any (eq_by_cmp uuid_cmp q) us) (finite.get t q) None
-          → find uuid_cmp q (cons_option (option_map (λ r. let e : Uuid × Row = (u, r) in e) o) (entries_at us)) ≡ cond (a || list_any (eq_by_cmp uuid_cmp q) us) (finite.get t q) None
+      by : (a : Bool) → eq_by_cmp uuid_cmp q u ≡ a → (o : Option Row) → finite.get t u ≡ o → find uuid_cmp q (entries_at t us) ≡ cond (list_any (eq_by_cmp uuid_cmp q) us) (finite.get t q) None
+          → find uuid_cmp q (cons_option (option_map (λ r. let e : Uuid × Row = (u, r) in e) o) (entries_at t us)) ≡ cond (a || list_any (eq_by_cmp uuid_cmp q) us) (finite.get t q) None
       by true is None at rest = rest ∙ nothing (list_any (eq_by_cmp uuid_cmp q) us) (finite.get t q) (here is ∙ at)
-      by true is (Some r) at rest = ap (λ b. cond b (Some r) (find uuid_cmp q (entries_at us))) is ∙ sym (here is ∙ at)
+      by true is (Some r) at rest = ap (λ b. cond b (Some r) (find uuid_cmp q (entries_at t us))) is ∙ sym (here is ∙ at)
       by false is None at rest = rest
-      by false is (Some r) at rest = ap (λ b. cond b (Some r) (find uuid_cmp q (entries_at us))) is ∙ rest
+      by false is (Some r) at rest = ap (λ b. cond b (Some r) (find uuid_cmp q (entries_at t us))) is ∙ rest
 
-  all-entries_at : (P : Uuid → Type 0) (us : List Uuid) → AllByRecursion P us → AllByRecursion P (keys_of (entries_at us))
+  all-entries_at : (P : Uuid → Type 0) (us : List Uuid) → AllByRecursion P us → AllByRecursion P (keys_of (entries_at t us))
   all-entries_at P [] h = tt
   all-entries_at P (u ∷ us) h = by (finite.get t u) (all-entries_at P us h.1)
     where
-      by : (o : Option Row) → AllByRecursion P (keys_of (entries_at us)) → AllByRecursion P (keys_of (cons_option (option_map (λ r. let e : Uuid × Row = (u, r) in e) o) (entries_at us)))
+      by : (o : Option Row) → AllByRecursion P (keys_of (entries_at t us)) → AllByRecursion P (keys_of (cons_option (option_map (λ r. let e : Uuid × Row = (u, r) in e) o) (entries_at t us)))
       by None rest = rest
       by (Some r) rest = (h.0, rest)
 
-  pub distinct-entries_at : (us : List Uuid) → IsDistinct (eq_by_cmp uuid_cmp) us → IsDistinct (eq_by_cmp uuid_cmp) (keys_of (entries_at us))
+  pub distinct-entries_at : (us : List Uuid) → IsDistinct (eq_by_cmp uuid_cmp) us → IsDistinct (eq_by_cmp uuid_cmp) (keys_of (entries_at t us))
   distinct-entries_at [] h = none_twice
   distinct-entries_at (u ∷ us) h = by (finite.get t u) (distinct-entries_at us (IsDistinct-tail (eq_by_cmp uuid_cmp) u us h))
     where
-      by : (o : Option Row) → IsDistinct (eq_by_cmp uuid_cmp) (keys_of (entries_at us)) → IsDistinct (eq_by_cmp uuid_cmp) (keys_of (cons_option (option_map (λ r. let e : Uuid × Row = (u, r) in e) o) (entries_at us)))
+      by : (o : Option Row) → IsDistinct (eq_by_cmp uuid_cmp) (keys_of (entries_at t us)) → IsDistinct (eq_by_cmp uuid_cmp) (keys_of (cons_option (option_map (λ r. let e : Uuid × Row = (u, r) in e) o) (entries_at t us)))
       by None rest = rest
-      by (Some r) rest = IsDistinct-cons (eq_by_cmp uuid_cmp) u (keys_of (entries_at us)) (all-entries_at _ us (IsDistinct-head (eq_by_cmp uuid_cmp) u us h)) rest
+      by (Some r) rest = IsDistinct-cons (eq_by_cmp uuid_cmp) u (keys_of (entries_at t us)) (all-entries_at _ us (IsDistinct-head (eq_by_cmp uuid_cmp) u us h)) rest
 
   -- they are all rows where each row's key is among the keys
-  pub all-found : (us : List Uuid) → ((u : Uuid) → finite.contains_key t u ≡ true → list_any (eq_by_cmp uuid_cmp u) us ≡ true) → finite.from_entries (entries_at us) ≡ t
-  all-found us h = same_map uuid_cmp_total uuid_cmp-IsAntisymmetric _ _ (λ q. get-from_entries (entries_at us) q ∙ find-entries_at us q ∙ by q (finite.get t q) (h q))
+  pub all-found : (us : List Uuid) → ((u : Uuid) → finite.contains_key t u ≡ true → list_any (eq_by_cmp uuid_cmp u) us ≡ true) → finite.from_entries (entries_at t us) ≡ t
+  all-found us h = same_map uuid_cmp_total uuid_cmp-IsAntisymmetric _ _ (λ q. get-from_entries (entries_at t us) q ∙ find-entries_at us q ∙ by q (finite.get t q) (h q))
     where
       by : (q : Uuid) (o : Option Row) → (is_some o ≡ true → list_any (eq_by_cmp uuid_cmp q) us ≡ true) → cond (list_any (eq_by_cmp uuid_cmp q) us) o None ≡ o
       by q None here = elim (list_any (eq_by_cmp uuid_cmp q) us) as (λ b. cond {A = Option Row} b None None ≡ None) [ true ↦ refl | false ↦ refl ]
       by q (Some r) here = ap (λ b. cond {A = Option Row} b (Some r) None) (here refl)
 
+  -- those under the keys of some of its rows are these
+  these_entries : (es : List (Uuid × Row)) → ((e : Uuid × Row) → Member e es → finite.get t e.0 ≡ Some e.1) → entries_at t (keys_of es) ≡ es
+  these_entries [] h = refl
+  these_entries (e ∷ es) h =
+      ap (λ o. cons_option (option_map (λ r. let f : Uuid × Row = (e.0, r) in f) o) (entries_at t (keys_of es))) (h e (inl refl))
+      ∙ ap (λ fs. e ∷ fs) (these_entries es (λ f m. h f (inr m)))
+
 -- so they are all rows that pass where the keys cover these
 pub covered-found : (p : Uuid → Row → Bool) (t : Table) (us : List Uuid) → Covers us p t → finite.from_entries (entries_at (passing p t) us) ≡ passing p t
 covered-found p t us h = all-found (passing p t) us (λ u e. h u (sym (matches p t u) ∙ e))
+
+-- and in order where the keys are theirs in order
+pub passing-found : (p : Uuid → Row → Bool) (t : Table) → entries_at t (finite.keys (passing p t)) ≡ finite.entries_of (passing p t)
+unfolding finite.keys
+passing-found p t = these_entries t (passing p t).entries (λ e m. there e.0 e.1 (sym (get-passing p t e.0) ∙ get-entry uuid_cmp_total (passing p t) e m))
+  where
+    kept : (b : Bool) (q r : Row) → cond b (Some q) None ≡ Some r → Some q ≡ Some r
+    kept true q r e = e
+    kept false q r e = absurd (none-some r e)
+
+    by : (u : Uuid) (r : Row) (o : Option Row) → option_and_then (if_passes p u) o ≡ Some r → o ≡ Some r
+    by u r None e = absurd (none-some r e)
+    by u r (Some q) e = kept (p u q) q r e
+
+    there : (u : Uuid) (r : Row) → option_and_then (if_passes p u) (finite.get t u) ≡ Some r → finite.get t u ≡ Some r
+    there u r e = by u r (finite.get t u) e

@@ -60,7 +60,7 @@ impl Db {
 
     /// Makes a database of the schema's tables, all of them without rows, in which a table's rows are kept by each of
     /// its `indexes` and by each column that refers to rows (RFC 7047, section 3.2), so that `Draft::has_new_twins`,
-    /// `Draft::referrers`, `Draft::matching` and `Rows::selected` needn't walk over them. O(the schema).
+    /// `Draft::referrers`, `Draft::matching`, `Draft::select` and `Rows::selected` needn't walk over them. O(the schema).
     pub fn for_schema(
         alloc: Global,
         schema: &Schema,

@@ -14,6 +14,7 @@ ghost use Rattle.odb_atoms.specs.Uuid.{zero_uuid};
 ghost use Rattle.odb_atoms.specs.Value.{is_map, same_value, set_of};
 ghost use Rattle.odb_tables.specs.Kept as kept;
 ghost use Rattle.odb_cond.specs.Condition.{holds, holds_all};
+ghost use Rattle.odb_cond.specs.Filter.{selects};
 ghost use Rattle.odb_tables.specs.Kept.{is_twin};
 
 use crate::digest;
@@ -21,7 +22,7 @@ use crate::entry::key_of;
 use crate::facet::Facet;
 use crate::key::Key;
 use odb_atoms::{Atom, Entries, Row, Value};
-use odb_cond::{Clause, Function, Selector, Where};
+use odb_cond::{Clause, Filter, Function, Selector, Where};
 use uuid::Uuid;
 
 /// What rows of a table are looked for: those that pass.
@@ -69,6 +70,19 @@ impl Test for Clause {
             Facet::Values(hashing, places) => digest::of_asked(*hashing, places.as_slice(), self),
             Facet::Mentions(place) => mentioned_at(self, *place),
         }
+    }
+}
+
+/// Those that the filter selects. It has no tag: `Rows::selected` asks its members one by one.
+impl Test for Filter {
+    ghost passes = { λ filter. selects filter };
+
+    fn passes(&self, uuid: Uuid, row: &Row) -> bool {
+        self.holds(uuid, row)
+    }
+
+    fn tag(&self, _facet: &Facet) -> Option<Key> {
+        None
     }
 }
 

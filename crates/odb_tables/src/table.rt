@@ -125,20 +125,20 @@ impl Table {
         Ok(rows)
     }
 
-    /// Returns each of the rows that the filter selects once, with its identifier, in no order that is told. O(rows),
-    /// each tested once.
-    pub(crate) fn select(
+    /// Returns each of the rows that pass the test once, with its identifier, in no order that is told. O(rows), each
+    /// tested once.
+    pub(crate) fn select<T: Test>(
         &self,
         alloc: Global,
-        filter: &Filter,
+        test: &T,
     ) -> Result<Vec<(Uuid, &Row)>, AllocError>
-        ensures rows { IfOk result (λ rows. finite.from_entries (map listed rows.items) ≡ selected filter.now self.now) }
+        ensures rows { IfOk result (λ rows. finite.from_entries (map listed rows.items) ≡ passing (T.passes test.now) self.now) }
         ensures distinct { IfOk result (λ rows. IsDistinct (eq_by_cmp uuid_cmp) (keys_of (map listed rows.items))) }
     {
         let mut rows = Vec::new(alloc);
         for (key, row) in self.rows.iter() {
             let uuid = key.uuid();
-            if !filter.holds(uuid, &**row) {
+            if !test.passes(uuid, &**row) {
                 continue;
             }
             if rows.push((uuid, &**row)).is_err() {

@@ -8,7 +8,7 @@ use Rattle.odb_monitor.specs.Represented.Line.{line_in}
 use Rattle.odb_monitor.specs.Represented.Part.{changes_shown, part_of}
 use Rattle.odb_monitor.specs.Represented.Sides.{line_at, sides_in, table_then}
 use Rattle.odb_request.specs.Request.{Request}
-use Rattle.odb_monitor.proofs.Kept.{ranked_entries}
+use Rattle.odb_tables.proofs.Ordered.{ranked_entries}
 use Rattle.odb_monitor.proofs.Seen.{sorted_lines}
 use Rattle.odb_monitor.proofs.Soughts.{compares}
 use Rattle.odb_monitor.proofs.part.Part.lines.Goals as goal

@@ -7,7 +7,7 @@ use Rattle.odb_monitor.specs.Represented.Candidates.{Covers}
 use Rattle.odb_monitor.specs.Represented.Listing.{listing_in}
 use Rattle.odb_monitor.specs.Represented.Part.{changes_shown, part_of, part_tokens}
 use Rattle.odb_monitor.specs.Represented.Sides.{line_at, sides_in, table_then}
-use Rattle.odb_monitor.proofs.Kept.{ranked_entries}
+use Rattle.odb_tables.proofs.Ordered.{ranked_entries}
 use Rattle.odb_monitor.proofs.Listed.{listed_part}
 use Rattle.odb_monitor.proofs.Seen.{sorted_lines}
 use Rattle.odb_monitor.proofs.Soughts.{compares}

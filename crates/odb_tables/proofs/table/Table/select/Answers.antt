@@ -7,7 +7,6 @@ use Rattle.std.specs.Map.Iter.{deref_pair}
 use Rattle.std.specs.Ordering.{eq_by_cmp}
 use Rattle.odb_atoms.specs.FinMap as finite
 use Rattle.odb_atoms.specs.Uuid.{uuid_cmp}
-use Rattle.odb_cond.specs.Filter.{selects}
 use Rattle.odb_tables.specs.Represented.Found.{passing}
 use Rattle.odb_tables.specs.Represented.Keyed.{shown}
 use Rattle.odb_tables.specs.Represented.Table.{listed}
@@ -16,8 +15,8 @@ use Rattle.odb_tables.proofs.Selected.{distinct-filter, passes, passing-filter}
 use Rattle.odb_tables.proofs.table.Table.select.Goals as goal
 
 pub returns-clause-rows : goal.returns-clause-rows
-returns-clause-rows c =
-    let p = selects c.args.filter.now in
+returns-clause-rows g c =
+    let p = g.T.Test.passes c.args.test.now in
     let es = map (shown arc_value) c.self.inside.rows.entries in
     let all : map deref_pair c.loop-key.yielded ≡ c.self.inside.rows.entries = search (rules, iter_end) in
     let found : map listed c.loop-key.rows.items ≡ filter (passes p) es = c.loop-key.invariant ∙ ap (λ xs. filter (passes p) (map (shown arc_value) xs)) all in
@@ -25,8 +24,8 @@ returns-clause-rows c =
     ap (finite.from_entries {R = uuid_cmp}) found ∙ passing-filter p es distinct ∙ ap (passing p) c.self.view_is
 
 pub returns-clause-distinct : goal.returns-clause-distinct
-returns-clause-distinct c =
-    let p = selects c.args.filter.now in
+returns-clause-distinct g c =
+    let p = g.T.Test.passes c.args.test.now in
     let es = map (shown arc_value) c.self.inside.rows.entries in
     let all : map deref_pair c.loop-key.yielded ≡ c.self.inside.rows.entries = search (rules, iter_end) in
     let found : map listed c.loop-key.rows.items ≡ filter (passes p) es = c.loop-key.invariant ∙ ap (λ xs. filter (passes p) (map (shown arc_value) xs)) all in

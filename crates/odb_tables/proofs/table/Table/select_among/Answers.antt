@@ -14,8 +14,8 @@ use Rattle.odb_atoms.specs.Uuid.{Uuid, uuid_cmp}
 use Rattle.odb_cond.specs.Filter.{selects}
 use Rattle.odb_tables.specs.Database.{Table}
 use Rattle.odb_tables.specs.Matching.{selected}
-use Rattle.odb_tables.specs.Represented.Table.{listed}
-use Rattle.odb_tables.proofs.Selected.{covered-found, distinct-entries_at, entries-none, entries-some, entries_at}
+use Rattle.odb_tables.specs.Represented.Table.{entries_at, listed}
+use Rattle.odb_tables.proofs.Selected.{covered-found, distinct-entries_at, entries-none, entries-some}
 use Rattle.odb_tables.proofs.table.Table.select_among.Goals as goal
 
 pub loop-key-preserved-in_default : goal.loop-key-preserved-in_default

@@ -1,8 +1,7 @@
 use Rattle.std.proofs.Common.{◌≡◌, map}
 use Rattle.std.specs.Map.Iter.{deref}
 use Rattle.odb_tables.specs.Matching.{selected}
-use Rattle.odb_tables.specs.Represented.Table.{listed}
-use Rattle.odb_tables.proofs.Selected.{entries_at}
+use Rattle.odb_tables.specs.Represented.Table.{entries_at, listed}
 use Rattle.odb_tables.proofs.table.Table.select_among.Given as goal
 
 abbrev pub invariant-loop-key : goal.invariant-loop-key
