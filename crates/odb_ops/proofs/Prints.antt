@@ -1,5 +1,5 @@
 -- The rows that a `select` prints.
-use Rattle.std.specs.Prelude.{◌≡◌, ℕ, T, Bool, true, false, cond, not, ◌||◌, List, [], ◌∷◌, ◌++◌, filter, flat_map, map as map_list, option_to_list, option_map, Some}
+use Rattle.std.specs.Prelude.{◌≡◌, ℕ, T, Bool, true, false, cond, not, ◌||◌, List, [], ◌∷◌, ◌++◌, filter, flat_map, map as map_list}
 use Rattle.std.proofs.Common.{arith}
 use Rattle.std.proofs.lemmas.Bool.Decides.{nat_tests}
 use Rattle.std.proofs.lemmas.Grind.{flat_map-append}
@@ -11,7 +11,6 @@ use Rattle.std.specs.List.{list_any}
 use Rattle.std.specs.Ordering.{eq_by_cmp, is_eq}
 use Rattle.std.specs.declared.cmp.Ordering.TheVariants.{Less}
 use mathlib.Core.Bool.{true≢false}
-use mathlib.Core.Logic.{inl, inr}
 use mathlib.Core.Path.{refl, sym, ap, ◌∙◌}
 use Rattle.odb_atoms.specs.Atom.{Atom, atom_cmp, uuid}
 use Rattle.odb_atoms.specs.FinMap as map
@@ -21,48 +20,23 @@ use Rattle.odb_atoms.specs.Row.{Row, Selector, cell, declared, own_uuid, own_ver
 use Rattle.odb_atoms.specs.Uuid.{Uuid, uuid_cmp}
 use Rattle.odb_atoms.specs.Value.{Value, atoms, map_of, same_values, set_of}
 use Rattle.odb_atoms.proofs.Atoms.{atom_cmp-IsAntisymmetric}
-use Rattle.odb_atoms.proofs.EachEntry.{get-entry}
 use Rattle.odb_atoms.proofs.FinMaps.{same_key}
 use Rattle.odb_atoms.proofs.FinSets.{contains-from_list}
-use Rattle.odb_atoms.proofs.Lists.{Member, both}
+use Rattle.odb_atoms.proofs.Lists.{both}
 use Rattle.odb_atoms.proofs.Rising.{first, less, second}
 use Rattle.odb_atoms.proofs.Values.{same_value-equal}
-use Rattle.odb_cond.specs.Condition.{Clause}
 use Rattle.odb_ops.specs.Execution.{distinct, selected}
 use Rattle.odb_ops.specs.Represented.Cells.{given_once}
-use Rattle.odb_ops.specs.Represented.Layout.{content, entry_at, row_tokens, tokens_at}
+use Rattle.odb_ops.specs.Represented.Layout.{content, entry_tokens, row_tokens}
 use Rattle.odb_ops.proofs.RowSets.{distinct-push}
-use Rattle.odb_ops.proofs.Selected.{in_table}
 use Rattle.odb_schema.specs.Schema.{Column}
 use Rattle.odb_tables.specs.Database.{Table}
-use Rattle.odb_tables.specs.Matching.{matching}
 use Rattle.odb_tables.specs.Represented.Key.{uuid_cmp_total}
 
 -- ---- row by row
 
-flat_flat : {A B C : Type 0} (f : B → List C) (g : A → List B) (xs : List A) → flat_map (λ x. flat_map f (g x)) xs ≡ flat_map f (flat_map g xs)
-flat_flat f g [] = refl
-flat_flat f g (x ∷ xs) = ap (λ zs. flat_map f (g x) ++ zs) (flat_flat f g xs) ∙ sym (flat_map-append f (g x) (flat_map g xs))
-
-each_entry : (table : Table) (es : List (Uuid × Row)) → ((e : Uuid × Row) → Member e es → map.get table e.0 ≡ Some e.1) → flat_map (entry_at table) (map_list (λ e. e.0) es) ≡ es
-each_entry table [] h = refl
-each_entry table (e ∷ es) h =
-    (λ i. option_to_list (option_map (λ r. let f : Uuid × Row = (e.0, r) in f) (h e (inl refl) i)) ++ flat_map (entry_at table) (map_list (λ f. f.0) es))
-    ∙ ap (λ fs. e ∷ fs) (each_entry table es (λ f m. h f (inr m)))
-
--- the rows under the identifiers of those that match
-pub found_entries : (clauses : List Clause) (table : Table) → flat_map (entry_at table) (map.keys (matching clauses table)) ≡ map.entries_of (matching clauses table)
-unfolding map.keys
-found_entries clauses table =
-    let found : Table = matching clauses table in
-    each_entry table found.entries (λ e m. in_table clauses table e.0 e.1 (get-entry uuid_cmp_total found e m))
-
-pub each_printed : (cs : List Column) (columns : List Selector) (clauses : List Clause) (table : Table)
-    → flat_map (tokens_at cs columns table) (map.keys (matching clauses table)) ≡ flat_map (row_tokens cs columns) (selected columns (matching clauses table))
-each_printed cs columns clauses table =
-    flat_flat (λ e. row_tokens cs columns (content columns e)) (entry_at table) (map.keys (matching clauses table))
-    ∙ ap (flat_map (λ e. row_tokens cs columns (content columns e))) (found_entries clauses table)
-    ∙ sym (flat_map-map (row_tokens cs columns) (content columns) (map.entries_of (matching clauses table)))
+pub each_printed : (cs : List Column) (columns : List Selector) (found : Table) → flat_map (entry_tokens cs columns) (map.entries_of found) ≡ flat_map (row_tokens cs columns) (selected columns found)
+each_printed cs columns found = sym (flat_map-map (row_tokens cs columns) (content columns) (map.entries_of found))
 
 -- ---- of several with one content the first
 

@@ -1,18 +1,17 @@
 //! `select` (RFC 7047, section 5.2.2). [P 4.2]
-ghost use Rattle.std.specs.Prelude.{◌≡◌, ◌++◌, ◌∷◌, [], IfOk, List, OnOk, flat_map, map, option_to_list};
+ghost use Rattle.std.specs.Prelude.{◌≡◌, ◌++◌, ◌∷◌, [], IfOk, List, OnOk, flat_map, map};
 ghost use Rattle.std.specs.List.{list_any};
 ghost use Rattle.odb_atoms.specs.FinMap as finite;
-ghost use Rattle.odb_atoms.specs.Represented.Atom.{uuid_of};
 ghost use Rattle.odb_atoms.specs.Row as model_row;
 ghost use Rattle.odb_atoms.specs.Value as model;
-ghost use Rattle.odb_cond.specs.Condition.{Clause};
 ghost use Rattle.odb_cond.specs.Represented.Clause.{selector_of};
 ghost use Rattle.odb_ops.specs.Execution.{distinct, rows_result, selected};
 ghost use Rattle.odb_ops.specs.Represented.Cells.{IsLentSetOf, given_once};
-ghost use Rattle.odb_ops.specs.Represented.Layout.{content, entry_at, row_tokens, tokens_at};
+ghost use Rattle.odb_ops.specs.Represented.Layout.{content, entry_tokens, row_tokens};
 ghost use Rattle.odb_print.specs.Tokens.{tokens_of};
-ghost use Rattle.odb_tables.specs.Database.{table_at};
+ghost use Rattle.odb_tables.specs.Database.{Table, table_at};
 ghost use Rattle.odb_tables.specs.Matching.{matching};
+ghost use Rattle.odb_tables.specs.Represented.Table.{listed};
 
 use crate::contents::{content_of, is_first};
 use crate::context::Target;
@@ -20,7 +19,7 @@ use crate::layout::{Layout, put_row};
 use crate::meaning::Rows;
 use crate::results::OperationResult;
 use json::Token;
-use odb_atoms::Value;
+use odb_atoms::{Row, Value};
 use odb_cond::Selector;
 use odb_json::Select;
 use odb_print::{Printer, RowCells};
@@ -33,7 +32,7 @@ use uuid::Uuid;
 /// in the order of the least identifier with that content. It is printed as the rows are read: nothing of
 /// them is copied.
 ///
-/// What `Draft::matching` costs, the bytes of the text, and, unless `_uuid` is among the columns, O(n log n) comparisons
+/// What `Draft::select` costs, the bytes of the text, and, unless `_uuid` is among the columns, O(n log n) comparisons
 /// of rows for the n that match.
 pub fn select(
     target: &Target<'_>,
@@ -69,36 +68,32 @@ fn put_result(
         (distinct (selected (map selector_of layout.entry.now.columns.now)
         (matching asked.now.conditions (table_at draft.now.now layout.entry.now.table)))))) }
 {
-    let uuids = draft.matching(layout.table, &asked.conditions)?;
+    let rows = draft.select(layout.table, &asked.conditions)?;
     out.put(Token::BeginObject)?;
     out.put(Token::Key("rows"))?;
     out.put(Token::BeginArray)?;
-    put_found(out, layout, draft, &uuids)?;
+    put_found(out, layout, &rows)?;
     out.put(Token::EndArray)?;
     out.put(Token::EndObject)
 }
 
-/// Prints the rows with these identifiers, which are those of the rows that match; of several with one content the
-/// first.
+/// Prints the rows, which are those of a table by ascending identifier; of several with one content the first.
 fn put_found(
     out: &mut Printer,
     layout: &Layout<'_>,
-    draft: &Draft,
-    uuids: &[Uuid],
+    rows: &[(Uuid, &Row)],
 ) -> Result<(), AllocError>
-    ensures { (clauses : List Clause)
-        → map uuid_of uuids.now ≡ finite.keys (matching clauses (table_at draft.now.now layout.entry.now.table))
+    ensures { (found : Table) → map listed rows.now ≡ finite.entries_of found
         → OnOk result (out.new ≡ out.old ++ flat_map
         (row_tokens layout.entry.now.declared.now (map selector_of layout.entry.now.columns.now))
-        (distinct (selected (map selector_of layout.entry.now.columns.now)
-        (matching clauses (table_at draft.now.now layout.entry.now.table))))) }
+        (distinct (selected (map selector_of layout.entry.now.columns.now) found))) }
 {
     // Then each row is the only one with its content.
     if has_column(layout.columns, Selector::Uuid) {
-        return put_each(out, layout, draft, uuids);
+        return put_each(out, layout, rows);
     }
-    let rows = rows_of(layout, draft, uuids)?;
-    put_distinct(out, layout, &rows)
+    let cells = cells_of(layout, rows)?;
+    put_distinct(out, layout, &cells)
 }
 
 /// Returns whether the column is among the columns.
@@ -108,74 +103,29 @@ fn has_column(columns: &[Selector], column: Selector) -> bool
     columns.iter().any(|other| column == *other)
 }
 
-/// Prints the rows with these identifiers, one after the other.
-fn put_each(
-    out: &mut Printer,
-    layout: &Layout<'_>,
-    draft: &Draft,
-    uuids: &[Uuid],
-) -> Result<(), AllocError>
+/// Prints the rows, one after the other.
+fn put_each(out: &mut Printer, layout: &Layout<'_>, rows: &[(Uuid, &Row)]) -> Result<(), AllocError>
     ensures { OnOk result (out.new ≡ out.old ++ flat_map
-        (tokens_at layout.entry.now.declared.now (map selector_of layout.entry.now.columns.now)
-        (table_at draft.now.now layout.entry.now.table)) (map uuid_of uuids.now)) }
+        (entry_tokens layout.entry.now.declared.now (map selector_of layout.entry.now.columns.now)) (map listed rows.now)) }
 {
-    for uuid in uuids {
-        put_at(out, layout, draft, *uuid)?;
+    for row in rows {
+        put_row(out, layout, &RowCells::new(layout.alloc, row.0, row.1))?;
     }
     Ok(())
 }
 
-/// Prints the row with the identifier, if there is one.
-fn put_at(
-    out: &mut Printer,
+/// Returns the cells of the rows.
+fn cells_of<'a>(
     layout: &Layout<'_>,
-    draft: &Draft,
-    uuid: Uuid,
-) -> Result<(), AllocError>
-    ensures { OnOk result (out.new ≡ out.old
-        ++ tokens_at layout.entry.now.declared.now (map selector_of layout.entry.now.columns.now)
-        (table_at draft.now.now layout.entry.now.table) (uuid_of uuid)) }
-{
-    match draft.get(layout.table, uuid) {
-        Some(row) => put_row(out, layout, &RowCells::new(layout.alloc, uuid, row)),
-        None => Ok(()),
-    }
-}
-
-/// Returns the rows with these identifiers.
-fn rows_of<'a>(
-    layout: &Layout<'_>,
-    draft: &'a Draft,
-    uuids: &[Uuid],
+    rows: &[(Uuid, &'a Row)],
 ) -> Result<Vec<RowCells<'a>>, AllocError>
-    ensures { IfOk result (λ rows. rows.items
-        ≡ flat_map (entry_at (table_at draft.now.now layout.entry.now.table)) (map uuid_of uuids.now)) }
+    ensures { IfOk result (λ cells. cells.items ≡ map listed rows.now) }
 {
-    let mut rows = Vec::with_capacity(layout.alloc, uuids.len())?;
-    for uuid in uuids {
-        add(&mut rows, row_at(layout, draft, *uuid))?;
+    let mut cells = Vec::with_capacity(layout.alloc, rows.len())?;
+    for row in rows {
+        cells.push(RowCells::new(layout.alloc, row.0, row.1))?;
     }
-    Ok(rows)
-}
-
-/// Returns the row with the identifier, if there is one.
-fn row_at<'a>(layout: &Layout<'_>, draft: &'a Draft, uuid: Uuid) -> Option<RowCells<'a>>
-    ensures { option_to_list result
-        ≡ entry_at (table_at draft.now.now layout.entry.now.table) (uuid_of uuid) }
-{
-    match draft.get(layout.table, uuid) {
-        Some(row) => Some(RowCells::new(layout.alloc, uuid, row)),
-        None => None,
-    }
-}
-
-fn add<'a>(rows: &mut Vec<RowCells<'a>>, row: Option<RowCells<'a>>) -> Result<(), AllocError>
-    ensures { OnOk result (rows.new.items ≡ rows.old.items ++ option_to_list row.entry) }
-{
-    if let Some(row) = row {
-        rows.push(row)?;
-    }
-    Ok(())
+    Ok(cells)
 }
 
 /// Prints the rows, of several with one content the first.

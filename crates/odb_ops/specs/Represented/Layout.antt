@@ -1,8 +1,7 @@
 -- The tokens of which the rows of a `select` are printed.
-use Rattle.std.specs.Prelude.{List, [], ◌∷◌, flat_map, option_to_list, option_map}
+use Rattle.std.specs.Prelude.{List, [], ◌∷◌}
 use Rattle.std.specs.Ordering.{match_ordering}
 use Rattle.json.specs.Token.{Token, key}
-use Rattle.odb_atoms.specs.FinMap as map
 use Rattle.odb_atoms.specs.Row.{Row, Selector, cell}
 use Rattle.odb_atoms.specs.Text.{text_cmp}
 use Rattle.odb_atoms.specs.Uuid.{Uuid}
@@ -11,7 +10,6 @@ use Rattle.odb_ops.specs.Execution.{project, write_cells}
 use Rattle.odb_print.specs.Tokens.{tokens_of}
 use Rattle.odb_schema.specs.Notation.{write_value}
 use Rattle.odb_schema.specs.Schema.{Column, selector_name}
-use Rattle.odb_tables.specs.Database.{Table}
 
 -- the column before those whose names come after its own, in the place of one of its name
 abbrev pub placed : List Column → Selector → List Selector → List Selector
@@ -34,9 +32,6 @@ cell_tokens cs e c = key (selector_name cs c) ∷ tokens_of (write_value (cell e
 abbrev pub row_tokens : List Column → List Selector → List Value → List Token
 row_tokens cs columns vs = tokens_of (write_cells cs columns vs)
 
--- the row of an identifier, if there is one
-abbrev pub entry_at : Table → Uuid → List (Uuid × Row)
-entry_at table u = option_to_list (option_map (λ r. let e : Uuid × Row = (u, r) in e) (map.get table u))
-
-abbrev pub tokens_at : List Column → List Selector → Table → Uuid → List Token
-tokens_at cs columns table u = flat_map (λ e. row_tokens cs columns (content columns e)) (entry_at table u)
+-- a row with these columns
+abbrev pub entry_tokens : List Column → List Selector → Uuid × Row → List Token
+entry_tokens cs columns e = row_tokens cs columns (content columns e)
