@@ -42,6 +42,7 @@ impl Printer {
     }
 
     /// Adds a token: whatever is printed but a number, which `integer` adds.
+    #[inline(always)]
     pub fn put(&mut self, token: Token<'_>) -> Result<(), AllocError>
         requires { IsPrintable (token_of token) }
         ensures { OnOk result (self.new ≡ self.old ++ token_of token.entry ∷ []) }
@@ -50,6 +51,7 @@ impl Printer {
     }
 
     /// Prints an integer, in decimal.
+    #[inline(always)]
     pub fn integer(&mut self, integer: i64) -> Result<(), AllocError>
         ensures { OnOk result (self.new ≡ self.old ++ token.number (signed_decimal integer) ∷ []) }
     {

@@ -26,6 +26,7 @@ pub fn put_key(out: &mut Printer, uuid: Uuid) -> Result<(), AllocError>
 }
 
 /// Prints an identifier's text as a string.
+#[inline(always)]
 fn put_text(out: &mut Printer, uuid: Uuid) -> Result<(), AllocError>
     ensures { OnOk result (out.new ≡ out.old ++ token.string (uuid_text (uuid_of uuid)) ∷ []) }
 {
@@ -36,6 +37,7 @@ fn put_text(out: &mut Printer, uuid: Uuid) -> Result<(), AllocError>
 }
 
 /// Prints `["uuid", text]`.
+#[inline(always)]
 fn put_uuid(out: &mut Printer, uuid: Uuid) -> Result<(), AllocError>
     ensures { OnOk result (out.new ≡ out.old ++ tokens_of (notation.write_uuid (uuid_of uuid))) }
 {
@@ -46,6 +48,7 @@ fn put_uuid(out: &mut Printer, uuid: Uuid) -> Result<(), AllocError>
 }
 
 /// Prints an atom.
+#[inline(always)]
 #[tactic(auto, using(crate::proofs::Tokens::integer_tokens))]
 fn put_atom(out: &mut Printer, atom: &Atom) -> Result<(), AllocError>
     ensures { OnOk result (out.new ≡ out.old ++ tokens_of (notation.write_atom (atom_of atom.now))) }
@@ -99,6 +102,7 @@ fn put_set_of(out: &mut Printer, atoms: &[Atom]) -> Result<(), AllocError>
 }
 
 /// Prints a set, of which one atom stands alone.
+#[inline(always)]
 fn put_set(out: &mut Printer, atoms: &[Atom]) -> Result<(), AllocError>
     ensures { OnOk result (out.new
         ≡ out.old ++ tokens_of (notation.write_atoms (map atom_of atoms.now))) }
@@ -141,6 +145,7 @@ fn put_map(out: &mut Printer, pairs: &[(Atom, Atom)]) -> Result<(), AllocError>
 }
 
 /// Prints a value (RFC 7047, section 5.1), its elements and keys ascending. O(its bytes).
+#[inline(always)]
 pub fn put_value(out: &mut Printer, value: &Value) -> Result<(), AllocError>
     ensures { OnOk result (out.new ≡ out.old ++ tokens_of (notation.write_value value.now)) }
 {
@@ -151,6 +156,7 @@ pub fn put_value(out: &mut Printer, value: &Value) -> Result<(), AllocError>
 }
 
 /// Prints a member of a row: a column's name and its value. O(its bytes).
+#[inline(always)]
 pub fn put_member(out: &mut Printer, name: &str, value: &Value) -> Result<(), AllocError>
     ensures { OnOk result (out.new ≡ out.old ++ token.key name.now ∷ tokens_of (notation.write_value value.now)) }
 {
