@@ -21,7 +21,7 @@ SOUTHBOUND = os.path.join(SHARE, "ovn", "ovn-sb.ovsschema")
 PYTHON = os.path.join(USR, "lib", "python3", "dist-packages")
 DATAPATHS, COMMITS, PATIENCE = 20, 50, 300
 LOOK = 0.05  # seconds
-WAYS = {"": (), " --server-database": ("--server-database",)}
+WAYS = {"ovsdbd serve": (), "ovsdbd serve --server-database": ("--server-database",)}
 
 # Says each time that its newest row is another one: how many rows it has, the seconds of processor and the bytes that it took.
 IDL = """
@@ -159,10 +159,10 @@ def measure(command, kind, rows, words):
 
 def compare(command, rows):
     """The figures of both libraries, without and with the database `_Server`."""
-    results = {}
+    results = {way: {} for way in WAYS}
     for kind in (Python, Relay):
         for way, words in WAYS.items():
-            for what, figure in measure(command, kind, rows, words).items():
-                results[f"{kind.name}, ovsdbd serve{way}: {what}"] = (figure,)
-                print(f"{kind.name}, ovsdbd serve{way}: {what:36}{figure:16,.2f}", flush=True)
+            results[way].update({f"{kind.name}, {rows:,} rows: {what}": (figure,) for what, figure in measure(command, kind, rows, words).items()})
+    for what in results["ovsdbd serve"]:
+        print(f"{what:78}" + " | ".join(f"{result[what][0]:14,.2f}" for result in results.values()), flush=True)
     return results
