@@ -23,6 +23,6 @@ mod waiting_list;
 pub use failed::Failed;
 pub use odb_cause::{Cause, Detail, Stage};
 pub use odb_locks::SessionId;
-pub use odb_sessions::{FirstText, Job, Jobs, Out, Prepared};
+pub use odb_sessions::{FirstText, Job, Jobs, Out, Prepared, Told};
 pub use refused::Refused;
 pub use server::{Core, MAX_SESSIONS};

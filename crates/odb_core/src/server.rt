@@ -17,7 +17,7 @@ use crate::state::State;
 use odb_cause::Cause;
 use odb_locks::SessionId;
 use odb_schema::Schema;
-use odb_sessions::{FirstText, Jobs, Out, Prepared};
+use odb_sessions::{FirstText, Jobs, Out, Prepared, Told};
 use odb_wire::Request;
 use std::alloc::{AllocError, Global};
 use std::collections::BTreeSet;
@@ -60,8 +60,9 @@ impl Core {
     ghost use Rattle.odb_core.specs.Represented.Core.{IsQuietBut, new_server};
     ghost use Rattle.odb_core.specs.Represented.Rounds.{AreRound, AreRoundOf, book_in};
     ghost use Rattle.odb_sessions.specs.FirstTexts.{IsFirstText, IsOfNow};
-    ghost use Rattle.odb_sessions.specs.Jobs.{AreEachOnce, AreOfJobs};
+    ghost use Rattle.odb_sessions.specs.Jobs.{AreByMarks, AreEachOnce, AreOfJobs};
     ghost use Rattle.odb_sessions.specs.Taken.{given_by, sessions_in};
+    ghost use Rattle.odb_sessions.specs.Told.{IsToldOf};
     ghost use Rattle.odb_sessions.specs.Represented.Out.{sent_in};
     ghost use Rattle.odb_core.specs.Represented.Reason.{IsReason};
 
@@ -216,16 +217,28 @@ impl Core {
         self.state.round(listed.as_slice())
     }
 
+    /// Lends what clients were told, as it is kept: of each table of a monitor a mark, and the chains that keep what marks
+    /// stand for. O(1).
+    pub fn told(&self) -> Told<'_>
+        ensures { IsToldOf (book_in self.now.world) result }
+    {
+        self.state.sessions.told()
+    }
+
     /// Plans what `round` gives these sessions: the jobs that are to be composed for it, of which no two
-    /// are alike, those of replies to who resumes among them. A text that is composed is of the job of what is due to
-    /// its session, which says what the client was told and what is asked, and what stands around the composition is what
+    /// are alike, those of replies to who resumes among them. What a job is alike by names the changes of tables at which
+    /// clients were told by the places of their marks, and what it says was told is what the chains keep there. A text that
+    /// is composed is of the job of what is due to its session, alike by the marks of the monitor to which that is due; the job
+    /// says what the client was told and what is asked, and what stands around the composition is what
     /// the protocol has around any table updates there. Nothing is composed, and nothing is taken. O(k log k + k log n)
     /// for a list of k sessions, and what deciding whether something is sent costs.
     pub fn jobs(&self, ready: &[SessionId]) -> Result<Jobs<'_>, AllocError>
         ensures round { IfOk result (λ jobs. AreRoundOf ready.now self.now jobs.takings) }
         ensures jobs { IfOk result (λ jobs. AreOfJobs (book_in self.now.world) jobs.jobs jobs.takings) }
         ensures now { IfOk result (λ jobs. All (IsOfNow self.now.world.db) jobs.jobs) }
-        ensures once { IfOk result (λ jobs. AreEachOnce (revision_of self.now.world) jobs.jobs jobs.likenesses) }
+        ensures told { IfOk result (λ jobs. IsToldOf (book_in self.now.world) jobs.told) }
+        ensures once { IfOk result (λ jobs. AreEachOnce jobs.told.chains (revision_of self.now.world) jobs.jobs jobs.likenesses) }
+        ensures marks { IfOk result (λ jobs. AreByMarks (book_in self.now.world) jobs.told jobs.jobs jobs.likenesses jobs.takings) }
     {
         let listed = once(self.alloc, ready)?;
         let schema = self.state.served.schema();

@@ -12,10 +12,12 @@ use Rattle.odb_recent.specs.Undo.{Undo}
 use Rattle.odb_sessions.specs.Alike.{AreUnlike, IsLike, Likeness, job_like}
 use Rattle.odb_sessions.specs.FirstTexts.{AreFirstTexts, FirstText, IsOfNow}
 use Rattle.odb_sessions.specs.Jobs.{Decision, IsFor, Keeps, if_sent}
-use Rattle.odb_sessions.specs.Represented.Alike.{contents}
-use Rattle.odb_sessions.specs.Represented.Decided.{AreDecided, AreNoted, Differs, IsAmong, IsDecided, IsPlanned, IsSame, Puts, bucket_at}
+use Rattle.odb_sessions.specs.Told.{contents}
+use Rattle.odb_sessions.specs.Represented.Decided.{AreDecided, AreNoted, ArePlaced, Differs, IsAmong, IsDecided, IsPlaced, IsPlanned, IsSame, Puts, bucket_at}
 use Rattle.odb_sessions.specs.Represented.Digest.{digest}
+use Rattle.odb_sessions.specs.Represented.Served.{IsAtPlace}
 use Rattle.odb_sessions.specs.declared.decided.Decided.{Decided}
+use Rattle.odb_sessions.proofs.Served.{at_later}
 use Rattle.odb_sessions.proofs.Places.{added_at, keeps_added, none_for, some_for, still_for}
 
 -- ---- lists with one element more
@@ -48,17 +50,26 @@ zipped_more R [] (b ∷ ys) x y h r = absurd h
 zipped_more R (a ∷ xs) [] x y h r = absurd h
 zipped_more R (a ∷ xs) (b ∷ ys) x y h r = (h.0, zipped_more R xs ys x y h.1 r)
 
+pub zipped_length : {X Y : Type 0} (R : X → Y → Type 0) (xs : List X) (ys : List Y) → AllZip R xs ys → length xs ≡ length ys
+zipped_length R [] [] h = refl
+zipped_length R [] (b ∷ ys) h = absurd h
+zipped_length R (a ∷ xs) [] h = absurd h
+zipped_length R (a ∷ xs) (b ∷ ys) h = ap suc (zipped_length R xs ys h.1)
+
 -- ---- what was decided
 
 still : (k : Chains) (us : List Undo) (a b : List Job) (ds : List Decision) → Keeps a b → All (IsDecided k us a) ds → All (IsDecided k us b) ds
 still k us a b ds kept was i d low = still_for a b (if_sent (job_like (contents k) us k.db (slice_index_or ds i d).likeness)) (slice_index_or ds i d).place kept (was i d low)
 
--- one decision more
-put_in : (k : Chains) (us : List Undo) (js : List Job) (old new : Decided) (d : Decision) → Puts old new d → AreDecided k us js old → IsDecided k us js d → AreDecided k us js new
-put_in k us js old new d puts was own n = subst (All (IsDecided k us js)) (sym (puts n)) (by (n == digest d.likeness))
+still_placed : (a b : List Likeness) (ds : List Decision) → Keeps a b → All (IsPlaced a) ds → All (IsPlaced b) ds
+still_placed a b ds kept was i d low = at_later a b (slice_index_or ds i d).likeness (slice_index_or ds i d).place kept (was i d low)
+
+-- one decision more, of which the same is so as of those that were there
+put_in : (P : Decision → Type 0) (old new : Decided) (d : Decision) → Puts old new d → ((n : ℕ) → All P (bucket_at old n)) → P d → (n : ℕ) → All P (bucket_at new n)
+put_in P old new d puts was own n = subst (All P) (sym (puts n)) (by (n == digest d.likeness))
   where
-    by : (b : Bool) → All (IsDecided k us js) (if b then bucket_at old n ++ d ∷ [] else bucket_at old n)
-    by true = All-push (IsDecided k us js) (bucket_at old n) d (was n) own
+    by : (b : Bool) → All P (if b then bucket_at old n ++ d ∷ [] else bucket_at old n)
+    by true = All-push P (bucket_at old n) d (was n) own
     by false = was n
 
 -- what differs from all differs from those that were there
@@ -86,6 +97,9 @@ noted_now old new d puts h =
 pub found : (k : Chains) (us : List Undo) (js : List Job) (d : Decided) (n : ℕ) (x : Decision) → AreDecided k us js d → IsAmong (bucket_at d n) x → IsFor js (if_sent (job_like (contents k) us k.db x.likeness)) x.place
 found k us js d n x decided (i, low, at) = subst (IsDecided k us js) (sym at) (decided n i x low)
 
+pub placed : (ls : List Likeness) (d : Decided) (n : ℕ) (x : Decision) → ArePlaced ls d → IsAmong (bucket_at d n) x → IsAtPlace ls x.likeness x.place
+placed ls d n x all (i, low, at) = subst (IsPlaced ls) (sym at) (all n i x low)
+
 -- ---- rounds
 
 -- nothing is wanted yet
@@ -97,6 +111,7 @@ none_planned k us fs d firsts none = (
   λ n l at. absurd (none-some l at),
   λ m n l at. absurd (none-some l at),
   tt,
+  λ n. subst (All (IsPlaced [])) (sym (none n)) (All-from_recursion (IsPlaced []) [] tt),
 )
 
 -- nothing changed
@@ -109,18 +124,20 @@ same_planned k us fs a b ls ms d e jobs likes same p =
       λ n l at h. p.3 n l at (subst (All (Differs l)) (same (digest l)) h),
       p.4,
       p.5,
+      λ n. subst (All (IsPlaced ls)) (sym (same n)) (p.6 n),
     ))
 
 -- nothing is sent of this
 pub silent_planned : (k : Chains) (us : List Undo) (fs : List FirstText) (js : List Job) (ls : List Likeness) (d e : Decided) (l : Likeness) → is_some (updates_of (job_like (contents k) us k.db l)) ≡ false
     → Puts d e (record { likeness = l; place = None }) → IsPlanned k us fs js ls d → IsPlanned k us fs js ls e
 silent_planned k us fs js ls d e l none puts p = (
-  put_in k us js d e (record { likeness = l; place = None }) puts p.0 (none_for js (job_like (contents k) us k.db l) none),
+  put_in (IsDecided k us js) d e (record { likeness = l; place = None }) puts p.0 (none_for js (job_like (contents k) us k.db l) none),
   p.1,
   p.2,
   still_noted ls d e (record { likeness = l; place = None }) puts p.3,
   p.4,
   p.5,
+  put_in (IsPlaced ls) d e (record { likeness = l; place = None }) puts p.6 tt,
 )
 
 -- what stood there is unlike what is found nowhere
@@ -152,11 +169,13 @@ pub more_planned : (k : Chains) (us : List Undo) (fs : List FirstText) (js : Lis
 more_planned k us fs js ls d e l j is now sent fresh puts p =
     let x : Decision = record { likeness = l; place = Some (length js) } in
     let all : List Job = js ++ j ∷ [] in
+    let more : List Likeness = ls ++ l ∷ [] in
     let own : IsDecided k us all x = subst (λ (i : Job). IsFor all (if_sent i) (Some (length js))) is.0 (some_for all j (length js) (added_at js all j (length js) refl refl) sent) in (
-      put_in k us all d e x puts (λ n. still k us js all (bucket_at d n) (keeps_added js all j refl) (p.0 n)) own,
+      put_in (IsDecided k us all) d e x puts (λ n. still k us js all (bucket_at d n) (keeps_added js all j refl) (p.0 n)) own,
       p.1,
       All-push (IsOfNow k.db) js j p.2 now,
       more_noted ls d e l (Some (length js)) puts p.3,
       more_unlike ls d l p.3 fresh p.4,
       zipped_more (IsLike (contents k) us k.db) js ls j l p.5 is,
+      put_in (IsPlaced more) d e x puts (λ n. still_placed ls more (bucket_at d n) (keeps_added ls more l refl) (p.6 n)) (added_at ls more l (length js) refl (zipped_length (IsLike (contents k) us k.db) js ls p.5)),
     )

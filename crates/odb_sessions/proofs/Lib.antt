@@ -45,6 +45,7 @@ mod Rests
 mod Room
 pub mod Rounds
 mod Seen
+mod Served
 mod SharedPlaces
 mod Steps
 mod StillQuiet

@@ -13,7 +13,8 @@ use Rattle.odb_sessions.specs.Alike.{IsOfCommits, IsOfRequests, Stand, job_like,
 use Rattle.odb_sessions.specs.Composed.{all_asked_as, asked_of, first_part, later_job, part_to, resumed_job}
 use Rattle.odb_sessions.specs.Foreseen.{all_parts_again, asked_under}
 use Rattle.odb_sessions.specs.Held.{Held, Watched, marks_in, table_marks}
-use Rattle.odb_sessions.specs.Represented.Alike.{IsFoundIn, contents, likeness_in, stand_in}
+use Rattle.odb_sessions.specs.Represented.Alike.{IsFoundIn, likeness_in, stand_in}
+use Rattle.odb_sessions.specs.Told.{contents}
 use Rattle.odb_sessions.specs.Represented.Job.{job_in}
 use Rattle.odb_sessions.specs.Represented.Under.{filters_in}
 use Rattle.odb_sessions.specs.Tied.{AreLive}

@@ -17,17 +17,17 @@ use Rattle.odb_sessions.specs.declared.composing.Envelope.{Envelope}
 use Rattle.odb_sessions.specs.declared.taking.Coming.{Coming}
 use Rattle.odb_sessions.specs.declared.taking.Coming.TheVariants.{Composed, Queued}
 
--- ---- lists that keep their jobs
+-- ---- lists that keep their elements
 
-pub keeps_itself : (js : List Job) → Keeps js js
+pub keeps_itself : {A : Type 0} (js : List A) → Keeps js js
 keeps_itself js n j at = at
 
-pub keeps_on : (a b c : List Job) → Keeps a b → Keeps b c → Keeps a c
+pub keeps_on : {A : Type 0} (a b c : List A) → Keeps a b → Keeps b c → Keeps a c
 keeps_on a b c one two n j at = two n j (one n j at)
 
 -- nothing changed
-pub keeps_same : (a b : List Job) → b ≡ a → Keeps a b
-keeps_same a b same n j at = ap (λ (js : List Job). slice_get js n) same ∙ at
+pub keeps_same : {A : Type 0} (a b : List A) → b ≡ a → Keeps a b
+keeps_same {A = A} a b same n j at = ap (λ (js : List A). slice_get js n) same ∙ at
 
 pub front_kept : {A : Type 0} (xs : List A) (y : A) (n : ℕ) (x : A) → slice_get xs n ≡ Some x → slice_get (xs ++ y ∷ []) n ≡ Some x
 front_kept [] y n x at = absurd (none-some x at)
@@ -38,11 +38,11 @@ pub last_at : {A : Type 0} (xs : List A) (y : A) → slice_get (xs ++ y ∷ []) 
 last_at [] y = refl
 last_at (x ∷ xs) y = last_at xs y
 
--- one job more
-pub keeps_added : (a b : List Job) (j : Job) → b ≡ a ++ j ∷ [] → Keeps a b
-keeps_added a b j is n i at = ap (λ (js : List Job). slice_get js n) is ∙ front_kept a j n i at
+-- one element more
+pub keeps_added : {A : Type 0} (a b : List A) (j : A) → b ≡ a ++ j ∷ [] → Keeps a b
+keeps_added {A = A} a b j is n i at = ap (λ (js : List A). slice_get js n) is ∙ front_kept a j n i at
 
-pub added_at : (a b : List Job) (j : Job) (n : ℕ) → b ≡ a ++ j ∷ [] → n ≡ length a → slice_get b n ≡ Some j
+pub added_at : {A : Type 0} (a b : List A) (j : A) (n : ℕ) → b ≡ a ++ j ∷ [] → n ≡ length a → slice_get b n ≡ Some j
 added_at a b j n is len = (λ i. slice_get (is i) (len i)) ∙ last_at a j
 
 -- as many elements as others of which the same is made

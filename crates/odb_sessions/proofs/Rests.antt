@@ -73,6 +73,11 @@ module _ (h : Service) (revision : Revision) (xs : List Ahead) (i : ℕ) (x : Ah
       ∙ ap (option_map (due_sending h revision)) (one_out (due_sending h revision) later (owed_to h revision.db x) (ap is_some (sym is) ∙ some))
       ∙ sym is
 
+  pub found_due : is_some told ≡ true → (after_none i (rest_of h revision.db (drop i xs))).out ≡ owed_to h revision.db x
+  found_due some =
+      ap (λ ys. (rest_of h revision.db ys).out) step
+      ∙ one_out (due_sending h revision) later (owed_to h revision.db x) (ap is_some (sym is) ∙ some)
+
   -- it is owed none
   pub rest_none : is_some told ≡ false → after_none i (rest_of h revision.db (drop i xs)) ≡ after_none (i + 1) later
   rest_none none =

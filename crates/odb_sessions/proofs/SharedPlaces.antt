@@ -1,5 +1,5 @@
 -- Places of jobs that are found by numbers: what was decided of one client serves another that asks the same.
-use Rattle.std.proofs.Common.{◌≡◌, ℕ, zero, suc, ◌<◌, ◌+◌, ◌++◌, arith, false, List, [], ◌∷◌, get_or, length, map, slice_get, take, Option, Some, None, refl, sym, ap, subst, ◌∙◌}
+use Rattle.std.proofs.Common.{◌≡◌, ℕ, zero, suc, ◌<◌, ◌+◌, ◌++◌, arith, false, List, [], ◌∷◌, get_or, length, map, slice_get, slice_index_or, take, Option, Some, None, refl, sym, ap, subst, ◌∙◌}
 use Rattle.std.proofs.lemmas.List.Elements.{All-from_recursion}
 use Rattle.std.proofs.lemmas.Option.{same_Some}
 use Rattle.odb_chain.specs.Chains.{Chains}
@@ -11,11 +11,13 @@ use Rattle.odb_sessions.specs.Composed.{asked_of}
 use Rattle.odb_sessions.specs.Held.{Held, Sessions, Watched}
 use Rattle.odb_sessions.specs.Jobs.{Keeps, Shared}
 use Rattle.odb_sessions.specs.Represented.Alike.{likeness_in, stand_in}
-use Rattle.odb_sessions.specs.Represented.Decided.{AreShared, IsPlaceOf, IsSharedIn}
+use Rattle.odb_sessions.specs.Represented.Decided.{AreShared, AreSharedPlaced, IsPlaceOf, IsSharedIn}
+use Rattle.odb_sessions.specs.Represented.Served.{IsAtPlace}
 use Rattle.odb_sessions.specs.Watches.{AreAlike, Basis, IsKnownAs, asking_in}
 use Rattle.odb_sessions.specs.declared.way.Way.TheVariants as way
 use Rattle.odb_sessions.proofs.Loops.{mapped_more}
 use Rattle.odb_sessions.proofs.Places.{keeps_on}
+use Rattle.odb_sessions.proofs.Served.{at_later}
 
 pub none_shared : (g : Basis) (k : Chains) (us : List Undo) (js : List Job) (es : List Shared) → es ≡ [] → AreAlike g.sessions → AreShared g k us js es
 none_shared g k us js es none alike =
@@ -24,6 +26,14 @@ none_shared g k us js es none alike =
 -- among more jobs
 pub still_shared : (g : Basis) (k : Chains) (us : List Undo) (a b : List Job) (es : List Shared) → Keeps a b → AreShared g k us a es → AreShared g k us b es
 still_shared g k us a b es keeps h = (h.0, h.1, λ i e low all kept. h.2 i e low all (keeps_on a b all keeps kept))
+
+-- none stands anywhere
+pub none_placed : (ls : List Likeness) (es : List Shared) → es ≡ [] → AreSharedPlaced ls es
+none_placed ls es none = subst (AreSharedPlaced ls) (sym none) (All-from_recursion (λ (e : Shared). IsAtPlace ls e.likeness e.place) [] tt)
+
+-- among more likenesses
+pub still_shared_placed : (a b : List Likeness) (es : List Shared) → Keeps a b → AreSharedPlaced a es → AreSharedPlaced b es
+still_shared_placed a b es kept h i e low = at_later a b (slice_index_or es i e).likeness (slice_index_or es i e).place kept (h i e low)
 
 -- what a monitor asks is what the likeness of its client asks
 pub asked_stands : (ws : List Watched) → map (λ (t : Stand). t.request) (map (stand_in way.Asked) ws) ≡ asked_of ws

@@ -12,6 +12,7 @@ use Rattle.odb_rpc.specs.Message.{reply}
 use Rattle.odb_schema.specs.Schema.{Schema}
 use Rattle.odb_service.specs.Service.{Service}
 use Rattle.odb_service.specs.Session.{Item, Monitor, Revision, filter_of, no_result, refilter, renamed, say, shift, start, stopped, sync}
+use Rattle.odb_sessions.specs.Alike.{Likeness}
 use Rattle.odb_sessions.specs.Composed.{asked_of}
 use Rattle.odb_sessions.specs.Held.{Held, Watched, marks_in, view_of, watch_of}
 use Rattle.odb_sessions.specs.OfSchema.{AreOfSchema}
@@ -24,12 +25,14 @@ use Rattle.odb_wire.specs.Message.{id_of}
 abbrev pub Filters : Type 0
 Filters = List (List ℕ × Filter)
 
--- what the round stands on, the database with its past, its last commits, the jobs so far, and a session's monitors once so much of its queue was taken
+-- what the round stands on, the database with its past, its last commits, the jobs so far and what each is alike by, and a session's monitors, as they are kept, and once so much of its queue was taken
 pub record Foreseen : Type 0 where
   pub basis : Basis
   pub chains : Chains
   pub recent : Recent
   pub jobs : List Job
+  pub likenesses : List Likeness
+  pub held : List Held
   pub monitors : List Monitor
 
 -- a monitor: its client has what it was told, or what its tables are now under these filters

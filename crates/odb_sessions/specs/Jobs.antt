@@ -11,11 +11,13 @@ use Rattle.odb_recent.specs.Undo.{Undo}
 use Rattle.odb_schema.specs.Schema.{Schema}
 use Rattle.odb_service.specs.Server.{served_by}
 use Rattle.odb_service.specs.Session.{Revision, Session}
-use Rattle.odb_sessions.specs.Alike.{AreUnlike, Contents, IsLike, Likeness}
+use Rattle.odb_sessions.specs.Alike.{AreUnlike, IsLike, Likeness}
 use Rattle.odb_sessions.specs.Book.{Book, revision_in}
+use Rattle.odb_sessions.specs.Held.{Held, Kept, Sessions, seen}
 use Rattle.odb_sessions.specs.Planned.{plan}
 use Rattle.odb_sessions.specs.Sending.{Framed, framed_due}
 use Rattle.odb_sessions.specs.Taken.{Pending, Text, composed_text, last_text, no_text, whole_text}
+use Rattle.odb_sessions.specs.Told.{IsByMarks, IsDueTo, Told, contents, held_of}
 use Rattle.odb_sessions.specs.Watches.{Basis}
 
 -- what is composed of a job: a text, where something is sent
@@ -26,9 +28,9 @@ composition j = option_map compact_text (updates_of j)
 abbrev pub composition_at : List Job → ℕ → Option (List ℕ)
 composition_at js n = option_and_then composition (slice_get js n)
 
--- each job of the old list stands where it stood
-abbrev pub Keeps : List Job → List Job → Type 0
-Keeps old new = (n : ℕ) (j : Job) → slice_get old n ≡ Some j → slice_get new n ≡ Some j
+-- each element of the old list stands where it stood
+abbrev pub Keeps : {A : Type 0} → List A → List A → Type 0
+Keeps {A = A} old new = (n : ℕ) (x : A) → slice_get old n ≡ Some x → slice_get new n ≡ Some x
 
 -- the job, if something is sent
 abbrev pub if_sent : Job → Option Job
@@ -41,12 +43,13 @@ certainly x = Some x
 abbrev pub IsFor : List Job → Option Job → Option ℕ → Type 0
 IsFor js job place = (all : List Job) → Keeps js all → option_map (slice_get all) place ≡ option_map certainly job
 
--- what the round stands on, the database with its past, its last commits, and the jobs so far
+-- what the round stands on, the database with its past, its last commits, the jobs so far, and what each is alike by
 pub record Wanted : Type 0 where
   pub basis : Basis
   pub chains : Chains
   pub recent : Recent
   pub jobs : List Job
+  pub likenesses : List Likeness
 
 -- a likeness, and the place of its job, if something is sent
 pub record Decision : Type 0 where
@@ -59,8 +62,9 @@ pub record Shared : Type 0 where
   pub likeness : Likeness
   pub place : Option ℕ
 
--- a round as it is planned: the jobs, what each is alike by, and each taking with the text that comes of it once these are composed
+-- a round as it is planned: what clients were told as it is kept, the jobs, what each is alike by, and each taking with the text that comes of it once the jobs are composed
 pub record Round : Type 0 where
+  pub told : Told
   pub jobs : List Job
   pub likenesses : List Likeness
   pub takings : List Pending
@@ -85,8 +89,24 @@ AreMadeOf s b js (p ∷ ps) = IsOfJob s (revision_in b) js (get b.sessions p.0) 
 abbrev pub AreOfJobs : Book → List Job → List Pending → Type 0
 AreOfJobs b js ps = (s : Schema) → AreMadeOf s b js ps
 
--- No two likenesses are the same, and each job is that of its likeness: for some contents of the tables at earlier places, and for what the last commits replaced, which leads back from now to the contents that can be found.
-abbrev pub AreEachOnce : Revision → List Job → List Likeness → Type 0
-AreEachOnce revision js ls =
+-- No two likenesses are the same, and each job is that of its likeness: for what the chains keep of the tables at the places that it names, and for what the last commits replaced, which leads back from now to the contents that can be found.
+abbrev pub AreEachOnce : Chains → Revision → List Job → List Likeness → Type 0
+AreEachOnce k revision js ls =
     AreUnlike ls
-    × ((past : Contents) × (us : List Undo) × (revision.earlier.contents ≡ drop 1 (kept_of revision.db us)) × AllZip (IsLike past us revision.db) js ls)
+    × ((us : List Undo) × (revision.earlier.contents ≡ drop 1 (kept_of revision.db us)) × AllZip (IsLike (contents k) us revision.db) js ls)
+
+-- What is composed for the session is composed of a job whose likeness has the marks of the monitor to which this is due
+abbrev pub IsByLikeness : Schema → Revision → List Job → List Likeness → Option Kept → Text → Type 0
+IsByLikeness s revision js ls o no_text = Unit {0}
+IsByLikeness s revision js ls o last_text = Unit {0}
+IsByLikeness s revision js ls o (composed_text before body after) =
+    (n : ℕ) × (l : Likeness) × (h : Held) × (composition_at js n ≡ Some body) × (slice_get ls n ≡ Some l)
+    × IsDueTo (option_and_then (λ x. (plan (served_by s) revision.db (seen x)).out) o) (held_of o) h × IsByMarks l h
+
+abbrev pub AreByLikenesses : Schema → Revision → Sessions → List Job → List Likeness → List Pending → Type 0
+AreByLikenesses s revision m js ls [] = Unit {0}
+AreByLikenesses s revision m js ls (p ∷ ps) = IsByLikeness s revision js ls (get m p.0) p.1.text × AreByLikenesses s revision m js ls ps
+
+-- the same, whatever the schema
+abbrev pub AreByMarks : Book → Told → List Job → List Likeness → List Pending → Type 0
+AreByMarks b t js ls ps = (s : Schema) → AreByLikenesses s (revision_in b) t.sessions js ls ps

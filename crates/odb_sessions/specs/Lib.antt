@@ -22,4 +22,5 @@ pub mod Started
 pub mod Stopped
 pub mod Taken
 pub mod Tied
+pub mod Told
 pub mod Watches

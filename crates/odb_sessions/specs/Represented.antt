@@ -10,6 +10,7 @@ pub mod LentSession
 pub mod Origin
 pub mod Out
 pub mod Queued
+pub mod Served
 pub mod Taking
 pub mod Told
 pub mod Under

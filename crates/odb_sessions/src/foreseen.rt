@@ -14,9 +14,11 @@ ghost use Rattle.odb_sessions.specs.OfSchema.{AreOfSchema, IsMonitorOf};
 ghost use Rattle.odb_sessions.specs.Planned.{due, plan_rest};
 ghost use Rattle.odb_sessions.specs.Jobs.{AreEachOnce, Keeps};
 ghost use Rattle.odb_sessions.specs.Represented.Composed.{Tells};
+ghost use Rattle.odb_sessions.specs.Represented.Served.{IsServed, place_told};
 ghost use Rattle.odb_sessions.specs.Represented.Under.{filters_in, item_in};
 ghost use Rattle.odb_sessions.specs.Sending.{due_sending, update_sending};
 ghost use Rattle.odb_sessions.specs.Tied.{AreLive};
+ghost use Rattle.odb_sessions.specs.Told.{IsDueTo};
 ghost use Rattle.odb_sessions.specs.Watches.{AreAlike, AreKnownAs, IsKnownAs};
 ghost use Rattle.odb_sessions.specs.Book.{revision_at};
 
@@ -78,6 +80,7 @@ impl<'a> Ahead<'a> {
         requires known { IsKnownAs wanted.old.basis.sessions watch self.now.held }
         ensures text { IfOk result (λ message. (h : Service) → Tells wanted.new.jobs message
             (update_sending h (revision_at wanted.old.chains wanted.old.recent) (refilter (filters_in under.entry) (watch_of self.now.held).requests) (seen_ahead wanted.old.chains.db self.now))) }
+        ensures marks { IfOk result (λ message. IsServed wanted.old.likenesses wanted.new.likenesses (λ h. h ≡ self.now.held) (place_told message)) }
         ensures jobs { Keeps wanted.old.jobs wanted.new.jobs }
         ensures chains { wanted.new.chains ≡ wanted.old.chains }
         ensures recent { wanted.new.recent ≡ wanted.old.recent }
@@ -138,6 +141,8 @@ fn pass<'a>(
     requires of { AreAheadOf wanted.old.basis.schema monitors.old.items }
     ensures text { IfOk result (λ message. (s : Schema) → Tells wanted.new.jobs message
         (option_map (due_sending (served_by s) (revision_at wanted.old.chains wanted.old.recent)) (due (served_by s) wanted.old.chains.db (item_in id.now under.entry) (map (seen_ahead wanted.old.chains.db) monitors.old.items)))) }
+    ensures marks { IfOk result (λ message. (s : Schema) → IsServed wanted.old.likenesses wanted.new.likenesses
+        (IsDueTo (due (served_by s) wanted.old.chains.db (item_in id.now under.entry) (map (seen_ahead wanted.old.chains.db) monitors.old.items)) (held_ahead monitors.old.items)) (place_told message)) }
     ensures passed { OnOk result ((s : Schema) → map (seen_ahead wanted.old.chains.db) monitors.new.items
         ≡ leaves (served_by s) wanted.old.chains.db (item_in id.now under.entry) (map (seen_ahead wanted.old.chains.db) monitors.old.items)) }
     ensures jobs { Keeps wanted.old.jobs wanted.new.jobs }
@@ -188,6 +193,8 @@ fn rest_due<'a>(
         → rest.monitors ≡ (plan_rest h wanted.old.chains.db (map (seen_ahead wanted.old.chains.db) monitors.now)).monitors) }
     ensures text { IfOk result (λ rest. (h : Service) → Tells wanted.new.jobs rest.message
         (option_map (due_sending h (revision_at wanted.old.chains wanted.old.recent)) (plan_rest h wanted.old.chains.db (map (seen_ahead wanted.old.chains.db) monitors.now)).out)) }
+    ensures marks { IfOk result (λ rest. (h : Service) → IsServed wanted.old.likenesses wanted.new.likenesses
+        (IsDueTo (plan_rest h wanted.old.chains.db (map (seen_ahead wanted.old.chains.db) monitors.now)).out (held_ahead monitors.now)) (place_told rest.message)) }
     ensures jobs { Keeps wanted.old.jobs wanted.new.jobs }
     ensures chains { wanted.new.chains ≡ wanted.old.chains }
     ensures recent { wanted.new.recent ≡ wanted.old.recent }
@@ -228,7 +235,7 @@ impl<'a> Model for Planner<'a> {
 
     ghost coded = { foreseen_code };
 
-    ghost view = { λ p. record { basis = p.wanted.basis; chains = p.wanted.chains; recent = p.wanted.recent; jobs = p.wanted.jobs; monitors = map (seen_ahead p.wanted.chains.db) p.monitors.items } };
+    ghost view = { λ p. record { basis = p.wanted.basis; chains = p.wanted.chains; recent = p.wanted.recent; jobs = p.wanted.jobs; likenesses = p.wanted.likenesses; held = held_ahead p.monitors.items; monitors = map (seen_ahead p.wanted.chains.db) p.monitors.items } };
 
     ghost invariant = { λ p. AreLive p.wanted.chains (marks_ahead p.monitors.items) × AreAheadOf p.wanted.basis.schema p.monitors.items × AreKnownAs p.wanted.basis.sessions p.watch (held_ahead p.monitors.items) };
 }
@@ -244,7 +251,7 @@ impl<'a> Planner<'a> {
     ) -> Planner<'a>
         requires firsts { AreFirstTexts chains.now.db firsts.now }
         requires alike { AreAlike basis.sessions }
-        ensures { result ≡ record { basis = basis.entry; chains = chains.now; recent = recent.now; jobs = []; monitors = [] } }
+        ensures { result ≡ record { basis = basis.entry; chains = chains.now; recent = recent.now; jobs = []; likenesses = []; held = []; monitors = [] } }
     {
         Planner {
             wanted: Wanted::new(alloc, basis, chains, recent, firsts),
@@ -264,6 +271,8 @@ impl<'a> Planner<'a> {
         requires of { AllByRecursion (IsMonitorOf self.old.basis.schema) (map monitor_of monitors.now) }
         requires known { AreKnownAs self.old.basis.sessions watch monitors.now }
         ensures monitors { OnOk result (self.new.monitors ≡ map monitor_of monitors.now) }
+        ensures held { OnOk result (self.new.held ≡ monitors.now) }
+        ensures likenesses { self.new.likenesses ≡ self.old.likenesses }
         ensures jobs { self.new.jobs ≡ self.old.jobs }
         ensures chains { self.new.chains ≡ self.old.chains }
         ensures recent { self.new.recent ≡ self.old.recent }
@@ -280,6 +289,9 @@ impl<'a> Planner<'a> {
     pub(crate) fn pass(&mut self, id: &Id, under: Under<'a>) -> Result<Option<Envelope>, AllocError>
         ensures text { IfOk result (λ message. (s : Schema) → Tells self.new.jobs message
             (option_map (due_sending (served_by s) (revision_at self.old.chains self.old.recent)) (due (served_by s) self.old.chains.db (item_in id.now under.entry) self.old.monitors))) }
+        ensures marks { IfOk result (λ message. (s : Schema) → IsServed self.old.likenesses self.new.likenesses
+            (IsDueTo (due (served_by s) self.old.chains.db (item_in id.now under.entry) self.old.monitors) self.old.held) (place_told message)) }
+        ensures held { self.new.held ≡ self.old.held }
         ensures passed { OnOk result ((s : Schema) → self.new.monitors
             ≡ leaves (served_by s) self.old.chains.db (item_in id.now under.entry) self.old.monitors) }
         ensures jobs { Keeps self.old.jobs self.new.jobs }
@@ -297,6 +309,9 @@ impl<'a> Planner<'a> {
             → rest.monitors ≡ (plan_rest h self.old.chains.db self.old.monitors).monitors) }
         ensures text { IfOk result (λ rest. (h : Service) → Tells self.new.jobs rest.message
             (option_map (due_sending h (revision_at self.old.chains self.old.recent)) (plan_rest h self.old.chains.db self.old.monitors).out)) }
+        ensures marks { IfOk result (λ rest. (h : Service) → IsServed self.old.likenesses self.new.likenesses
+            (IsDueTo (plan_rest h self.old.chains.db self.old.monitors).out self.old.held) (place_told rest.message)) }
+        ensures held { self.new.held ≡ self.old.held }
         ensures jobs { Keeps self.old.jobs self.new.jobs }
         ensures chains { self.new.chains ≡ self.old.chains }
         ensures recent { self.new.recent ≡ self.old.recent }
@@ -308,8 +323,9 @@ impl<'a> Planner<'a> {
     /// Returns the jobs, and what each is composed for.
     pub(crate) fn into_jobs(self) -> Listed<'a>
         ensures jobs { result.jobs.items ≡ self.entry.jobs }
+        ensures likenesses { result.askings.items ≡ self.entry.likenesses }
         ensures now { All (IsOfNow self.entry.chains.db) result.jobs.items }
-        ensures once { AreEachOnce (revision_at self.entry.chains self.entry.recent) result.jobs.items result.askings.items }
+        ensures once { AreEachOnce self.entry.chains (revision_at self.entry.chains self.entry.recent) result.jobs.items result.askings.items }
     {
         let Planner {
             wanted,

@@ -13,6 +13,7 @@ use crate::first_texts::FirstText;
 use crate::job::Job;
 use crate::out::Out;
 use crate::taking::{Coming, Taking};
+use crate::told::Told;
 use crate::wanted::{Asking, Listed};
 use odb_locks::SessionId;
 use std::alloc::{AllocError, Global};
@@ -122,6 +123,7 @@ fn with_bodies(
 /// A round as it is planned: the jobs that it needs, those that are alike once, and its takings. It lends the tables.
 pub struct Jobs<'a> {
     alloc: Global,
+    told: Told<'a>,
     jobs: Vec<Job<'a>>,
     askings: Vec<Asking<'a>>,
     takings: Vec<Planned>,
@@ -137,16 +139,22 @@ impl<'a> Model for Jobs<'a> {
 
     ghost coded = { round_code };
 
-    ghost view = { λ j. record { jobs = j.jobs.items; likenesses = j.askings.items; takings = map (pending_by j.jobs.items) j.takings.items } };
+    ghost view = { λ j. record { told = j.told; jobs = j.jobs.items; likenesses = j.askings.items; takings = map (pending_by j.jobs.items) j.takings.items } };
 }
 
 impl<'a> Jobs<'a> {
-    pub(crate) fn new(alloc: Global, listed: Listed<'a>, takings: Vec<Planned>) -> Jobs<'a>
-        ensures { result ≡ record { jobs = listed.entry.jobs.items; likenesses = listed.entry.askings.items; takings = map (pending_by listed.entry.jobs.items) takings.items } }
+    pub(crate) fn new(
+        alloc: Global,
+        told: Told<'a>,
+        listed: Listed<'a>,
+        takings: Vec<Planned>,
+    ) -> Jobs<'a>
+        ensures { result ≡ record { told = told.entry; jobs = listed.entry.jobs.items; likenesses = listed.entry.askings.items; takings = map (pending_by listed.entry.jobs.items) takings.items } }
     {
         let Listed { jobs, askings } = listed;
         Jobs {
             alloc,
+            told,
             jobs,
             askings,
             takings,
@@ -156,6 +164,13 @@ impl<'a> Jobs<'a> {
     /// Returns the allocator with which the round was planned. O(1).
     pub fn alloc(&self) -> Global {
         self.alloc
+    }
+
+    /// Returns what clients were told, as it is kept: the jobs are composed of it. O(1).
+    pub fn told(&self) -> &Told<'a>
+        ensures { result.now ≡ self.now.told }
+    {
+        &self.told
     }
 
     /// Returns the jobs, each of which is to be composed. O(1).
@@ -203,6 +218,7 @@ impl<'a> Jobs<'a> {
     {
         let Jobs {
             alloc,
+            told: _,
             jobs: _,
             askings: _,
             takings,
@@ -272,6 +288,7 @@ impl Drop for Jobs<'_> {
     fn drop(self) {
         let Jobs {
             alloc: _,
+            told: _,
             jobs: _,
             askings: _,
             takings: _,

@@ -13,6 +13,7 @@ ghost use Rattle.odb_sessions.specs.Held.{marks_in, monitor_of, watch_of};
 ghost use Rattle.odb_sessions.specs.Jobs.{Keeps, certainly, if_sent};
 ghost use Rattle.odb_sessions.specs.OfSchema.{AreOfSchema};
 ghost use Rattle.odb_sessions.specs.Represented.Composed.{IsFrame, Tells, sending_under};
+ghost use Rattle.odb_sessions.specs.Represented.Served.{IsServed, place_told};
 ghost use Rattle.odb_sessions.specs.Represented.Under.{filters_in};
 ghost use Rattle.odb_sessions.specs.Sending.{notifying, sent_with, update_sending};
 ghost use Rattle.odb_sessions.specs.Tied.{AreLive};
@@ -59,6 +60,7 @@ impl Monitor {
         requires known { IsKnownAs wanted.old.basis.sessions watch self.now }
         ensures text { IfOk result (λ message. (h : Service) → Tells wanted.new.jobs message
             (update_sending h (revision_at wanted.old.chains wanted.old.recent) (refilter (filters_in under.entry) (watch_of self.now).requests) (seen_ahead wanted.old.chains.db (as_told self.now)))) }
+        ensures marks { IfOk result (λ message. IsServed wanted.old.likenesses wanted.new.likenesses (λ h. h ≡ self.now) (place_told message)) }
         ensures jobs { Keeps wanted.old.jobs wanted.new.jobs }
         ensures chains { wanted.new.chains ≡ wanted.old.chains }
         ensures recent { wanted.new.recent ≡ wanted.old.recent }
@@ -81,6 +83,7 @@ impl Monitor {
         requires known { IsKnownAs wanted.old.basis.sessions watch self.now }
         ensures text { IfOk result (λ message. (h : Service) → Tells wanted.new.jobs message
             (update_sending h (revision_at wanted.old.chains wanted.old.recent) (watch_of self.now).requests (monitor_of self.now))) }
+        ensures marks { IfOk result (λ message. IsServed wanted.old.likenesses wanted.new.likenesses (λ h. h ≡ self.now) (place_told message)) }
         ensures jobs { Keeps wanted.old.jobs wanted.new.jobs }
         ensures chains { wanted.new.chains ≡ wanted.old.chains }
         ensures recent { wanted.new.recent ≡ wanted.old.recent }
@@ -104,6 +107,7 @@ impl Monitor {
         requires of { AreOfSchema wanted.old.basis.schema (asked_of self.now.tables) }
         ensures text { IfOk result (λ message. (h : Service) → Tells wanted.new.jobs message
             (update_sending h (revision_at wanted.old.chains wanted.old.recent) (refilter (filters_in under.entry) (watch_of self.now).requests) (monitor_of self.now))) }
+        ensures marks { IfOk result (λ message. IsServed wanted.old.likenesses wanted.new.likenesses (λ h. h ≡ self.now) (place_told message)) }
         ensures jobs { Keeps wanted.old.jobs wanted.new.jobs }
         ensures chains { wanted.new.chains ≡ wanted.old.chains }
         ensures recent { wanted.new.recent ≡ wanted.old.recent }
@@ -126,6 +130,7 @@ impl Monitor {
         requires of { AreOfSchema wanted.old.basis.schema (asked_of self.now.tables) }
         ensures text { IfOk result (λ message. (h : Service) → Tells wanted.new.jobs message
             (update_sending h (revision_at wanted.old.chains wanted.old.recent) (refilter (filters_in under.entry) (watch_of self.now).requests) (seen_ahead wanted.old.chains.db (record { held = self.now; told = Some (filters_in told.entry) })))) }
+        ensures marks { IfOk result (λ message. IsServed wanted.old.likenesses wanted.new.likenesses (λ h. h ≡ self.now) (place_told message)) }
         ensures jobs { Keeps wanted.old.jobs wanted.new.jobs }
         ensures chains { wanted.new.chains ≡ wanted.old.chains }
         ensures recent { wanted.new.recent ≡ wanted.old.recent }
@@ -144,9 +149,10 @@ impl Monitor {
         number: Uuid,
         place: Option<usize>,
     ) -> Result<Option<Envelope>, AllocError>
-        ensures { IfOk result (λ message. (all : List model_job.Job) (job : model_job.Job)
+        ensures text { IfOk result (λ message. (all : List model_job.Job) (job : model_job.Job)
             → option_map (slice_get all) place ≡ option_map certainly (if_sent job)
             → option_map (sending_under all) message ≡ option_map certainly (option_map (sent_with (notifying (uuid_of number) self.now job)) (updates_of job))) }
+        ensures place { IfOk result (λ message. place_told message ≡ place) }
     {
         let Some(job) = place else {
             return Ok(None);

@@ -9,9 +9,10 @@ ghost use Rattle.odb_service.specs.Run.{take_each};
 ghost use Rattle.odb_service.specs.Server.{printed, served_by};
 ghost use Rattle.odb_service.specs.Session.{take};
 ghost use Rattle.odb_service.specs.World.{World, revision_of};
+ghost use Rattle.odb_sessions.specs.Alike.{Likeness};
 ghost use Rattle.odb_sessions.specs.FirstTexts.{IsFirstText, IsOfNow};
 ghost use Rattle.odb_sessions.specs.Held.{all_seen, seen};
-ghost use Rattle.odb_sessions.specs.Jobs.{AreEachOnce, AreMadeOf, AreOfJobs, IsOfJob, Keeps};
+ghost use Rattle.odb_sessions.specs.Jobs.{AreByLikenesses, AreByMarks, AreEachOnce, AreMadeOf, AreOfJobs, IsByLikeness, IsOfJob, Keeps};
 ghost use Rattle.odb_sessions.specs.OfSchema.{AreSessionsOf};
 ghost use Rattle.odb_sessions.specs.Planned.{AreOnce};
 ghost use Rattle.odb_sessions.specs.Posts.{at_number};
@@ -20,6 +21,7 @@ ghost use Rattle.odb_sessions.specs.Represented.Composed.{bytes_in};
 ghost use Rattle.odb_sessions.specs.Represented.Taking.{pending_by, pending_of, ready_by, ready_of, text_by, text_planned};
 ghost use Rattle.odb_sessions.specs.Taken.{AreOf, AreReady, IsReadyFor, given_by, sessions_in, text_taken};
 ghost use Rattle.odb_sessions.specs.Tied.{AreAllLive};
+ghost use Rattle.odb_sessions.specs.Told.{IsToldOf};
 ghost use Rattle.odb_sessions.specs.Book.{book_with, revision_at, revision_in};
 
 use crate::basis::Basis;
@@ -30,6 +32,7 @@ use crate::numbered::Numbered;
 use crate::out::Out;
 use crate::sessions::Sessions;
 use crate::taking::{Coming, Taking};
+use crate::told::Told;
 use odb_locks::SessionId;
 use odb_queue::Finished;
 use std::alloc::{AllocError, Global};
@@ -57,6 +60,9 @@ fn taking_at<'a>(
         → IsReadyFor s (revision_at planner.old.chains planner.old.recent) (option_map seen (finite.get sessions.now session)) (ready_by all planned.taking)) }
     ensures made { IfOk result (λ planned. (s : Schema) (all : List model_job.Job) → Keeps planner.new.jobs all
         → IsOfJob s (revision_at planner.old.chains planner.old.recent) all (option_map seen (finite.get sessions.now session)) (text_planned all planned.taking.coming)) }
+    ensures marks { IfOk result (λ planned. (s : Schema) (all : List model_job.Job) (likenesses : List Likeness) → Keeps planner.new.likenesses likenesses
+        → IsByLikeness s (revision_at planner.old.chains planner.old.recent) all likenesses (finite.get sessions.now session) (text_planned all planned.taking.coming)) }
+    ensures likenesses { OnOk result (Keeps planner.old.likenesses planner.new.likenesses) }
     ensures jobs { Keeps planner.old.jobs planner.new.jobs }
     ensures chains { planner.new.chains ≡ planner.old.chains }
     ensures recent { planner.new.recent ≡ planner.old.recent }
@@ -88,6 +94,8 @@ fn takings_at<'a>(
         → AreReady s (book_with planner.old.chains.db planner.old.recent (all_seen sessions.now)) (map (pending_by all) planned.items)) }
     ensures made { IfOk result (λ planned. (s : Schema) (all : List model_job.Job) → Keeps planner.new.jobs all
         → AreMadeOf s (book_with planner.old.chains.db planner.old.recent (all_seen sessions.now)) all (map (pending_by all) planned.items)) }
+    ensures marks { IfOk result (λ planned. (s : Schema) (all : List model_job.Job) (likenesses : List Likeness) → Keeps planner.new.likenesses likenesses
+        → AreByLikenesses s (revision_at planner.old.chains planner.old.recent) sessions.now all likenesses (map (pending_by all) planned.items)) }
     ensures chains { OnOk result (planner.new.chains ≡ planner.old.chains) }
     ensures recent { OnOk result (planner.new.recent ≡ planner.old.recent) }
     ensures basis { OnOk result (planner.new.basis ≡ planner.old.basis) }
@@ -129,7 +137,9 @@ impl Sessions {
         ensures ready { IfOk result (λ jobs. AreOf self.now jobs.takings) }
         ensures jobs { IfOk result (λ jobs. AreOfJobs self.now jobs.jobs jobs.takings) }
         ensures now { IfOk result (λ jobs. All (IsOfNow self.now.db) jobs.jobs) }
-        ensures once { IfOk result (λ jobs. AreEachOnce (revision_in self.now) jobs.jobs jobs.likenesses) }
+        ensures told { IfOk result (λ jobs. IsToldOf self.now jobs.told) }
+        ensures once { IfOk result (λ jobs. AreEachOnce jobs.told.chains (revision_in self.now) jobs.jobs jobs.likenesses) }
+        ensures marks { IfOk result (λ jobs. AreByMarks self.now jobs.told jobs.jobs jobs.likenesses jobs.takings) }
     {
         let basis = Basis {
             schema,
@@ -143,7 +153,15 @@ impl Sessions {
             self.past.firsts(),
         );
         let takings = takings_at(self.alloc, &self.sessions, listed, &mut planner)?;
-        Ok(Jobs::new(self.alloc, planner.into_jobs(), takings))
+        let told = Told::new(self.past.chains(), &self.sessions);
+        Ok(Jobs::new(self.alloc, told, planner.into_jobs(), takings))
+    }
+
+    /// Lends what clients were told, as it is kept. O(1).
+    pub fn told(&self) -> Told<'_>
+        ensures { IsToldOf self.now result }
+    {
+        Told::new(self.past.chains(), &self.sessions)
     }
 
     /// Plans the same, and composes it.

@@ -4,10 +4,12 @@ ghost use Rattle.std.specs.List.{All};
 ghost use Rattle.odb_chain.specs.Chains.{Chains};
 ghost use Rattle.odb_monitor.specs.Job.{Job};
 ghost use Rattle.odb_recent.specs.Undo.{Undo};
+ghost use Rattle.odb_sessions.specs.Alike.{Likeness};
 ghost use Rattle.odb_sessions.specs.Composed.{asked_of};
 ghost use Rattle.odb_sessions.specs.Held as held;
 ghost use Rattle.odb_sessions.specs.Represented.Alike.{likeness_in, stand_in};
-ghost use Rattle.odb_sessions.specs.Represented.Decided.{ArePlacesOf, IsPlaceOf, IsSharedIn};
+ghost use Rattle.odb_sessions.specs.Represented.Decided.{ArePlacesOf, AreSharedPlaced, IsPlaceOf, IsSharedIn};
+ghost use Rattle.odb_sessions.specs.Represented.Served.{IsAtPlace};
 ghost use Rattle.odb_sessions.specs.Watches.{AreAlike, IsKnownAs};
 ghost use Rattle.odb_sessions.specs.declared.way.Way.TheVariants as way;
 
@@ -151,8 +153,10 @@ impl<'a> SharedJobs<'a> {
     /// Returns the place of the job for the client of the monitor that is known so, if one of these serves it. A comparison of
     /// numbers for each, and O(n) for n tables for those that have its number.
     pub(crate) fn find(&self, monitor: &Monitor, watch: WatchId) -> Option<Option<usize>>
-        ensures { IfSome result (λ place. (m : held.Sessions) (k : Chains) (us : List Undo) (js : List Job) → AreAlike m → All (IsSharedIn m) self.now → IsKnownAs m (Some watch) monitor.now
+        ensures job { IfSome result (λ place. (m : held.Sessions) (k : Chains) (us : List Undo) (js : List Job) → AreAlike m → All (IsSharedIn m) self.now → IsKnownAs m (Some watch) monitor.now
             → ArePlacesOf k us js self.now → IsPlaceOf k us js (likeness_in monitor.now way.Asked) place) }
+        ensures likeness { IfSome result (λ place. (m : held.Sessions) (ls : List Likeness) → AreAlike m → All (IsSharedIn m) self.now → IsKnownAs m (Some watch) monitor.now
+            → AreSharedPlaced ls self.now → IsAtPlace ls (likeness_in monitor.now way.Asked) place) }
     {
         for job in &self.jobs {
             if job.serves(monitor, watch) {
@@ -166,6 +170,7 @@ impl<'a> SharedJobs<'a> {
     pub(crate) fn keep(&mut self, job: SharedJob<'a>)
         ensures shared { (m : held.Sessions) → IsSharedIn m job.entry → All (IsSharedIn m) self.old → All (IsSharedIn m) self.new }
         ensures places { (k : Chains) (us : List Undo) (js : List Job) → IsPlaceOf k us js job.entry.likeness job.entry.place → ArePlacesOf k us js self.old → ArePlacesOf k us js self.new }
+        ensures placed { (ls : List Likeness) → IsAtPlace ls job.entry.likeness job.entry.place → AreSharedPlaced ls self.old → AreSharedPlaced ls self.new }
     {
         if self.jobs.len() >= MOST_KEPT {
             return;

@@ -1,5 +1,5 @@
 //! Takings as they are planned: what they use up, and the text that comes. Nothing changes by them. [P 9.8, 10.1]
-ghost use Rattle.std.specs.Prelude.{◌≡◌, ◌≤◌, ℕ, true, false, IfOk, IfSome, List, OnOk, Option, Some, flat_map, is_some, length, map, option_and_then, option_map};
+ghost use Rattle.std.specs.Prelude.{◌≡◌, ◌≤◌, ◌++◌, ℕ, true, false, IfOk, IfSome, List, None, OnOk, Option, Some, flat_map, is_some, length, map, option_and_then, option_map};
 ghost use Rattle.std.specs.List.{AllByRecursion};
 ghost use Rattle.odb_atoms.specs.FinMap as finite;
 ghost use Rattle.odb_atoms.specs.Represented.Atom.{uuid_of};
@@ -18,10 +18,12 @@ ghost use Rattle.odb_sessions.specs.Planned.{due, first_due, plan, plan_from};
 ghost use Rattle.odb_sessions.specs.Jobs.{Keeps};
 ghost use Rattle.odb_sessions.specs.Represented.Composed.{sending_under};
 ghost use Rattle.odb_sessions.specs.Represented.Queued.{queued_of};
+ghost use Rattle.odb_sessions.specs.Represented.Served.{IsServed, place_coming, place_told};
 ghost use Rattle.odb_sessions.specs.Represented.Taking.{Comes, Gives, coming_sending, taking_sending};
 ghost use Rattle.odb_sessions.specs.Represented.Under.{item_in};
 ghost use Rattle.odb_sessions.specs.Sending.{due_sending, found_sending, missed_sending, sending_since, whole_sending};
 ghost use Rattle.odb_sessions.specs.Tied.{AreLive};
+ghost use Rattle.odb_sessions.specs.Told.{IsDueTo, held_due, held_in};
 ghost use Rattle.odb_tables.specs.Database as model_db;
 ghost use Rattle.odb_sessions.specs.Book.{revision_at};
 
@@ -58,6 +60,7 @@ pub(crate) struct Taking {
 /// Lets a message come, if there is one.
 fn composed(message: Option<Envelope>) -> Option<Coming>
     ensures comes { is_some result ≡ is_some message }
+    ensures place { place_coming result ≡ place_told message }
     ensures text { (all : List model_job.Job) (last : Option machine.Item) → coming_sending all result last ≡ option_and_then (sending_under all) message }
 {
     match message {
@@ -74,6 +77,7 @@ impl Start {
         requires of { AreOfSchema wanted.old.basis.schema (asked_of self.now.monitor.tables) }
         ensures text { IfOk result (λ message. (h : Service) (all : List model_job.Job) → Keeps wanted.new.jobs all
             → sending_under all message ≡ Some (due_sending h (revision_at wanted.old.chains wanted.old.recent) (first_due self.now.origin (watch_of self.now.monitor)))) }
+        ensures marks { IfOk result (λ message. IsServed wanted.old.likenesses wanted.new.likenesses (λ h. h ≡ self.now.monitor) (Some message.job)) }
         ensures jobs { Keeps wanted.old.jobs wanted.new.jobs }
         ensures chains { wanted.new.chains ≡ wanted.old.chains }
         ensures recent { wanted.new.recent ≡ wanted.old.recent }
@@ -92,6 +96,7 @@ impl Start {
         requires of { AreOfSchema wanted.old.basis.schema (asked_of self.now.monitor.tables) }
         ensures text { IfOk result (λ message. (all : List model_job.Job) → Keeps wanted.new.jobs all
             → sending_under all message ≡ Some (whole_sending wanted.old.chains.db self.now.origin self.now.monitor)) }
+        ensures marks { IfOk result (λ message. IsServed wanted.old.likenesses wanted.new.likenesses (λ h. h ≡ self.now.monitor) (Some message.job)) }
         ensures jobs { Keeps wanted.old.jobs wanted.new.jobs }
         ensures chains { wanted.new.chains ≡ wanted.old.chains }
         ensures recent { wanted.new.recent ≡ wanted.old.recent }
@@ -112,6 +117,7 @@ impl Start {
         ensures text { IfOk result (λ message. (all : List model_job.Job) → Keeps wanted.new.jobs all
             → sending_under all message ≡ Some (sending_since wanted.old.recent wanted.old.chains.db self.now.origin self.now.monitor (uuid_of since))) }
         ensures kept { IfSome (commits_ago wanted.old.recent.most wanted.old.recent.run wanted.old.recent.commits (uuid_of since)) (λ ago. ago ≤ length wanted.old.recent.undos) }
+        ensures marks { IfOk result (λ message. IsServed wanted.old.likenesses wanted.new.likenesses (λ h. h ≡ self.now.monitor) (Some message.job)) }
         ensures jobs { Keeps wanted.old.jobs wanted.new.jobs }
         ensures chains { wanted.new.chains ≡ wanted.old.chains }
         ensures recent { wanted.new.recent ≡ wanted.old.recent }
@@ -134,6 +140,7 @@ impl Start {
         requires of { AreOfSchema wanted.old.basis.schema (asked_of self.now.monitor.tables) }
         ensures text { IfOk result (λ message. (all : List model_job.Job) → Keeps wanted.new.jobs all
             → sending_under all message ≡ Some (missed_sending (uuid_of number) wanted.old.chains.db self.now.origin self.now.monitor)) }
+        ensures marks { IfOk result (λ message. IsServed wanted.old.likenesses wanted.new.likenesses (λ h. h ≡ self.now.monitor) (Some message.job)) }
         ensures jobs { Keeps wanted.old.jobs wanted.new.jobs }
         ensures chains { wanted.new.chains ≡ wanted.old.chains }
         ensures recent { wanted.new.recent ≡ wanted.old.recent }
@@ -151,6 +158,7 @@ impl Start {
         requires kept { ago ≤ length wanted.old.recent.undos }
         ensures text { IfOk result (λ message. (all : List model_job.Job) → Keeps wanted.new.jobs all
             → sending_under all message ≡ Some (found_sending wanted.old.recent ago wanted.old.chains.db self.now.origin self.now.monitor)) }
+        ensures marks { IfOk result (λ message. IsServed wanted.old.likenesses wanted.new.likenesses (λ h. h ≡ self.now.monitor) (Some message.job)) }
         ensures jobs { Keeps wanted.old.jobs wanted.new.jobs }
         ensures chains { wanted.new.chains ≡ wanted.old.chains }
         ensures recent { wanted.new.recent ≡ wanted.old.recent }
@@ -187,6 +195,8 @@ impl<'a> Planner<'a> {
         ensures comes { IfOk result (λ coming. is_some coming ≡ true) }
         ensures text { IfOk result (λ coming. (h : Service) (last : Option machine.Item) → Comes self.new.jobs coming last
             (Some (due_sending h (revision_at self.old.chains self.old.recent) (first_due start.now.origin (watch_of start.now.monitor))))) }
+        ensures marks { IfOk result (λ coming. IsServed self.old.likenesses self.new.likenesses (λ h. h ≡ start.now.monitor) (place_coming coming)) }
+        ensures held { self.new.held ≡ self.old.held }
         ensures jobs { Keeps self.old.jobs self.new.jobs }
         ensures chains { self.new.chains ≡ self.old.chains }
         ensures recent { self.new.recent ≡ self.old.recent }
@@ -202,6 +212,9 @@ impl<'a> Planner<'a> {
             ≡ is_some (due (served_by s) self.old.chains.db (item_in id.now under.entry) self.old.monitors)) }
         ensures text { IfOk result (λ coming. (s : Schema) (last : Option machine.Item) → Comes self.new.jobs coming last
             (option_map (due_sending (served_by s) (revision_at self.old.chains self.old.recent)) (due (served_by s) self.old.chains.db (item_in id.now under.entry) self.old.monitors))) }
+        ensures marks { IfOk result (λ coming. (s : Schema) → IsServed self.old.likenesses self.new.likenesses
+            (IsDueTo (due (served_by s) self.old.chains.db (item_in id.now under.entry) self.old.monitors) self.old.held) (place_coming coming)) }
+        ensures held { self.new.held ≡ self.old.held }
         ensures passed { OnOk result ((s : Schema)
             → self.new.monitors ≡ leaves (served_by s) self.old.chains.db (item_in id.now under.entry) self.old.monitors) }
         ensures jobs { Keeps self.old.jobs self.new.jobs }
@@ -222,6 +235,9 @@ impl<'a> Planner<'a> {
             ≡ is_some (due (served_by s) self.old.chains.db (item_seen (queued_of item.now)) self.old.monitors)) }
         ensures text { IfOk result (λ coming. (s : Schema) → Comes self.new.jobs coming (Some (item_seen (queued_of item.now)))
             (option_map (due_sending (served_by s) (revision_at self.old.chains self.old.recent)) (due (served_by s) self.old.chains.db (item_seen (queued_of item.now)) self.old.monitors))) }
+        ensures marks { IfOk result (λ coming. (s : Schema) → IsServed self.old.likenesses self.new.likenesses
+            (IsDueTo (due (served_by s) self.old.chains.db (item_seen (queued_of item.now)) self.old.monitors) (self.old.held ++ held_due (queued_of item.now))) (place_coming coming)) }
+        ensures held { self.new.held ≡ self.old.held }
         ensures passed { IfOk result (λ coming. is_some coming ≡ false → (s : Schema)
             → self.new.monitors ≡ leaves (served_by s) self.old.chains.db (item_seen (queued_of item.now)) self.old.monitors) }
         ensures jobs { Keeps self.old.jobs self.new.jobs }
@@ -242,6 +258,7 @@ impl<'a> Planner<'a> {
 
 /// Returns what a taking of these items uses up, and what comes, where the first was finished when it was queued. O(1).
 fn at_once(items: &VecDeque<Item>) -> Option<Taking>
+    ensures place { IfSome result (λ taking. place_coming taking.coming ≡ None) }
     ensures items { IfSome result (λ taking. (s : Schema) (db : model_db.Db) (ms : List machine.Monitor) → taking.items
         ≡ (plan_from (served_by s) db (map item_seen (map queued_of items.now.items)) ms).items) }
     ensures monitors { IfSome result (λ taking. (s : Schema) (db : model_db.Db) (ms : List machine.Monitor) → taking.monitors
@@ -273,6 +290,8 @@ fn taking_of<'a>(items: &'a VecDeque<Item>, planner: &mut Planner<'a>) -> Result
     ensures text { IfOk result (λ taking. (s : Schema) → Gives planner.new.jobs taking (map item_seen (map queued_of items.now.items))
         (option_map (due_sending (served_by s) (revision_at planner.old.chains planner.old.recent))
         (plan_from (served_by s) planner.old.chains.db (map item_seen (map queued_of items.now.items)) planner.old.monitors).out)) }
+    ensures marks { IfOk result (λ taking. (s : Schema) → IsServed planner.old.likenesses planner.new.likenesses
+        (IsDueTo (plan_from (served_by s) planner.old.chains.db (map item_seen (map queued_of items.now.items)) planner.old.monitors).out (planner.old.held ++ flat_map held_due (map queued_of items.now.items))) (place_coming taking.coming)) }
     ensures jobs { Keeps planner.old.jobs planner.new.jobs }
     ensures chains { planner.new.chains ≡ planner.old.chains }
     ensures recent { planner.new.recent ≡ planner.old.recent }
@@ -309,6 +328,8 @@ impl Session {
             → taking.monitors ≡ (plan (served_by s) planner.old.chains.db (seen self.now)).monitors) }
         ensures text { IfOk result (λ taking. (s : Schema) → Gives planner.new.jobs taking (seen self.now).queue
             (option_map (due_sending (served_by s) (revision_at planner.old.chains planner.old.recent)) (plan (served_by s) planner.old.chains.db (seen self.now)).out)) }
+        ensures marks { IfOk result (λ taking. (s : Schema) → IsServed planner.old.likenesses planner.new.likenesses
+            (IsDueTo (plan (served_by s) planner.old.chains.db (seen self.now)).out (held_in self.now)) (place_coming taking.coming)) }
         ensures jobs { Keeps planner.old.jobs planner.new.jobs }
         ensures chains { planner.new.chains ≡ planner.old.chains }
         ensures recent { planner.new.recent ≡ planner.old.recent }
@@ -326,6 +347,7 @@ impl Queue {
     /// Returns what a taking of a session with this queue uses up, and what comes, where the first item was finished
     /// when it was queued. O(1).
     fn at_once(&self) -> Option<Taking>
+        ensures place { IfSome result (λ taking. place_coming taking.coming ≡ None) }
         ensures items { IfSome result (λ taking. (s : Schema) (db : model_db.Db) (ms : List machine.Monitor)
             → taking.items ≡ (plan_from (served_by s) db (map item_seen self.now) ms).items) }
         ensures monitors { IfSome result (λ taking. (s : Schema) (db : model_db.Db) (ms : List machine.Monitor)
@@ -348,6 +370,8 @@ impl Queue {
         ensures text { IfOk result (λ taking. (s : Schema) → Gives planner.new.jobs taking (map item_seen self.now)
             (option_map (due_sending (served_by s) (revision_at planner.old.chains planner.old.recent))
             (plan_from (served_by s) planner.old.chains.db (map item_seen self.now) planner.old.monitors).out)) }
+        ensures marks { IfOk result (λ taking. (s : Schema) → IsServed planner.old.likenesses planner.new.likenesses
+            (IsDueTo (plan_from (served_by s) planner.old.chains.db (map item_seen self.now) planner.old.monitors).out (planner.old.held ++ flat_map held_due self.now)) (place_coming taking.coming)) }
         ensures jobs { Keeps planner.old.jobs planner.new.jobs }
         ensures chains { planner.new.chains ≡ planner.old.chains }
         ensures recent { planner.new.recent ≡ planner.old.recent }

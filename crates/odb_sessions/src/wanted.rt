@@ -13,6 +13,7 @@ ghost use Rattle.odb_sessions.specs.OfSchema.{AreOfSchema};
 ghost use Rattle.odb_sessions.specs.Represented.Alike.{IsFoundIn, likeness_in};
 ghost use Rattle.odb_sessions.specs.Represented.Decided.{IsSame, Puts};
 ghost use Rattle.odb_sessions.specs.Represented.Job.{job_in};
+ghost use Rattle.odb_sessions.specs.Represented.Served.{IsAtPlace, IsServed};
 ghost use Rattle.odb_sessions.specs.Tied.{AreLive};
 ghost use Rattle.odb_sessions.specs.Watches.{AreAlike, IsKnownAs};
 ghost use Rattle.odb_sessions.specs.declared.way.Way.TheVariants as way;
@@ -111,15 +112,15 @@ pub(crate) struct Wanted<'a> {
 impl<'a> Model for Wanted<'a> {
     ghost use Rattle.odb_sessions.specs.Jobs as model;
     ghost use Rattle.odb_sessions.specs.Represented.Codes.{wanted_code};
-    ghost use Rattle.odb_sessions.specs.Represented.Decided.{AreDecisionsOf, AreShared, IsPlanned};
+    ghost use Rattle.odb_sessions.specs.Represented.Decided.{AreDecisionsOf, AreShared, AreSharedPlaced, IsPlanned};
 
     ghost Value = { model.Wanted };
 
     ghost coded = { wanted_code };
 
-    ghost view = { λ w. record { basis = w.basis; chains = w.chains.now; recent = w.recent.now; jobs = w.listed.jobs.items } };
+    ghost view = { λ w. record { basis = w.basis; chains = w.chains.now; recent = w.recent.now; jobs = w.listed.jobs.items; likenesses = w.listed.askings.items } };
 
-    ghost invariant = { λ w. IsPlanned w.chains.now w.recent.now.undos w.firsts.now w.listed.jobs.items w.listed.askings.items w.decided × AreDecisionsOf w.basis.schema w.decided × AreShared w.basis w.chains.now w.recent.now.undos w.listed.jobs.items w.shared };
+    ghost invariant = { λ w. IsPlanned w.chains.now w.recent.now.undos w.firsts.now w.listed.jobs.items w.listed.askings.items w.decided × AreDecisionsOf w.basis.schema w.decided × AreShared w.basis w.chains.now w.recent.now.undos w.listed.jobs.items w.shared × AreSharedPlaced w.listed.askings.items w.shared };
 }
 
 impl<'a> Wanted<'a> {
@@ -133,7 +134,7 @@ impl<'a> Wanted<'a> {
     ) -> Wanted<'a>
         requires firsts { AreFirstTexts chains.now.db firsts.now }
         requires alike { AreAlike basis.sessions }
-        ensures { result ≡ record { basis = basis.entry; chains = chains.now; recent = recent.now; jobs = [] } }
+        ensures { result ≡ record { basis = basis.entry; chains = chains.now; recent = recent.now; jobs = []; likenesses = [] } }
     {
         Wanted {
             alloc,
@@ -183,8 +184,9 @@ impl<'a> Wanted<'a> {
     /// Returns the jobs, and what each is composed for.
     pub(crate) fn into_jobs(self) -> Listed<'a>
         ensures jobs { result.jobs.items ≡ self.entry.jobs }
+        ensures likenesses { result.askings.items ≡ self.entry.likenesses }
         ensures now { All (IsOfNow self.entry.chains.db) result.jobs.items }
-        ensures once { AreEachOnce (revision_at self.entry.chains self.entry.recent) result.jobs.items result.askings.items }
+        ensures once { AreEachOnce self.entry.chains (revision_at self.entry.chains self.entry.recent) result.jobs.items result.askings.items }
     {
         let Wanted {
             alloc: _,
@@ -211,6 +213,7 @@ impl<'a> Wanted<'a> {
         requires of { AreOfSchema self.old.basis.schema (asked_of monitor.now.tables) }
         requires known { IsKnownAs self.old.basis.sessions watch monitor.now }
         ensures place { IfOk result (λ place. IsFor self.new.jobs (if_sent (owed_job self.old.chains.db monitor.now)) place) }
+        ensures marks { IfOk result (λ place. IsServed self.old.likenesses self.new.likenesses (λ h. h ≡ monitor.now) place) }
         ensures jobs { Keeps self.old.jobs self.new.jobs }
         ensures chains { self.new.chains ≡ self.old.chains }
         ensures recent { self.new.recent ≡ self.old.recent }
@@ -228,7 +231,8 @@ impl<'a> Wanted<'a> {
     fn find_shared(&self, monitor: &'a Monitor, watch: Option<WatchId>) -> Option<Option<usize>>
         requires live { AreLive self.now.chains (marks_in monitor.now) }
         requires known { IsKnownAs self.now.basis.sessions watch monitor.now }
-        ensures { IfSome result (λ place. IsFor self.now.jobs (if_sent (owed_job self.now.chains.db monitor.now)) place) }
+        ensures place { IfSome result (λ place. IsFor self.now.jobs (if_sent (owed_job self.now.chains.db monitor.now)) place) }
+        ensures marks { IfSome result (λ place. IsServed self.now.likenesses self.now.likenesses (λ h. h ≡ monitor.now) place) }
     {
         match watch {
             Some(watch) => self.shared.find(monitor, watch),
@@ -241,6 +245,7 @@ impl<'a> Wanted<'a> {
         requires live { AreLive self.old.chains (marks_in monitor.now) }
         requires known { IsKnownAs self.old.basis.sessions watch monitor.now }
         requires place { IsFor self.old.jobs (if_sent (owed_job self.old.chains.db monitor.now)) place }
+        requires likeness { IsAtPlace self.old.likenesses (likeness_in monitor.now way.Asked) place }
         ensures { self.new ≡ self.old }
     {
         let Some(watch) = watch else {
@@ -260,6 +265,8 @@ impl<'a> Wanted<'a> {
         requires of { AreOfSchema self.old.basis.schema (asked_of monitor.now.tables) }
         requires found { IsFoundIn self.old.recent way }
         ensures place { IfOk result (λ place. IsFor self.new.jobs (if_sent (job_in self.old.chains.db monitor.now way.entry)) place) }
+        ensures likeness { IfOk result (λ place. IsAtPlace self.new.likenesses (likeness_in monitor.now way.entry) place) }
+        ensures marks { IfOk result (λ place. IsServed self.old.likenesses self.new.likenesses (λ h. h ≡ monitor.now) place) }
         ensures jobs { Keeps self.old.jobs self.new.jobs }
         ensures chains { self.new.chains ≡ self.old.chains }
         ensures recent { self.new.recent ≡ self.old.recent }
@@ -304,6 +311,7 @@ impl<'a> Wanted<'a> {
         requires of { AreOfSchema self.old.basis.schema (asked_of monitor.now.tables) }
         ensures place { IfOk result (λ place. (all : List model_job.Job) → Keeps self.new.jobs all
             → slice_get all place ≡ Some (job_in self.old.chains.db monitor.now way.First)) }
+        ensures marks { IfOk result (λ place. IsServed self.old.likenesses self.new.likenesses (λ h. h ≡ monitor.now) (Some place)) }
         ensures jobs { Keeps self.old.jobs self.new.jobs }
         ensures chains { self.new.chains ≡ self.old.chains }
         ensures recent { self.new.recent ≡ self.old.recent }
@@ -324,6 +332,7 @@ impl<'a> Wanted<'a> {
         requires kept { ago ≤ length self.old.recent.undos }
         ensures place { IfOk result (λ place. (all : List model_job.Job) → Keeps self.new.jobs all
             → slice_get all place ≡ Some (resumed_job (take ago self.old.recent.undos) self.old.chains.db monitor.now.notation (asked_of monitor.now.tables))) }
+        ensures marks { IfOk result (λ place. IsServed self.old.likenesses self.new.likenesses (λ h. h ≡ monitor.now) (Some place)) }
         ensures jobs { Keeps self.old.jobs self.new.jobs }
         ensures chains { self.new.chains ≡ self.old.chains }
         ensures recent { self.new.recent ≡ self.old.recent }

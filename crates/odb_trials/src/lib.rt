@@ -24,6 +24,8 @@ mod sizes;
 #[cfg(test)]
 mod streams;
 #[cfg(test)]
+mod told;
+#[cfg(test)]
 mod workers;
 #[cfg(test)]
 mod writers;

@@ -1,23 +1,18 @@
 -- The likeness of a job: of a monitor, in each of the ways.
-use Rattle.std.specs.Prelude.{◌≡◌, ◌≤◌, ℕ, Bool, true, false, List, [], length, map as map_list, Option, Some, None, option_map, unwrap_or}
-use Rattle.odb_atoms.specs.FinMap as map
-use Rattle.odb_chain.specs.Chains.{Chains, Mark, standing}
+use Rattle.std.specs.Prelude.{◌≡◌, ◌≤◌, ℕ, Bool, true, false, List, [], length, map as map_list, Option, Some, None, unwrap_or}
+use Rattle.odb_chain.specs.Chains.{Mark}
 use Rattle.odb_cond.specs.Filter.{Filter}
 use Rattle.odb_recent.specs.Recent.{Recent}
 use Rattle.odb_request.specs.Request.{Notation, Request}
 use Rattle.odb_schema.specs.Schema.{Schema}
 use Rattle.odb_service.specs.Session.{filter_of}
-use Rattle.odb_sessions.specs.Alike.{Contents, Likeness, Stand}
+use Rattle.odb_sessions.specs.Alike.{Likeness, Stand}
 use Rattle.odb_sessions.specs.Held.{Held, Watched}
 use Rattle.odb_sessions.specs.OfSchema.{AreOfSchema, Asks, asks_of}
 use Rattle.odb_sessions.specs.Represented.Job.{filters_by}
 use Rattle.odb_sessions.specs.Represented.Under.{filters_in}
 use Rattle.odb_sessions.specs.declared.way.Way.{Way}
 use Rattle.odb_sessions.specs.declared.way.Way.TheVariants as way
-
--- what marks stand for, by their tables and places
-abbrev pub contents : Chains → Contents
-contents k t p = unwrap_or (option_map (λ s. s.content) (standing k t p)) map.empty
 
 abbrev pub is_first : Way → Bool
 is_first way.First = true

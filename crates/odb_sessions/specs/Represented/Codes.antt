@@ -30,6 +30,7 @@ use Rattle.odb_sessions.specs.Jobs.{Decision, Round, Shared, Wanted}
 use Rattle.odb_sessions.specs.Named.{Named}
 use Rattle.odb_sessions.specs.Started.{Starting}
 use Rattle.odb_sessions.specs.Stopped.{Changing}
+use Rattle.odb_sessions.specs.Told.{Told}
 use Rattle.odb_sessions.specs.Watches.{Basis}
 use Rattle.odb_sessions.specs.Taken.{Pending, Ready, Text, composed_text, last_text, no_text}
 
@@ -77,11 +78,6 @@ named_code = code_by (Data × (Notation × List Shape)) (coded× data_code (code
 abbrev pub basis_code : Coded Basis
 basis_code = code_by (Schema × Sessions) (coded× schema_code sessions_code) (λ g. (g.schema, g.sessions)) (λ p. record { schema = p.0; sessions = p.1 }) (λ g. refl)
 
-abbrev pub foreseen_code : Coded Foreseen
-foreseen_code =
-    code_by (Basis × (Chains × (Recent × (List Job × List Monitor)))) (coded× basis_code (coded× chains_code (coded× recent_code (coded× (coded_list job_code) (coded_list monitor_code)))))
-    (λ f. (f.basis, (f.chains, (f.recent, (f.jobs, f.monitors))))) (λ p. record { basis = p.0; chains = p.1.0; recent = p.1.1.0; jobs = p.1.1.1.0; monitors = p.1.1.1.1 }) (λ f. refl)
-
 abbrev pub filters_code : Coded Filters
 filters_code = coded_list (coded× (coded_list coded_ℕ) filter_code)
 
@@ -118,8 +114,17 @@ shareds_code = coded_list shared_code
 
 abbrev pub wanted_code : Coded Wanted
 wanted_code =
-    code_by (Basis × (Chains × (Recent × List Job))) (coded× basis_code (coded× chains_code (coded× recent_code (coded_list job_code))))
-    (λ w. (w.basis, (w.chains, (w.recent, w.jobs)))) (λ p. record { basis = p.0; chains = p.1.0; recent = p.1.1.0; jobs = p.1.1.1 }) (λ w. refl)
+    code_by (Basis × (Chains × (Recent × (List Job × List Likeness)))) (coded× basis_code (coded× chains_code (coded× recent_code (coded× (coded_list job_code) (coded_list likeness_code)))))
+    (λ w. (w.basis, (w.chains, (w.recent, (w.jobs, w.likenesses))))) (λ p. record { basis = p.0; chains = p.1.0; recent = p.1.1.0; jobs = p.1.1.1.0; likenesses = p.1.1.1.1 }) (λ w. refl)
+
+abbrev pub foreseen_code : Coded Foreseen
+foreseen_code =
+    code_by (Basis × (Chains × (Recent × (List Job × (List Likeness × (List Held × List Monitor))))))
+    (coded× basis_code (coded× chains_code (coded× recent_code (coded× (coded_list job_code) (coded× (coded_list likeness_code) (coded× (coded_list held_code) (coded_list monitor_code)))))))
+    (λ f. (f.basis, (f.chains, (f.recent, (f.jobs, (f.likenesses, (f.held, f.monitors))))))) (λ p. record { basis = p.0; chains = p.1.0; recent = p.1.1.0; jobs = p.1.1.1.0; likenesses = p.1.1.1.1.0; held = p.1.1.1.1.1.0; monitors = p.1.1.1.1.1.1 }) (λ f. refl)
+
+abbrev pub told_code : Coded Told
+told_code = code_by (Chains × Sessions) (coded× chains_code sessions_code) (λ t. (t.chains, t.sessions)) (λ p. record { chains = p.0; sessions = p.1 }) (λ t. refl)
 
 -- ---- takings
 
@@ -154,5 +159,5 @@ pendings_code = coded_list (coded× coded_ℕ ready_code)
 
 abbrev pub round_code : Coded Round
 round_code =
-    code_by (List Job × (List Likeness × List Pending)) (coded× (coded_list job_code) (coded× (coded_list likeness_code) pendings_code))
-    (λ r. (r.jobs, (r.likenesses, r.takings))) (λ p. record { jobs = p.0; likenesses = p.1.0; takings = p.1.1 }) (λ r. refl)
+    code_by (Told × (List Job × (List Likeness × List Pending))) (coded× told_code (coded× (coded_list job_code) (coded× (coded_list likeness_code) pendings_code)))
+    (λ r. (r.told, (r.jobs, (r.likenesses, r.takings)))) (λ p. record { told = p.0; jobs = p.1.0; likenesses = p.1.1.0; takings = p.1.1.1 }) (λ r. refl)

@@ -12,8 +12,10 @@ use Rattle.odb_sessions.specs.Alike.{AreUnlike, IsLike, Likeness, job_like}
 use Rattle.odb_sessions.specs.FirstTexts.{AreFirstTexts, FirstText, IsOfNow}
 use Rattle.odb_sessions.specs.Held.{Kept, Sessions}
 use Rattle.odb_sessions.specs.Jobs.{Decision, IsFor, Shared, if_sent}
-use Rattle.odb_sessions.specs.Represented.Alike.{IsLikenessOf, contents}
+use Rattle.odb_sessions.specs.Represented.Alike.{IsLikenessOf}
+use Rattle.odb_sessions.specs.Told.{contents}
 use Rattle.odb_sessions.specs.Represented.Digest.{digest}
+use Rattle.odb_sessions.specs.Represented.Served.{IsAtPlace}
 use Rattle.odb_sessions.specs.Watches.{AreAlike, Basis, asking_in}
 use Rattle.odb_sessions.specs.declared.decided.Decided.{Decided}
 
@@ -54,6 +56,13 @@ IsDecided k us js d = IsFor js (if_sent (job_like (contents k) us k.db d.likenes
 abbrev pub AreDecided : Chains → List Undo → List Job → Decided → Type 0
 AreDecided k us js d = (n : ℕ) → All (IsDecided k us js) (bucket_at d n)
 
+-- the likeness that was decided stands at the place
+abbrev pub IsPlaced : List Likeness → Decision → Type 0
+IsPlaced ls d = IsAtPlace ls d.likeness d.place
+
+abbrev pub ArePlaced : List Likeness → Decided → Type 0
+ArePlaced ls d = (n : ℕ) → All (IsPlaced ls) (bucket_at d n)
+
 -- ---- of monitors that are known by numbers
 
 -- it is of the monitor that stands at this place in a session that has this number
@@ -67,6 +76,10 @@ IsPlaceOf k us js l place = IsFor js (if_sent (job_like (contents k) us k.db l))
 abbrev pub ArePlacesOf : Chains → List Undo → List Job → List Shared → Type 0
 ArePlacesOf k us js es = All (λ e. IsPlaceOf k us js e.likeness e.place) es
 
+-- the likeness of each stands at its place
+abbrev pub AreSharedPlaced : List Likeness → List Shared → Type 0
+AreSharedPlaced ls es = All (λ e. IsAtPlace ls e.likeness e.place) es
+
 abbrev pub AreShared : Basis → Chains → List Undo → List Job → List Shared → Type 0
 AreShared g k us js es = AreAlike g.sessions × All (IsSharedIn g.sessions) es × ArePlacesOf k us js es
 
@@ -79,4 +92,4 @@ AreNoted ls d = (n : ℕ) (l : Likeness) → slice_get ls n ≡ Some l → All (
 -- all that is so of the jobs of a round
 abbrev pub IsPlanned : Chains → List Undo → List FirstText → List Job → List Likeness → Decided → Type 0
 IsPlanned k us fs js ls d =
-    AreDecided k us js d × AreFirstTexts k.db fs × All (IsOfNow k.db) js × AreNoted ls d × AreUnlike ls × AllZip (IsLike (contents k) us k.db) js ls
+    AreDecided k us js d × AreFirstTexts k.db fs × All (IsOfNow k.db) js × AreNoted ls d × AreUnlike ls × AllZip (IsLike (contents k) us k.db) js ls × ArePlaced ls d

@@ -1,18 +1,25 @@
-use Rattle.std.proofs.Common.{rules, ◌≡◌, ◌<◌, List, length, option_map, position, slice_index_or, Some, None, subst, sym, ap, ◌∙◌}
+use Rattle.std.proofs.Common.{rules, ◌≡◌, ◌<◌, List, length, option_map, position, slice_index_or, Some, None, subst, sym, ap, ◌∙◌, map}
 use Rattle.odb_schema.specs.Schema.{Schema}
 use Rattle.odb_service.specs.Server.{served_by}
 use Rattle.odb_sessions.specs.Asked.{is_same}
 use Rattle.odb_sessions.specs.Composed.{asked_of}
-use Rattle.odb_sessions.specs.Foreseen.{Ahead}
+use Rattle.odb_sessions.specs.Foreseen.{Ahead, held_ahead, seen_ahead}
 use Rattle.odb_sessions.specs.OfSchema.{AreOfSchema}
 use Rattle.odb_sessions.specs.Jobs.{certainly}
-use Rattle.odb_sessions.specs.Held.{marks_in}
+use Rattle.odb_sessions.specs.Held.{Held, marks_in, watch_of}
 use Rattle.odb_sessions.specs.Tied.{AreLive}
 use Rattle.odb_sessions.specs.Sending.{due_sending}
 use Rattle.odb_sessions.proofs.Aheads.{due_found, due_nowhere, leaves_found, leaves_nowhere, live_ahead, same_marks, still_held}
 use Rattle.odb_sessions.proofs.OneSchema.{ahead_of, still_of}
 use Rattle.odb_sessions.proofs.Places.{keeps_itself}
 use Rattle.odb_sessions.proofs.foreseen.pass.Goals as goal
+use Rattle.std.specs.Prelude.{IfSome}
+use Rattle.odb_service.specs.Session.{refilter}
+use Rattle.odb_sessions.specs.Planned.{due}
+use Rattle.odb_sessions.specs.Represented.Served.{place_told}
+use Rattle.odb_sessions.specs.Represented.Under.{filters_in, item_in}
+use Rattle.odb_sessions.specs.Told.{IsDueTo, watch_due}
+use Rattle.odb_sessions.proofs.Served.{one_ahead, served_so, update_to}
 use Rattle.odb_sessions.specs.Book.{revision_at}
 
 pub returns-in_default-clause-text : goal.returns-in_default-clause-text
@@ -96,3 +103,24 @@ returns-in_default-clause-jobs c = keeps_itself c.args.wanted.now.jobs
 
 pub returns-clause-jobs : goal.returns-clause-jobs
 returns-clause-jobs c = c.update.ensures.jobs
+
+pub returns-in_default-clause-marks : goal.returns-in_default-clause-marks
+returns-in_default-clause-marks c = λ s. (keeps_itself c.args.wanted.now.likenesses, tt)
+
+pub returns-clause-marks : goal.returns-clause-marks
+returns-clause-marks c = λ s.
+    let db = c.args.wanted.now.chains.db in
+    let xs : List Ahead = c.args.monitors.now.items in
+    let k = c.in-Some.place in
+    let x : Ahead = c.index.result.now in
+    let some : position (λ (a : Ahead). is_same c.args.id.now a.held.id) xs ≡ Some k = search rules in
+    let low : k < length xs = search rules in
+    let at : x ≡ slice_index_or xs k x = search rules in
+    let hs : List Held = held_ahead xs in
+    let fs = filters_in c.args.under in
+    served_so c.args.wanted.now.likenesses c.update.new.wanted.likenesses (λ h. h ≡ x.held) (IsDueTo (due (served_by s) db (item_in c.args.id.now c.args.under) (map (seen_ahead db) xs)) hs) (place_told c.in_ok-message.message)
+    (λ h is. (
+      one_ahead xs k x h low at is,
+      subst (λ o. IfSome o (λ d. watch_due d ≡ Some (watch_of h))) (sym (due_found s db c.args.id.now c.args.under xs x k some at)) (update_to (served_by s) db (refilter fs (watch_of x.held).requests) x h is),
+    ))
+    c.in_ok-message.ensures.marks

@@ -1,13 +1,13 @@
-use Rattle.std.proofs.Common.{rules, ◌≡◌, ◌+◌, ◌<◌, ◌≤◌, arith, true, false, List, ◌∷◌, drop, is_some, length, option_map, slice_index_or, refl, subst, sym, ap, ◌∙◌}
-use Rattle.std.specs.Prelude.{option_and_then}
+use Rattle.std.proofs.Common.{rules, ◌≡◌, ◌+◌, ◌<◌, ◌≤◌, arith, true, false, List, ◌∷◌, drop, is_some, length, option_map, slice_index_or, refl, subst, sym, ap, ◌∙◌, Some}
+use Rattle.std.specs.Prelude.{IfSome, option_and_then}
 use Rattle.std.proofs.lemmas.List.{drop_more}
 use Rattle.odb_chain.specs.Chains.{Chains}
 use Rattle.odb_monitor.specs.Job.{Job}
 use Rattle.odb_schema.specs.Schema.{Schema}
 use Rattle.odb_sessions.specs.Composed.{asked_of}
-use Rattle.odb_sessions.specs.Foreseen.{Ahead}
+use Rattle.odb_sessions.specs.Foreseen.{Ahead, held_ahead}
 use Rattle.odb_sessions.specs.OfSchema.{AreOfSchema}
-use Rattle.odb_sessions.specs.Held.{marks_in}
+use Rattle.odb_sessions.specs.Held.{marks_in, watch_of}
 use Rattle.odb_sessions.specs.Jobs.{certainly}
 use Rattle.odb_sessions.specs.Planned.{Plan}
 use Rattle.odb_sessions.specs.Represented.Composed.{sending_under}
@@ -16,12 +16,15 @@ use Rattle.odb_sessions.specs.Sending.{due_sending}
 use Rattle.odb_sessions.proofs.Aheads.{live_ahead}
 use Rattle.odb_sessions.proofs.OneSchema.{ahead_of}
 use Rattle.odb_sessions.proofs.Places.{is_told, keeps_itself, keeps_on, still_told, told_sending}
-use Rattle.odb_sessions.proofs.Rests.{found_monitors, found_out, none_yet, rest_done, rest_none, rest_of, sending_at}
+use Rattle.odb_sessions.proofs.Rests.{found_due, found_monitors, found_out, none_yet, owed_to, rest_done, rest_none, rest_of, sending_at}
 use Rattle.odb_sessions.proofs.foreseen.rest_due.Goals as goal
 use Rattle.odb_sessions.specs.Book.{revision_at}
 use Rattle.odb_sessions.specs.Watches.{Basis}
 use Rattle.odb_sessions.specs.Watches.{IsKnownAs}
 use Rattle.odb_sessions.specs.Held.{Sessions}
+use Rattle.odb_sessions.specs.Represented.Served.{place_told}
+use Rattle.odb_sessions.specs.Told.{IsDueTo, watch_due}
+use Rattle.odb_sessions.proofs.Served.{one_ahead, served_on, served_so, update_to}
 use Rattle.odb_sessions.proofs.Aheads.{known_ahead}
 
 pub loop-place-init : goal.loop-place-init
@@ -30,6 +33,7 @@ loop-place-init c = record {
   chains = refl;
   recent = refl;
   jobs = keeps_itself c.args.wanted.now.jobs;
+  likenesses = keeps_itself c.args.wanted.now.likenesses;
   within = omega arith;
   rest = λ h. none_yet (rest_of h c.args.wanted.now.chains.db c.args.monitors.now);
 }
@@ -84,6 +88,7 @@ loop-place-preserved c =
       chains = c.update.ensures.chains ∙ c.loop-place.invariant.chains;
       recent = c.update.ensures.recent ∙ c.loop-place.invariant.recent;
       jobs = keeps_on c.args.wanted.now.jobs c.loop-place.wanted.jobs js c.loop-place.invariant.jobs c.update.ensures.jobs;
+      likenesses = keeps_on c.args.wanted.now.likenesses c.loop-place.wanted.likenesses c.update.new.wanted.likenesses c.loop-place.invariant.likenesses c.in_ok-message.ensures.marks.0;
       within = omega (arith, low);
       rest = λ h. c.loop-place.invariant.rest h
           ∙ rest_none h revision xs i x step sent (told_sending (sending_under js) c.in_ok-message.message _ (c.in_ok-message.ensures.text h js (keeps_itself js)) ∙ sending_at h c.loop-place.wanted.recent c.args.wanted.now.recent c.loop-place.wanted.chains c.args.wanted.now.chains x c.loop-place.invariant.recent c.loop-place.invariant.chains)
@@ -163,3 +168,32 @@ returns-clause-recent c = c.loop-place.invariant.recent
 
 pub returns-clause-basis : goal.returns-clause-basis
 returns-clause-basis c = c.loop-place.invariant.basis
+
+pub returns-then-is_some-clause-marks : goal.returns-then-is_some-clause-marks
+returns-then-is_some-clause-marks c = λ h.
+    let revision = revision_at c.args.wanted.now.chains c.args.wanted.now.recent in
+    let xs : List Ahead = c.args.monitors.now in
+    let i = c.loop-place.place in
+    let x : Ahead = c.index-monitors-place.result in
+    let low : i < length xs = search rules in
+    let at : x ≡ slice_index_or xs i x = search rules in
+    let step : drop i xs ≡ x ∷ drop (i + 1) xs = drop_more xs i x low ∙ ap (λ (y : Ahead). y ∷ drop (i + 1) xs) (sym at) in
+    let js : List Job = c.update.new.wanted.jobs in
+    let told = c.in_ok-message.ensures.text h js (keeps_itself js) in
+    let sent = option_and_then (sending_under js) c.in_ok-message.message in
+    let some : is_some c.in_ok-message.message ≡ true = search rules in
+    let out : (rest_of h revision.db xs).out ≡ owed_to h revision.db x =
+    ap (λ (p : Plan). p.out) (c.loop-place.invariant.rest h)
+    ∙ found_due h revision xs i x step sent (told_sending (sending_under js) c.in_ok-message.message _ told ∙ sending_at h c.loop-place.wanted.recent c.args.wanted.now.recent c.loop-place.wanted.chains c.args.wanted.now.chains x c.loop-place.invariant.recent c.loop-place.invariant.chains)
+    (is_told (sending_under js) c.in_ok-message.message _ told ∙ some)
+    in
+    served_on c.args.wanted.now.likenesses c.loop-place.wanted.likenesses c.update.new.wanted.likenesses (IsDueTo (rest_of h revision.db xs).out (held_ahead xs)) (place_told c.in_ok-message.message) c.loop-place.invariant.likenesses
+    (served_so c.loop-place.wanted.likenesses c.update.new.wanted.likenesses (λ y. y ≡ x.held) (IsDueTo (rest_of h revision.db xs).out (held_ahead xs)) (place_told c.in_ok-message.message)
+    (λ y is. (
+      one_ahead xs i x y low at is,
+      subst (λ o. IfSome o (λ d. watch_due d ≡ Some (watch_of y))) (sym out) (update_to h revision.db (watch_of x.held).requests x y is),
+    ))
+    c.in_ok-message.ensures.marks)
+
+pub returns-clause-marks : goal.returns-clause-marks
+returns-clause-marks c = λ h. (c.loop-place.invariant.likenesses, tt)

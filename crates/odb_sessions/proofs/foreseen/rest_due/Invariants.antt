@@ -10,6 +10,7 @@ invariant-loop-place l = record {
   chains : l.wanted.chains ≡ l.initial.wanted.chains;
   recent : l.wanted.recent ≡ l.initial.wanted.recent;
   jobs : Keeps l.initial.wanted.jobs l.wanted.jobs;
+  likenesses : Keeps l.initial.wanted.likenesses l.wanted.likenesses;
   within : l.place ≤ length l.monitors;
   rest : (h : Service) → rest_of h l.initial.wanted.chains.db l.monitors ≡ after_none l.place (rest_of h l.initial.wanted.chains.db (drop l.place l.monitors));
 }

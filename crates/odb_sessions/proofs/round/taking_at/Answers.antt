@@ -3,7 +3,7 @@ use Rattle.odb_atoms.specs.FinMap as finite
 use Rattle.odb_service.specs.Server.{served_by}
 use Rattle.odb_sessions.specs.Foreseen.{last_used}
 use Rattle.odb_sessions.specs.Held.{Kept, Sessions, seen}
-use Rattle.odb_sessions.specs.Jobs.{IsOfJob}
+use Rattle.odb_sessions.specs.Jobs.{IsByLikeness, IsOfJob}
 use Rattle.odb_sessions.specs.Planned.{plan}
 use Rattle.odb_sessions.specs.Represented.Taking.{ready_by, text_planned}
 use Rattle.odb_sessions.specs.Sending.{Sending}
@@ -13,6 +13,7 @@ use Rattle.odb_sessions.proofs.Places.{keeps_itself, text_comes}
 use Rattle.odb_sessions.proofs.Rounds.{ready_by_plan, texts_due}
 use Rattle.odb_sessions.proofs.Ties.{get-seen}
 use Rattle.odb_sessions.proofs.round.taking_at.Goals as goal
+use Rattle.odb_sessions.proofs.Served.{by_likeness}
 use Rattle.odb_sessions.specs.Book.{revision_at}
 
 pub returns-in_default-clause-ready : goal.returns-in_default-clause-ready
@@ -68,3 +69,22 @@ returns-clause-made c = λ s all kept.
 
 pub returns-clause-jobs : goal.returns-clause-jobs
 returns-clause-jobs c = c.taking.ensures.jobs
+
+pub returns-in_default-clause-marks : goal.returns-in_default-clause-marks
+returns-in_default-clause-marks c = λ s all ls kept.
+    subst (IsByLikeness s (revision_at c.args.planner.now.chains c.args.planner.now.recent) all ls (finite.get c.args.sessions.now c.args.session)) (sym (c.none.ensures.coming all)) tt
+
+pub returns-in_default-clause-likenesses : goal.returns-in_default-clause-likenesses
+returns-in_default-clause-likenesses c = keeps_itself c.args.planner.now.likenesses
+
+pub returns-clause-marks : goal.returns-clause-marks
+returns-clause-marks c = λ s all ls kept.
+    let revision = revision_at c.args.planner.now.chains c.args.planner.now.recent in
+    let x : Kept = c.in-Some.of.now in
+    let there : finite.get c.args.sessions.now c.args.session ≡ Some x = search rules in
+    let t = c.in_ok-taking.taking in
+    subst (λ (o : Option Kept). IsByLikeness s revision all ls o (text_planned all t.coming)) (sym there)
+    (by_likeness s revision x all c.args.planner.now.likenesses c.taking.new.planner.likenesses ls t.coming (c.in_ok-taking.ensures.marks s) kept)
+
+pub returns-clause-likenesses : goal.returns-clause-likenesses
+returns-clause-likenesses c = (c.in_ok-taking.ensures.marks c.args.planner.now.basis.schema).0

@@ -9,7 +9,7 @@ use Rattle.odb_schema.specs.Schema.{Schema}
 use Rattle.odb_service.specs.Session.{Revision, Session}
 use Rattle.odb_sessions.specs.Book.{Book, book_with, revision_at}
 use Rattle.odb_sessions.specs.Held.{Sessions, all_seen, seen}
-use Rattle.odb_sessions.specs.Jobs.{AreMadeOf, IsOfJob, Keeps}
+use Rattle.odb_sessions.specs.Jobs.{AreByLikenesses, AreMadeOf, IsByLikeness, IsOfJob, Keeps}
 use Rattle.odb_sessions.specs.OfSchema.{AreSessionsOf}
 use Rattle.odb_sessions.specs.Represented.Taking.{pending_by, ready_by, text_planned}
 use Rattle.odb_sessions.specs.Taken.{AreReady, IsReadyFor}
@@ -18,6 +18,7 @@ use Rattle.odb_sessions.specs.declared.jobs.Planned.{Planned}
 use Rattle.odb_sessions.proofs.Pendings.{made-append}
 use Rattle.odb_sessions.proofs.Places.{keeps_on}
 use Rattle.odb_sessions.proofs.Rounds.{ready-append}
+use Rattle.odb_sessions.proofs.Served.{likenesses-append}
 use Rattle.odb_sessions.proofs.Ties.{get-seen}
 use Rattle.odb_sessions.proofs.round.takings_at.Goals as goal
 use Rattle.odb_sessions.specs.Watches.{Basis}
@@ -37,6 +38,7 @@ loop-session-init c =
       λ s all kept. subst (λ (ps : List Planned). AreMadeOf s (book c.args.planner.now.chains c.args.planner.now.recent c.args.sessions.now) all (map (pending_by all) ps)) (sym none) tt,
       refl,
       refl,
+      λ s all ls kept. subst (λ (ps : List Planned). AreByLikenesses s (revision_at c.args.planner.now.chains c.args.planner.now.recent) c.args.sessions.now all ls (map (pending_by all) ps)) (sym none) tt,
     )
 
 pub push_reserved-requires : goal.push_reserved-requires
@@ -88,6 +90,11 @@ loop-session-preserved c =
           (subst (λ (n : ℕ). IsOfJob s (revision_at k r) all (get (all_seen m) n) (text_planned all p.taking.coming)) (sym named) (made s all kept))),
       c.taking_at.ensures.recent ∙ commits,
       c.taking_at.ensures.basis ∙ c.loop-session.invariant.7,
+      λ s all ls kept. subst (AreByLikenesses s (revision_at k r) m all ls) (sym (ap (map (pending_by all)) grown ∙ map-append (pending_by all) ps (p ∷ [])))
+          (likenesses-append s (revision_at k r) m all ls (map (pending_by all) ps) (pending_by all p)
+          (c.loop-session.invariant.8 s all ls (keeps_on c.loop-session.planner.likenesses c.taking_at.new.planner.likenesses ls c.in_ok-taking_at.ensures.likenesses kept))
+          (subst (λ (v : Revision). IsByLikeness s v all ls (get m p.session) (text_planned all p.taking.coming)) revision
+          (subst (λ (q : ℕ). IsByLikeness s (revision_at c.loop-session.planner.chains c.loop-session.planner.recent) all ls (get m q) (text_planned all p.taking.coming)) (sym named) (c.in_ok-taking_at.ensures.marks s all ls kept)))),
     )
 
 pub returns-clause-sessions : goal.returns-clause-sessions
@@ -118,3 +125,6 @@ returns-clause-recent c = c.loop-session.invariant.6
 
 pub returns-clause-basis : goal.returns-clause-basis
 returns-clause-basis c = c.loop-session.invariant.7
+
+pub returns-clause-marks : goal.returns-clause-marks
+returns-clause-marks c = c.loop-session.invariant.8

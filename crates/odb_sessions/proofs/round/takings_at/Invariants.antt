@@ -2,9 +2,10 @@ use Rattle.std.proofs.Common.{◌≡◌, ◌≤◌, List, length, map, take}
 use Rattle.std.specs.Prelude.{vec_capacity, vec_len}
 use Rattle.odb_monitor.specs.Job.{Job}
 use Rattle.odb_schema.specs.Schema.{Schema}
-use Rattle.odb_sessions.specs.Book.{book_with}
+use Rattle.odb_sessions.specs.Alike.{Likeness}
+use Rattle.odb_sessions.specs.Book.{book_with, revision_at}
 use Rattle.odb_sessions.specs.Held.{all_seen}
-use Rattle.odb_sessions.specs.Jobs.{AreMadeOf, Keeps}
+use Rattle.odb_sessions.specs.Jobs.{AreByLikenesses, AreMadeOf, Keeps}
 use Rattle.odb_sessions.specs.Represented.Taking.{pending_by}
 use Rattle.odb_sessions.specs.Taken.{AreReady}
 use Rattle.odb_sessions.specs.declared.jobs.Planned.{Planned}
@@ -19,3 +20,4 @@ invariant-loop-session l =
     × ((s : Schema) (all : List Job) → Keeps l.planner.jobs all → AreMadeOf s (book_with l.initial.planner.chains.db l.initial.planner.recent (all_seen l.sessions)) all (map (pending_by all) l.takings.items))
     × (l.planner.recent ≡ l.initial.planner.recent)
     × (l.planner.basis ≡ l.initial.planner.basis)
+    × ((s : Schema) (all : List Job) (ls : List Likeness) → Keeps l.planner.likenesses ls → AreByLikenesses s (revision_at l.initial.planner.chains l.initial.planner.recent) l.sessions all ls (map (pending_by all) l.takings.items))

@@ -1,11 +1,11 @@
-use Rattle.std.proofs.Common.{rules, ◌≡◌, ◌+◌, ◌<◌, ◌≤◌, arith, true, false, List, ◌∷◌, drop, flat_map, is_some, length, map, option_map, slice_index_or, refl, subst, sym, ap, ◌∙◌}
+use Rattle.std.proofs.Common.{rules, ◌≡◌, ◌+◌, ◌<◌, ◌≤◌, arith, true, false, List, ◌∷◌, drop, flat_map, is_some, length, map, option_map, slice_index_or, refl, subst, sym, ap, ◌∙◌, ◌++◌, Option}
 use Rattle.std.proofs.lemmas.List.{drop_more}
 use Rattle.odb_chain.specs.Chains.{Chains}
 use Rattle.odb_service.specs.Server.{served_by}
 use Rattle.odb_service.specs.Session.{Monitor, Revision, leaves}
-use Rattle.odb_sessions.specs.Held.{marks_due}
+use Rattle.odb_sessions.specs.Held.{Held, marks_due}
 use Rattle.odb_sessions.specs.OfSchema.{IsItemOf}
-use Rattle.odb_sessions.specs.Planned.{Plan, due, plan_rest}
+use Rattle.odb_sessions.specs.Planned.{Due, Plan, due, plan_rest}
 use Rattle.odb_sessions.specs.Represented.Composed.{sending_under}
 use Rattle.odb_sessions.specs.Represented.Queued.{queued_of}
 use Rattle.odb_sessions.specs.Represented.Taking.{coming_sending}
@@ -18,6 +18,10 @@ use Rattle.odb_sessions.proofs.Places.{keeps_itself, keeps_on, told_sending}
 use Rattle.odb_sessions.proofs.taking.taking_of.Goals as goal
 use Rattle.odb_tables.specs.Database.{Db}
 use Rattle.odb_sessions.specs.Book.{revision_at}
+use Rattle.odb_sessions.specs.Alike.{Likeness}
+use Rattle.odb_sessions.specs.Represented.Served.{IsServed, place_coming}
+use Rattle.odb_sessions.specs.Told.{IsDueTo, held_due}
+use Rattle.odb_sessions.proofs.Served.{all_due, one_of_all, served_beside, served_in, served_on}
 use Rattle.odb_sessions.specs.Watches.{Basis}
 
 pub loop-place-init : goal.loop-place-init
@@ -27,6 +31,8 @@ loop-place-init c = record {
   chains = refl;
   recent = refl;
   jobs = keeps_itself c.args.planner.now.jobs;
+  likenesses = keeps_itself c.args.planner.now.likenesses;
+  held = refl;
   rest = λ s. none_used (plan_at s c.args.planner.now.chains.db c.args.items.now.items c.args.planner.now.monitors);
 }
 
@@ -69,6 +75,8 @@ loop-place-preserved c =
       chains = c.give.ensures.chains ∙ c.loop-place.invariant.chains;
       recent = c.give.ensures.recent ∙ c.loop-place.invariant.recent;
       jobs = keeps_on c.args.planner.now.jobs c.loop-place.planner.jobs c.give.new.self.jobs c.loop-place.invariant.jobs c.give.ensures.jobs;
+      likenesses = keeps_on c.args.planner.now.likenesses c.loop-place.planner.likenesses c.give.new.self.likenesses c.loop-place.invariant.likenesses (c.in_ok-coming.ensures.marks c.args.planner.now.basis.schema).0;
+      held = c.give.ensures.held ∙ c.loop-place.invariant.held;
       rest = λ s. c.loop-place.invariant.rest s
           ∙ goes_on s db xs i x step ms c.give.new.self.monitors
           (ap (λ (d : Db). is_some (due (served_by s) d (seen_item x) ms)) (sym same) ∙ sym (c.in_ok-coming.ensures.comes s) ∙ none)
@@ -167,3 +175,50 @@ returns-in_err-rest-clause-jobs c = keeps_on c.args.planner.now.jobs c.loop-plac
 
 pub returns-clause-jobs : goal.returns-clause-jobs
 returns-clause-jobs c = keeps_on c.args.planner.now.jobs c.loop-place.planner.jobs c.rest.new.self.jobs c.loop-place.invariant.jobs c.rest.ensures.jobs
+
+pub returns-then-is_some-clause-marks : goal.returns-then-is_some-clause-marks
+returns-then-is_some-clause-marks c = λ s.
+    let db : Db = c.args.planner.now.chains.db in
+    let ms : List Monitor = c.loop-place.planner.monitors in
+    let hs : List Held = c.args.planner.now.held in
+    let xs : List Item = c.args.items.now.items in
+    let i = c.loop-place.place in
+    let x : Item = c.index.result.now in
+    let low : i < length xs = search rules in
+    let at : x ≡ slice_index_or xs i x = search rules in
+    let step : drop i xs ≡ x ∷ drop (i + 1) xs = drop_more xs i x low ∙ ap (λ (y : Item). y ∷ drop (i + 1) xs) (sym at) in
+    let same : c.loop-place.planner.chains.db ≡ db = ap (λ (k : Chains). k.db) c.loop-place.invariant.chains in
+    let some : is_some c.in_ok-coming.coming ≡ true = search rules in
+    let its : Option Due = due (served_by s) c.loop-place.planner.chains.db (seen_item x) ms in
+    let out : its ≡ (plan_at s db xs c.args.planner.now.monitors).out =
+    ap (λ (d : Db). due (served_by s) d (seen_item x) ms) same
+    ∙ sym (ap (λ (p : Plan). p.out) (c.loop-place.invariant.rest s
+    ∙ ended s db xs i x step ms (ap (λ (d : Db). is_some (due (served_by s) d (seen_item x) ms)) (sym same) ∙ sym (c.in_ok-coming.ensures.comes s) ∙ some)))
+    in
+    let old : List Likeness = c.loop-place.planner.likenesses in
+    let new : List Likeness = c.give.new.self.likenesses in
+    let place = place_coming c.in_ok-coming.coming in
+    let given : IsServed old new (IsDueTo its (hs ++ held_due (queued_of x))) place = subst (λ (gs : List Held). IsServed old new (IsDueTo its (gs ++ held_due (queued_of x))) place) c.loop-place.invariant.held (c.in_ok-coming.ensures.marks s) in
+    served_on c.args.planner.now.likenesses old new (IsDueTo (plan_at s db xs c.args.planner.now.monitors).out (hs ++ all_due xs)) place c.loop-place.invariant.likenesses
+    (served_in old new its (plan_at s db xs c.args.planner.now.monitors).out (hs ++ held_due (queued_of x)) (hs ++ all_due xs) place out (λ h is. one_of_all hs xs i x h low at is) given)
+
+pub returns-clause-marks : goal.returns-clause-marks
+returns-clause-marks c = λ s.
+    let db : Db = c.args.planner.now.chains.db in
+    let ms : List Monitor = c.loop-place.planner.monitors in
+    let hs : List Held = c.args.planner.now.held in
+    let xs : List Item = c.args.items.now.items in
+    let i = c.loop-place.place in
+    let past : length xs ≤ i = search rules in
+    let within : i ≤ length xs = c.loop-place.invariant.within in
+    let its : Option Due = (plan_rest (served_by s) c.loop-place.planner.chains.db ms).out in
+    let out : its ≡ (plan_at s db xs c.args.planner.now.monitors).out =
+    ap (λ (k : Chains). (plan_rest (served_by s) k.db ms).out) c.loop-place.invariant.chains
+    ∙ sym (ap (λ (p : Plan). p.out) (c.loop-place.invariant.rest s ∙ at_end s db xs i i ms past within (omega (arith, past, within))))
+    in
+    let old : List Likeness = c.loop-place.planner.likenesses in
+    let new : List Likeness = c.rest.new.self.likenesses in
+    let place = place_coming c.composed.result in
+    let given : IsServed old new (IsDueTo its hs) place = subst (λ (gs : List Held). IsServed old new (IsDueTo its gs) place) c.loop-place.invariant.held (subst (IsServed old new (IsDueTo its c.loop-place.planner.held)) (sym c.composed.ensures.place) (c.in_ok-rest.ensures.marks (served_by s))) in
+    served_on c.args.planner.now.likenesses old new (IsDueTo (plan_at s db xs c.args.planner.now.monitors).out (hs ++ all_due xs)) place c.loop-place.invariant.likenesses
+    (served_beside old new its (plan_at s db xs c.args.planner.now.monitors).out hs (all_due xs) place out given)

@@ -11,6 +11,8 @@ invariant-loop-place l = record {
   chains : l.planner.chains ≡ l.initial.planner.chains;
   recent : l.planner.recent ≡ l.initial.planner.recent;
   jobs : Keeps l.initial.planner.jobs l.planner.jobs;
+  likenesses : Keeps l.initial.planner.likenesses l.planner.likenesses;
+  held : l.planner.held ≡ l.initial.planner.held;
   rest : (s : Schema) → plan_at s l.initial.planner.chains.db l.items.items l.initial.planner.monitors
       ≡ after_items l.place (plan_at s l.initial.planner.chains.db (drop l.place l.items.items) l.planner.monitors);
 }

@@ -4,9 +4,10 @@ use Rattle.odb_service.specs.Server.{Server}
 use Rattle.odb_service.specs.World.{World}
 use Rattle.odb_sessions.specs.Book.{Book, revision_in}
 use Rattle.odb_schema.specs.Schema.{Schema}
-use Rattle.odb_sessions.specs.Jobs.{AreEachOnce, AreMadeOf}
+use Rattle.odb_sessions.specs.Jobs.{AreByLikenesses, AreEachOnce, AreMadeOf}
 use Rattle.odb_sessions.specs.OfSchema.{AreSessionsOf}
 use Rattle.odb_sessions.specs.Taken.{AreReady}
+use Rattle.odb_sessions.specs.Told.{IsToldOf}
 use Rattle.odb_core.specs.Represented.Rounds.{book_in}
 use Rattle.odb_core.proofs.CoreInvariant.{if_both}
 use Rattle.odb_core.proofs.server.Core.jobs.Goals as goal
@@ -47,4 +48,22 @@ returns-clause-once c =
     let v : Server = record { schema = r.served; world = w; opened = r.opened } in
     let is : v ≡ c.args.self.now = ap (λ i. i.state) c.self-inside.view_is ∙ c.self.view_is in
     let book : r.sessions ≡ book_in c.args.self.now.world = ap (λ (u : Server). book_in u.world) is in
-    IfOk-weaker c.jobs.result _ _ (λ jobs once. subst (λ (b : Book). AreEachOnce (revision_in b) jobs.jobs jobs.likenesses) book once) c.jobs.ensures.once
+    IfOk-weaker c.jobs.result _ _ (λ jobs once. subst (λ (b : Book). AreEachOnce jobs.told.chains (revision_in b) jobs.jobs jobs.likenesses) book once) c.jobs.ensures.once
+
+pub returns-clause-told : goal.returns-clause-told
+returns-clause-told c =
+    let r = c.self-inside.inside.0.1.0 in
+    let w : World = record { db = r.sessions.db; commits = r.sessions.commits; earlier = r.sessions.earlier; now = r.now; waiting = r.waiting; locks = r.locks; sessions = r.sessions.sessions } in
+    let v : Server = record { schema = r.served; world = w; opened = r.opened } in
+    let is : v ≡ c.args.self.now = ap (λ i. i.state) c.self-inside.view_is ∙ c.self.view_is in
+    let book : r.sessions ≡ book_in c.args.self.now.world = ap (λ (u : Server). book_in u.world) is in
+    IfOk-weaker c.jobs.result _ _ (λ jobs told. subst (λ (b : Book). IsToldOf b jobs.told) book told) c.jobs.ensures.told
+
+pub returns-clause-marks : goal.returns-clause-marks
+returns-clause-marks c =
+    let r = c.self-inside.inside.0.1.0 in
+    let w : World = record { db = r.sessions.db; commits = r.sessions.commits; earlier = r.sessions.earlier; now = r.now; waiting = r.waiting; locks = r.locks; sessions = r.sessions.sessions } in
+    let v : Server = record { schema = r.served; world = w; opened = r.opened } in
+    let is : v ≡ c.args.self.now = ap (λ i. i.state) c.self-inside.view_is ∙ c.self.view_is in
+    let book : r.sessions ≡ book_in c.args.self.now.world = ap (λ (u : Server). book_in u.world) is in
+    IfOk-weaker c.jobs.result _ _ (λ jobs marks. λ h. subst (λ (b : Book). AreByLikenesses h (revision_in b) jobs.told.sessions jobs.jobs jobs.likenesses jobs.takings) book (marks h)) c.jobs.ensures.marks

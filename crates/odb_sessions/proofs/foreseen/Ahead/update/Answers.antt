@@ -1,4 +1,4 @@
-use Rattle.std.proofs.Common.{rules, ◌≡◌, Some, None, option_map, sym, ap, ◌∙◌}
+use Rattle.std.proofs.Common.{rules, ◌≡◌, Some, None, option_map, sym, ap, ◌∙◌, subst}
 use Rattle.std.proofs.lemmas.Result.{IfOk-weaker}
 use Rattle.odb_service.specs.Session.{refilter}
 use Rattle.odb_sessions.specs.Foreseen.{Ahead, as_told, seen_ahead}
@@ -7,6 +7,7 @@ use Rattle.odb_sessions.specs.Held.{Held, watch_of}
 use Rattle.odb_sessions.specs.Represented.Under.{filters_in}
 use Rattle.odb_sessions.specs.Sending.{update_sending}
 use Rattle.odb_sessions.proofs.foreseen.Ahead.update.Goals as goal
+use Rattle.odb_sessions.specs.Represented.Served.{IsServed, place_told}
 use Rattle.odb_sessions.specs.Book.{revision_at}
 
 pub returns-in-None-clause-text : goal.returns-in-None-clause-text
@@ -34,3 +35,15 @@ returns-in-Some-clause-text c =
     IfOk-weaker c.update_again.result _ _
     (λ message e. λ h all kept. e h all kept ∙ ap (λ (a : Ahead). option_map certainly (update_sending h revision (refilter fs (watch_of a.held).requests) (seen_ahead db a))) same)
     c.update_again.ensures.text
+
+pub returns-in-None-clause-marks : goal.returns-in-None-clause-marks
+returns-in-None-clause-marks c =
+    IfOk-weaker c.update.result _ _
+    (λ message e. subst (λ (a : Ahead). IsServed c.args.wanted.now.likenesses c.update.new.wanted.likenesses (λ h. h ≡ a.held) (place_told message)) c.self.view_is e)
+    c.update.ensures.marks
+
+pub returns-in-Some-clause-marks : goal.returns-in-Some-clause-marks
+returns-in-Some-clause-marks c =
+    IfOk-weaker c.update_again.result _ _
+    (λ message e. subst (λ (a : Ahead). IsServed c.args.wanted.now.likenesses c.update_again.new.wanted.likenesses (λ h. h ≡ a.held) (place_told message)) c.self.view_is e)
+    c.update_again.ensures.marks

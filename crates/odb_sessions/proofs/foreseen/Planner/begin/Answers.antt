@@ -1,4 +1,4 @@
-use Rattle.std.proofs.Common.{List, Some, subst, sym, ap, ◌∙◌}
+use Rattle.std.proofs.Common.{List, Some, subst, sym, ap, ◌∙◌, ◌≡◌}
 use Rattle.odb_chain.specs.Chains.{Chains}
 use Rattle.odb_monitor.specs.Job.{Job}
 use Rattle.odb_sessions.specs.Composed.{asked_of}
@@ -11,6 +11,7 @@ use Rattle.odb_sessions.specs.Tied.{AreLive}
 use Rattle.odb_sessions.specs.Sending.{due_sending}
 use Rattle.odb_sessions.proofs.foreseen.Planner.begin.Goals as goal
 use Rattle.odb_sessions.specs.Book.{revision_at}
+use Rattle.odb_sessions.specs.Represented.Served.{IsServed, place_coming}
 use Rattle.odb_sessions.specs.Watches.{AreKnownAs, Basis}
 
 pub first_reply-requires-clause-live : goal.first_reply-requires-clause-live
@@ -43,3 +44,14 @@ returns-clause-jobs c = subst (λ (js : List Job). Keeps js c.first_reply.new.wa
 
 pub returns-in_err-message-clause-jobs : goal.returns-in_err-message-clause-jobs
 returns-in_err-message-clause-jobs c = subst (λ (js : List Job). Keeps js c.first_reply.new.wanted.jobs) (ap (λ (f : Foreseen). f.jobs) c.self.view_is) c.first_reply.ensures.jobs
+
+pub returns-clause-marks : goal.returns-clause-marks
+returns-clause-marks c =
+    subst (λ (f : Foreseen). IsServed f.likenesses c.first_reply.new.wanted.likenesses (λ h. h ≡ c.args.start.now.monitor) (place_coming c.composed.result)) c.self.view_is
+    (subst (IsServed c.self.inside.wanted.likenesses c.first_reply.new.wanted.likenesses (λ h. h ≡ c.args.start.now.monitor)) (sym c.composed.ensures.place) c.in_ok-message.ensures.marks)
+
+pub returns-clause-held : goal.returns-clause-held
+returns-clause-held c = ap (λ (f : Foreseen). f.held) c.self.view_is
+
+pub returns-in_err-message-clause-held : goal.returns-in_err-message-clause-held
+returns-in_err-message-clause-held c = ap (λ (f : Foreseen). f.held) c.self.view_is

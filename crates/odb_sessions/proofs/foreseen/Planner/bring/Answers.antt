@@ -1,4 +1,4 @@
-use Rattle.std.proofs.Common.{List, is_some, option_map, sym, ap, ◌∙◌}
+use Rattle.std.proofs.Common.{List, is_some, option_map, sym, ap, ◌∙◌, subst}
 use Rattle.odb_monitor.specs.Job.{Job}
 use Rattle.odb_service.specs.Server.{served_by}
 use Rattle.odb_sessions.specs.Jobs.{certainly}
@@ -9,6 +9,8 @@ use Rattle.odb_sessions.specs.Sending.{due_sending}
 use Rattle.odb_sessions.proofs.Places.{keeps_itself, told_sending}
 use Rattle.odb_sessions.proofs.Rests.{is_mapped}
 use Rattle.odb_sessions.proofs.foreseen.Planner.bring.Goals as goal
+use Rattle.odb_sessions.specs.Represented.Served.{IsServed}
+use Rattle.odb_sessions.specs.Told.{IsDueTo}
 use Rattle.odb_sessions.specs.Book.{revision_at}
 
 pub returns-clause-comes : goal.returns-clause-comes
@@ -26,3 +28,11 @@ returns-clause-text c = λ s last all kept. c.composed.ensures.text all last ∙
 
 pub returns-clause-jobs : goal.returns-clause-jobs
 returns-clause-jobs c = c.pass.ensures.jobs
+
+pub returns-clause-marks : goal.returns-clause-marks
+returns-clause-marks c = λ s.
+    let now = c.args.self.now in
+    subst (IsServed now.likenesses c.pass.new.self.likenesses (IsDueTo (due (served_by s) now.chains.db (item_in c.args.id.now c.args.under) now.monitors) now.held)) (sym c.composed.ensures.place) (c.in_ok-message.ensures.marks s)
+
+pub returns-clause-held : goal.returns-clause-held
+returns-clause-held c = c.pass.ensures.held

@@ -13,4 +13,7 @@ pub returns-clause-now : goal.returns-clause-now
 returns-clause-now c = subst (λ (f : Foreseen). All (IsOfNow f.chains.db) c.into_jobs.result.jobs.items) c.self.view_is c.into_jobs.ensures.now
 
 pub returns-clause-once : goal.returns-clause-once
-returns-clause-once c = subst (λ (f : Foreseen). AreEachOnce (revision_at f.chains f.recent) c.into_jobs.result.jobs.items c.into_jobs.result.askings.items) c.self.view_is c.into_jobs.ensures.once
+returns-clause-once c = subst (λ (f : Foreseen). AreEachOnce f.chains (revision_at f.chains f.recent) c.into_jobs.result.jobs.items c.into_jobs.result.askings.items) c.self.view_is c.into_jobs.ensures.once
+
+pub returns-clause-likenesses : goal.returns-clause-likenesses
+returns-clause-likenesses c = c.into_jobs.ensures.likenesses ∙ ap (λ (f : Foreseen). f.likenesses) c.self.view_is

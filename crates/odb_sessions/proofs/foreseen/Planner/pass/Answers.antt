@@ -1,4 +1,4 @@
-use Rattle.std.proofs.Common.{◌≡◌, IfOk, List, OnOk, map, option_map, subst, sym, ap}
+use Rattle.std.proofs.Common.{◌≡◌, IfOk, List, OnOk, map, option_map, subst, sym, ap, ◌∙◌}
 use Rattle.odb_chain.specs.Chains.{Chains}
 use Rattle.odb_monitor.specs.Job.{Job}
 use Rattle.odb_service.specs.Server.{served_by}
@@ -13,6 +13,8 @@ use Rattle.odb_sessions.specs.Sending.{due_sending}
 use Rattle.odb_sessions.proofs.foreseen.Planner.pass.Goals as goal
 use Rattle.odb_sessions.specs.Book.{revision_at}
 use Rattle.odb_sessions.specs.Watches.{AreKnownAs, Basis}
+use Rattle.odb_sessions.specs.Represented.Served.{IsServed, place_told}
+use Rattle.odb_sessions.specs.Told.{IsDueTo}
 use Rattle.odb_schema.specs.Schema.{Schema}
 
 pub invariant_of-self : goal.invariant_of-self
@@ -42,3 +44,12 @@ returns-clause-passed c =
 
 pub returns-clause-jobs : goal.returns-clause-jobs
 returns-clause-jobs c = subst (λ (js : List Job). Keeps js c.pass.new.wanted.jobs) (ap (λ (f : Foreseen). f.jobs) c.self.view_is) c.pass.ensures.jobs
+
+pub returns-clause-marks : goal.returns-clause-marks
+returns-clause-marks c =
+    subst (λ (f : Foreseen). IfOk c.pass.result (λ message. (s : Schema) → IsServed f.likenesses c.pass.new.wanted.likenesses
+    (IsDueTo (due (served_by s) f.chains.db (item_in c.args.id.now c.args.under) f.monitors) f.held) (place_told message)))
+    c.self.view_is c.pass.ensures.marks
+
+pub returns-clause-held : goal.returns-clause-held
+returns-clause-held c = c.pass.ensures.held ∙ ap (λ (f : Foreseen). f.held) c.self.view_is

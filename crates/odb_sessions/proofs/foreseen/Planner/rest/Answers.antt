@@ -9,6 +9,9 @@ use Rattle.odb_sessions.specs.Tied.{AreLive}
 use Rattle.odb_sessions.specs.Sending.{due_sending}
 use Rattle.odb_sessions.proofs.foreseen.Planner.rest.Goals as goal
 use Rattle.odb_sessions.specs.Book.{revision_at}
+use Rattle.odb_sessions.specs.Alike.{Likeness}
+use Rattle.odb_sessions.specs.Represented.Served.{IsServed, place_told}
+use Rattle.odb_sessions.specs.Told.{IsDueTo}
 use Rattle.odb_sessions.specs.Watches.{AreKnownAs, Basis}
 
 pub invariant_of-self : goal.invariant_of-self
@@ -40,3 +43,17 @@ returns-clause-text c =
 
 pub returns-clause-jobs : goal.returns-clause-jobs
 returns-clause-jobs c = subst (λ (js : List Job). Keeps js c.rest_due.new.wanted.jobs) (ap (λ (f : Foreseen). f.jobs) c.self.view_is) c.rest_due.ensures.jobs
+
+pub returns-clause-marks : goal.returns-clause-marks
+returns-clause-marks c =
+    let db = c.self.inside.wanted.chains.db in
+    let old : List Likeness = c.self.inside.wanted.likenesses in
+    let new : List Likeness = c.rest_due.new.wanted.likenesses in
+    let slice : c.as_slice.result.now ≡ c.self.inside.monitors.items = search rules in
+    IfOk-weaker c.rest_due.result _ _
+    (λ rest e. λ h. subst (λ (f : Foreseen). IsServed f.likenesses new (IsDueTo (plan_rest h f.chains.db f.monitors).out f.held) (place_told rest.message)) c.self.view_is
+    (subst (λ (xs : List Ahead). IsServed old new (IsDueTo (plan_rest h db (map (seen_ahead db) xs)).out (held_ahead xs)) (place_told rest.message)) slice (e h)))
+    c.rest_due.ensures.marks
+
+pub returns-clause-held : goal.returns-clause-held
+returns-clause-held c = ap (λ (f : Foreseen). f.held) c.self.view_is

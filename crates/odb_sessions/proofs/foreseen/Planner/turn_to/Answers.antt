@@ -27,3 +27,6 @@ pub returns-clause-monitors : goal.returns-clause-monitors
 returns-clause-monitors c =
     let k : Chains = c.self.inside.wanted.chains in
     ap (λ (xs : List Ahead). map (seen_ahead k.db) xs) c.in_ok-ahead.ensures ∙ seen_told k.db c.args.monitors.now
+
+pub returns-clause-held : goal.returns-clause-held
+returns-clause-held c = ap held_ahead c.in_ok-ahead.ensures ∙ held_told c.args.monitors.now

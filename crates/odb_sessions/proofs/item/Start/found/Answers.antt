@@ -1,4 +1,4 @@
-use Rattle.std.proofs.Common.{true, take, Some, ap, ◌∙◌}
+use Rattle.std.proofs.Common.{true, take, Some, ap, ◌∙◌, ◌≡◌, subst, sym}
 use Rattle.std.proofs.lemmas.Result.{IfOk-weaker}
 use Rattle.odb_atoms.specs.Represented.Atom.{uuid_of}
 use Rattle.odb_atoms.specs.Uuid.{Uuid}
@@ -9,6 +9,7 @@ use Rattle.odb_sessions.specs.Held.{Held}
 use Rattle.odb_sessions.specs.Sending.{replying, sent_with}
 use Rattle.odb_sessions.proofs.NamedCommits.{resumed_composed}
 use Rattle.odb_sessions.proofs.Places.{sent_by}
+use Rattle.odb_sessions.specs.Represented.Served.{IsServed}
 use Rattle.odb_sessions.proofs.item.Start.found.Goals as goal
 
 pub returns-clause-text : goal.returns-clause-text
@@ -28,3 +29,9 @@ returns-clause-text c =
 
 pub returns-clause-jobs : goal.returns-clause-jobs
 returns-clause-jobs c = c.resume.ensures.jobs
+
+pub returns-clause-marks : goal.returns-clause-marks
+returns-clause-marks c =
+    IfOk-weaker c.numbered_reply.result _ _
+    (λ message frame. subst (λ n. IsServed c.args.wanted.now.likenesses c.resume.new.self.likenesses (λ h. h ≡ c.args.self.now.monitor) (Some n)) (sym frame.0) c.in_ok-job.ensures.marks)
+    c.numbered_reply.ensures

@@ -1,4 +1,4 @@
-use Rattle.std.proofs.Common.{false}
+use Rattle.std.proofs.Common.{false, ◌≡◌, Some, subst, sym}
 use Rattle.std.proofs.lemmas.Result.{IfOk-weaker}
 use Rattle.odb_atoms.specs.Represented.Atom.{uuid_of}
 use Rattle.odb_rpc.specs.Since.{since_result}
@@ -7,6 +7,7 @@ use Rattle.odb_sessions.specs.Held.{Held}
 use Rattle.odb_sessions.specs.Sending.{replying}
 use Rattle.odb_sessions.proofs.Composed.{first_composed}
 use Rattle.odb_sessions.proofs.Places.{sent_by}
+use Rattle.odb_sessions.specs.Represented.Served.{IsServed}
 use Rattle.odb_sessions.proofs.item.Start.not_found.Goals as goal
 
 pub returns-clause-text : goal.returns-clause-text
@@ -22,3 +23,9 @@ returns-clause-text c =
 
 pub returns-clause-jobs : goal.returns-clause-jobs
 returns-clause-jobs c = c.first_reply.ensures.jobs
+
+pub returns-clause-marks : goal.returns-clause-marks
+returns-clause-marks c =
+    IfOk-weaker c.numbered_reply.result _ _
+    (λ message frame. subst (λ n. IsServed c.args.wanted.now.likenesses c.first_reply.new.self.likenesses (λ h. h ≡ c.args.self.now.monitor) (Some n)) (sym frame.0) c.in_ok-job.ensures.marks)
+    c.numbered_reply.ensures

@@ -1,9 +1,11 @@
+use Rattle.std.proofs.Common.{◌≡◌, Some, subst, sym}
 use Rattle.std.proofs.lemmas.Result.{IfOk-weaker}
 use Rattle.odb_sessions.specs.Composed.{asked_of, first_job, first_updates}
 use Rattle.odb_sessions.specs.Held.{Held}
 use Rattle.odb_sessions.specs.Sending.{replying}
 use Rattle.odb_sessions.proofs.Composed.{first_composed}
 use Rattle.odb_sessions.proofs.Places.{sent_by}
+use Rattle.odb_sessions.specs.Represented.Served.{IsServed}
 use Rattle.odb_sessions.proofs.item.Start.whole_reply.Goals as goal
 
 pub returns-clause-text : goal.returns-clause-text
@@ -19,3 +21,9 @@ returns-clause-text c =
 
 pub returns-clause-jobs : goal.returns-clause-jobs
 returns-clause-jobs c = c.first_reply.ensures.jobs
+
+pub returns-clause-marks : goal.returns-clause-marks
+returns-clause-marks c =
+    IfOk-weaker c.reply.result _ _
+    (λ message frame. subst (λ n. IsServed c.args.wanted.now.likenesses c.first_reply.new.self.likenesses (λ h. h ≡ c.args.self.now.monitor) (Some n)) (sym frame.0) c.in_ok-job.ensures.marks)
+    c.reply.ensures

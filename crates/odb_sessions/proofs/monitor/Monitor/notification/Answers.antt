@@ -6,14 +6,24 @@ use Rattle.odb_sessions.specs.Sending.{notifying, sent_with}
 use Rattle.odb_sessions.proofs.Places.{none_told, some_told}
 use Rattle.odb_sessions.proofs.monitor.Monitor.notification.Goals as goal
 
-pub returns-in_default : goal.returns-in_default
-returns-in_default c = λ all job e.
+pub returns-in_default-clause-text : goal.returns-in_default-clause-text
+returns-in_default-clause-text c = λ all job e.
     let none : c.args.place ≡ None = search rules in
     none_told job (sent_with (notifying (uuid_of c.args.number) c.args.self.now job)) (updates_of job) (ap (option_map (slice_get all)) (sym none) ∙ e)
 
-pub returns : goal.returns
-returns c = λ all job e.
+pub returns-clause-text : goal.returns-clause-text
+returns-clause-text c = λ all job e.
     let place = c.in-Some.job in
     let some : c.args.place ≡ Some place = search rules in
     some_told all c.in_ok-around_updates.field-0 place (notified_text (uuid_of c.args.number) c.args.self.now) job c.in_ok-around_updates.ensures (updates_of job) refl
     (ap (option_map (slice_get all)) (sym some) ∙ e)
+
+pub returns-in_default-clause-place : goal.returns-in_default-clause-place
+returns-in_default-clause-place c =
+    let none : c.args.place ≡ None = search rules in
+    sym none
+
+pub returns-clause-place : goal.returns-clause-place
+returns-clause-place c =
+    let some : c.args.place ≡ Some c.in-Some.job = search rules in
+    ap (λ n. Some n) c.in_ok-around_updates.ensures.0 ∙ sym some

@@ -1,4 +1,4 @@
-use Rattle.std.proofs.Common.{option_map, ap, ◌∙◌}
+use Rattle.std.proofs.Common.{option_map, ap, ◌∙◌, ◌≡◌, subst, sym}
 use Rattle.std.proofs.lemmas.Result.{IfOk-weaker}
 use Rattle.odb_monitor.specs.Job.{Job, updates_of}
 use Rattle.odb_service.specs.Session.{refilter}
@@ -10,6 +10,7 @@ use Rattle.odb_sessions.specs.Represented.Under.{filters_in}
 use Rattle.odb_sessions.specs.Sending.{notifying, sent_with}
 use Rattle.odb_sessions.proofs.Updates.{sent_again}
 use Rattle.odb_sessions.proofs.monitor.Monitor.update_again.Goals as goal
+use Rattle.odb_sessions.specs.Represented.Served.{IsServed}
 use Rattle.odb_sessions.specs.Book.{revision_at}
 
 pub returns-clause-text : goal.returns-clause-text
@@ -23,7 +24,13 @@ returns-clause-text c =
     IfOk-weaker c.notification.result _ _
     (λ message told. λ h all kept. told all job (c.in_ok-place.ensures.place all kept)
     ∙ ap (option_map certainly) (ap (λ v. option_map (sent_with (notifying v x job)) (updates_of job)) c.number-number.ensures ∙ sent_again h revision gs fs x))
-    c.notification.ensures
+    c.notification.ensures.text
 
 pub returns-clause-jobs : goal.returns-clause-jobs
 returns-clause-jobs c = c.want.ensures.jobs
+
+pub returns-clause-marks : goal.returns-clause-marks
+returns-clause-marks c =
+    IfOk-weaker c.notification.result _ _
+    (λ message same. subst (IsServed c.args.wanted.now.likenesses c.want.new.self.likenesses (λ h. h ≡ c.args.self.now)) (sym same) c.in_ok-place.ensures.marks)
+    c.notification.ensures.place

@@ -13,6 +13,7 @@ use Rattle.odb_sessions.proofs.Theirs.{known_all}
 use Rattle.odb_sessions.specs.Sending.{notifying, sent_with}
 use Rattle.odb_sessions.proofs.Updates.{sent_asked}
 use Rattle.odb_sessions.proofs.monitor.Monitor.update_asked.Goals as goal
+use Rattle.odb_sessions.specs.Represented.Served.{IsServed}
 use Rattle.odb_sessions.specs.Book.{revision_at}
 
 pub are_now-requires : goal.are_now-requires
@@ -43,7 +44,16 @@ returns-clause-text c =
     IfOk-weaker c.notification.result _ _
     (λ message told. λ h all kept. told all job (c.in_ok-place.ensures.place all kept)
     ∙ ap (option_map certainly) (ap (λ v. option_map (sent_with (notifying v x job)) (updates_of job)) c.number-number.ensures ∙ sent_asked h revision x))
-    c.notification.ensures
+    c.notification.ensures.text
 
 pub returns-clause-jobs : goal.returns-clause-jobs
 returns-clause-jobs c = c.updates.ensures.jobs
+
+pub returns-clause-marks : goal.returns-clause-marks
+returns-clause-marks c =
+    IfOk-weaker c.notification.result _ _
+    (λ message same. subst (IsServed c.args.wanted.now.likenesses c.updates.new.self.likenesses (λ h. h ≡ c.args.self.now)) (sym same) c.in_ok-place.ensures.marks)
+    c.notification.ensures.place
+
+pub returns-then-are_now-clause-marks : goal.returns-then-are_now-clause-marks
+returns-then-are_now-clause-marks c = (keeps_itself c.args.wanted.now.likenesses, tt)

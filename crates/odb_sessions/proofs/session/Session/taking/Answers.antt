@@ -16,6 +16,9 @@ use Rattle.odb_sessions.proofs.Releases.{live-left, live-right}
 use Rattle.odb_sessions.proofs.session.Session.taking.Goals as goal
 use Rattle.odb_sessions.specs.Book.{revision_at}
 use Rattle.odb_sessions.specs.Watches.{AreKnownAs, Basis}
+use Rattle.odb_sessions.specs.Alike.{Likeness}
+use Rattle.odb_sessions.specs.Represented.Served.{IsServed, place_coming}
+use Rattle.odb_sessions.specs.Told.{IsDueTo, held_due, held_in}
 use Rattle.odb_sessions.proofs.WatchNumbers.{known_session}
 
 pub returns-in-Some-clause-text : goal.returns-in-Some-clause-text
@@ -117,3 +120,28 @@ returns-in_err-turn_to-clause-jobs c = keeps_same c.args.planner.now.jobs c.turn
 pub returns-clause-jobs : goal.returns-clause-jobs
 returns-clause-jobs c =
     keeps_on c.args.planner.now.jobs c.turn_to.new.self.jobs c.taking.new.planner.jobs (keeps_same c.args.planner.now.jobs c.turn_to.new.self.jobs c.turn_to.ensures.jobs) c.taking.ensures.jobs
+
+pub returns-in-Some-clause-marks : goal.returns-in-Some-clause-marks
+returns-in-Some-clause-marks c = λ s.
+    let ls = c.args.planner.now.likenesses in
+    subst (IsServed ls ls (IsDueTo (plan (served_by s) c.args.planner.now.chains.db (seen c.args.self.now)).out (held_in c.args.self.now))) (sym c.in-Some.ensures.place) (keeps_itself ls, tt)
+
+pub returns-clause-marks : goal.returns-clause-marks
+returns-clause-marks c =
+    let x : Kept = record { queue = c.self.inside.queue; monitors = c.self.inside.monitors.items; watch = option_map (λ w. w.number) c.self.inside.watch } in
+    let slice : c.as_slice.result.now ≡ c.self.inside.monitors.items = search rules in
+    let monitors : c.turn_to.new.self.monitors ≡ map monitor_of x.monitors = c.in_ok-turn_to.ensures.monitors ∙ ap (map monitor_of) slice in
+    let held : c.turn_to.new.self.held ≡ x.monitors = c.in_ok-turn_to.ensures.held ∙ slice in
+    let chains : c.turn_to.new.self.chains ≡ c.args.planner.now.chains = c.turn_to.ensures.chains in
+    let likenesses : c.turn_to.new.self.likenesses ≡ c.args.planner.now.likenesses = c.turn_to.ensures.likenesses in
+    let db = c.args.planner.now.chains.db in
+    let old = c.args.planner.now.likenesses in
+    let new = c.taking.new.planner.likenesses in
+    IfOk-weaker c.taking.result _ _
+    (λ taking e. λ s.
+    subst (λ (y : Kept). IsServed old new (IsDueTo (plan (served_by s) db (seen y)).out (held_in y)) (place_coming taking.coming)) c.self.view_is
+    (subst (λ (hs : List Held). IsServed old new (IsDueTo (plan_from (served_by s) db (map item_seen x.queue) (map monitor_of x.monitors)).out (hs ++ flat_map held_due x.queue)) (place_coming taking.coming)) held
+    (subst (λ (ms : List Monitor). IsServed old new (IsDueTo (plan_from (served_by s) db (map item_seen x.queue) ms).out (c.turn_to.new.self.held ++ flat_map held_due x.queue)) (place_coming taking.coming)) monitors
+    (subst (λ (k : Chains). IsServed old new (IsDueTo (plan_from (served_by s) k.db (map item_seen x.queue) c.turn_to.new.self.monitors).out (c.turn_to.new.self.held ++ flat_map held_due x.queue)) (place_coming taking.coming)) chains
+    (subst (λ (ls : List Likeness). IsServed ls new (IsDueTo (plan_from (served_by s) c.turn_to.new.self.chains.db (map item_seen x.queue) c.turn_to.new.self.monitors).out (c.turn_to.new.self.held ++ flat_map held_due x.queue)) (place_coming taking.coming)) likenesses (e s))))))
+    c.taking.ensures.marks

@@ -2,7 +2,8 @@ use Rattle.std.proofs.Common.{rules, ◌≡◌, ◌++◌, List, [], ◌∷◌, s
 use Rattle.std.specs.List.{All}
 use Rattle.std.proofs.lemmas.List.Elements.{All-push}
 use Rattle.odb_sessions.specs.Jobs.{Shared}
-use Rattle.odb_sessions.specs.Represented.Decided.{ArePlacesOf, IsPlaceOf, IsSharedIn}
+use Rattle.odb_sessions.specs.Represented.Decided.{ArePlacesOf, AreSharedPlaced, IsPlaceOf, IsSharedIn}
+use Rattle.odb_sessions.specs.Represented.Served.{IsAtPlace}
 use Rattle.odb_sessions.proofs.shared.SharedJobs.keep.Goals as goal
 
 pub returns-clause-shared : goal.returns-clause-shared
@@ -28,3 +29,15 @@ pub returns-then-is_err-clause-places : goal.returns-then-is_err-clause-places
 returns-then-is_err-clause-places c = λ k us js own all.
     let same : c.reserve.new.self.items ≡ c.self.inside.jobs.items = search rules in
     subst (ArePlacesOf k us js) (sym same) (subst (ArePlacesOf k us js) (sym c.self.view_is) all)
+
+pub returns-clause-placed : goal.returns-clause-placed
+returns-clause-placed c = λ ls own all.
+    let old : List Shared = c.self.inside.jobs.items in
+    let e : Shared = c.args.job in
+    let more : c.push_reserved.new.self.items ≡ old ++ e ∷ [] = search rules in
+    subst (AreSharedPlaced ls) (sym more) (All-push (λ (d : Shared). IsAtPlace ls d.likeness d.place) old e (subst (AreSharedPlaced ls) (sym c.self.view_is) all) own)
+
+pub returns-then-is_err-clause-placed : goal.returns-then-is_err-clause-placed
+returns-then-is_err-clause-placed c = λ ls own all.
+    let same : c.reserve.new.self.items ≡ c.self.inside.jobs.items = search rules in
+    subst (AreSharedPlaced ls) (sym same) (subst (AreSharedPlaced ls) (sym c.self.view_is) all)

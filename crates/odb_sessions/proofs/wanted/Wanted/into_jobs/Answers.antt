@@ -3,7 +3,6 @@ use Rattle.std.specs.List.{All}
 use Rattle.odb_sessions.specs.Book.{revision_at}
 use Rattle.odb_sessions.specs.FirstTexts.{IsOfNow}
 use Rattle.odb_sessions.specs.Jobs.{AreEachOnce, Wanted}
-use Rattle.odb_sessions.specs.Represented.Alike.{contents}
 use Rattle.odb_sessions.proofs.wanted.Wanted.into_jobs.Goals as goal
 
 pub returns-clause-jobs : goal.returns-clause-jobs
@@ -14,5 +13,8 @@ returns-clause-now c = subst (λ (w : Wanted). All (IsOfNow w.chains.db) c.self.
 
 pub returns-clause-once : goal.returns-clause-once
 returns-clause-once c =
-    subst (λ (w : Wanted). AreEachOnce (revision_at w.chains w.recent) c.self.inside.listed.jobs.items c.self.inside.listed.askings.items) c.self.view_is
-    (c.self.invariant.0.4, (contents c.self.inside.chains.now, c.self.inside.recent.now.undos, refl, c.self.invariant.0.5))
+    subst (λ (w : Wanted). AreEachOnce w.chains (revision_at w.chains w.recent) c.self.inside.listed.jobs.items c.self.inside.listed.askings.items) c.self.view_is
+    (c.self.invariant.0.4, (c.self.inside.recent.now.undos, refl, c.self.invariant.0.5))
+
+pub returns-clause-likenesses : goal.returns-clause-likenesses
+returns-clause-likenesses c = ap (λ (w : Wanted). w.likenesses) c.self.view_is

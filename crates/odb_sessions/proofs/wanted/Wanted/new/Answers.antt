@@ -5,7 +5,7 @@ use Rattle.odb_sessions.specs.Represented.Decided.{IsPlanned}
 use Rattle.odb_sessions.proofs.Decisions.{none_planned}
 use Rattle.odb_sessions.proofs.OneSchema.{none_decided}
 use Rattle.odb_sessions.proofs.wanted.Wanted.new.Goals as goal
-use Rattle.odb_sessions.proofs.SharedPlaces.{none_shared}
+use Rattle.odb_sessions.proofs.SharedPlaces.{none_placed, none_shared}
 
 pub invariant_of-result : goal.invariant_of-result
 invariant_of-result c =
@@ -16,4 +16,4 @@ invariant_of-result c =
     subst (λ (js : List Job). IsPlanned k us fs js c.new.result.askings.items c.new-2.result) (sym c.new.ensures.jobs)
     (subst (λ (ls : List Likeness). IsPlanned k us fs [] ls c.new-2.result) (sym c.new.ensures.askings) (none_planned k us fs c.new-2.result c.requires.firsts c.new-2.ensures))
     in
-    (planned, none_decided c.args.basis.schema c.new-2.result c.new-2.ensures, none_shared c.args.basis k us c.new.result.jobs.items c.new-3.result c.new-3.ensures c.requires.alike)
+    (planned, none_decided c.args.basis.schema c.new-2.result c.new-2.ensures, none_shared c.args.basis k us c.new.result.jobs.items c.new-3.result c.new-3.ensures c.requires.alike, none_placed c.new.result.askings.items c.new-3.result c.new-3.ensures)

@@ -1,4 +1,4 @@
-use Rattle.std.proofs.Common.{List, slice_get, take, sym, ap, ◌∙◌}
+use Rattle.std.proofs.Common.{◌≡◌, List, slice_get, take, sym, ap, subst, ◌∙◌}
 use Rattle.std.specs.Prelude.{option_map}
 use Rattle.std.proofs.lemmas.Option.{none-some, same_Some}
 use Rattle.odb_monitor.specs.Job.{Job}
@@ -9,6 +9,7 @@ use Rattle.odb_sessions.specs.Jobs.{certainly}
 use Rattle.odb_sessions.specs.Represented.Job.{job_in}
 use Rattle.odb_sessions.specs.declared.way.Way.TheVariants as way
 use Rattle.odb_sessions.proofs.Places.{keeps_itself}
+use Rattle.odb_sessions.specs.Represented.Served.{IsServed}
 use Rattle.odb_sessions.proofs.wanted.Wanted.resume.Goals as goal
 
 pub want-requires-clause-found : goal.want-requires-clause-found
@@ -27,3 +28,6 @@ returns-clause-place c = λ all kept.
     let job : Job = job_in db x (way.Since c.recent-recent.result c.args.ago) in
     same_Some (slice_get all c.in-Some.place) (certainly job) (sym (ap (option_map (slice_get all)) c.in-Some.is) ∙ c.in_ok-place.ensures.place all kept)
     ∙ ap (λ (r : Recent). certainly (resumed_job (take c.args.ago r.undos) db x.notation (asked_of x.tables))) c.recent-recent.ensures
+
+pub returns-clause-marks : goal.returns-clause-marks
+returns-clause-marks c = subst (IsServed c.args.self.now.likenesses c.want.new.self.likenesses (λ h. h ≡ c.args.monitor.now)) c.in-Some.is c.in_ok-place.ensures.marks

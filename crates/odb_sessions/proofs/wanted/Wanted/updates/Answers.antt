@@ -1,4 +1,4 @@
-use Rattle.std.proofs.Common.{sym, subst}
+use Rattle.std.proofs.Common.{◌≡◌, sym, subst}
 use Rattle.odb_chain.specs.Chains.{Chains}
 use Rattle.odb_sessions.specs.Composed.{owed_job}
 use Rattle.odb_sessions.specs.Held.{marks_in}
@@ -6,6 +6,7 @@ use Rattle.odb_sessions.specs.Jobs.{IsFor, Keeps, Wanted, if_sent}
 use Rattle.odb_sessions.specs.Tied.{AreLive}
 use Rattle.odb_sessions.specs.Watches.{Basis, IsKnownAs}
 use Rattle.odb_sessions.proofs.Places.{keeps_itself}
+use Rattle.odb_sessions.specs.Represented.Served.{IsServed}
 use Rattle.odb_sessions.proofs.wanted.Wanted.updates.Goals as goal
 
 pub returns-in-Some-clause-jobs : goal.returns-in-Some-clause-jobs
@@ -25,3 +26,12 @@ returns-clause-place c = subst (λ (w : Wanted). IsFor w.jobs (if_sent (owed_job
 
 pub returns-clause-jobs : goal.returns-clause-jobs
 returns-clause-jobs c = subst (λ (w : Wanted). Keeps c.args.self.now.jobs w.jobs) (sym c.share.ensures) c.want.ensures.jobs
+
+pub share-requires-clause-likeness : goal.share-requires-clause-likeness
+share-requires-clause-likeness c = c.in_ok-place.ensures.likeness
+
+pub returns-in-Some-clause-marks : goal.returns-in-Some-clause-marks
+returns-in-Some-clause-marks c = c.in-Some.ensures.marks
+
+pub returns-clause-marks : goal.returns-clause-marks
+returns-clause-marks c = subst (λ (w : Wanted). IsServed c.args.self.now.likenesses w.likenesses (λ h. h ≡ c.args.monitor.now) c.in_ok-place.place) (sym c.share.ensures) c.in_ok-place.ensures.marks

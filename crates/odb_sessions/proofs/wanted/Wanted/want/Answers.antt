@@ -5,25 +5,28 @@ use Rattle.odb_monitor.specs.Job.{Job, updates_of}
 use Rattle.odb_recent.specs.Recent.{Recent}
 use Rattle.odb_recent.specs.Undo.{Undo}
 use Rattle.odb_schema.specs.Schema.{Schema}
-use Rattle.odb_sessions.specs.Alike.{Likeness, job_like}
+use Rattle.odb_sessions.specs.Alike.{IsLike, Likeness, job_like}
 use Rattle.odb_sessions.specs.Composed.{asked_of}
 use Rattle.odb_sessions.specs.OfSchema.{AreOfSchema}
 use Rattle.odb_sessions.specs.FirstTexts.{FirstText, IsOfNow}
 use Rattle.odb_sessions.specs.Held.{Held, marks_in}
 use Rattle.odb_sessions.specs.Jobs.{Decision, IsFor, Keeps, Wanted, if_sent}
-use Rattle.odb_sessions.specs.Represented.Alike.{IsFoundIn, contents, likeness_in}
-use Rattle.odb_sessions.specs.Represented.Decided.{AreShared, Differs, IsPlanned, IsThere, Puts, bucket_at}
+use Rattle.odb_sessions.specs.Represented.Alike.{IsFoundIn, likeness_in}
+use Rattle.odb_sessions.specs.Told.{contents}
+use Rattle.odb_sessions.specs.Represented.Decided.{AreShared, AreSharedPlaced, Differs, IsPlanned, IsThere, Puts, bucket_at}
 use Rattle.odb_sessions.specs.Represented.Digest.{digest}
 use Rattle.odb_sessions.specs.Represented.Job.{job_in}
+use Rattle.odb_sessions.specs.Represented.Served.{IsAtPlace}
 use Rattle.odb_sessions.specs.Tied.{AreLive}
 use Rattle.odb_sessions.specs.declared.decided.Decided.{Decided}
-use Rattle.odb_sessions.proofs.Decisions.{found, more_planned, same_planned, silent_planned}
+use Rattle.odb_sessions.proofs.Decisions.{found, more_planned, placed, same_planned, silent_planned, zipped_length}
 use Rattle.odb_sessions.proofs.FirstTexts.{of_now}
 use Rattle.odb_sessions.proofs.Likenesses.{like_job, of_commits, of_requests}
 use Rattle.odb_sessions.proofs.OneSchema.{likeness_of, more_decided, same_decided}
 use Rattle.odb_sessions.proofs.Places.{added_at, keeps_added, keeps_itself, keeps_same, none_for, some_for}
+use Rattle.odb_sessions.proofs.Served.{served_at}
 use Rattle.odb_sessions.proofs.wanted.Wanted.want.Goals as goal
-use Rattle.odb_sessions.proofs.SharedPlaces.{still_shared}
+use Rattle.odb_sessions.proofs.SharedPlaces.{still_shared, still_shared_placed}
 
 pub returns-in-Some-clause-place : goal.returns-in-Some-clause-place
 returns-in-Some-clause-place c =
@@ -53,6 +56,7 @@ invariant_of-self c =
       same_planned c.self.inside.chains.now c.self.inside.recent.now.undos c.self.inside.firsts.now js js ls ls c.self.inside.decided c.put.new.self refl refl c.in_err-put.ensures.err c.self.invariant.0,
       same_decided c.self.inside.basis.schema c.self.inside.decided c.put.new.self c.in_err-put.ensures.err c.self.invariant.1,
       c.self.invariant.2,
+      c.self.invariant.3,
     )
 
 pub invariant_of-self-then-not-is_sent : goal.invariant_of-self-then-not-is_sent
@@ -75,7 +79,7 @@ invariant_of-self-then-not-is_sent c =
     let puts : Puts d c.put.new.self (record { likeness = l; place = None }) = subst (λ (e : Decision). Puts d c.put.new.self e) c.new.ensures c.in_ok-put.ensures.ok in
     let s : Schema = c.self.inside.basis.schema in
     let of : AreOfSchema s (asked_of x.tables) = subst (λ (w : Wanted). AreOfSchema w.basis.schema (asked_of x.tables)) (sym c.self.view_is) c.requires.of in
-    (silent_planned k us fs js ls d c.put.new.self l none puts c.self.invariant.0, more_decided s d c.put.new.self (record { likeness = l; place = None }) puts (likeness_of s x c.args.way of) c.self.invariant.1, c.self.invariant.2)
+    (silent_planned k us fs js ls d c.put.new.self l none puts c.self.invariant.0, more_decided s d c.put.new.self (record { likeness = l; place = None }) puts (likeness_of s x c.args.way of) c.self.invariant.1, c.self.invariant.2, c.self.invariant.3)
 
 pub invariant_of-self-in_err-place : goal.invariant_of-self-in_err-place
 invariant_of-self-in_err-place c =
@@ -86,7 +90,8 @@ invariant_of-self-in_err-place c =
     let shared : AreShared c.self.inside.basis c.self.inside.chains.now c.self.inside.recent.now.undos c.add.new.self.jobs.items c.self.inside.shared =
     subst (λ (js : List Job). AreShared c.self.inside.basis c.self.inside.chains.now c.self.inside.recent.now.undos js c.self.inside.shared) (sym c.in_err-place.ensures.kept) c.self.invariant.2
     in
-    (planned, same_decided c.self.inside.basis.schema c.self.inside.decided c.add.new.decided c.in_err-place.ensures.undecided c.self.invariant.1, shared)
+    let placed : AreSharedPlaced c.add.new.self.askings.items c.self.inside.shared = subst (λ (ls : List Likeness). AreSharedPlaced ls c.self.inside.shared) (sym c.in_err-place.ensures.known) c.self.invariant.3 in
+    (planned, same_decided c.self.inside.basis.schema c.self.inside.decided c.add.new.decided c.in_err-place.ensures.undecided c.self.invariant.1, shared, placed)
 
 pub invariant_of-self-2 : goal.invariant_of-self-2
 invariant_of-self-2 c =
@@ -114,7 +119,7 @@ invariant_of-self-2 c =
     in
     let s : Schema = c.self.inside.basis.schema in
     let of : AreOfSchema s (asked_of x.tables) = subst (λ (w : Wanted). AreOfSchema w.basis.schema (asked_of x.tables)) (sym c.self.view_is) c.requires.of in
-    (planned, more_decided s d c.add.new.decided (record { likeness = l; place = Some (length js) }) c.in_ok-place.ensures.decided (likeness_of s x c.args.way of) c.self.invariant.1, still_shared c.self.inside.basis k us js c.add.new.self.jobs.items c.self.inside.shared (keeps_added js c.add.new.self.jobs.items job c.in_ok-place.ensures.jobs) c.self.invariant.2)
+    (planned, more_decided s d c.add.new.decided (record { likeness = l; place = Some (length js) }) c.in_ok-place.ensures.decided (likeness_of s x c.args.way of) c.self.invariant.1, still_shared c.self.inside.basis k us js c.add.new.self.jobs.items c.self.inside.shared (keeps_added js c.add.new.self.jobs.items job c.in_ok-place.ensures.jobs) c.self.invariant.2, still_shared_placed ls c.add.new.self.askings.items c.self.inside.shared (keeps_added ls c.add.new.self.askings.items l c.in_ok-place.ensures.askings) c.self.invariant.3)
 
 pub returns-then-not-is_sent-clause-place : goal.returns-then-not-is_sent-clause-place
 returns-then-not-is_sent-clause-place c =
@@ -140,3 +145,51 @@ pub returns-clause-jobs : goal.returns-clause-jobs
 returns-clause-jobs c =
     let new : List Job = c.add.new.self.jobs.items in
     subst (λ (bs : List Job). Keeps bs new) (ap (λ (w : Wanted). w.jobs) c.self.view_is) (keeps_added c.self.inside.listed.jobs.items new c.in_ok-job.job c.in_ok-place.ensures.jobs)
+
+pub returns-in-Some-clause-likeness : goal.returns-in-Some-clause-likeness
+returns-in-Some-clause-likeness c =
+    let x : Held = c.args.monitor.now in
+    let l : Likeness = likeness_in x c.args.way in
+    let place = c.in-Some.place in
+    let s : Schema = c.self.inside.basis.schema in
+    let of : AreOfSchema s (asked_of x.tables) = subst (λ (w : Wanted). AreOfSchema w.basis.schema (asked_of x.tables)) (sym c.self.view_is) c.requires.of in
+    let there : IsThere c.self.inside.decided (record { likeness = l; place = place }) = c.in-Some.ensures.some s c.self.invariant.1 (likeness_of s x c.args.way of) in
+    subst (λ (w : Wanted). IsAtPlace w.likenesses l place) c.self.view_is (placed c.self.inside.listed.askings.items c.self.inside.decided there.0 (record { likeness = l; place = place }) c.self.invariant.0.6 there.1)
+
+pub returns-in-Some-clause-marks : goal.returns-in-Some-clause-marks
+returns-in-Some-clause-marks c =
+    let x : Held = c.args.monitor.now in
+    let l : Likeness = likeness_in x c.args.way in
+    let place = c.in-Some.place in
+    let ls : List Likeness = c.args.self.now.likenesses in
+    let s : Schema = c.self.inside.basis.schema in
+    let of : AreOfSchema s (asked_of x.tables) = subst (λ (w : Wanted). AreOfSchema w.basis.schema (asked_of x.tables)) (sym c.self.view_is) c.requires.of in
+    let there : IsThere c.self.inside.decided (record { likeness = l; place = place }) = c.in-Some.ensures.some s c.self.invariant.1 (likeness_of s x c.args.way of) in
+    let at : IsAtPlace ls l place = subst (λ (w : Wanted). IsAtPlace w.likenesses l place) c.self.view_is (placed c.self.inside.listed.askings.items c.self.inside.decided there.0 (record { likeness = l; place = place }) c.self.invariant.0.6 there.1) in
+    served_at ls ls x c.args.way place (keeps_itself ls) at
+
+pub returns-then-not-is_sent-clause-likeness : goal.returns-then-not-is_sent-clause-likeness
+returns-then-not-is_sent-clause-likeness c = tt
+
+pub returns-then-not-is_sent-clause-marks : goal.returns-then-not-is_sent-clause-marks
+returns-then-not-is_sent-clause-marks c =
+    (keeps_same c.args.self.now.likenesses c.self.inside.listed.askings.items (ap (λ (w : Wanted). w.likenesses) c.self.view_is), tt)
+
+pub returns-clause-likeness : goal.returns-clause-likeness
+returns-clause-likeness c =
+    let js : List Job = c.self.inside.listed.jobs.items in
+    let ls : List Likeness = c.self.inside.listed.askings.items in
+    let long : length js ≡ length ls = zipped_length (IsLike (contents c.self.inside.chains.now) c.self.inside.recent.now.undos c.self.inside.chains.now.db) js ls c.self.invariant.0.5 in
+    added_at ls c.add.new.self.askings.items (likeness_in c.args.monitor.now c.args.way) c.in_ok-place.place c.in_ok-place.ensures.askings (c.in_ok-place.ensures.place ∙ long)
+
+pub returns-clause-marks : goal.returns-clause-marks
+returns-clause-marks c =
+    let x : Held = c.args.monitor.now in
+    let l : Likeness = likeness_in x c.args.way in
+    let js : List Job = c.self.inside.listed.jobs.items in
+    let ls : List Likeness = c.self.inside.listed.askings.items in
+    let new : List Likeness = c.add.new.self.askings.items in
+    let long : length js ≡ length ls = zipped_length (IsLike (contents c.self.inside.chains.now) c.self.inside.recent.now.undos c.self.inside.chains.now.db) js ls c.self.invariant.0.5 in
+    served_at c.args.self.now.likenesses new x c.args.way (Some c.in_ok-place.place)
+    (subst (λ (bs : List Likeness). Keeps bs new) (ap (λ (w : Wanted). w.likenesses) c.self.view_is) (keeps_added ls new l c.in_ok-place.ensures.askings))
+    (added_at ls new l c.in_ok-place.place c.in_ok-place.ensures.askings (c.in_ok-place.ensures.place ∙ long))
