@@ -30,6 +30,7 @@ TWICE = {
     "Rows": "odb_ops: rows that are printed; odb_tables: rows of a table",
     "Select": "odb_request: kinds of change (RFC 7047, 4.1.5, <monitor-select>); odb_json: the operation (5.2.2)",
     "Setting": "odb_core: what transactions are tried with; odb_ops: what operations are carried out with",
+    "Told": "odb_sessions: what all clients were told, as marks; odb_monitor: what one was told of a table's rows",
 }
 
 # Names in documents that are the toolchain's.
