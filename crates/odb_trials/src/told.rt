@@ -40,7 +40,7 @@ fn few(marks: usize, contents: usize) -> Kept {
 }
 
 /// Returns what is kept of the first table.
-fn kept(alloc: Global, core: &Core) -> Result<Kept, AllocError> {
+fn kept_by(alloc: Global, core: &Core) -> Result<Kept, AllocError> {
     let told = core.told();
     let marks = told.marks(alloc)?.len();
     let chains = told.chains();
@@ -88,12 +88,12 @@ fn trial(alloc: Global, hashing: RandomState) -> Result<[Kept; 3], AllocError> {
     let mut core = core(alloc, hashing, NET)?;
     let sessions = subscribers(alloc, &mut core)?;
     insert_some(alloc, &mut core)?;
-    let slow = kept(alloc, &core)?;
+    let slow = kept_by(alloc, &core)?;
     drop(core.round(&[0])?);
     insert_some(alloc, &mut core)?;
-    let apart = kept(alloc, &core)?;
+    let apart = kept_by(alloc, &core)?;
     close_all(&mut core, &sessions)?;
-    Ok([slow, apart, kept(alloc, &core)?])
+    Ok([slow, apart, kept_by(alloc, &core)?])
 }
 
 #[test]
