@@ -1,9 +1,9 @@
 -- A scan goes on byte by byte.
-use Rattle.std.proofs.Common.{◌≡◌, ◌≢◌, ℕ, ◌==◌, ◌+◌, ◌<◌, ◌≤◌, ◌++◌, true, false, List, [], ◌∷◌, Option, Some, None, option_map, refl, ap, append_assoc, ◌∙◌, sym, length, get_or, take, drop, arith}
-use Rattle.std.proofs.lemmas.List.{take-append-drop, drop_more, take_more, take_all}
+use Rattle.std.proofs.Common.{◌≡◌, ◌≢◌, ℕ, zero, suc, ◌==◌, ◌+◌, ◌<◌, ◌≤◌, ◌++◌, true, false, List, [], ◌∷◌, Option, Some, None, option_map, refl, ap, append_assoc, ◌∙◌, sym, length, get_or, take, drop, arith}
+use Rattle.std.proofs.lemmas.List.{take-append-drop, drop_more, get_or-drop, take_more, take_all}
 use Rattle.std.proofs.lemmas.Bool.{ne_eqb}
-use Rattle.odb_wire.specs.Stream.{Place, closed_at, place_after, open_after}
-use Rattle.odb_wire.specs.Scanning.{GoesOn, IsEnd}
+use Rattle.odb_wire.specs.Stream.{Place, inside, closed_at, place_after, open_after}
+use Rattle.odb_wire.specs.Scanning.{GoesOn, IsEnd, PassesOver, StaysInside}
 
 -- a byte and the rest put after the bytes, one after the other or at once
 join_twice : (bytes : List ℕ) (c : ℕ) (o : Option (List ℕ)) → option_map (λ t. bytes ++ t) (option_map (λ t. c ∷ t) o) ≡ option_map (λ t. (bytes ++ c ∷ []) ++ t) o
@@ -48,3 +48,12 @@ is_end-take p n bytes i p' n' k h goes is_open is =
 -- all of the bytes were read
 pub goes_on-all : (p : Place) (n : ℕ) (bytes : List ℕ) (i : ℕ) (p' : Place) (n' : ℕ) → length bytes ≤ i → GoesOn p n (take i bytes) p' n' → GoesOn p n bytes p' n'
 goes_on-all p n bytes i p' n' h goes = rw (take_all i bytes h) at goes
+
+-- bytes that stay inside a string are passed over
+pub passes_over : (bytes : List ℕ) (from m : ℕ) → from + m ≤ length bytes → StaysInside (drop from bytes) m → PassesOver inside bytes from (from + m)
+passes_over bytes from zero h plain p n k some goes = let same : from + 0 ≡ from = omega arith in rw same goes
+passes_over bytes from (suc m) h plain p n k some goes =
+    let before : GoesOn p n (take (from + m) bytes) inside k = passes_over bytes from m (omega arith) (λ i small. plain i (omega arith)) p n k some goes in
+    let byte : place_after inside (get_or bytes (from + m) 0) ≡ inside = rw (← get_or-drop from bytes m 0) (plain m (omega arith)) in
+    let next : from + suc m ≡ (from + m) + 1 = omega arith in
+    rw next (goes_on-take p n bytes (from + m) inside k inside k (omega arith) before (sym byte) refl (omega arith))

@@ -1,7 +1,9 @@
 //! The byte machine that finds where the text of an object ends. [P 7.1]
 ghost use Rattle.std.specs.Prelude.{◌≡◌, ◌+◌, ◌<◌, ◌≤◌, ◌^◌, length, IfSome, IfNone};
 ghost use Rattle.odb_wire.specs.Stream.{outside, place_after, open_after};
-ghost use Rattle.odb_wire.specs.Scanning.{place_of, IsEnd, GoesOn};
+ghost use Rattle.odb_wire.specs.Scanning.{place_of, IsEnd, GoesOn, PassesOver, StaysInside};
+
+use memchr::memchr2;
 
 /// Whether the next byte is outside a string, inside one, or after a backslash inside one.
 #[derive(Clone, Copy)]
@@ -32,7 +34,8 @@ impl Scan {
         }
     }
 
-    /// Returns how many of the bytes belong to the object, where it ends in them. Each byte is looked at once.
+    /// Returns how many of the bytes belong to the object, where it ends in them. Each byte is looked at once; those inside
+    /// strings are searched for the next quote or backslash.
     pub(crate) fn end_in(&mut self, bytes: &[u8]) -> Option<usize>
         requires { self.old.depth + length bytes.now < 2 ^ 64 }
         ensures end { IfSome result (IsEnd (place_of self.old.place) self.old.depth bytes.now) }
@@ -44,17 +47,43 @@ impl Scan {
             mut place,
             mut depth,
         } = *self;
-        for (i, byte) in bytes.iter().enumerate() {
-            let next = after(place, depth, *byte);
-            if next.1 == 0 {
-                return Some(i + 1);
+        let mut next = telling(place, bytes, 0);
+        while next < bytes.len() {
+            let (further, open) = after(place, depth, bytes[next]);
+            if open == 0 {
+                return Some(next + 1);
             }
-            place = next.0;
-            depth = next.1;
+            place = further;
+            depth = open;
+            next = telling(place, bytes, next + 1);
         }
         *self = Scan { place, depth };
         None
     }
+}
+
+/// Returns the place of the first byte from this one on after which the scan may stand otherwise: inside a string that of
+/// the next quote or backslash.
+#[inline(always)]
+fn telling(place: Place, bytes: &[u8], from: usize) -> usize
+    requires within { from ≤ length bytes.now }
+    ensures on { from ≤ result }
+    ensures within { result ≤ length bytes.now }
+    ensures passed { PassesOver (place_of place) bytes.now from result }
+{
+    match place {
+        Place::Inside => from + plain(&bytes[from..]),
+        Place::Outside => from,
+        Place::Escaped => from,
+    }
+}
+
+/// Returns how many bytes at the front are neither a quote nor a backslash.
+fn plain(bytes: &[u8]) -> usize
+    ensures within { result ≤ length bytes.now }
+    ensures inside { StaysInside bytes.now result }
+{
+    memchr2(b'"', b'\\', bytes).unwrap_or(bytes.len())
 }
 
 /// Returns the place and the open braces after a byte.

@@ -1,7 +1,10 @@
-use Rattle.std.proofs.Common.{◌+◌, ◌<◌, ◌≤◌, take}
+use Rattle.std.proofs.Common.{length, ◌-◌, ◌+◌, ◌<◌, ◌≤◌, take}
 use Rattle.odb_wire.specs.Scanning.{place_of, GoesOn}
 use Rattle.odb_wire.proofs.scan.Scan.end_in.Given as goal
 
-abbrev pub invariant-loop-i : goal.invariant-loop-i
-invariant-loop-i l =
-    record { within : 0 < l.depth; bound : l.depth ≤ l.initial.depth + l.i; further : GoesOn (place_of l.initial.place) l.initial.depth (take l.i l.bytes) (place_of l.place) l.depth }
+abbrev pub invariant-loop-next : goal.invariant-loop-next
+invariant-loop-next l =
+    record { within : 0 < l.depth; inside : l.next ≤ length l.bytes; bound : l.depth ≤ l.self.depth + l.next; further : GoesOn (place_of l.self.place) l.self.depth (take l.next l.bytes) (place_of l.place) l.depth }
+
+abbrev pub decreases-loop-next : goal.decreases-loop-next
+decreases-loop-next l = length l.bytes - l.next
