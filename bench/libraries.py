@@ -4,6 +4,8 @@ for bench/resume: over rows of OVN's Southbound, one in twenty of which concern 
 C's library is ovsdb-server as a relay, which copies all tables. Python's stands in python3-openvswitch.
 """
 
+from __future__ import annotations
+
 import contextlib
 import importlib.util
 import json
@@ -12,6 +14,8 @@ import subprocess
 import sys
 import tempfile
 import time
+from collections.abc import Sequence
+from typing import Any, Union
 
 import servers
 from daemon import SERVER, SHARE, USR, free_ports
@@ -45,22 +49,22 @@ while True:
 """
 
 
-def are_there():
+def are_there() -> bool:
     """Whether the schema, the server and Python's library are installed."""
     has_python = os.path.isdir(os.path.join(PYTHON, "ovs")) or importlib.util.find_spec("ovs") is not None
     return bool(SERVER) and os.path.exists(SOUTHBOUND) and has_python
 
 
-def transact(*operations):
+def transact(*operations: Any) -> bytes:
     return servers.request(1, "transact", ["OVN_Southbound", *operations])
 
 
-def flow(datapath, number, priority=1, actions="next;"):
+def flow(datapath: str, number: int, priority: int = 1, actions: str = "next;") -> Any:
     row = {"logical_datapath": ["uuid", datapath], "pipeline": "ingress", "table_id": number % 30, "priority": priority, "match": f"ip4.dst == 10.{number >> 16}.{number >> 8 & 255}.{number & 255}", "actions": actions}
     return {"op": "insert", "table": "Logical_Flow", "row": row}
 
 
-def fill(client, rows):
+def fill(client: servers.Client, rows: int) -> Any:
     """Inserts the datapaths, so many flows, and the one that is marked; returns the first datapath, to which that belongs."""
     inserts = [{"op": "insert", "table": "Datapath_Binding", "row": {"tunnel_key": key + 1}} for key in range(DATAPATHS)]
     datapaths = [one["uuid"][1] for one in client.reply(transact(*inserts))["result"]]
@@ -70,7 +74,7 @@ def fill(client, rows):
     return datapaths[0]
 
 
-def mark(client, number):
+def mark(client: servers.Client, number: int) -> None:
     """Changes the marked row."""
     change = {"op": "update", "table": "Logical_Flow", "where": [["priority", "==", 65535]], "row": {"actions": f"mark{number}"}}
     client.ask(transact(change))
@@ -81,22 +85,21 @@ class Python:
 
     name = "Python's library, conditions"
 
-    def __init__(self, remote, datapath):
+    def __init__(self, remote: str, datapath: str) -> None:
         path = os.pathsep.join([PYTHON, os.environ.get("PYTHONPATH", "")])
         self.process = subprocess.Popen([sys.executable, "-c", IDL, remote, SOUTHBOUND, datapath], stdout=subprocess.PIPE, text=True, env={**os.environ, "PYTHONPATH": path})
 
-    def wait(self, wanted):
+    def wait(self, wanted: str) -> tuple[float, int]:
         """Waits until it has the mark; returns its seconds of processor and its bytes then."""
-        for line in self.process.stdout:
+        for line in self.process.stdout or ():
             newest, _, spent, memory = line.split()
             if newest == wanted:
                 return float(spent), int(memory)
         raise OSError("the client ended")
 
-    def end(self):
+    def end(self) -> None:
         self.process.kill()
-        self.process.wait()
-        self.process.stdout.close()
+        self.process.communicate()
 
 
 class Relay:
@@ -104,19 +107,19 @@ class Relay:
 
     name = "C's library (a relay), all tables"
 
-    def __init__(self, remote, _datapath):
+    def __init__(self, remote: str, _datapath: str) -> None:
         (self.port,) = free_ports(1)
         words = [SERVER, "--no-chdir", f"--remote=ptcp:{self.port}:127.0.0.1", "--unixctl=none", f"relay:OVN_Southbound:{remote}"]
         self.process = subprocess.Popen(words, stderr=subprocess.DEVNULL)
 
-    def has(self, wanted):
+    def has(self, wanted: str) -> bool:
         select = {"op": "select", "table": "Logical_Flow", "where": [["priority", "==", 65535], ["actions", "==", wanted]], "columns": ["actions"]}
         # Until it has a copy it knows no such database.
         with contextlib.suppress(OSError, KeyError, TypeError), servers.Client(self.port) as client:
             return bool(client.reply(transact(select))["result"][0]["rows"])
         return False
 
-    def wait(self, wanted):
+    def wait(self, wanted: str) -> tuple[float, int]:
         end = time.monotonic() + PATIENCE
         while not self.has(wanted):
             if time.monotonic() > end:
@@ -124,43 +127,47 @@ class Relay:
             time.sleep(LOOK)
         return servers.status(self.process.pid)
 
-    def end(self):
+    def end(self) -> None:
         self.process.kill()
         self.process.wait()
 
 
-def measure(command, kind, rows, words):
+Library = Union[Python, Relay]
+
+
+def measure(command: Sequence[str], kind: type[Library], rows: int, words: Sequence[str]) -> dict[str, float]:
     """What a client is sent and takes as it begins, and as it comes back after some commits."""
-    servers.SCHEMA = json.load(open(SOUTHBOUND, encoding="utf-8"))
-    found = {}
-    with tempfile.TemporaryDirectory() as folder, servers.Ours(folder, command, words) as server, servers.Client(server.port) as writer, Proxy(server.port) as proxy:
-        datapath = fill(writer, rows)
-        client = kind(proxy.remote, datapath)
-        try:
-            client.wait("mark0")
-            found["sent as it begins (bytes)"] = sum(proxy.sent)
-            # Python's library knows no commit's identifier before its first notification.
-            mark(writer, 1)
-            spent, _ = client.wait("mark1")
-            before = sum(proxy.sent)
-            proxy.cut()
-            for number in range(2, COMMITS + 2):
-                mark(writer, number)
-            begun = time.monotonic()
-            again, memory = client.wait(f"mark{COMMITS + 1}")
-            found["sent as it comes back (bytes)"] = sum(proxy.sent) - before
-            found["in step after it was cut off (s)"] = time.monotonic() - begun
-            found["its processor meanwhile (s)"] = again - spent
-            found["its memory (MB)"] = memory / 1e6
-        finally:
-            client.end()
+    with open(SOUTHBOUND, encoding="utf-8") as file:
+        servers.SCHEMA = json.load(file)
+    found: dict[str, float] = {}
+    with contextlib.ExitStack() as ends:
+        server = ends.enter_context(servers.Ours(ends.enter_context(tempfile.TemporaryDirectory()), command, words))
+        writer, proxy = ends.enter_context(servers.Client(server.port)), ends.enter_context(Proxy(server.port))
+        client = kind(proxy.remote, fill(writer, rows))
+        ends.callback(client.end)
+        client.wait("mark0")
+        found["sent as it begins (bytes)"] = sum(proxy.sent)
+        # Python's library knows no commit's identifier before its first notification.
+        mark(writer, 1)
+        spent, _ = client.wait("mark1")
+        before = sum(proxy.sent)
+        proxy.cut()
+        for number in range(2, COMMITS + 2):
+            mark(writer, number)
+        begun = time.monotonic()
+        again, memory = client.wait(f"mark{COMMITS + 1}")
+        found["sent as it comes back (bytes)"] = sum(proxy.sent) - before
+        found["in step after it was cut off (s)"] = time.monotonic() - begun
+        found["its processor meanwhile (s)"] = again - spent
+        found["its memory (MB)"] = memory / 1e6
     return found
 
 
-def compare(command, rows):
+def compare(command: Sequence[str], rows: int) -> dict[str, dict[str, tuple[float]]]:
     """The figures of both libraries, without and with the database `_Server`."""
-    results = {way: {} for way in WAYS}
-    for kind in (Python, Relay):
+    results: dict[str, dict[str, tuple[float]]] = {way: {} for way in WAYS}
+    kinds: list[type[Library]] = [Python, Relay]
+    for kind in kinds:
         for way, words in WAYS.items():
             results[way].update({f"{kind.name}, {rows:,} rows: {what}": (figure,) for what, figure in measure(command, kind, rows, words).items()})
     for what in results["ovsdbd serve"]:
