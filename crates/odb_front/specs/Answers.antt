@@ -1,32 +1,32 @@
--- What is answered by neither database. [P 15.3]
-use Rattle.std.specs.Prelude.{ℕ, Bool, if◌then◌else◌, List, [], ◌∷◌, Option, Some, None, codes, bytes_eq}
-use Rattle.serde_json.specs.Data.{Data, boolean, string}
+-- What is answered by no database. [P 15.3, 15.4]
+use Rattle.std.specs.Prelude.{ℕ, if◌then◌else◌, List, [], ◌∷◌, Option, Some, None, codes, bytes_eq, map}
+use Rattle.serde_json.specs.Data.{Data, string}
 use Rattle.odb_atoms.specs.Error.{syntax_error}
 use Rattle.odb_schema.specs.Json.{array_of, as_array, as_bool, as_str, items_list, no_members, object}
 use Rattle.odb_rpc.specs.Message.{failed, failure, reply, reply_id, unknown_database}
 use Rattle.odb_wire.specs.Message.{has_left_out, id_of, params_of}
-use Rattle.odb_front.specs.Front.{name_of}
+use Rattle.odb_front.specs.Front.{Text, name_of}
 
--- the name of the database that is served, the JSON of its schema and of that of `_Server`, and the text that names this run of the server
+-- the names of all databases, in the order in which they are told, each with the JSON of its schema; and the text that names this run of the server
 pub record Answers : Type 0 where
-  pub name : List ℕ
-  pub schema : Data
-  pub server_schema : Data
+  pub schemas : List (Text × Data)
   pub server_id : List ℕ
 
 abbrev pub refused : Data → Data
 refused id = failure id (failed syntax_error)
 
--- the array of both names, the one that is served first
+-- the array of all names
 abbrev pub names_of : Answers → Data
-names_of a = array_of (string a.name ∷ string (codes "_Server") ∷ [])
+names_of a = array_of (map (λ s. string s.0) a.schemas)
+
+-- what stands beside this name first
+abbrev pub beside : {A : Type 0} → List ℕ → List (Text × A) → Option A
+beside name [] = None
+beside name (s ∷ ss) = if bytes_eq name s.0 then Some s.1 else beside name ss
 
 -- `get_schema`, whatever comes after the name
 abbrev pub by_name : Answers → Data → List ℕ → Data
-by_name a id name =
-    if bytes_eq name a.name then reply id a.schema
-    else (if bytes_eq name (codes "_Server") then reply id a.server_schema
-    else failure id unknown_database)
+by_name a id name = elim (beside name a.schemas) [ None ↦ failure id unknown_database | Some schema ↦ reply id schema ]
 
 abbrev pub of_schema : Answers → Data → List Data → Data
 of_schema a id [] = refused id
@@ -44,7 +44,7 @@ abbrev pub of_awareness : Data → List Data → Data
 of_awareness id (d ∷ []) = of_flag id d
 of_awareness id _ = refused id
 
--- a monitor's id that the other database's monitor has, and `params` that are no array, are `syntax error`
+-- a monitor's id that another database's monitor has, and `params` that are no array, are `syntax error`
 abbrev pub by_method : Answers → Data → List ℕ → List Data → Data
 by_method a id m params =
     if bytes_eq m (codes "list_dbs") then reply id (names_of a)

@@ -1,4 +1,5 @@
 pub mod Answers
 pub mod Front
+pub mod Locks
 pub mod Represented
 pub mod Writes

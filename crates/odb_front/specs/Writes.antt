@@ -1,11 +1,11 @@
 -- `_Server` is read alone: a transaction on it ends at the first operation that writes, with `not allowed`, after what came before it was done. [P 15.3]
-use Rattle.std.specs.Prelude.{ℕ, zero, suc, ◌-◌, Bool, false, ◌||◌, if◌then◌else◌, List, [], ◌∷◌, ◌++◌, Option, Some, None, codes, bytes_eq, drop, length, map, take}
+use Rattle.std.specs.Prelude.{ℕ, zero, suc, ◌-◌, Bool, false, ◌||◌, if◌then◌else◌, List, [], ◌∷◌, ◌++◌, Some, None, codes, bytes_eq, length, map, take}
 use Rattle.std.specs.List.{list_any}
 use Rattle.serde_json.specs.Data.{Data, string}
 use Rattle.serde_json.specs.Find.{get, as_str}
 use Rattle.std.specs.Prelude.{option_and_then}
 use Rattle.odb_rpc.specs.Message.{one, operations_of}
-use Rattle.odb_front.specs.Front.{name_of}
+use Rattle.odb_front.specs.Front.{has_end, name_of}
 
 abbrev pub is_name_of_write : List ℕ → Bool
 is_name_of_write op = ((bytes_eq op (codes "insert") || bytes_eq op (codes "update")) || bytes_eq op (codes "mutate")) || bytes_eq op (codes "delete")
@@ -48,9 +48,6 @@ nulls (suc n) = nulls n ++ codes ",null"
 -- how a reply ends in which an operation has this error, and so many come after it
 abbrev pub ended_by : List ℕ → ℕ → List ℕ
 ended_by error after = codes "{\"error\":\"" ++ error ++ codes "\"}" ++ nulls after ++ codes "]}"
-
-abbrev pub has_end : List ℕ → List ℕ → Bool
-has_end end text = bytes_eq (drop (length text - length end) text) end
 
 -- a reply in which the `abort` ended the transaction that so many operations follow says `not allowed`; any other stays
 abbrev pub with_refusal : List ℕ → ℕ → List ℕ

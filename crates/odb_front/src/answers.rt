@@ -1,5 +1,5 @@
-//! What is answered by neither database. [P 15.3]
-ghost use Rattle.std.specs.Prelude.{◌≡◌, map, IfOk};
+//! What is answered by no database. [P 15.3, 15.4]
+ghost use Rattle.std.specs.Prelude.{◌≡◌, bytes_eq, map, option_map, IfOk};
 ghost use Rattle.serde_json.specs.Data.{Data, string};
 ghost use Rattle.serde_json.specs.View.{view};
 ghost use Rattle.serde_json.specs.Written.{compact_text};
@@ -9,27 +9,71 @@ ghost use Rattle.odb_wire.specs.Shown.{request_data};
 ghost use Rattle.odb_front.specs.Answers as model;
 ghost use Rattle.odb_front.specs.Represented.Answers.{Prints};
 
-use crate::destination::SERVER;
 use odb_rpc::{Error, Failure, Printable, failure, reply_id, reply_printed};
 use odb_wire::Request;
 use serde_json::Value;
 use std::alloc::{AllocError, Global};
+use std::marker::Model;
 
-/// The results of what neither database answers, each as its compact text.
+/// The schema of a database, as its compact text, and the database's name.
+pub struct PrintedSchema {
+    name: String,
+    text: Vec<u8>,
+}
+
+impl Model for PrintedSchema {
+    ghost use Rattle.std.specs.Prelude.{ℕ, List, string_bytes};
+    ghost use Rattle.std.specs.Coded.{coded×, coded_list, coded_ℕ};
+
+    ghost Value = { List ℕ × List ℕ };
+
+    ghost coded = { coded× (coded_list coded_ℕ) (coded_list coded_ℕ) };
+
+    ghost view = { λ s. (string_bytes s.name, s.text.items) };
+}
+
+impl PrintedSchema {
+    ghost use Rattle.std.specs.Prelude.{string_bytes};
+
+    /// Makes that of a database of this name.
+    pub fn new(name: String, text: Vec<u8>) -> PrintedSchema
+        ensures { result ≡ (string_bytes name, text.items) }
+    {
+        PrintedSchema { name, text }
+    }
+
+    fn is_of(&self, name: &str) -> bool
+        ensures { result ≡ bytes_eq name.now self.now.0 }
+    {
+        name == self.name()
+    }
+
+    /// Returns the database's name. O(1).
+    pub fn name(&self) -> &str
+        ensures { result.now ≡ self.now.0 }
+    {
+        self.name.as_str()
+    }
+
+    /// Returns the schema's text. O(1).
+    pub fn text(&self) -> &[u8]
+        ensures { result.now ≡ self.now.1 }
+    {
+        self.text.as_slice()
+    }
+}
+
+/// The results of what no database answers.
 pub struct Answers {
-    /// The name of the database that is served.
-    pub name: String,
-    /// The array of the names of both.
+    /// The schemas of all databases, in the order in which they are told.
+    pub schemas: Vec<PrintedSchema>,
+    /// The array of their names, and the string that names this run of the server, each as its compact text.
     pub names: Vec<u8>,
-    /// The schema of the database that is served, and that of `_Server`.
-    pub schema: Vec<u8>,
-    pub server_schema: Vec<u8>,
-    /// The string that names this run of the server.
     pub server_id: Vec<u8>,
 }
 
 impl Answers {
-    /// Returns the reply to a request that goes to neither database. O(n) for a request and a reply of n bytes.
+    /// Returns the reply to a request that goes to no database. O(n) for a request and a reply of n bytes.
     pub fn reply_to(&self, alloc: Global, request: &Request) -> Result<Vec<u8>, AllocError>
         ensures { IfOk result (λ text. (a : model.Answers) → Prints self.now a
             → text.items ≡ compact_text (model.answer a (request_data request.now))) }
@@ -105,14 +149,25 @@ impl Answers {
         ensures { IfOk result (λ text. (a : model.Answers) → Prints self.now a
             → text.items ≡ compact_text (model.by_name a (printable_data id.entry) name.now)) }
     {
-        if name == self.name.as_str() {
-            return replied(alloc, id, self.schema.as_slice());
+        match beside(self.schemas.as_slice(), name) {
+            Some(schema) => replied(alloc, id, schema),
+            None => failure(alloc, id, Failure::UnknownDatabase),
         }
-        if name == SERVER {
-            return replied(alloc, id, self.server_schema.as_slice());
-        }
-        failure(alloc, id, Failure::UnknownDatabase)
     }
+}
+
+/// Returns the text of the schema of this name, if it is there.
+fn beside<'a>(schemas: &'a [PrintedSchema], name: &str) -> Option<&'a [u8]>
+    ensures { option_map (λ text. text.now) result ≡ model.beside name.now schemas.now }
+{
+    let mut left = schemas;
+    while let [schema, rest @ ..] = left {
+        if schema.is_of(name) {
+            return Some(schema.text());
+        }
+        left = rest;
+    }
+    None
 }
 
 fn of_awareness(alloc: Global, id: Printable<'_>, params: &[Value]) -> Result<Vec<u8>, AllocError>
@@ -154,13 +209,18 @@ fn replied(alloc: Global, id: Printable<'_>, printed: &[u8]) -> Result<Vec<u8>, 
 }
 
 // Written, and not derived, so that each end of a scope is one call to prove.
+impl Drop for PrintedSchema {
+    fn drop(self) {
+        let PrintedSchema { name: _, text: _ } = self;
+    }
+}
+
+// Written, and not derived, so that each end of a scope is one call to prove.
 impl Drop for Answers {
     fn drop(self) {
         let Answers {
-            name: _,
+            schemas: _,
             names: _,
-            schema: _,
-            server_schema: _,
             server_id: _,
         } = self;
     }

@@ -28,11 +28,12 @@ impl Model for Naming {
     ghost view = { λ n. record { gone = n.gone; come = n.come } };
 }
 
-/// Returns whether a request begins, changes or ends a monitor. O(1).
+/// Returns whether a request may begin, change or end a monitor: it has such a method, asks for a reply, and has no number that is
+/// left out. O(1).
 pub fn names_monitor(request: &Request) -> bool
     ensures { result ≡ front.names_monitor (request_data request.now) }
 {
-    is_of_monitors(request.method())
+    is_of_monitors(request.method()) && !request.is_notification() && !request.has_left_out_number()
 }
 
 /// Returns whether the first of the `params` of a request is to name a database. O(1).
@@ -95,23 +96,41 @@ fn naming_by(alloc: Global, method: &str, params: &[Value]) -> Result<Naming, Al
         return changed(alloc, params);
     }
     if method == "monitor_cancel" {
-        return Ok(Naming {
-            gone: first(alloc, params)?,
-            come: None,
-        });
+        return ended(alloc, params);
     }
-    Ok(Naming {
+    Ok(nothing())
+}
+
+fn nothing() -> Naming
+    ensures { result ≡ front.nothing }
+{
+    Naming {
         gone: None,
         come: None,
-    })
+    }
 }
 
 fn changed(alloc: Global, params: &[Value]) -> Result<Naming, AllocError>
     ensures { IfOk result (λ naming. naming ≡ front.changed (map view params.now)) }
 {
-    let gone = first(alloc, params)?;
-    let come = second(alloc, params)?;
+    let [old, new, _] = params else {
+        return Ok(nothing());
+    };
+    let gone = text_of(alloc, old)?;
+    let come = text_of(alloc, new)?;
     Ok(Naming { gone, come })
+}
+
+fn ended(alloc: Global, params: &[Value]) -> Result<Naming, AllocError>
+    ensures { IfOk result (λ naming. naming ≡ front.ended (map view params.now)) }
+{
+    let [id] = params else {
+        return Ok(nothing());
+    };
+    Ok(Naming {
+        gone: text_of(alloc, id)?,
+        come: None,
+    })
 }
 
 fn first(alloc: Global, params: &[Value]) -> Result<Option<IdText>, AllocError>

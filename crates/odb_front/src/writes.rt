@@ -4,6 +4,7 @@ ghost use Rattle.serde_json.specs.Data.{string};
 ghost use Rattle.std.specs.List.{list_any};
 ghost use Rattle.serde_json.specs.View.{view};
 ghost use Rattle.odb_wire.specs.Shown.{request_data};
+ghost use Rattle.odb_front.specs.Front as front;
 ghost use Rattle.odb_front.specs.Writes as writes;
 
 use crate::destination::is_text;
@@ -164,8 +165,9 @@ fn with_nulls(text: Vec<u8>, count: usize) -> Result<Vec<u8>, AllocError>
     Ok(longer)
 }
 
-fn has_end(text: &[u8], end: &[u8]) -> bool
-    ensures { result ≡ writes.has_end end.now text.now }
+/// Returns whether a text ends so.
+pub(crate) fn has_end(text: &[u8], end: &[u8]) -> bool
+    ensures { result ≡ front.has_end end.now text.now }
 {
     let begin = text.len().saturating_sub(end.len());
     &text[begin..] == end

@@ -15,6 +15,11 @@ pub struct Mailbox {
 }
 
 impl Mailbox {
+    /// Returns what wakes the thread that takes messages out.
+    pub fn bell(&self) -> &Bell {
+        &*self.bell
+    }
+
     /// Takes the next message out, if the ring has one now. It waits for nobody.
     pub fn next(&mut self) -> Option<Out>
         ensures some { IfSome result (λ out. taken self.new ≡ taken self.old ++ out ∷ []) }

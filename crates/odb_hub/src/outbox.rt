@@ -56,7 +56,7 @@ impl Outbox {
 
     /// Returns what wakes the thread that takes messages out.
     pub fn bell(&self) -> &Bell {
-        &*self.mailbox.bell
+        self.mailbox.bell()
     }
 
     /// Returns whether something was taken out that isn't written yet.
@@ -134,8 +134,9 @@ impl Outbox {
         self.buffer.write_some(writer)
     }
 
-    /// Moves texts into the buffer, up to a piece. False: there are none, and nothing is left.
-    fn fill(&mut self) -> Result<bool, AllocError>
+    /// Takes messages out, as many as a buffer of some 16 KiB has room for. False: there are none, and nothing is left. O(bytes
+    /// moved).
+    pub fn fill(&mut self) -> Result<bool, AllocError>
         ensures takes { Takes self.old self.new }
         ensures ok { IfOk result (λ some. some ≡ not (length self.new.left == 0)) }
         ensures err { OnErr result (self.new.left ≢ []) }

@@ -8,8 +8,12 @@ use Rattle.std.specs.contracts.time.Instant as Instant
 use Rattle.std.specs.declared.sync.ledger.Ledger.{Ghosts}
 use Rattle.odb_core.proofs.Crossing.{Core-send}
 use Rattle.odb_front.proofs.answers.Answers.TheSendSync as answers
+use Rattle.odb_front.proofs.databases.Databases.TheSendSync as databases
+use Rattle.odb_front.proofs.ids.IdText.TheSendSync as id
 use Rattle.odb_front.proofs.ids.Ids.TheSendSync as ids
 use Rattle.odb_front.specs.contracts.answers.Answers as Answers
+use Rattle.odb_front.specs.contracts.databases.Databases as Databases
+use Rattle.odb_front.specs.contracts.ids.IdText as IdText
 use Rattle.odb_front.specs.contracts.ids.Ids as Ids
 use Rattle.odb_hub.proofs.Crossing.{Hub-sync}
 use Rattle.odb_par.proofs.workers.Workers.TheSendSync as workers
@@ -19,10 +23,13 @@ use Rattle.ovsdbd.proofs.desk.Desk.TheSendSync as desk
 use Rattle.ovsdbd.proofs.notices.Notices.TheSendSync as notices
 use Rattle.ovsdbd.proofs.pace.Pace.TheSendSync as pace
 use Rattle.ovsdbd.specs.contracts.daemon.Daemon as Daemon
+use Rattle.ovsdbd.specs.contracts.daemon.Daemons as Daemons
 use Rattle.ovsdbd.specs.contracts.daemon.Patience as Patience
 use Rattle.ovsdbd.specs.contracts.desk.Desk as Desk
+use Rattle.ovsdbd.specs.contracts.front.Front as Front
 use Rattle.ovsdbd.specs.contracts.notices.Notices as Notices
 use Rattle.ovsdbd.specs.contracts.pace.Pace as Pace
+use Rattle.ovsdbd.specs.contracts.second.Second as Second
 use Rattle.ovsdbd.specs.contracts.server_database.ServerBegun as ServerBegun
 
 pub Poll-send : IsSend Poll.the_row
@@ -31,11 +38,17 @@ Poll-send = poll.the_send
 pub Desk-sync : IsSync Desk.the_row
 Desk-sync = desk.the_sync
 
+pub Desk-send : IsSend Desk.the_row
+Desk-send = desk.the_send
+
 Patience-sync : IsSync Patience.the_row
 Patience-sync = patience.the_sync
 
 Notices-sync : IsSync Notices.the_row
 Notices-sync = notices.the_sync
+
+Notices-send : IsSend Notices.the_row
+Notices-send = notices.the_send
 
 Pace-sync : IsSync Pace.the_row
 Pace-sync = pace.the_sync
@@ -52,10 +65,25 @@ Answers-sync = answers.the_sync
 Ids-sync : IsSync (Ids.the_field).row
 Ids-sync = ids.the_sync
 
+Databases-sync : IsSync (Databases.the_field).row
+Databases-sync = databases.the_sync
+
+IdText-sync : IsSync (IdText.the_field).row
+IdText-sync = id.the_sync
+
 ServerBegun-sync : IsSync ServerBegun.the_row
-ServerBegun-sync = search (Core-send, Answers-sync, Ids-sync, sendable, heap.crosses) depth 40
+ServerBegun-sync = search (Core-send, sendable, heap.crosses) depth 40
+
+Front-sync : IsSync Front.the_row
+Front-sync = search (ServerBegun-sync, Databases-sync, Answers-sync, Ids-sync, sendable, heap.crosses) depth 40
 
 pub Daemon-sync : (L : RattleType) (g : Ghosts L.Denot) → IsSend L → IsSync (Daemon.the_field L g).row
-Daemon-sync L g s = search (Hub-sync, ServerBegun-sync, Desk-sync, Notices-sync, notices.the_field_sync, Patience-sync, Pace-sync, Workers-sync, Instant-sync, sendable, heap.crosses) depth 40 fits 20000
+Daemon-sync L g s = search (Hub-sync, Desk-sync, Desk-send, Notices-sync, Notices-send, notices.the_field_sync, Patience-sync, Pace-sync, Workers-sync, Instant-sync, sendable, heap.crosses) depth 40 fits 20000
 
-pub ruleset crosses = (Daemon-sync, Desk-sync, Poll-send, sendable, heap.crosses)
+Second-sync : (M : RattleType) (g : Ghosts M.Denot) → IsSend M → IsSync (Second.the_field M g).row
+Second-sync M g s = search (Daemon-sync, IdText-sync, sendable, heap.crosses) depth 40 fits 20000
+
+pub Daemons-sync : (L : RattleType) (g : Ghosts L.Denot) (M : RattleType) (h : Ghosts M.Denot) → IsSend L → IsSend M → IsSync (Daemons.the_field L M g h).row
+Daemons-sync L g M h s t = search (Daemon-sync, Second-sync, Front-sync, sendable, heap.crosses) depth 40 fits 20000
+
+pub ruleset crosses = (Daemon-sync, Daemons-sync, Desk-sync, Poll-send, sendable, heap.crosses)

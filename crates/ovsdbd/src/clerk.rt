@@ -3,8 +3,9 @@ ghost use Rattle.std.specs.Prelude.{◌≡◌};
 ghost use Rattle.odb_waking.specs.Loop as loops;
 
 use crate::connection::{Connection, Next, PAUSE, PIECE, RandomIdentifiers, Tools};
-use crate::daemon::{Daemon, has_lasted};
+use crate::daemon::{Daemon, Daemons, has_lasted};
 use crate::desk::Desk;
+use crate::front::Front;
 use crate::log::Happened;
 use crate::server_database::ServerDatabase;
 use mio::net::TcpStream;
@@ -36,12 +37,12 @@ const BATCH: u64 = 1_000;
 const LOOKS: u64 = 8;
 
 /// The connections of a thread, and those that have a turn next.
-pub(crate) struct Clerk<'a, L: Ledger, R> {
-    tools: Tools<'a, L, R>,
+pub(crate) struct Clerk<'a, L: Ledger, M: Ledger, R> {
+    tools: Tools<'a, L, M, R>,
     desk: &'a Desk,
     poll: Poll,
     /// The connections at their places, and the places that are vacant.
-    connections: Vec<Option<Connection<L>>>,
+    connections: Vec<Option<Connection<'a, L, M>>>,
     vacant: Vec<usize>,
     /// The places of those that have a turn next: of those that ask something, of those of them whose last submission was
     /// slow, and of the others.
@@ -57,12 +58,13 @@ pub(crate) struct Clerk<'a, L: Ledger, R> {
 }
 
 /// Serves the connections that come to the desk, until no more will come and all have ended.
-pub(crate) fn serve_desk<L: Ledger, R: Threads + Wait + Clock + RandomSource + Sync>(
+pub(crate) fn serve_desk<L: Ledger, M: Ledger, R: Threads + Wait + Clock + RandomSource + Sync>(
     rt: &R,
-    daemon: &Daemon<L>,
+    daemons: &Daemons<L, M>,
     desk: &Desk,
     poll: Poll,
 ) -> io::Result<()> {
+    let daemon = &daemons.first;
     let mut piece = Vec::new(daemon.alloc);
     piece.resize(PIECE, 0u8)?;
     let mut events = Events::with_capacity(daemon.alloc, EVENTS)?;
@@ -70,9 +72,13 @@ pub(crate) fn serve_desk<L: Ledger, R: Threads + Wait + Clock + RandomSource + S
         tools: Tools {
             rt,
             daemon,
+            second: daemons.second.as_ref(),
+            front: daemons.front.as_ref(),
+            calls: &desk.calls,
+            place: 0,
             piece,
             identifiers: RandomIdentifiers { rng: make_rng(rt)? },
-            server: start_server(rt, daemon)?,
+            server: start_server(rt, daemons.front.as_ref())?,
             moment: daemon.now(rt),
         },
         desk,
@@ -90,7 +96,7 @@ pub(crate) fn serve_desk<L: Ledger, R: Threads + Wait + Clock + RandomSource + S
     Ok(())
 }
 
-impl<'a, L: Ledger, R: Threads + Wait + Clock + RandomSource + Sync> Clerk<'a, L, R> {
+impl<'a, L: Ledger, M: Ledger, R: Threads + Wait + Clock + RandomSource + Sync> Clerk<'a, L, M, R> {
     fn run(self, events: &mut Events) {
         let mut clerk = self;
         let mut place = LoopPlace::new();
@@ -104,6 +110,10 @@ impl<'a, L: Ledger, R: Threads + Wait + Clock + RandomSource + Sync> Clerk<'a, L
             tools: Tools {
                 rt,
                 daemon,
+                second: _,
+                front: _,
+                calls: _,
+                place: _,
                 piece: _,
                 identifiers: _,
                 server: _,
@@ -143,17 +153,24 @@ impl<'a, L: Ledger, R: Threads + Wait + Clock + RandomSource + Sync> Clerk<'a, L
 }
 
 /// Makes the thread's database `_Server`, where that is asked for.
-fn start_server<L: Ledger, R: Wait>(
+fn start_server<R: Wait>(
     rt: &R,
-    daemon: &Daemon<L>,
+    front: Option<&Front>,
 ) -> Result<Option<ServerDatabase>, AllocError> {
-    match &daemon.server {
-        Some(begun) => Ok(Some(begun.start(rt)?)),
-        None => Ok(None),
+    match front {
+        Some(
+            Front {
+                databases: _,
+                answers: _,
+                nothing: _,
+                server: Some(begun),
+            },
+        ) => Ok(Some(begun.start(rt)?)),
+        _ => Ok(None),
     }
 }
 
-impl<'a, L: Ledger, R: Wait + Clock> Clerk<'a, L, R> {
+impl<'a, L: Ledger, M: Ledger, R: Wait + Clock> Clerk<'a, L, M, R> {
     /// Takes the connections that were given to it.
     fn take_connections(&mut self) {
         let Some((streams, is_closed)) = self.desk.take(self.tools.rt) else {
@@ -240,7 +257,7 @@ impl<'a, L: Ledger, R: Wait + Clock> Clerk<'a, L, R> {
         Ok(place)
     }
 
-    fn put(&mut self, place: usize, connection: Connection<L>) {
+    fn put(&mut self, place: usize, connection: Connection<'a, L, M>) {
         let (rt, daemon) = (self.tools.rt, self.tools.daemon);
         match self.connections.get_mut(place) {
             Some(slot) => if let Some(other) = mem::replace(slot, Some(connection)) {
@@ -461,7 +478,7 @@ impl<'a, L: Ledger, R: Wait + Clock> Clerk<'a, L, R> {
     }
 }
 
-impl<'a, L: Ledger, R: Threads + Wait + Clock + Sync> Clerk<'a, L, R> {
+impl<'a, L: Ledger, M: Ledger, R: Threads + Wait + Clock + Sync> Clerk<'a, L, M, R> {
     /// Gives a turn to some of those that ask something, and to as many of the others, so that neither wait for all of the
     /// others; and then to one that was slow, so that the others wait for one of these at most. The first is the last that
     /// events brought, and after a while it looks for further events: so who asks little waits for a few of many that came
@@ -519,6 +536,7 @@ impl<'a, L: Ledger, R: Threads + Wait + Clock + Sync> Clerk<'a, L, R> {
             return;
         };
         connection.is_queued = false;
+        self.tools.place = place;
         match connection.serve(&mut self.tools) {
             Next::Rests => {}
             Next::GoesOn => self.enqueue(place),
@@ -528,15 +546,18 @@ impl<'a, L: Ledger, R: Threads + Wait + Clock + Sync> Clerk<'a, L, R> {
 }
 
 /// Returns the connection at a place, if there is one.
-fn at<L: Ledger>(
-    connections: &mut [Option<Connection<L>>],
+fn at<'c, 'a, L: Ledger, M: Ledger>(
+    connections: &'c mut [Option<Connection<'a, L, M>>],
     place: usize,
-) -> Option<&mut Connection<L>> {
+) -> Option<&'c mut Connection<'a, L, M>> {
     connections.get_mut(place)?.as_mut()
 }
 
 /// Ends a session in `_Server`. Where memory is refused it tries again.
-fn leave_at_last<L: Ledger, R: Wait + Clock>(tools: &mut Tools<'_, L, R>, session: SessionId) {
+fn leave_at_last<L: Ledger, M: Ledger, R: Wait + Clock>(
+    tools: &mut Tools<'_, L, M, R>,
+    session: SessionId,
+) {
     let Some(server) = &mut tools.server else {
         return;
     };
@@ -559,10 +580,10 @@ fn sooner(time: Option<Duration>, other: Option<Duration>) -> Option<Duration> {
 }
 
 /// Closes what is left of these connections.
-fn close_all<L: Ledger, R: Wait + Clock>(
+fn close_all<L: Ledger, M: Ledger, R: Wait + Clock>(
     rt: &R,
     daemon: &Daemon<L>,
-    connections: Vec<Option<Connection<L>>>,
+    connections: Vec<Option<Connection<'_, L, M>>>,
 ) {
     let mut connections = connections;
     for _ in rt.forever() {

@@ -1,22 +1,24 @@
-//! A connection and its session, as the thread that serves it has them. [P 15.2]
+//! A connection and its sessions, as the thread that serves it has them. [P 15.2, 15.4]
 
-use crate::daemon::{Daemon, Patience};
+use crate::daemon::{Daemon, Patience, SubmittedTurn};
+use crate::front::Front;
 use crate::front_seat::{FrontSeat, Noted};
 use crate::log::{Happened, Line, Reason};
+use crate::second::{NamingRequest, Second, SecondSeat};
 use crate::server_database::{ServerDatabase, ServerRequest};
 use mio::event::Event;
 use mio::net::TcpStream;
 use odb_core::{Out, Refused, SessionId};
 use odb_front::{Destination, IdText, Naming, destination_of, first_id, names_monitor};
-use odb_hub::{Identifiers, Inbox, Mailbox, Outbox, Seat};
+use odb_hub::{Bell, Calls, Identifiers, Inbox, Mailbox, Outbox, Seat};
 use odb_rpc::reply_id;
 use odb_wire::{Request, WireFault};
 use rand::rngs::StdRng;
 use std::alloc::{AllocError, Global};
 use std::io::{self, ErrorKind, Read};
 use std::net::{Shutdown, SocketAddr};
-use std::sync::Wait;
 use std::sync::ledger::Ledger;
+use std::sync::{Arc, Wait};
 use std::thread::Threads;
 use std::time::{Clock, Duration};
 use std::{mem, thread};
@@ -30,6 +32,9 @@ pub(crate) const PAUSE: u64 = 1;
 
 /// How often what is held back is sent for, before other connections have their turn.
 const REFILLS: usize = 8;
+
+/// How many messages of the second database are taken out before others are written.
+const TAKEN: usize = 64;
 
 /// How many requests are looked at in a turn, where they may go to several places.
 const LOOKED_AT: usize = 64;
@@ -47,9 +52,15 @@ impl Identifiers for RandomIdentifiers {
 }
 
 /// What a thread that serves connections has for each of them in turn.
-pub(crate) struct Tools<'a, L: Ledger, R> {
+pub(crate) struct Tools<'a, L: Ledger, M: Ledger, R> {
     pub(crate) rt: &'a R,
     pub(crate) daemon: &'a Daemon<L>,
+    pub(crate) second: Option<&'a Second<M>>,
+    /// What there is where there are several databases.
+    pub(crate) front: Option<&'a Front>,
+    /// By what the thread is called, and the place of the connection that has its turn.
+    pub(crate) calls: &'a Arc<Calls>,
+    pub(crate) place: usize,
     /// Where bytes are read.
     pub(crate) piece: Vec<u8>,
     pub(crate) identifiers: RandomIdentifiers,
@@ -81,7 +92,7 @@ enum Written {
 }
 
 /// A connection, with its session as long as that is open.
-pub(crate) struct Connection<L: Ledger> {
+pub(crate) struct Connection<'a, L: Ledger, M: Ledger> {
     stream: TcpStream,
     /// Who is at its other end, where that is logged, and the session's number.
     client: Option<SocketAddr>,
@@ -91,8 +102,9 @@ pub(crate) struct Connection<L: Ledger> {
     seat: Option<Seat<L>>,
     inbox: Inbox,
     outbox: Outbox,
-    /// What it has of `_Server`, from its first request on that concerns that.
+    /// What it has beside, from its first request on that concerns more than the first database.
     front: Option<Box<FrontSeat>>,
+    second: Option<Box<SecondSeat<'a, M>>>,
     is_readable: bool,
     is_writable: bool,
     /// Whether the peer sends no more than what there is to read.
@@ -113,7 +125,7 @@ pub(crate) struct Connection<L: Ledger> {
     asks: bool,
 }
 
-impl<L: Ledger> Connection<L> {
+impl<'a, L: Ledger, M: Ledger> Connection<'a, L, M> {
     /// Makes that of a session that was just opened, at this moment.
     pub(crate) fn new(
         daemon: &Daemon<L>,
@@ -121,7 +133,7 @@ impl<L: Ledger> Connection<L> {
         seat: Seat<L>,
         mailbox: Mailbox,
         moment: u64,
-    ) -> Connection<L> {
+    ) -> Connection<'a, L, M> {
         let alloc = daemon.alloc;
         Connection {
             stream,
@@ -132,6 +144,7 @@ impl<L: Ledger> Connection<L> {
             inbox: Inbox::new(alloc, daemon.max_message),
             outbox: Outbox::new(alloc, mailbox),
             front: None,
+            second: None,
             is_readable: true,
             is_writable: true,
             is_closed: false,
@@ -176,9 +189,9 @@ impl<L: Ledger> Connection<L> {
     /// refused for too long for what its session is owed, it ends. Steps: those of `turn`, or `parts`.
     pub(crate) fn serve<R: Threads + Wait + Clock + Sync>(
         &mut self,
-        tools: &mut Tools<'_, L, R>,
+        tools: &mut Tools<'a, L, M, R>,
     ) -> Next {
-        if self.outbox.bell().is_given_up() {
+        if self.is_given_up() {
             self.end_for(Reason::Memory);
         } else if !self.is_cut_off {
             match self.turn(tools) {
@@ -192,6 +205,15 @@ impl<L: Ledger> Connection<L> {
         } else {
             Next::GoesOn
         }
+    }
+
+    /// Returns whether memory was refused for too long for what one of its sessions is owed.
+    fn is_given_up(&self) -> bool {
+        let second = match &self.second {
+            Some(second) => second.bell().is_given_up(),
+            None => false,
+        };
+        second || self.outbox.bell().is_given_up()
     }
 
     /// Notes why the connection is to be closed, unless that is known.
@@ -208,27 +230,24 @@ impl<L: Ledger> Connection<L> {
         drop(self.stream.shutdown(Shutdown::Both));
     }
 
-    /// Ends the session, if that is open. False says that memory was refused: then it pauses, as the session is to end once
-    /// there is memory, since one that stayed would keep its locks.
-    fn part<R: Wait + Clock>(&mut self, tools: &Tools<'_, L, R>) -> bool {
-        let Some(seat) = self.seat.take() else {
-            return true;
+    /// Ends its sessions, if these are open. False says that memory was refused: then it pauses, as they are to end once there is
+    /// memory, since one that stayed would keep its locks.
+    fn part<R: Wait + Clock>(&mut self, tools: &Tools<'a, L, M, R>) -> bool {
+        let is_over = match &mut self.second {
+            Some(second) => second.part_both(tools.rt, tools.daemon, &mut self.seat),
+            None => part_once(tools.rt, tools.daemon, &mut self.seat),
         };
-        let Err(back) = tools.daemon.part(tools.rt, seat) else {
-            return true;
-        };
-        if let Some(other) = mem::replace(&mut self.seat, Some(back)) {
-            part_at_last(tools.rt, tools.daemon, other);
+        if !is_over {
+            thread::sleep(tools.rt, Duration::from_millis(PAUSE));
         }
-        thread::sleep(tools.rt, Duration::from_millis(PAUSE));
-        false
+        is_over
     }
 
     /// Writes, reads and submits, also where the socket is full. Steps: those of `write`; `checks`; those of `read` and
     /// `submit`, and of `write` again; those of `next`.
     fn turn<R: Threads + Wait + Clock + Sync>(
         &mut self,
-        tools: &mut Tools<'_, L, R>,
+        tools: &mut Tools<'a, L, M, R>,
     ) -> io::Result<Next> {
         let mut written = self.write(tools)?;
         if self.may_submit() {
@@ -244,12 +263,31 @@ impl<L: Ledger> Connection<L> {
     }
 
     /// Returns whether a request may be submitted: none waits since it met Busy, and the client takes what it was given, so
-    /// that the socket isn't full, and no message is held back or is still to be written from the front. Step: `checks`.
+    /// that the socket isn't full, no message is held back or is still to be written from the front, and it is known which
+    /// monitors of the second database there are. Step: `checks`.
     fn may_submit(&self) -> bool {
         !self.is_busy
             && self.is_writable
-            && !self.outbox.bell().is_held_back()
+            && !self.is_held_back()
             && !self.has_front_outs()
+            && !self.lacks_naming()
+    }
+
+    /// Returns whether a request has no reply yet that named a monitor of the second database.
+    fn lacks_naming(&self) -> bool {
+        match &self.second {
+            Some(second) => second.lacks_naming(),
+            None => false,
+        }
+    }
+
+    /// Returns whether a message of one of its sessions is held back.
+    fn is_held_back(&self) -> bool {
+        let second = match &self.second {
+            Some(second) => second.bell().is_held_back(),
+            None => false,
+        };
+        second || self.outbox.bell().is_held_back()
     }
 
     fn has_front_outs(&self) -> bool {
@@ -277,7 +315,7 @@ impl<L: Ledger> Connection<L> {
 
     /// Returns what comes next, after so much was written. Steps: `checks` where a request waits since it met Busy; those of
     /// `end`.
-    fn next<R: Wait + Clock>(&mut self, tools: &Tools<'_, L, R>, written: Written) -> Next {
+    fn next<R: Wait + Clock>(&mut self, tools: &Tools<'a, L, M, R>, written: Written) -> Next {
         if self.has_read_all() || self.is_left_at_busy() {
             return self.end(tools, written);
         }
@@ -301,7 +339,7 @@ impl<L: Ledger> Connection<L> {
     /// Returns what comes next of a connection of which nothing more is submitted: what the session is given is written,
     /// then the session ends, and what it was given by then is written. Once it ended, it doesn't matter any more whether a
     /// message was held back. Steps: `ends`, `parts`.
-    fn end<R: Wait + Clock>(&mut self, tools: &Tools<'_, L, R>, written: Written) -> Next {
+    fn end<R: Wait + Clock>(&mut self, tools: &Tools<'a, L, M, R>, written: Written) -> Next {
         match written {
             Written::All => {}
             Written::Some => return Next::GoesOn,
@@ -310,7 +348,7 @@ impl<L: Ledger> Connection<L> {
         if self.seat.is_none() {
             return Next::Ends;
         }
-        if self.outbox.bell().is_held_back() {
+        if self.is_held_back() {
             return Next::Rests;
         }
         self.inbox.stop();
@@ -319,11 +357,15 @@ impl<L: Ledger> Connection<L> {
     }
 
     /// Writes what the session is given, as far as the peer takes it. Steps: `writes`, `takes`, `looks`, `refills`.
-    fn write<R: Threads + Wait + Sync>(&mut self, tools: &Tools<'_, L, R>) -> io::Result<Written> {
+    fn write<R: Threads + Wait + Sync>(
+        &mut self,
+        tools: &Tools<'a, L, M, R>,
+    ) -> io::Result<Written> {
         if !self.is_writable {
             return Ok(Written::Blocked);
         }
         self.move_front();
+        self.move_second()?;
         for _ in 0..REFILLS {
             let mut writer = &self.stream;
             match self.outbox.write_to(&mut writer) {
@@ -350,27 +392,56 @@ impl<L: Ledger> Connection<L> {
         }
     }
 
+    /// Moves messages of the second database to where they are written, as many as there is room for. Then what waits for one of its
+    /// replies may be submitted. False: there are none, or another message is in the midst.
+    fn move_second(&mut self) -> Result<bool, AllocError> {
+        let (Some(second), Some(front)) = (&mut self.second, &mut self.front) else {
+            return Ok(false);
+        };
+        let mut is_moved = false;
+        for _ in 0..TAKEN {
+            if !second.move_to(&mut self.outbox, &mut front.ids)? {
+                break;
+            }
+            is_moved = true;
+            self.is_busy = false;
+            self.outbox.fill()?;
+        }
+        Ok(is_moved)
+    }
+
     /// Has what is held back sent, and the peer asked where that is due, once all else is written. True says that there may
     /// be more to write.
-    fn refill<R: Threads + Wait + Sync>(&mut self, tools: &Tools<'_, L, R>) -> io::Result<bool> {
+    fn refill<R: Threads + Wait + Sync>(&mut self, tools: &Tools<'a, L, M, R>) -> io::Result<bool> {
         if self.asks {
             self.asks = false;
             return Ok(self.outbox.ask()?);
         }
-        if self.move_front() {
+        if self.move_front() || self.move_second()? {
             return Ok(true);
         }
+        Ok(self.refill_first(tools) || self.refill_second(tools))
+    }
+
+    fn refill_first<R: Threads + Wait + Sync>(&self, tools: &Tools<'a, L, M, R>) -> bool {
         match &self.seat {
             Some(seat) if self.outbox.bell().is_held_back() => {
-                Ok(tools.daemon.refill(tools.rt, seat.session()))
+                tools.daemon.refill(tools.rt, seat.session())
             }
-            _ => Ok(false),
+            _ => false,
+        }
+    }
+
+    fn refill_second<R: Threads + Wait + Sync>(&self, tools: &Tools<'a, L, M, R>) -> bool {
+        match &self.second {
+            Some(second) => second.refill(tools.rt),
+            None => false,
         }
     }
 
     /// Reads a piece, and finds the requests in it. Nothing more is read where the stream ends or is at a fault, and where
     /// memory is refused. Step: `submits`.
-    fn read<R: Wait>(&mut self, tools: &mut Tools<'_, L, R>) {
+    fn read<R: Wait>(&mut self, tools: &mut Tools<'a, L, M, R>) {
         let mut reader = &self.stream;
         match reader.read(tools.piece.as_mut_slice()) {
             Ok(read) if read > 0 => {
@@ -389,7 +460,7 @@ impl<L: Ledger> Connection<L> {
     }
 
     /// Takes in so many bytes that were read. A fault that comes after the requests in them stops the reading.
-    fn take_in<R: Wait>(&mut self, tools: &mut Tools<'_, L, R>, read: usize) {
+    fn take_in<R: Wait>(&mut self, tools: &mut Tools<'a, L, M, R>, read: usize) {
         let Some(bytes) = tools.piece.get(..read) else {
             return;
         };
@@ -408,15 +479,15 @@ impl<L: Ledger> Connection<L> {
     }
 
     /// Has it said that the connection is closed for a message that is too long.
-    fn note_too_long<R: Wait>(&self, tools: &Tools<'_, L, R>) {
+    fn note_too_long<R: Wait>(&self, tools: &Tools<'a, L, M, R>) {
         if let Ok(client) = self.stream.peer_addr() {
             tools.daemon.notices.note_too_long(tools.rt, client);
         }
     }
 
-    /// Submits a turn of the requests: all to the database that is served, or each where it goes. Step: `submits`.
-    fn submit<R: Threads + Wait + Clock + Sync>(&mut self, tools: &mut Tools<'_, L, R>) {
-        if tools.server.is_none() {
+    /// Submits a turn of the requests: all to the first database, or each where it goes. Step: `submits`.
+    fn submit<R: Threads + Wait + Clock + Sync>(&mut self, tools: &mut Tools<'a, L, M, R>) {
+        if tools.front.is_none() {
             self.submit_first(tools, usize::MAX);
         } else if self.submit_each(tools).is_err() {
             self.give_up();
@@ -429,10 +500,10 @@ impl<L: Ledger> Connection<L> {
         self.inbox.stop();
     }
 
-    /// Submits a turn of so many of the requests, the first, to the database that is served, and the other sessions are told.
+    /// Submits a turn of so many of the requests, the first, to the first database, and the other sessions are told.
     fn submit_first<R: Threads + Wait + Clock + Sync>(
         &mut self,
-        tools: &Tools<'_, L, R>,
+        tools: &Tools<'a, L, M, R>,
         most: usize,
     ) {
         let Some(seat) = &mut self.seat else {
@@ -440,6 +511,11 @@ impl<L: Ledger> Connection<L> {
         };
         let daemon = tools.daemon;
         let turn = daemon.submit_turn(tools.rt, seat, &mut self.inbox, most);
+        self.note_turn(turn);
+    }
+
+    /// Notes what became of a turn.
+    fn note_turn(&mut self, turn: SubmittedTurn) {
         self.is_slow = turn.is_slow;
         match turn.outcome {
             Ok(()) => {}
@@ -448,19 +524,147 @@ impl<L: Ledger> Connection<L> {
         }
     }
 
-    /// Deals with the requests in their order, up to those of the database that is served, of which it submits a turn.
+    /// Submits a turn of so many of the requests, the first, to the second database, and the other sessions are told.
+    fn submit_second<R: Threads + Wait + Clock + Sync>(
+        &mut self,
+        tools: &Tools<'a, L, M, R>,
+        most: usize,
+    ) -> Result<(), AllocError> {
+        self.open_second(tools)?;
+        let asked = self.asked(tools.daemon.alloc, most)?;
+        let before = self.inbox.pending();
+        let Some(second) = &mut self.second else {
+            return Ok(());
+        };
+        let Some(turn) = second.submit(tools.rt, &mut self.inbox, most) else {
+            return Ok(());
+        };
+        let taken = before.saturating_sub(self.inbox.pending());
+        self.note_turn(turn);
+        self.front(tools)?.ask_second(asked, taken)
+    }
+
+    /// Returns the ids of so many of the requests, the first; none of a notification.
+    fn asked(&self, alloc: Global, most: usize) -> Result<Vec<Option<IdText>>, AllocError> {
+        let mut asked = Vec::with_capacity(alloc, most)?;
+        for place in 0..most {
+            if let Some(request) = self.inbox.request(place) {
+                asked.push(asked_id(alloc, request)?)?;
+            }
+        }
+        Ok(asked)
+    }
+
+    /// Opens its session in the second database, if that isn't open.
+    fn open_second<R: Wait + Clock>(
+        &mut self,
+        tools: &Tools<'a, L, M, R>,
+    ) -> Result<(), AllocError> {
+        if self.second.is_some() {
+            return Ok(());
+        }
+        let Some(second) = tools.second else {
+            return Err(AllocError);
+        };
+        self.front(tools)?;
+        let bell = Bell::new(Arc::try_clone(tools.calls)?, tools.place);
+        let opened = second.daemon.hub.enter(tools.rt).open(bell);
+        let Ok((seat, mailbox)) = opened else {
+            return Err(AllocError);
+        };
+        self.sit(tools, SecondSeat::new(second, seat, mailbox))
+    }
+
+    /// Keeps what it has in the second database. Where memory is refused the session there ends.
+    fn sit<R: Wait + Clock>(
+        &mut self,
+        tools: &Tools<'a, L, M, R>,
+        seat: SecondSeat<'a, M>,
+    ) -> Result<(), AllocError> {
+        let (rt, daemon) = (tools.rt, tools.daemon);
+        let session = seat.session();
+        match Box::new(daemon.alloc, seat) {
+            Ok(seat) => {
+                if let Some(other) = mem::replace(&mut self.second, Some(seat)) {
+                    Box::into_inner(other).end_both(rt, daemon, None);
+                }
+                self.log(rt, daemon, Happened::OpenedSecond(session));
+                Ok(())
+            }
+            Err(refused) => {
+                refused.value.end_both(rt, daemon, None);
+                Err(AllocError)
+            }
+        }
+    }
+
+    /// Has both databases learn of the first request, which is about a lock, and of no other connection's in between. It waits
+    /// where as many replies are lacking from the second as may be owed, so that the second isn't at Busy.
+    fn submit_lock<R: Threads + Wait + Clock + Sync>(
+        &mut self,
+        tools: &mut Tools<'a, L, M, R>,
+    ) -> Result<(), AllocError> {
+        self.open_second(tools)?;
+        if self.front(tools)?.lacks_replies() {
+            self.is_busy = true;
+            return Ok(());
+        }
+        let (Some(request), Some(second)) = (self.inbox.request(0), tools.second) else {
+            return Ok(());
+        };
+        let mut same = second.request_in_place(request, &mut tools.identifiers)?;
+        let order = second.order.lock(tools.rt);
+        let is_told = self.submit_both(tools, &mut same);
+        drop(order);
+        if !is_told {
+            self.cut_off(Reason::Memory);
+        }
+        Ok(())
+    }
+
+    /// Submits the first request to the first database, and the same to the second before anybody hears what came of it. False: the
+    /// second refused it.
+    fn submit_both<R: Threads + Wait + Clock + Sync>(
+        &mut self,
+        tools: &Tools<'a, L, M, R>,
+        same: &mut Inbox,
+    ) -> bool {
+        let (Some(seat), Some(second)) = (&mut self.seat, &mut self.second) else {
+            return true;
+        };
+        let (rt, daemon) = (tools.rt, tools.daemon);
+        let mut hub = daemon.hub.enter(rt);
+        let first = daemon.submit_under(rt, &mut *hub, seat, &mut self.inbox, 1);
+        let other = if first.is_taken() {
+            second.submit_under(rt, same)
+        } else {
+            None
+        };
+        drop(hub);
+        let turn = daemon.tell(rt, first);
+        let is_told = match other {
+            Some(other) => second.tell(rt, other, same),
+            None => true,
+        };
+        self.note_turn(turn);
+        is_told
+    }
+
+    /// Deals with the requests in their order, up to those of a database that is served, of which it submits a turn.
     fn submit_each<R: Threads + Wait + Clock + Sync>(
         &mut self,
-        tools: &mut Tools<'_, L, R>,
+        tools: &mut Tools<'a, L, M, R>,
     ) -> Result<(), AllocError> {
         for _ in 0..LOOKED_AT {
             match self.destination(tools, 0)? {
                 None => return Ok(()),
-                Some(Destination::Served) => return self.submit_served(tools),
+                Some(Destination::First) => return self.submit_run(tools, Destination::First),
+                Some(Destination::Second) => return self.submit_run(tools, Destination::Second),
+                Some(Destination::Both) => self.submit_lock(tools)?,
                 Some(Destination::Front) => self.answer(tools)?,
                 Some(Destination::Server) => self.ask_server(tools)?,
             }
-            if self.is_busy {
+            if self.is_busy || self.is_cut_off {
                 return Ok(());
             }
         }
@@ -470,10 +674,10 @@ impl<L: Ledger> Connection<L> {
     /// Returns where the request at a place among those that are pending goes, if there is one.
     fn destination<R>(
         &self,
-        tools: &Tools<'_, L, R>,
+        tools: &Tools<'a, L, M, R>,
         place: usize,
     ) -> Result<Option<Destination>, AllocError> {
-        let Some(begun) = &tools.daemon.server else {
+        let Some(begun) = tools.front else {
             return Ok(None);
         };
         let Some(request) = self.inbox.request(place) else {
@@ -484,44 +688,87 @@ impl<L: Ledger> Connection<L> {
             Some(front) => &front.ids,
             None => &begun.nothing,
         };
-        let destination = destination_of(alloc, request, begun.name.as_str(), ids)?;
+        let destination = destination_of(alloc, request, &begun.databases, ids)?;
         Ok(Some(destination))
     }
 
-    /// Submits the first requests to the database that is served, up to the next that goes elsewhere or names a monitor; one
-    /// that names a monitor alone.
-    fn submit_served<R: Threads + Wait + Clock + Sync>(
+    /// Submits the first requests to the database to which they go, up to the next that goes elsewhere or names a monitor; one that
+    /// names a monitor alone.
+    fn submit_run<R: Threads + Wait + Clock + Sync>(
         &mut self,
-        tools: &Tools<'_, L, R>,
+        tools: &Tools<'a, L, M, R>,
+        place: Destination,
     ) -> Result<(), AllocError> {
-        if !self.names_monitor(0) {
-            let most = self.run(tools)?;
-            self.submit_first(tools, most);
-            return Ok(());
+        if self.names_monitor(0) {
+            return self.submit_naming(tools, place);
         }
-        let alloc = tools.daemon.alloc;
+        let most = self.run(tools, place)?;
+        self.submit_to(tools, place, most)
+    }
+
+    /// Submits the first request, and notes how it names monitors.
+    fn submit_naming<R: Threads + Wait + Clock + Sync>(
+        &mut self,
+        tools: &Tools<'a, L, M, R>,
+        place: Destination,
+    ) -> Result<(), AllocError> {
         let Some(request) = self.inbox.request(0) else {
             return Ok(());
         };
-        let naming = Naming::of(alloc, request)?;
+        let alloc = tools.daemon.alloc;
+        let asked = NamingRequest {
+            id: IdText::new(alloc, reply_id(request))?,
+            naming: Naming::of(alloc, request)?,
+        };
         let before = self.inbox.pending();
-        self.submit_first(tools, 1);
+        self.submit_to(tools, place, 1)?;
         if self.inbox.pending() == before {
             return Ok(());
         }
-        self.front(tools)?.ids.note(Destination::Served, naming)
+        self.note_naming(tools, place, asked)
     }
 
-    /// Returns how many of the requests, from the first, go to the database that is served and name no monitor: one at least
-    /// and a turn at most.
-    fn run<R>(&self, tools: &Tools<'_, L, R>) -> Result<usize, AllocError> {
-        for place in 1..LOOKED_AT {
-            let goes_on = match self.destination(tools, place)? {
-                Some(Destination::Served) => !self.names_monitor(place),
-                _ => false,
+    /// Notes how a request named monitors that was submitted: of the second database once there is its reply, of the first as
+    /// though that had gone through.
+    fn note_naming<R>(
+        &mut self,
+        tools: &Tools<'a, L, M, R>,
+        place: Destination,
+        asked: NamingRequest,
+    ) -> Result<(), AllocError> {
+        if place != Destination::Second {
+            let NamingRequest { id: _, naming } = asked;
+            return self.front(tools)?.ids.note(place, naming);
+        }
+        if let Some(second) = &mut self.second {
+            second.ask(asked);
+        }
+        Ok(())
+    }
+
+    /// Submits a turn of so many of the requests, the first, to the second database or else to the first.
+    fn submit_to<R: Threads + Wait + Clock + Sync>(
+        &mut self,
+        tools: &Tools<'a, L, M, R>,
+        place: Destination,
+        most: usize,
+    ) -> Result<(), AllocError> {
+        if place == Destination::Second {
+            return self.submit_second(tools, most);
+        }
+        self.submit_first(tools, most);
+        Ok(())
+    }
+
+    /// Returns how many of the requests, from the first, go to this database and name no monitor: one at least and a turn at most.
+    fn run<R>(&self, tools: &Tools<'a, L, M, R>, place: Destination) -> Result<usize, AllocError> {
+        for next in 1..LOOKED_AT {
+            let goes_on = match self.destination(tools, next)? {
+                Some(goes) => goes == place && !self.names_monitor(next),
+                None => false,
             };
             if !goes_on {
-                return Ok(place);
+                return Ok(next);
             }
         }
         Ok(LOOKED_AT)
@@ -535,8 +782,8 @@ impl<L: Ledger> Connection<L> {
         }
     }
 
-    /// Returns what the connection has of `_Server`, which begins with this call if it has nothing.
-    fn front<R>(&mut self, tools: &Tools<'_, L, R>) -> Result<&mut FrontSeat, AllocError> {
+    /// Returns what the connection has beside the first database, which begins with this call if it has nothing.
+    fn front<R>(&mut self, tools: &Tools<'a, L, M, R>) -> Result<&mut FrontSeat, AllocError> {
         let alloc = tools.daemon.alloc;
         if self.front.is_none() {
             self.front = Some(Box::new(alloc, FrontSeat::new(alloc))?);
@@ -547,9 +794,9 @@ impl<L: Ledger> Connection<L> {
         }
     }
 
-    /// Answers the first request, which goes to neither database.
-    fn answer<R>(&mut self, tools: &Tools<'_, L, R>) -> Result<(), AllocError> {
-        let Some(begun) = &tools.daemon.server else {
+    /// Answers the first request, which goes to no database.
+    fn answer<R>(&mut self, tools: &Tools<'a, L, M, R>) -> Result<(), AllocError> {
+        let Some(begun) = tools.front else {
             return Ok(());
         };
         let Some(submission) = self.inbox.take() else {
@@ -567,7 +814,7 @@ impl<L: Ledger> Connection<L> {
     }
 
     /// Submits the first request to `_Server`, unless as many wait there as may.
-    fn ask_server<R: Clock>(&mut self, tools: &mut Tools<'_, L, R>) -> Result<(), AllocError> {
+    fn ask_server<R: Clock>(&mut self, tools: &mut Tools<'a, L, M, R>) -> Result<(), AllocError> {
         let needs_reply = match self.inbox.request(0) {
             Some(request) => !request.is_notification(),
             None => return Ok(()),
@@ -592,7 +839,10 @@ impl<L: Ledger> Connection<L> {
     }
 
     /// Returns its session in `_Server`, which is opened if there is none.
-    fn server_session<R>(&mut self, tools: &mut Tools<'_, L, R>) -> Result<SessionId, AllocError> {
+    fn server_session<R>(
+        &mut self,
+        tools: &mut Tools<'a, L, M, R>,
+    ) -> Result<SessionId, AllocError> {
         if let Some(session) = self.front(tools)?.session {
             return Ok(session);
         }
@@ -615,7 +865,7 @@ impl<L: Ledger> Connection<L> {
     }
 
     /// Takes in what its session in `_Server` is owed, where transactions of it wait there. False: nothing of it waits.
-    pub(crate) fn hear_server<R>(&mut self, tools: &mut Tools<'_, L, R>) -> bool {
+    pub(crate) fn hear_server<R>(&mut self, tools: &mut Tools<'a, L, M, R>) -> bool {
         let Some(front) = &mut self.front else {
             return false;
         };
@@ -641,7 +891,7 @@ impl<L: Ledger> Connection<L> {
     /// met Busy: then what arrives is noticed though it isn't read.
     pub(crate) fn has_expired(&mut self, patience: Patience, moment: u64) -> Option<Reason> {
         let Patience { probe, stall } = patience;
-        if !self.may_read() && !self.is_busy || self.outbox.bell().is_held_back() {
+        if !self.may_read() && !self.is_busy || self.is_held_back() {
             self.hear_peer(moment);
         }
         let silent = moment.saturating_sub(self.heard);
@@ -690,7 +940,7 @@ impl<L: Ledger> Connection<L> {
         silent >= probe.saturating_mul(2)
     }
 
-    /// Closes the connection, and ends its session if that is open.
+    /// Closes the connection, and ends its sessions if these are open.
     pub(crate) fn close<R: Wait + Clock>(self, rt: &R, daemon: &Daemon<L>) {
         self.log_close(rt, daemon);
         let Connection {
@@ -702,6 +952,7 @@ impl<L: Ledger> Connection<L> {
             inbox: _,
             outbox: _,
             front: _,
+            second,
             is_readable: _,
             is_writable: _,
             is_closed: _,
@@ -715,10 +966,31 @@ impl<L: Ledger> Connection<L> {
             asks: _,
         } = self;
         drop(stream.shutdown(Shutdown::Both));
-        if let Some(seat) = seat {
-            part_at_last(rt, daemon, seat);
+        match second {
+            Some(second) => Box::into_inner(second).end_both(rt, daemon, seat),
+            None => if let Some(seat) = seat {
+                part_at_last(rt, daemon, seat);
+            },
         }
     }
+}
+
+/// Ends a session, if it is open. False says that memory was refused, and that it is open still.
+pub(crate) fn part_once<L: Ledger, R: Wait + Clock>(
+    rt: &R,
+    daemon: &Daemon<L>,
+    seat: &mut Option<Seat<L>>,
+) -> bool {
+    let Some(own) = seat.take() else {
+        return true;
+    };
+    let Err(back) = daemon.part(rt, own) else {
+        return true;
+    };
+    if let Some(other) = mem::replace(seat, Some(back)) {
+        part_at_last(rt, daemon, other);
+    }
+    false
 }
 
 /// Ends a session. Where memory is refused it tries again.
@@ -749,4 +1021,12 @@ fn noted_of(alloc: Global, request: &Request) -> Result<Noted, AllocError> {
         noted.transaction = Some(IdText::new(alloc, reply_id(request))?);
     }
     Ok(noted)
+}
+
+/// Returns the id of a request, to which there is a reply; none of a notification.
+fn asked_id(alloc: Global, request: &Request) -> Result<Option<IdText>, AllocError> {
+    if request.is_notification() {
+        return Ok(None);
+    }
+    Ok(Some(IdText::new(alloc, reply_id(request))?))
 }

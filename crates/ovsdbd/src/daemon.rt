@@ -1,22 +1,24 @@
 //! What all threads of the daemon share. [P 15.2]
+ghost use Rattle.odb_hub.specs.Kept.{IsNew};
 
 use crate::desk::Desk;
+use crate::fault::Which;
+use crate::front::Front;
 use crate::log::{Happened, Line, Said};
 use crate::notices::Notices;
 use crate::pace::Pace;
+use crate::second::Second;
 use crate::serve::Terms;
-use crate::server_database::ServerBegun;
 use odb_core::{Core, MAX_SESSIONS, Refused, SessionId};
-use odb_hub::{Hub, Inbox, Seat};
+use odb_hub::{BatchOutcome, Counted, Hub, Inbox, Seat};
 use odb_par::{Open, Workers};
-use odb_schema::Schema;
 use odb_waking::PumpPlace;
-use std::alloc::Global;
+use std::alloc::{AllocError, Global};
 use std::io;
 use std::net::SocketAddr;
-use std::sync::Wait;
 use std::sync::atomic::{AtomicU64, Ordering};
 use std::sync::ledger::{Blank, Ledger};
+use std::sync::{Arc, Wait};
 use std::thread::Threads;
 use std::time::{Clock, Duration, Instant};
 
@@ -25,6 +27,10 @@ const SETTLES: u64 = 65_536;
 
 /// From how many microseconds under the lock on a turn of submissions counts as slow.
 const SLOW: u64 = 200;
+
+/// How many seats of a database may be given at once: one more than sessions may be open, so that it is the core that refuses
+/// one too many.
+const SEATS: u64 = MAX_SESSIONS as u64 + 1;
 
 /// What became of a turn of submissions.
 #[derive(Drop)]
@@ -35,63 +41,76 @@ pub(crate) struct SubmittedTurn {
     pub(crate) is_slow: bool,
 }
 
-/// A core for the schema, with empty tables, and the moment from which moments are counted.
+/// A turn of submissions of which the other sessions aren't told yet.
+#[derive(Drop)]
+pub(crate) struct HeldTurn {
+    submitted: Result<BatchOutcome, AllocError>,
+    /// How many were taken.
+    taken: u64,
+    is_slow: bool,
+}
+
+impl HeldTurn {
+    /// Returns whether nothing was refused.
+    pub(crate) fn is_taken(&self) -> bool {
+        match &self.submitted {
+            Ok(outcome) => outcome.owes.is_ok(),
+            Err(_) => false,
+        }
+    }
+}
+
+/// A core for a schema, with empty tables, and the moment from which moments are counted.
 #[derive(Drop)]
 pub(crate) struct Begun {
     pub(crate) alloc: Global,
     pub(crate) core: Core,
     pub(crate) start: Instant,
-    /// The schema by which it is told why transactions failed, where that is logged.
-    pub(crate) schema: Option<Schema>,
-    /// What `_Server` begins with, where that is asked for.
-    pub(crate) server: Option<ServerBegun>,
 }
 
 impl Begun {
     ghost use Rattle.std.specs.Prelude.{◌≡◌};
 
-    /// Has transactions that fail logged, with the names of the schema, if there is one.
-    pub(crate) fn naming_failures(self, schema: Option<Schema>) -> Begun
+    /// Has it noted why transactions fail, if that is to be logged.
+    pub(crate) fn noting_failures(self, notes: bool) -> Begun
         ensures { result.core ≡ self.core }
     {
         let Begun {
             alloc,
             mut core,
             start,
-            schema: _,
-            server,
         } = self;
-        if schema.is_some() {
+        if notes {
             core.note_failures();
         }
-        Begun {
-            alloc,
-            core,
-            start,
-            schema,
-            server,
-        }
+        Begun { alloc, core, start }
     }
+}
 
-    /// Has `_Server` served beside, if it is there.
-    pub(crate) fn beside(self, server: Option<ServerBegun>) -> Begun
-        ensures { result.core ≡ self.core }
-    {
-        let Begun {
-            alloc,
-            core,
-            start,
-            schema,
-            server: _,
-        } = self;
-        Begun {
-            alloc,
-            core,
-            start,
-            schema,
-            server,
-        }
+/// What all databases that are served have in common.
+#[derive(Drop)]
+pub(crate) struct Common {
+    /// The desks of the threads that serve connections.
+    pub(crate) desks: Arc<Vec<Desk>>,
+    pub(crate) notices: Arc<Notices>,
+}
+
+impl Common {
+    /// Makes another that shares it.
+    pub(crate) fn try_share(&self) -> Result<Common, AllocError> {
+        Ok(Common {
+            desks: Arc::try_clone(&self.desks)?,
+            notices: Arc::try_clone(&self.notices)?,
+        })
     }
+}
+
+/// The databases that are served.
+pub(crate) struct Daemons<L: Ledger, M: Ledger> {
+    pub(crate) first: Daemon<L>,
+    pub(crate) second: Option<Second<M>>,
+    /// What there is where there are several databases.
+    pub(crate) front: Option<Front>,
 }
 
 /// How many milliseconds the daemon bears a peer; none: for ever.
@@ -110,62 +129,49 @@ impl Patience {
     }
 }
 
-/// The server, the clock, the desks of the threads that serve connections, and what the pump sleeps by.
+/// The server of a database, the clock, the desks of the threads that serve connections, and what the pump sleeps by.
 pub(crate) struct Daemon<L: Ledger> {
     pub(crate) alloc: Global,
+    which: Which,
     pub(crate) hub: Hub<L>,
     pub(crate) pace: Pace,
-    pub(crate) desks: Vec<Desk>,
-    pub(crate) notices: Notices,
+    pub(crate) desks: Arc<Vec<Desk>>,
+    pub(crate) notices: Arc<Notices>,
     pub(crate) patience: Patience,
     /// The most bytes of a message.
     pub(crate) max_message: usize,
-    /// What `_Server` begins with, where that is asked for.
-    pub(crate) server: Option<ServerBegun>,
     workers: Workers,
     start: Instant,
     ended: AtomicU64,
 }
 
 impl<L: Ledger> Daemon<L> {
-    ghost use Rattle.std.specs.Prelude.{◌≡◌, ◌+◌};
-    ghost use Rattle.odb_hub.specs.Kept.{IsNew};
+    ghost use Rattle.std.specs.Prelude.{◌≡◌};
     ghost use Rattle.odb_waking.specs.Pump.{begins};
 
     /// Makes a daemon over a core without sessions.
     pub(crate) fn new(
         begun: Begun,
+        which: Which,
         blank: Blank,
-        seats: u64,
-        desks: Vec<Desk>,
-        terms: Terms,
+        common: Common,
+        terms: &Terms,
     ) -> Daemon<L>
         requires core { IsNew begun.core }
         requires ledger { (blank.name ≡ L.name) × (blank.parts ≡ L.parts) }
-        requires parts { blank.parts ≡ seats + 1 }
+        requires parts { blank.parts ≡ 4098 }
     {
-        let Begun {
-            alloc,
-            core,
-            start,
-            schema,
-            server,
-        } = begun;
+        let Begun { alloc, core, start } = begun;
+        let Common { desks, notices } = common;
         Daemon {
             alloc,
-            hub: Hub::new(alloc, core, blank, seats, terms.workers),
+            which,
+            hub: Hub::new(alloc, core, blank, SEATS, terms.workers),
             pace: Pace::new(),
             desks,
-            notices: Notices::new(
-                alloc,
-                terms.max_message,
-                MAX_SESSIONS,
-                terms.has_log,
-                schema,
-            ),
+            notices,
             patience: terms.patience,
             max_message: terms.max_message,
-            server,
             workers: terms.workers,
             start,
             ended: AtomicU64::new(0),
@@ -195,7 +201,7 @@ impl<L: Ledger> Daemon<L> {
         let failures = self.hub.enter(rt).take_failures();
         for failure in &failures {
             let moment = self.now(rt);
-            let said = Said::OfTransaction(*failure);
+            let said = Said::OfTransaction(self.which, *failure);
             self.notices.add_line(rt, Line { moment, said });
         }
     }
@@ -209,14 +215,14 @@ impl<L: Ledger> Daemon<L> {
 
     /// Tells each thread that serves connections that none will come any more.
     pub(crate) fn close<R: Wait>(&self, rt: &R) {
-        for desk in &self.desks {
+        for desk in self.desks.iter() {
             desk.close(rt);
         }
     }
 
     /// Wakes the threads whose sessions were given something.
     fn wake_called(&self) {
-        for desk in &self.desks {
+        for desk in self.desks.iter() {
             desk.wake_if_called();
         }
     }
@@ -229,13 +235,44 @@ impl<L: Ledger> Daemon<L> {
         inbox: &mut Inbox,
         most: usize,
     ) -> SubmittedTurn {
+        let mut hub = self.hub.enter(rt);
+        let held = self.submit_under(rt, &mut *hub, seat, inbox, most);
+        drop(hub);
+        self.tell(rt, held)
+    }
+
+    /// Submits a turn of the first `most` that are pending under the lock that the caller has, and gives their session what it is
+    /// owed. The other sessions are to be told by `tell`, once the lock is free.
+    pub(crate) fn submit_under<R: Threads + Clock + Sync>(
+        &self,
+        rt: &R,
+        hub: &mut Counted<L>,
+        seat: &mut Seat<L>,
+        inbox: &mut Inbox,
+        most: usize,
+    ) -> HeldTurn {
         let before = inbox.pending();
         let now = self.now(rt);
-        let mut hub = self.hub.enter(rt);
         let begun = Instant::now(rt);
-        let submitted = inbox.submit_run(rt, &mut *hub, seat, now, most);
-        drop(hub);
-        let is_slow = has_lasted(rt, &begun, SLOW);
+        let submitted = inbox.submit_run(rt, hub, seat, now, most);
+        HeldTurn {
+            submitted,
+            taken: before.saturating_sub(inbox.pending()) as u64,
+            is_slow: has_lasted(rt, &begun, SLOW),
+        }
+    }
+
+    /// Tells the other sessions of a turn of submissions.
+    pub(crate) fn tell<R: Threads + Wait + Clock + Sync>(
+        &self,
+        rt: &R,
+        held: HeldTurn,
+    ) -> SubmittedTurn {
+        let HeldTurn {
+            submitted,
+            taken,
+            is_slow,
+        } = held;
         let Ok(submitted) = submitted else {
             return SubmittedTurn {
                 outcome: Err(Refused::Memory),
@@ -243,13 +280,12 @@ impl<L: Ledger> Daemon<L> {
             };
         };
         self.log_failures(rt);
-        let taken = before.saturating_sub(inbox.pending());
         if submitted.due_sooner {
             self.pace.alarm.call();
         }
         self.wake_called();
         if !is_quiet(&submitted.owes) {
-            self.tell_all(rt, submitted.few, taken.max(1) as u64);
+            self.tell_all(rt, submitted.few, taken.max(1));
         }
         SubmittedTurn {
             outcome: submitted.owes.map(|_| ()),
@@ -358,6 +394,16 @@ impl<L: Ledger> Daemon<L> {
     }
 }
 
+impl<L: Ledger, M: Ledger> Daemons<L, M> {
+    /// Ends the pumps, and the thread that writes notices.
+    pub(crate) fn end(&self) {
+        self.first.end();
+        if let Some(second) = &self.second {
+            second.daemon.end();
+        }
+    }
+}
+
 /// Returns whether so many microseconds or more are over since the moment, if the clock could be read.
 pub(crate) fn has_lasted<R: Clock>(rt: &R, begun: &io::Result<Instant>, micros: u64) -> bool {
     let Ok(begun) = begun else {
@@ -375,17 +421,28 @@ fn is_quiet(owes: &Result<bool, Refused>) -> bool {
 }
 
 // Written, and not derived, so that each end of a scope is one call to prove.
+impl<L: Ledger, M: Ledger> Drop for Daemons<L, M> {
+    fn drop(self) {
+        let Daemons {
+            first: _,
+            second: _,
+            front: _,
+        } = self;
+    }
+}
+
+// Written, and not derived, so that each end of a scope is one call to prove.
 impl<L: Ledger> Drop for Daemon<L> {
     fn drop(self) {
         let Daemon {
             alloc: _,
+            which: _,
             hub: _,
             pace: _,
             desks: _,
             notices: _,
             patience: _,
             max_message: _,
-            server: _,
             workers: _,
             start: _,
             ended: _,

@@ -6,15 +6,25 @@ use std::alloc::AllocError;
 use std::io;
 use thiserror::Error as ErrorText;
 
+/// Which of the databases that are served.
+#[derive(Clone, Copy, Debug)]
+pub(crate) enum Which {
+    First,
+    Second,
+}
+
 /// Why the program ends with status 1.
 #[derive(Debug, ErrorText)]
 pub(crate) enum ProgramFault {
-    /// The file of the schema can't be read.
+    /// The file of a schema can't be read.
     #[error("schema: cannot read")]
-    SchemaUnread(io::Error),
+    SchemaUnread(Which, io::Error),
     /// The file holds no schema; the fault's number is 1 to 7.
-    #[error("schema: fault {}", .0.number())]
-    Schema(SchemaFault),
+    #[error("schema: fault {}", .1.number())]
+    Schema(Which, SchemaFault),
+    /// Both databases have one name.
+    #[error("schema: the name of another database")]
+    SameName,
     /// The file of messages can't be read.
     #[error("load: cannot read")]
     LoadUnread(io::Error),
@@ -68,8 +78,9 @@ impl From<AllocError> for ProgramFault {
 impl Drop for ProgramFault {
     fn drop(self) {
         match self {
-            ProgramFault::SchemaUnread(_) => {}
-            ProgramFault::Schema(_) => {}
+            ProgramFault::SchemaUnread(_, _) => {}
+            ProgramFault::Schema(_, _) => {}
+            ProgramFault::SameName => {}
             ProgramFault::LoadUnread(_) => {}
             ProgramFault::Load(_, _) => {}
             ProgramFault::NotListening(_) => {}

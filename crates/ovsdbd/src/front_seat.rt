@@ -1,4 +1,4 @@
-//! What a connection has beside its session in the database that is served. [P 15.3]
+//! What a connection has beside its session in the first database. [P 15.3, 15.4]
 
 use odb_core::{Out, SessionId};
 use odb_front::{Destination, IdText, Ids, Naming};
@@ -6,13 +6,15 @@ use odb_hub::Outbox;
 use std::alloc::{AllocError, Global};
 use std::collections::VecDeque;
 
-/// How many transactions of a connection may wait in `_Server`, as many as replies may be owed to a session.
+/// How many transactions of a connection may wait in `_Server`, and how many replies it may lack from the second database where
+/// that is to learn of a lock: as many as may be owed to a session.
 const MOST_WAITING: usize = 256;
 
 /// How the reply of a success begins.
 const SUCCESS: &[u8] = b"{\"error\":null,";
 
-/// What a connection has of `_Server`, and its messages that come from there or from the front, until they are written.
+/// The ids that a connection named, what it has of `_Server`, and its messages that come from there or from no database, until they
+/// are written.
 pub(crate) struct FrontSeat {
     /// Its session in `_Server`, from its first request on that goes there.
     pub(crate) session: Option<SessionId>,
@@ -52,6 +54,27 @@ impl FrontSeat {
 
     pub(crate) fn is_full(&self) -> bool {
         self.ids.waiting().len() >= MOST_WAITING
+    }
+
+    /// Returns whether as many replies are lacking from the second database as may be owed.
+    pub(crate) fn lacks_replies(&self) -> bool {
+        self.ids.unanswered().len() >= MOST_WAITING
+    }
+
+    /// Notes the ids of requests of which the first `taken` were submitted to the second database.
+    pub(crate) fn ask_second(
+        &mut self,
+        ids: Vec<Option<IdText>>,
+        taken: usize,
+    ) -> Result<(), AllocError> {
+        let mut asked = ids;
+        asked.truncate(taken);
+        for id in asked {
+            if let Some(id) = id {
+                self.ids.ask_second(id)?;
+            }
+        }
+        Ok(())
     }
 
     /// Adds a message that is to be written.

@@ -1,8 +1,11 @@
 //! A file of messages, which is submitted before the daemon listens. [P 15.2]
 
 use crate::connection::{RandomIdentifiers, part_at_last};
-use crate::daemon::Daemon;
+use crate::daemon::{Daemon, Daemons};
 use crate::fault::{LoadFault, ProgramFault};
+use crate::front::Front;
+use crate::second::Second;
+use odb_front::{Destination, destination_of};
 use odb_hub::{Bell, Calls, Outbox, Seat, Submission, submission_of};
 use odb_script::RunFault;
 use odb_wire::{Framer, Message, Request, Response, WireFault};
@@ -25,69 +28,183 @@ const PIECE: usize = 65_536;
 /// braces and quotes of either kind.
 const END: &[u8] = b"{\"method\":\"echo\",\"params\":[],\"id\":0}";
 
-/// What files are loaded by: the session's seat, where its replies come, and what reads messages and replies.
-struct Loader<'a, L: Ledger, R> {
+/// A session of a database by which messages are submitted: its seat, where its replies come, and what reads these.
+struct Target<'a, L: Ledger, R> {
     rt: &'a R,
     daemon: &'a Daemon<L>,
-    seat: &'a mut Seat<L>,
+    seat: Seat<L>,
     outbox: Outbox,
-    framer: Framer,
     replies: Framer,
+}
+
+/// What files are loaded by: a session in each database, and what reads messages.
+struct Loader<'a, L: Ledger, M: Ledger, R> {
+    first: Target<'a, L, R>,
+    second: Option<Target<'a, M, R>>,
+    /// The second database, and where messages go, where there are several.
+    other: Option<&'a Second<M>>,
+    front: Option<&'a Front>,
+    framer: Framer,
     identifiers: RandomIdentifiers,
     /// How many messages were submitted.
     count: u64,
 }
 
-/// Submits the messages of a file, one after the other, as one session's, which ends then, and reads each reply. It stops at
-/// the first message that didn't go through; what those before it committed stays. O(bytes of the file), and what the
-/// transactions cost.
-pub(crate) fn load_file<L: Ledger, R: Files + Threads + Wait + Clock + RandomSource + Sync>(
-    rt: &R,
-    daemon: &Daemon<L>,
-    path: &str,
-) -> Result<(), ProgramFault> {
+/// Submits the messages of a file, one after the other, each to the database to which it goes, as one session's, which ends then,
+/// and reads each reply. It stops at the first message that didn't go through; what those before it committed stays. O(bytes of
+/// the file), and what the transactions cost.
+pub(crate) fn load_file<
+    'x,
+    L: Ledger,
+    M: Ledger,
+    R: Files + Threads + Wait + Clock + RandomSource + Sync,
+>(rt: &'x R, daemons: &'x Daemons<L, M>, path: &str) -> Result<(), ProgramFault> {
     let mut file = File::open(rt, path).map_err(ProgramFault::LoadUnread)?;
     let rng = make_rng(rt).map_err(|_| memory())?;
-    let bell = silent_bell(daemon.alloc)?;
-    let opened = daemon.hub.enter(rt).open(bell);
-    let Ok((mut seat, mailbox)) = opened else {
-        return Err(memory());
-    };
-    let loader = Loader {
-        rt,
-        daemon,
-        seat: &mut seat,
-        outbox: Outbox::new(daemon.alloc, mailbox),
-        framer: Framer::new(daemon.alloc, daemon.max_message),
-        replies: Framer::new(daemon.alloc, usize::MAX),
-        identifiers: RandomIdentifiers { rng },
-        count: 0,
-    };
+    let mut loader = Loader::open(rt, daemons, RandomIdentifiers { rng })?;
     let loaded = loader.load_all(&mut file);
-    part_at_last(rt, daemon, seat);
+    loader.close();
     loaded
 }
 
-// Written, and not derived, so that each end of a scope is one call to prove.
-impl<'a, L: Ledger, R> Drop for Loader<'a, L, R> {
-    fn drop(self) {
-        let Loader {
-            rt: _,
-            daemon: _,
-            seat: _,
-            outbox: _,
-            framer: _,
-            replies: _,
-            identifiers: _,
-            count: _,
-        } = self;
+/// Opens a session of the second database, if there is one.
+fn open_second<'a, M: Ledger, R: Threads + Wait + Clock + Sync>(
+    rt: &'a R,
+    second: Option<&'a Second<M>>,
+) -> Result<Option<Target<'a, M, R>>, ProgramFault> {
+    match second {
+        Some(second) => Ok(Some(Target::open(rt, &second.daemon)?)),
+        None => Ok(None),
     }
 }
 
-impl<'a, L: Ledger, R: Threads + Wait + Clock + Sync> Loader<'a, L, R> {
+impl<'a, L: Ledger, R: Threads + Wait + Clock + Sync> Target<'a, L, R> {
+    /// Opens a session of a database.
+    fn open(rt: &'a R, daemon: &'a Daemon<L>) -> Result<Target<'a, L, R>, ProgramFault> {
+        let bell = silent_bell(daemon.alloc)?;
+        let opened = daemon.hub.enter(rt).open(bell);
+        let Ok((seat, mailbox)) = opened else {
+            return Err(memory());
+        };
+        Ok(Target {
+            rt,
+            daemon,
+            seat,
+            outbox: Outbox::new(daemon.alloc, mailbox),
+            replies: Framer::new(daemon.alloc, usize::MAX),
+        })
+    }
+
+    /// Ends the session.
+    fn close(self) {
+        let Target {
+            rt,
+            daemon,
+            seat,
+            outbox: _,
+            replies: _,
+        } = self;
+        part_at_last(rt, daemon, seat);
+    }
+
+    /// Submits what is alone in the batch, and reads its reply. It returns why it didn't go through, if it didn't.
+    fn submit(&mut self, batch: Vec<Submission>) -> Result<Option<LoadFault>, AllocError> {
+        let mut batch = batch;
+        let now = self.daemon.now(self.rt);
+        let mut hub = self.daemon.hub.enter(self.rt);
+        let submitted = hub.submit_turn(self.rt, &mut self.seat, &mut batch, now);
+        drop(hub);
+        if submitted.owes.is_err() || submitted.given.is_err() {
+            return Err(AllocError);
+        }
+        self.look_at_reply()
+    }
+
+    /// Takes what the session was given, and looks whether a reply without an error is there.
+    fn look_at_reply(&mut self) -> Result<Option<LoadFault>, AllocError> {
+        let mut is_there = false;
+        for message in self.take()? {
+            if let Message::Response(response) = message {
+                is_there = true;
+                if let Some(error) = error_of(self.daemon.alloc, &response)? {
+                    return Ok(Some(LoadFault::Refused(error)));
+                }
+            }
+        }
+        if is_there {
+            Ok(None)
+        } else {
+            Ok(Some(LoadFault::Waits))
+        }
+    }
+
+    /// Takes all messages that the session is owed.
+    fn take(&mut self) -> Result<Vec<Message>, AllocError> {
+        let mut text = Vec::new(self.daemon.alloc);
+        for _ in 0..u64::MAX {
+            let Ok(is_all) = self.outbox.write_to(&mut text) else {
+                return Err(AllocError);
+            };
+            if is_all && !self.refill() {
+                break;
+            }
+        }
+        Ok(self.replies.feed(text.as_slice())?.messages)
+    }
+
+    /// Has what is held back sent. False says that there is nothing, or that memory was refused.
+    fn refill(&self) -> bool {
+        self.outbox.bell().is_held_back() && self.daemon.refill(self.rt, self.seat.session())
+    }
+}
+
+impl<'a, L: Ledger, M: Ledger, R: Threads + Wait + Clock + Sync> Loader<'a, L, M, R> {
+    /// Opens a session in each database.
+    fn open(
+        rt: &'a R,
+        daemons: &'a Daemons<L, M>,
+        identifiers: RandomIdentifiers,
+    ) -> Result<Loader<'a, L, M, R>, ProgramFault> {
+        let daemon = &daemons.first;
+        let first = Target::open(rt, daemon)?;
+        let second = match open_second(rt, daemons.second.as_ref()) {
+            Ok(second) => second,
+            Err(fault) => {
+                first.close();
+                return Err(fault);
+            }
+        };
+        Ok(Loader {
+            first,
+            second,
+            other: daemons.second.as_ref(),
+            front: daemons.front.as_ref(),
+            framer: Framer::new(daemon.alloc, daemon.max_message),
+            identifiers,
+            count: 0,
+        })
+    }
+
+    /// Ends the sessions.
+    fn close(self) {
+        let Loader {
+            first,
+            second,
+            other: _,
+            front: _,
+            framer: _,
+            identifiers: _,
+            count: _,
+        } = self;
+        if let Some(second) = second {
+            second.close();
+        }
+        first.close();
+    }
+
     /// Submits all messages of the file.
-    fn load_all<F: Read>(mut self, file: &mut F) -> Result<(), ProgramFault> {
-        let mut piece = Vec::new(self.daemon.alloc);
+    fn load_all<F: Read>(&mut self, file: &mut F) -> Result<(), ProgramFault> {
+        let mut piece = Vec::new(self.first.daemon.alloc);
         piece.resize(PIECE, 0u8)?;
         for _ in 0..u64::MAX {
             match read_some(file, piece.as_mut_slice()).map_err(ProgramFault::LoadUnread)? {
@@ -123,56 +240,54 @@ impl<'a, L: Ledger, R: Threads + Wait + Clock + Sync> Loader<'a, L, R> {
         Ok(())
     }
 
-    /// Submits a request, and reads its reply.
+    /// Submits a request where it goes, and reads its reply.
     fn submit(&mut self, request: Request) -> Result<(), ProgramFault> {
-        let mut batch = batch_of(self.daemon.alloc, request, &mut self.identifiers)?;
-        let now = self.daemon.now(self.rt);
-        let mut hub = self.daemon.hub.enter(self.rt);
-        let submitted = hub.submit_turn(self.rt, self.seat, &mut batch, now);
-        drop(hub);
-        if submitted.owes.is_err() || submitted.given.is_err() {
-            return Err(memory());
+        let fault = match self.destination(&request)? {
+            Destination::Second => self.submit_second(request)?,
+            Destination::Both => self.submit_lock(request)?,
+            _ => self.submit_first(request)?,
+        };
+        if let Some(why) = fault {
+            return Err(self.fault(why));
         }
-        self.look_at_reply()?;
         self.count = self.count.saturating_add(1);
         Ok(())
     }
 
-    /// Takes what the session was given, and looks whether a reply without an error is there.
-    fn look_at_reply(&mut self) -> Result<(), ProgramFault> {
-        let mut is_there = false;
-        for message in self.take()? {
-            if let Message::Response(response) = message {
-                is_there = true;
-                if let Some(error) = error_of(self.daemon.alloc, &response)? {
-                    return Err(self.fault(LoadFault::Refused(error)));
-                }
-            }
-        }
-        if is_there {
-            Ok(())
-        } else {
-            Err(self.fault(LoadFault::Waits))
-        }
+    /// Returns where a request goes, for a connection that has named nothing.
+    fn destination(&self, request: &Request) -> Result<Destination, AllocError> {
+        let Some(front) = self.front else {
+            return Ok(Destination::First);
+        };
+        let alloc = self.first.daemon.alloc;
+        destination_of(alloc, request, &front.databases, &front.nothing)
     }
 
-    /// Takes all messages that the session is owed.
-    fn take(&mut self) -> Result<Vec<Message>, AllocError> {
-        let mut text = Vec::new(self.daemon.alloc);
-        for _ in 0..u64::MAX {
-            let Ok(is_all) = self.outbox.write_to(&mut text) else {
-                return Err(AllocError);
-            };
-            if is_all && !self.refill() {
-                break;
-            }
-        }
-        Ok(self.replies.feed(text.as_slice())?.messages)
+    fn submit_first(&mut self, request: Request) -> Result<Option<LoadFault>, AllocError> {
+        let alloc = self.first.daemon.alloc;
+        let batch = batch_of(alloc, submission_of(alloc, request, &mut self.identifiers)?)?;
+        self.first.submit(batch)
     }
 
-    /// Has what is held back sent. False says that there is nothing, or that memory was refused.
-    fn refill(&self) -> bool {
-        self.outbox.bell().is_held_back() && self.daemon.refill(self.rt, self.seat.session())
+    fn submit_second(&mut self, request: Request) -> Result<Option<LoadFault>, AllocError> {
+        let Some(second) = &mut self.second else {
+            return Err(AllocError);
+        };
+        let alloc = second.daemon.alloc;
+        let batch = batch_of(alloc, submission_of(alloc, request, &mut self.identifiers)?)?;
+        second.submit(batch)
+    }
+
+    /// Submits a request about a lock to the first database, and the same to the second.
+    fn submit_lock(&mut self, request: Request) -> Result<Option<LoadFault>, AllocError> {
+        let (Some(target), Some(other)) = (&mut self.second, self.other) else {
+            return Err(AllocError);
+        };
+        let mut same = other.request_in_place(&request, &mut self.identifiers)?;
+        if let Some(submission) = same.take() {
+            drop(target.submit(batch_of(target.daemon.alloc, submission)?)?);
+        }
+        self.submit_first(request)
     }
 
     /// Makes the fault of the message that is submitted next.
@@ -187,14 +302,10 @@ fn silent_bell(alloc: Global) -> Result<Bell, AllocError> {
     Ok(Bell::new(calls, 0))
 }
 
-/// Returns what is submitted for a request, alone.
-fn batch_of(
-    alloc: Global,
-    request: Request,
-    identifiers: &mut RandomIdentifiers,
-) -> Result<Vec<Submission>, AllocError> {
+/// Returns what is submitted, alone.
+fn batch_of(alloc: Global, submission: Submission) -> Result<Vec<Submission>, AllocError> {
     let mut batch = Vec::with_capacity(alloc, 1)?;
-    batch.push(submission_of(alloc, request, identifiers)?)?;
+    batch.push(submission)?;
     Ok(batch)
 }
 

@@ -1,6 +1,8 @@
 //! The log: which connections are opened and closed, and why; and which transactions fail. [P 15.2]
 
 use crate::cause_text::CauseText;
+use crate::fault::Which;
+use crate::front::Schemas;
 use odb_core::SessionId;
 use odb_hub::TransactionFailure;
 use odb_schema::Schema;
@@ -47,6 +49,8 @@ pub(crate) enum Reason {
 pub(crate) enum Happened {
     /// A session was opened for a connection.
     Opened(SessionId),
+    /// A session of the second database was opened for it.
+    OpenedSecond(SessionId),
     /// The connection of a session was closed.
     Closed(SessionId, Reason),
     /// A connection was closed for which no session could be opened.
@@ -58,8 +62,8 @@ pub(crate) enum Happened {
 pub(crate) enum Said {
     /// What happened to this client's connection.
     OfClient(SocketAddr, Happened),
-    /// That a transaction failed.
-    OfTransaction(TransactionFailure),
+    /// That a transaction of a database failed.
+    OfTransaction(Which, TransactionFailure),
 }
 
 /// A line of the log: what it says, and of which moment, in milliseconds since the start.
@@ -70,11 +74,11 @@ pub(crate) struct Line {
 }
 
 impl Line {
-    /// Writes it. Whether it could be written doesn't matter. The schema has the names of what a transaction failed for.
-    fn write<R: Eprint>(&self, rt: &R, schema: Option<&Schema>) {
+    /// Writes it. Whether it could be written doesn't matter. The schemas have the names of what a transaction failed for.
+    fn write<R: Eprint>(&self, rt: &R, schemas: Option<&Schemas>) {
         match self.said {
             Said::OfClient(client, happened) => self.write_client(rt, client, happened),
-            Said::OfTransaction(failure) => self.write_failure(rt, failure, schema),
+            Said::OfTransaction(which, failure) => self.write_failure(rt, which, failure, schemas),
         }
     }
 
@@ -84,6 +88,11 @@ impl Line {
         match happened {
             Happened::Opened(session) => {
                 drop(eprintln!(rt; "ovsdbd: {moment} ms: {client}: session {session} is open"));
+            }
+            Happened::OpenedSecond(session) => {
+                drop(eprintln!(rt;
+                    "ovsdbd: {moment} ms: {client}: session {session} of the second database is open"
+                ));
             }
             Happened::Closed(session, reason) => {
                 drop(eprintln!(rt;
@@ -100,12 +109,21 @@ impl Line {
     fn write_failure<R: Eprint>(
         &self,
         rt: &R,
+        which: Which,
         failure: TransactionFailure,
-        schema: Option<&Schema>,
+        schemas: Option<&Schemas>,
     ) {
-        let Some(schema) = schema else {
+        let Some(schemas) = schemas else {
             return;
         };
+        match (which, &schemas.second) {
+            (Which::First, _) => self.write_first(rt, failure, &schemas.first),
+            (Which::Second, Some(schema)) => self.write_second(rt, failure, schema),
+            (Which::Second, None) => {}
+        }
+    }
+
+    fn write_first<R: Eprint>(&self, rt: &R, failure: TransactionFailure, schema: &Schema) {
         let moment = self.moment;
         let session = failure.session;
         let text = CauseText {
@@ -113,6 +131,18 @@ impl Line {
             schema,
         };
         drop(eprintln!(rt; "ovsdbd: {moment} ms: session {session}: transaction failed: {text}"));
+    }
+
+    fn write_second<R: Eprint>(&self, rt: &R, failure: TransactionFailure, schema: &Schema) {
+        let moment = self.moment;
+        let session = failure.session;
+        let text = CauseText {
+            cause: failure.cause,
+            schema,
+        };
+        drop(eprintln!(rt;
+            "ovsdbd: {moment} ms: session {session} of the second database: transaction failed: {text}"
+        ));
     }
 }
 
@@ -148,9 +178,9 @@ impl Log {
     }
 
     /// Writes the lines, and how many were left out, and returns whether there was something.
-    pub(crate) fn write<R: Eprint>(&self, rt: &R, schema: Option<&Schema>) -> bool {
+    pub(crate) fn write<R: Eprint>(&self, rt: &R, schemas: Option<&Schemas>) -> bool {
         for line in &self.lines {
-            line.write(rt, schema);
+            line.write(rt, schemas);
         }
         let left_out = self.left_out;
         if left_out > 0 {

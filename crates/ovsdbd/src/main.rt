@@ -7,24 +7,29 @@
 //! command line are wrong.
 #![tactic(auto)]
 
+ghost use Rattle.std.specs.Prelude.{IfOk, IfSome};
+ghost use Rattle.odb_hub.specs.Kept.{IsNew};
+
 mod cause_text;
 mod clerk;
 mod connection;
 mod daemon;
 mod desk;
 mod fault;
+mod front;
 mod front_seat;
 mod load;
 mod log;
 mod notices;
 mod pace;
+mod second;
 mod serve;
 mod server_database;
 
-use crate::daemon::Patience;
-use crate::fault::ProgramFault;
-use crate::serve::{Memory, Start, Terms, begin, serve_all};
-use crate::server_database::ServerBegun;
+use crate::daemon::{Begun, Patience};
+use crate::fault::{ProgramFault, Which};
+use crate::front::{Front, Schemas};
+use crate::serve::{Beginning, Memory, SecondBegun, Start, Terms, begin, serve_all};
 use clap::builder::ValueParser;
 use clap::error::ErrorKind;
 use clap::{Arg, ArgAction, ArgMatches, Command, Error};
@@ -44,8 +49,9 @@ use std::random::RandomSource;
 use std::rt::Files;
 use std::sync::Wait;
 use std::thread::Threads;
-use std::time::Clock;
+use std::time::{Clock, Instant};
 use std::{env, fs, thread};
+use uuid::Uuid;
 
 fn main(rt: HostRuntime) -> io::Result<ExitCode> {
     let words: Vec<String> = env::args(&rt)?.collect(rt.alloc())?;
@@ -53,13 +59,12 @@ fn main(rt: HostRuntime) -> io::Result<ExitCode> {
         Ok(matches) => matches,
         Err(error) => return refuse(&rt, error),
     };
-    let file = schema_file(&matches);
     let done = match matches.subcommand_matches("serve") {
-        Some(words) => match read_schema(&rt, file) {
-            Ok(schema) => serve_schema(&rt, rt.alloc(), schema, words),
+        Some(words) => match read_schemas(&rt, words) {
+            Ok(schemas) => serve_schemas(&rt, rt.alloc(), schemas, words),
             Err(failure) => Err(failure),
         },
-        None => script(&rt, file),
+        None => script(&rt, schema_file(&matches, Which::First)),
     };
     match done {
         Ok(()) => Ok(ExitCode::SUCCESS),
@@ -74,10 +79,23 @@ fn report(
     matches: &ArgMatches<'_>,
 ) -> io::Result<ExitCode> {
     eprintln!(rt; "ovsdbd: {failure}")?;
-    let file = schema_file(matches);
     match &failure {
-        ProgramFault::SchemaUnread(error) => eprintln!(rt; "ovsdbd: {file}: {error}")?,
-        ProgramFault::Schema(fault) => eprintln!(rt; "ovsdbd: {file}: {}", meaning(*fault))?,
+        ProgramFault::SchemaUnread(which, error) => {
+            eprintln!(rt; "ovsdbd: {}: {error}", schema_file(matches, *which))?
+        }
+        ProgramFault::Schema(which, fault) => {
+            eprintln!(rt;
+                "ovsdbd: {}: {}",
+                schema_file(matches, *which),
+                meaning(*fault)
+            )?
+        }
+        ProgramFault::SameName => {
+            eprintln!(rt;
+                "ovsdbd: {}: its name is that of the first",
+                schema_file(matches, Which::Second)
+            )?
+        }
         ProgramFault::LoadUnread(error) => {
             eprintln!(rt; "ovsdbd: {}: {error}", serve_word(matches, "load", ""))?
         }
@@ -94,7 +112,23 @@ fn report(
 fn read_words<'a>(alloc: Global, words: &'a [String]) -> Result<ArgMatches<'a>, Error> {
     let matches = command(alloc)?.try_get_matches_from(words)?;
     check_address(alloc, listen_address(&matches))?;
+    check_schemas(alloc, &matches)?;
     Ok(matches)
+}
+
+/// Refuses a third schema.
+fn check_schemas(alloc: Global, matches: &ArgMatches<'_>) -> Result<(), Error> {
+    let Some(words) = matches.subcommand_matches("serve") else {
+        return Ok(());
+    };
+    if schema_at(words, MOST_SCHEMAS).is_none() {
+        return Ok(());
+    }
+    let mut command = command(alloc)?;
+    Err(command.error(
+        ErrorKind::TooManyValues,
+        "the argument '--schema <F>' cannot be used more than twice",
+    )?)
 }
 
 /// Refuses what isn't an address with a port.
@@ -145,14 +179,26 @@ fn listen_address<'a>(matches: &ArgMatches<'a>) -> &'a str {
     serve_word(matches, "listen", ADDRESS)
 }
 
-/// Returns the file of the schema.
-fn schema_file<'a>(matches: &ArgMatches<'a>) -> &'a str {
+/// Returns the file of a schema.
+fn schema_file<'a>(matches: &ArgMatches<'a>, which: Which) -> &'a str {
     if let Some(words) = matches.subcommand_matches("serve") {
-        return word(words, "schema", "");
+        return match which {
+            Which::First => schema_at(words, 0).unwrap_or(""),
+            Which::Second => schema_at(words, 1).unwrap_or(""),
+        };
     }
     match matches.subcommand_matches("script") {
         Some(words) => word(words, "schema", ""),
         None => "",
+    }
+}
+
+/// Returns the file of the schema at this place among those of `serve`, if there is one.
+fn schema_at<'a>(words: &ArgMatches<'a>, place: usize) -> Option<&'a str> {
+    let files = words.get_strs("schema")?;
+    match files.get(place) {
+        Some(file) => Some(*file),
+        None => None,
     }
 }
 
@@ -164,6 +210,9 @@ const ERRORS: &str = "errors";
 
 /// The word by which the database `_Server` is asked for.
 const SERVER_DATABASE: &str = "server-database";
+
+/// How many databases are served at most.
+const MOST_SCHEMAS: usize = 2;
 
 /// How many milliseconds a client may be waited for at most: a day.
 const LONGEST: u64 = 86_400_000;
@@ -252,7 +301,7 @@ fn serve_command<'a>(alloc: Global) -> Result<Command<'a>, Error> {
     let serve = Command::new(alloc, "serve")
         .about("Serves the schema over TCP")
         .after_help(AFTER_SERVE_HELP)
-        .arg(schema_word(alloc))?
+        .arg(schemas_word(alloc))?
         .arg(listen_word(alloc))?
         .arg(load_word(alloc))?
         .arg(log_word(alloc))?
@@ -389,6 +438,17 @@ fn schema_word<'a>(alloc: Global) -> Arg<'a> {
         .action(ArgAction::Set)
 }
 
+fn schemas_word<'a>(alloc: Global) -> Arg<'a> {
+    Arg::new(alloc, "schema")
+        .long("schema")
+        .value_name("F")
+        .help(
+            "The file of the schema (RFC 7047, 3.2); given twice, each is a database of its own, and requests go to the one that they name",
+        )
+        .required(true)
+        .action(ArgAction::Append)
+}
+
 /// Prints help, on standard output, or what is wrong with the words, on standard error.
 fn refuse(rt: &HostRuntime, error: Error) -> io::Result<ExitCode> {
     if error.use_stderr() {
@@ -404,7 +464,7 @@ fn refuse(rt: &HostRuntime, error: Error) -> io::Result<ExitCode> {
 
 /// Runs the script on standard input.
 fn script(rt: &HostRuntime, file: &str) -> Result<(), ProgramFault> {
-    let schema = read_schema(rt, file)?;
+    let schema = read_schema(rt, file, Which::First)?;
     let memory = |_| ProgramFault::Run(RunFault::Memory);
     let hashing = RandomState::new(rt).map_err(memory)?;
     let reader = FailureLatch::new(rt.reader());
@@ -413,8 +473,8 @@ fn script(rt: &HostRuntime, file: &str) -> Result<(), ProgramFault> {
     run_script(rt.alloc(), schema, hashing, &mut reader, &mut writer).map_err(ProgramFault::Run)
 }
 
-/// Serves the schema, beginning with the messages of a file where one is named.
-fn serve_schema<
+/// Serves the schemas, beginning with the messages of a file where one is named.
+fn serve_schemas<
     R: Files
         + Net<Listener = TcpListener, Stream = TcpStream>
         + Threads
@@ -424,53 +484,93 @@ fn serve_schema<
         + Print
         + Eprint
         + Sync,
->(rt: &R, alloc: Global, schema: Schema, words: &ArgMatches<'_>) -> Result<(), ProgramFault> {
+>(rt: &R, alloc: Global, schemas: Schemas, words: &ArgMatches<'_>) -> Result<(), ProgramFault> {
+    let start = Start {
+        address: word(words, "listen", ADDRESS),
+        file: words.get_str("load"),
+    };
+    let names = names_to_log(alloc, &schemas, words)?;
+    let front = front_of(rt, alloc, &schemas, words)?;
+    let Schemas { first, second } = schemas;
+    let Ok(moment) = Instant::now(rt) else {
+        return Err(ProgramFault::Run(RunFault::Read));
+    };
+    let beginning = Beginning {
+        first: begin_one(rt, alloc, first, words, moment)?,
+        second: begin_second(rt, alloc, second, words, moment)?,
+        front,
+        names,
+    };
+    serve_all(rt, beginning, start, terms(rt, words))
+}
+
+/// Begins the second database, if there is one.
+fn begin_second<R: RandomSource>(
+    rt: &R,
+    alloc: Global,
+    schema: Option<Schema>,
+    words: &ArgMatches<'_>,
+    moment: Instant,
+) -> Result<Option<SecondBegun>, ProgramFault>
+    ensures { IfOk result (λ second. IfSome second (λ second. IsNew second.begun.core)) }
+{
+    let Some(schema) = schema else {
+        return Ok(None);
+    };
+    let rng: Result<StdRng, io::Error> = make_rng(rt);
+    let mut rng = rng.map_err(|_| ProgramFault::Run(RunFault::Memory))?;
+    let id = Uuid::new_v4(&mut rng);
+    match begin_one(rt, alloc, schema, words, moment) {
+        Ok(begun) => Ok(Some(SecondBegun { begun, id })),
+        Err(fault) => Err(fault),
+    }
+}
+
+/// Begins a database at this moment.
+fn begin_one<R: RandomSource>(
+    rt: &R,
+    alloc: Global,
+    schema: Schema,
+    words: &ArgMatches<'_>,
+    moment: Instant,
+) -> Result<Begun, ProgramFault>
+    ensures { IfOk result (λ begun. IsNew begun.core) }
+{
     let hashing = RandomState::new(rt).map_err(|_| ProgramFault::Run(RunFault::Memory))?;
     let memory = Memory {
         run: run_word(rt)?,
         kept: words.get_one("kept").unwrap_or(KEPT) as usize,
     };
-    let start = Start {
-        address: word(words, "listen", ADDRESS),
-        file: words.get_str("load"),
-    };
-    let names = names_to_log(alloc, &schema, words)?;
-    let server = server_beside(rt, alloc, &schema, words)?;
-    match begin(rt, alloc, schema, hashing, memory) {
-        Ok(begun) => {
-            let begun = begun.naming_failures(names).beside(server);
-            serve_all(rt, begun, start, terms(rt, words))
-        }
+    match begin(alloc, schema, hashing, memory, moment) {
+        Ok(begun) => Ok(begun.noting_failures(words.get_str("log").is_some())),
         Err(fault) => Err(ProgramFault::Run(fault)),
     }
 }
 
-/// Makes what the database `_Server` begins with, where that is asked for.
-fn server_beside<R: RandomSource>(
+/// Makes what there is where there are several databases: two that are served, or `_Server`.
+fn front_of<R: RandomSource>(
     rt: &R,
     alloc: Global,
-    schema: &Schema,
+    schemas: &Schemas,
     words: &ArgMatches<'_>,
-) -> Result<Option<ServerBegun>, ProgramFault> {
-    if !words.get_flag(SERVER_DATABASE) {
+) -> Result<Option<Front>, ProgramFault> {
+    let has_server = words.get_flag(SERVER_DATABASE);
+    if !has_server && schemas.second.is_none() {
         return Ok(None);
     }
-    Ok(Some(ServerBegun::new(rt, alloc, schema)?))
+    Ok(Some(Front::new(rt, alloc, schemas, has_server)?))
 }
 
-/// Makes an equal schema, where transactions that fail are to be logged.
+/// Makes equal schemas, where transactions that fail are to be logged.
 fn names_to_log(
     alloc: Global,
-    schema: &Schema,
+    schemas: &Schemas,
     words: &ArgMatches<'_>,
-) -> Result<Option<Schema>, ProgramFault> {
+) -> Result<Option<Schemas>, ProgramFault> {
     if words.get_str("log").is_none() {
         return Ok(None);
     }
-    match schema.try_copy(alloc) {
-        Ok(names) => Ok(Some(names)),
-        Err(_) => Err(ProgramFault::Run(RunFault::Memory)),
-    }
+    Ok(Some(schemas.try_copy(alloc)?))
 }
 
 /// Draws the word by which identifiers of commits are told apart from those of other runs.
@@ -522,10 +622,29 @@ fn milliseconds(words: &ArgMatches<'_>, name: &str) -> Option<u64> {
     Some(count)
 }
 
+/// Reads the schemas that are to be served.
+fn read_schemas(rt: &HostRuntime, words: &ArgMatches<'_>) -> Result<Schemas, ProgramFault> {
+    let first = read_schema(rt, schema_at(words, 0).unwrap_or(""), Which::First)?;
+    let Some(file) = schema_at(words, 1) else {
+        return Ok(Schemas {
+            first,
+            second: None,
+        });
+    };
+    let second = read_schema(rt, file, Which::Second)?;
+    if second.name() == first.name() {
+        return Err(ProgramFault::SameName);
+    }
+    Ok(Schemas {
+        first,
+        second: Some(second),
+    })
+}
+
 /// Reads the schema in a file.
-fn read_schema(rt: &HostRuntime, file: &str) -> Result<Schema, ProgramFault> {
-    let text = fs::read(rt, file).map_err(ProgramFault::SchemaUnread)?;
-    Schema::read(rt.alloc(), text.as_slice()).map_err(ProgramFault::Schema)
+fn read_schema(rt: &HostRuntime, file: &str, which: Which) -> Result<Schema, ProgramFault> {
+    let text = fs::read(rt, file).map_err(|error| ProgramFault::SchemaUnread(which, error))?;
+    Schema::read(rt.alloc(), text.as_slice()).map_err(|fault| ProgramFault::Schema(which, fault))
 }
 
 /// Returns what a fault of a schema means, as the help has it.

@@ -1,7 +1,7 @@
 //! What is said on standard error while the daemon serves. [P 15.2]
 
+use crate::front::Schemas;
 use crate::log::{Line, Log};
-use odb_schema::Schema;
 use std::alloc::Global;
 use std::io::{self, Eprint};
 use std::mem;
@@ -71,8 +71,8 @@ pub(crate) struct Notices {
     pending: Mutex<Pending>,
     log: Mutex<Log>,
     has_log: bool,
-    /// The schema by which it is told why transactions failed, where that is logged.
-    schema: Option<Schema>,
+    /// The schemas by which it is told why transactions failed, where that is logged.
+    schemas: Option<Schemas>,
     writer: Parker,
     ended: AtomicU64,
     /// The most bytes of a message, and the most sessions, which lines name.
@@ -87,13 +87,13 @@ impl Notices {
         max_message: usize,
         max_sessions: usize,
         has_log: bool,
-        schema: Option<Schema>,
+        schemas: Option<Schemas>,
     ) -> Notices {
         Notices {
             pending: Mutex::new(Pending::nothing()),
             log: Mutex::new(Log::new(alloc)),
             has_log,
-            schema,
+            schemas,
             writer: Parker::new(),
             ended: AtomicU64::new(0),
             max_message,
@@ -129,7 +129,7 @@ impl Notices {
 
     /// Returns whether transactions that fail are logged.
     pub(crate) fn logs_errors(&self) -> bool {
-        self.schema.is_some()
+        self.schemas.is_some()
     }
 
     /// Adds a line to the log.
@@ -182,7 +182,7 @@ impl Notices {
             return false;
         }
         let log = self.log.lock(rt).take();
-        log.write(rt, self.schema.as_ref())
+        log.write(rt, self.schemas.as_ref())
     }
 
     /// Writes a line for each kind of things of which some happened, and returns whether there was one. Whether it could be

@@ -3,13 +3,12 @@
 use crate::connection::RandomIdentifiers;
 use crate::fault::ProgramFault;
 use odb_core::{Core, Out, Refused, SessionId};
-use odb_front::{Answers, Ids, after_write, has_writes, names_database, params_for, with_refusal};
+use odb_front::{PrintedSchema, after_write, has_writes, names_database, params_for, with_refusal};
 use odb_hub::{Submission, submission_of};
 use odb_rpc::operations;
 use odb_schema::Schema;
 use odb_script::RunFault;
 use odb_wire::{Framer, Message, Request};
-use rand::make_rng;
 use rand_core::Rng;
 use serde_json::{Value, json};
 use std::alloc::{AllocError, Global};
@@ -18,10 +17,9 @@ use std::hash::RandomState;
 use std::mem;
 use std::random::RandomSource;
 use std::sync::{Mutex, Wait};
-use uuid::Uuid;
 
 /// Its name.
-const NAME: &str = "_Server";
+pub(crate) const NAME: &str = "_Server";
 
 /// The name of its schema here: one in a file may not begin with `_`, which is for servers alone.
 const OWN: &str = "Server";
@@ -43,38 +41,28 @@ const FILLED: &[u8] = b"{\"error\":null,\"id\":0,\"result\":[{\"uuid\":";
 /// Of how many of its commits the contents can be found: of the one that fills it.
 const KEPT: usize = 1;
 
-/// What the threads that serve connections begin with: `_Server` as it is filled, and what neither database answers.
+/// `_Server` as it is filled, with which the threads that serve connections begin.
 pub(crate) struct ServerBegun {
-    pub(crate) name: String,
     core: Mutex<Core>,
-    pub(crate) answers: Answers,
-    /// The ids of a connection that has named nothing.
-    pub(crate) nothing: Ids,
 }
 
 impl ServerBegun {
-    /// Makes and fills `_Server`, for a server of this schema.
+    /// Makes and fills it: with a row for each database of these schemas.
     pub(crate) fn new<R: RandomSource>(
         rt: &R,
         alloc: Global,
-        served: &Schema,
+        schemas: &[PrintedSchema],
+        identifiers: &mut RandomIdentifiers,
     ) -> Result<ServerBegun, ProgramFault> {
-        let schema = Schema::read(alloc, SCHEMA).map_err(ProgramFault::Schema)?;
-        let mut identifiers = RandomIdentifiers {
-            rng: make_rng(rt).map_err(|_| memory())?,
-        };
-        let answers = answers_of(alloc, served, &schema, &mut identifiers)?;
+        let schema = own_schema(alloc)?;
         let hashing = RandomState::new(rt).map_err(|_| memory())?;
         let run = identifiers.rng.next_u64();
         let Ok(mut core) = Core::with_run(alloc, schema, hashing, run, KEPT) else {
             return Err(memory());
         };
-        fill(alloc, &mut core, &answers, &mut identifiers)?;
+        fill(alloc, &mut core, schemas, identifiers)?;
         Ok(ServerBegun {
-            name: String::from_str(alloc, served.name())?,
             core: Mutex::new(core),
-            answers,
-            nothing: Ids::new(alloc),
         })
     }
 
@@ -89,35 +77,18 @@ impl ServerBegun {
 // Written, and not derived, so that each end of a scope is one call to prove.
 impl Drop for ServerBegun {
     fn drop(self) {
-        let ServerBegun {
-            name: _,
-            core: _,
-            answers: _,
-            nothing: _,
-        } = self;
+        let ServerBegun { core: _ } = self;
     }
 }
 
-fn answers_of(
-    alloc: Global,
-    served: &Schema,
-    schema: &Schema,
-    identifiers: &mut RandomIdentifiers,
-) -> Result<Answers, AllocError> {
-    let name = served.name();
-    let id = Uuid::new_v4(&mut identifiers.rng);
-    Ok(Answers {
-        name: String::from_str(alloc, name)?,
-        names: json!(in alloc; [name, NAME])?.to_vec(alloc)?,
-        schema: served.to_json(alloc)?,
-        server_schema: own_schema(alloc, schema)?,
-        server_id: identifier_text(alloc, id)?,
-    })
+/// Reads its schema, under the name that it has here. Only memory may be refused.
+fn own_schema(alloc: Global) -> Result<Schema, AllocError> {
+    Schema::read(alloc, SCHEMA).map_err(|_| AllocError)
 }
 
-/// Returns the printed schema of `_Server`, with its own name.
-fn own_schema(alloc: Global, schema: &Schema) -> Result<Vec<u8>, AllocError> {
-    let printed = schema.to_json(alloc)?;
+/// Returns its schema as it is printed, with its own name.
+pub(crate) fn printed_schema(alloc: Global) -> Result<Vec<u8>, AllocError> {
+    let printed = own_schema(alloc)?.to_json(alloc)?;
     let Some(rest) = printed.as_slice().get(SCHEMA_BEGIN.len()..) else {
         return Err(AllocError);
     };
@@ -127,23 +98,15 @@ fn own_schema(alloc: Global, schema: &Schema) -> Result<Vec<u8>, AllocError> {
     Ok(text)
 }
 
-/// Returns an identifier as JSON.
-fn identifier_text(alloc: Global, id: Uuid) -> Result<Vec<u8>, AllocError> {
-    let mut buffer = [0; 36];
-    let text = id.hyphenated().encode_lower(&mut buffer);
-    json!(in alloc; text)?.to_vec(alloc)
-}
-
-/// Inserts the rows of both databases, by a session that ends then.
+/// Inserts the row of each database, by a session that ends then.
 fn fill(
     alloc: Global,
     core: &mut Core,
-    answers: &Answers,
+    schemas: &[PrintedSchema],
     identifiers: &mut RandomIdentifiers,
 ) -> Result<(), ProgramFault> {
-    let served = insert_of(alloc, answers.name.as_str(), answers.schema.as_slice())?;
-    let own = insert_of(alloc, NAME, answers.server_schema.as_slice())?;
-    let message = json!(in alloc; {"id": 0, "method": "transact", "params": [OWN, served, own]})?;
+    let params = inserts_of(alloc, schemas)?;
+    let message = json!(in alloc; {"id": 0, "method": "transact", "params": params})?;
     let request = request_of(alloc, &message)?;
     let Submission { request, fresh } = submission_of(alloc, request, identifiers)?;
     let Ok(session) = core.open() else {
@@ -163,16 +126,27 @@ fn fill(
     }
 }
 
+/// Makes the `params` that insert the row of each database.
+fn inserts_of(alloc: Global, schemas: &[PrintedSchema]) -> Result<Vec<Value>, AllocError> {
+    let mut params = Vec::with_capacity(alloc, schemas.len().saturating_add(1))?;
+    params.push(json!(in alloc; OWN)?)?;
+    for schema in schemas {
+        params.push(insert_of(alloc, schema)?)?;
+    }
+    Ok(params)
+}
+
 /// Makes the insert of the row of a database.
-fn insert_of(alloc: Global, name: &str, schema: &[u8]) -> Result<Value, ProgramFault> {
-    let Ok(text) = str::from_utf8(schema) else {
-        return Err(memory());
+fn insert_of(alloc: Global, schema: &PrintedSchema) -> Result<Value, AllocError> {
+    let name = schema.name();
+    let Ok(text) = str::from_utf8(schema.text()) else {
+        return Err(AllocError);
     };
-    Ok(json!(in alloc; {
+    json!(in alloc; {
         "op": "insert",
         "table": "Database",
         "row": {"name": name, "model": "standalone", "connected": true, "leader": true, "schema": text}
-    })?)
+    })
 }
 
 /// Returns the request that a message is.

@@ -1,5 +1,8 @@
 use Rattle.ovsdbd.proofs.serve.serve_all.Given as goal
 
--- the ledger of the seats is the one that the blank names
-abbrev pub ghosts-serve_under : goal.ghosts-serve_under
-ghosts-serve_under g a = record { name = a.blank.name; parts = a.blank.parts }
+-- the ledgers of the seats are those that the blanks name
+abbrev pub ghosts-serve_under-L-Ledger : goal.ghosts-serve_under-L-Ledger
+ghosts-serve_under-L-Ledger g a = record { name = a.blanks.first.name; parts = a.blanks.first.parts }
+
+abbrev pub ghosts-serve_under-M-Ledger : goal.ghosts-serve_under-M-Ledger
+ghosts-serve_under-M-Ledger g a = record { name = a.blanks.second.name; parts = a.blanks.second.parts }

@@ -1,4 +1,4 @@
-use Rattle.std.proofs.Common.{rules, not}
+use Rattle.std.proofs.Common.{rules}
 use Rattle.std.proofs.lemmas.Fn.{filter_same}
 use Rattle.odb_front.proofs.ids.IdText.leave.Goals as goal
 
