@@ -1,5 +1,5 @@
 //! Entries of values, and the identifiers that they mention (RFC 7047, section 5.1, `<value>`).
-ghost use Rattle.std.specs.Prelude.{◌≡◌, ◌⊎◌, Bool, true, IsTrue, Some};
+ghost use Rattle.std.specs.Prelude.{◌≡◌, ◌⊎◌, ◌≤◌, Bool, true, length, IsTrue, Some};
 ghost use Rattle.std.specs.List.{list_any};
 ghost use Rattle.std.specs.declared.cmp.Ordering.TheVariants.{Equal};
 ghost use Rattle.std.specs.Option.{option_copied};
@@ -86,6 +86,31 @@ pub(crate) fn pairs_of(value: Option<&Value>) -> &[(Atom, Atom)]
         Entries::Set(_) => &[],
         Entries::Map(pairs) => pairs,
     }
+}
+
+/// Passes over the entries at the front that both have. Returns those that are left of each. O(those passed over).
+#[inline(always)]
+pub(crate) fn pass_common<'a, E: Entry>(old: &'a [E], new: &'a [E]) -> (&'a [E], &'a [E])
+    ensures left { (tag : model_uuid.Uuid) → list_any (E.mentions tag) result.0.now ≡ true
+        → list_any (E.mentions tag) old.now ≡ true }
+    ensures common { (tag : model_uuid.Uuid) → list_any (E.mentions tag) new.now ≡ true
+        → (list_any (E.mentions tag) old.now ≡ true) ⊎ (list_any (E.mentions tag) result.1.now ≡ true) }
+    ensures fewer_old { length result.0.now ≤ length old.now }
+    ensures fewer_new { length result.1.now ≤ length new.now }
+{
+    let mut old_left = old;
+    let mut new_left = new;
+    while let [first, rest @ ..] = old_left {
+        let [next, later @ ..] = new_left else {
+            return (old_left, new_left);
+        };
+        if first.cmp(next) != Ordering::Equal {
+            return (old_left, new_left);
+        }
+        old_left = rest;
+        new_left = later;
+    }
+    (old_left, new_left)
 }
 
 /// Passes over the ascending entries that are less than this one, and over the one that is equal. Returns those that

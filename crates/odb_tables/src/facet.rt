@@ -11,6 +11,7 @@ ghost use Rattle.odb_tables.specs.declared.facet.Facet.TheVariants as facets;
 use crate::key::Key;
 use crate::row_test::{have_same, have_same_at, refers};
 use crate::staying::Staying;
+use crate::went::Went;
 use crate::{digest, mentioned, pairs};
 use odb_atoms::{Row, Value};
 use std::alloc::AllocError;
@@ -82,11 +83,13 @@ impl Facet {
         }
     }
 
-    /// Keeps the row under each of its tags that it didn't have before. Where memory is refused it is under some of
-    /// them. O(the values compared), and O(log n) for each tag that came and n pairs.
+    /// Keeps the row under each of its tags that it didn't have before, and notes the identifiers that it mentioned
+    /// before alone. Where memory is refused some of that is done. O(the values compared), and O(log n) for each tag
+    /// that came and n pairs.
     pub(crate) fn add_gained(
         &self,
         pairs: &mut BTreeSet<(Key, Key)>,
+        went: &mut Went,
         key: Key,
         before: Option<&Row>,
         row: &Row,
@@ -101,9 +104,19 @@ impl Facet {
                 pairs::add(pairs, tag, key)
             }
             Facet::Mentions(place) => match row.get(*place) {
-                Some(value) => mentioned::add_gained(pairs, key, value_at(before, *place), value),
+                Some(value) => {
+                    mentioned::add_gained(pairs, went, key, value_at(before, *place), value)
+                }
                 None => Ok(()),
             },
+        }
+    }
+
+    /// Returns whether `add_gained` noted the tags that a row loses which stays a row. O(1).
+    pub(crate) fn notes(&self) -> bool {
+        match self {
+            Facet::Values(_, _) => false,
+            Facet::Mentions(_) => true,
         }
     }
 

@@ -7,13 +7,16 @@ ghost use Rattle.odb_tables.specs.Represented.Facet.{Cuts, HasTagsNow};
 ghost use Rattle.odb_tables.specs.Represented.Keeping as spec;
 ghost use Rattle.odb_tables.specs.Represented.Keeping.{CutsAll, IsKept, IsOfSame, LacksNothing, Notes, NotesRow, Suffices};
 ghost use Rattle.odb_tables.specs.Represented.Pairs.{Grows};
+ghost use Rattle.odb_tables.specs.declared.kept.Side.TheVariants.{Old};
 
 use crate::facet::Facet;
 use crate::key::Key;
 use crate::pairs;
 use crate::row_change::RowChange;
 use crate::row_test::Test;
+use crate::staying::Staying;
 use crate::table_change::TableChange;
+use crate::went::Went;
 use odb_atoms::Row;
 use std::alloc::{AllocError, Global};
 use std::collections::BTreeSet;
@@ -36,6 +39,8 @@ pub(crate) struct Kept {
     pub(crate) facet: Facet,
     /// The tags of each row, with its key.
     pub(crate) pairs: BTreeSet<(Key, Key)>,
+    /// The tags that rows lose by the change that is noted, till it is made or taken back.
+    pub(crate) went: Went,
 }
 
 impl Clone for Kept {
@@ -47,6 +52,7 @@ impl Clone for Kept {
             table: self.table,
             facet: self.facet.clone()?,
             pairs: self.pairs.clone()?,
+            went: Went::new(self.went.alloc()),
         })
     }
 }
@@ -60,18 +66,19 @@ impl Kept {
             table,
             facet,
             pairs: BTreeSet::new(alloc),
+            went: Went::new(alloc),
         }
     }
 
-    /// Keeps the rows that are new by the change, and those that it changes under their new tags.
-    /// Where memory is refused some of that is done. O(the values compared), and O(log n) for each tag that came
-    /// and n pairs.
+    /// Keeps the rows that are new by the change, and those that it changes under their new tags, and notes which
+    /// identifiers these mention no more. Where memory is refused some of that is done. O(the values compared), and
+    /// O(log n) for each tag that came and n pairs.
     pub(crate) fn note(&mut self, change: &TableChange) -> Result<(), AllocError>
         ensures same { IsOfSame self.old self.new }
         ensures grows { Grows self.old.pairs self.new.pairs }
         ensures ok { OnOk result (Notes self.old.facet self.old.pairs self.new.pairs change.now) }
     {
-        note(&self.facet, &mut self.pairs, change)
+        note(&self.facet, &mut self.pairs, &mut self.went, change)
     }
 
     /// Keeps the row under each of its tags. Where memory is refused it is under some of them. O(log n) for each
@@ -81,16 +88,19 @@ impl Kept {
         ensures grows { Grows self.old.pairs self.new.pairs }
         ensures ok { OnOk result (HasTagsNow self.old.facet self.new.pairs key (Some row.now)) }
     {
-        self.facet.add_gained(&mut self.pairs, key, None, row)
+        self.facet
+            .add_gained(&mut self.pairs, &mut self.went, key, None, row)
     }
 
-    /// Takes out the pairs of the side that goes, but for those of the other side. O(the values compared), and
-    /// for each tag that went a search in the value and O(log n) for n pairs.
+    /// Takes out the pairs of the side that goes, but for those of the other side. Which identifiers a changed row
+    /// mentions no more was noted: its values aren't compared once more. O(the other values compared), and for each
+    /// tag that went a search in the value and O(log n) for n pairs.
     pub(crate) fn cut(&mut self, change: &TableChange, side: Side)
         ensures same { IsOfSame self.old self.new }
         ensures cuts { CutsAll self.old.facet self.old.pairs self.new.pairs side change.now }
     {
         cut(&self.facet, &mut self.pairs, change, side);
+        cut_went(&self.facet, &mut self.pairs, self.went.take(), change, side);
     }
 
     /// Returns whether the facet tells the rows that may pass the test. O(1).
@@ -118,13 +128,15 @@ impl Kept {
 fn note(
     facet: &Facet,
     pairs: &mut BTreeSet<(Key, Key)>,
+    went: &mut Went,
     change: &TableChange,
 ) -> Result<(), AllocError>
     ensures grows { Grows pairs.old pairs.new }
     ensures ok { OnOk result (Notes facet.now pairs.old pairs.new change.now) }
 {
     for row in change.rows() {
-        note_row(facet, pairs, row)?;
+        note_row(facet, pairs, went, row)?;
+        went.go_on();
     }
     Ok(())
 }
@@ -132,6 +144,7 @@ fn note(
 fn note_row(
     facet: &Facet,
     pairs: &mut BTreeSet<(Key, Key)>,
+    went: &mut Went,
     change: &RowChange,
 ) -> Result<(), AllocError>
     ensures grows { Grows pairs.old pairs.new }
@@ -143,7 +156,7 @@ fn note_row(
     if facet.is_same(change.old(), new) {
         return Ok(());
     }
-    facet.add_gained(pairs, Key::of(change.uuid()), change.old(), new)
+    facet.add_gained(pairs, went, Key::of(change.uuid()), change.old(), new)
 }
 
 fn cut(facet: &Facet, pairs: &mut BTreeSet<(Key, Key)>, change: &TableChange, side: Side)
@@ -161,10 +174,79 @@ fn cut_row(facet: &Facet, pairs: &mut BTreeSet<(Key, Key)>, change: &RowChange, 
         return;
     };
     let now = stays(change, side);
+    if is_noted(facet, side, now) {
+        return;
+    }
     if facet.is_same(now, row) {
         return;
     }
     facet.cut(pairs, Key::of(change.uuid()), row, now);
+}
+
+/// Returns whether `note` noted the tags that go of a row, of which this stays.
+fn is_noted(facet: &Facet, side: Side, stays: Option<&Row>) -> bool {
+    match side {
+        Side::Old => facet.notes() && stays.is_some(),
+        Side::New => false,
+    }
+}
+
+/// Takes out the pairs of the tags that rows lost, each with the place of its row's change. Of a change that is taken
+/// back none went.
+fn cut_went(
+    facet: &Facet,
+    pairs: &mut BTreeSet<(Key, Key)>,
+    went: Vec<(usize, Key)>,
+    change: &TableChange,
+    side: Side,
+)
+    ensures { CutsAll facet.now pairs.old pairs.new side change.now }
+{
+    match side {
+        Side::Old => cut_tags(facet, pairs, went, change),
+        Side::New => {}
+    }
+}
+
+fn cut_tags(
+    facet: &Facet,
+    pairs: &mut BTreeSet<(Key, Key)>,
+    went: Vec<(usize, Key)>,
+    change: &TableChange,
+)
+    ensures { CutsAll facet.now pairs.old pairs.new Old change.now }
+{
+    for (place, tag) in went {
+        cut_tag(facet, pairs, change, place, tag);
+    }
+}
+
+/// Takes out the pair of the tag and the row of the change at the place, unless the row has the tag after it.
+fn cut_tag(
+    facet: &Facet,
+    pairs: &mut BTreeSet<(Key, Key)>,
+    change: &TableChange,
+    place: usize,
+    tag: Key,
+)
+    ensures { CutsAll facet.now pairs.old pairs.new Old change.now }
+{
+    let rows = change.rows();
+    if place >= rows.len() {
+        return;
+    }
+    cut_tag_of(facet, pairs, &rows[place], tag);
+}
+
+fn cut_tag_of(facet: &Facet, pairs: &mut BTreeSet<(Key, Key)>, change: &RowChange, tag: Key)
+    ensures { Cuts facet.now pairs.old pairs.new change.now.0 change.now.1.1 }
+{
+    let staying = Staying {
+        facet,
+        key: Key::of(change.uuid()),
+        row: change.new(),
+    };
+    staying.cut_tag(pairs, tag);
 }
 
 /// Returns the side that goes.
@@ -194,6 +276,7 @@ impl Drop for Kept {
             table: _,
             facet: _,
             pairs: _,
+            went: _,
         } = self;
     }
 }

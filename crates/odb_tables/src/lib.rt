@@ -25,6 +25,7 @@ mod rows;
 mod staying;
 mod table;
 mod table_change;
+mod went;
 
 pub use change_set::ChangeSet;
 pub use database::Db;

@@ -7,17 +7,21 @@ ghost use Rattle.odb_tables.specs.Kept as kept;
 ghost use Rattle.odb_tables.specs.Represented.Entry.{mentions_now};
 ghost use Rattle.odb_tables.specs.Represented.Pairs.{Grows, has};
 
-use crate::entry::{Entry, elements_of, pairs_of, pass_over};
+use crate::entry::{Entry, elements_of, pairs_of, pass_common};
 use crate::key::Key;
 use crate::pairs;
+use crate::went::Went;
 use odb_atoms::{Entries, Value};
 use std::alloc::AllocError;
+use std::cmp::Ordering;
 use std::collections::BTreeSet;
 
 /// Keeps the key under each identifier that the value mentions, but for those of entries that the value before had,
-/// too. O(the values compared), and O(log n) for each other entry and n pairs.
+/// too, and notes the identifiers of entries that this one alone had. O(the values compared), and O(log n) for each
+/// entry that came and n pairs.
 pub(crate) fn add_gained(
     pairs: &mut BTreeSet<(Key, Key)>,
+    went: &mut Went,
     key: Key,
     before: Option<&Value>,
     value: &Value,
@@ -27,15 +31,16 @@ pub(crate) fn add_gained(
         → (mentions_now tag (option_copied before.entry) ≡ true) ⊎ (has pairs.new tag key ≡ true)) }
 {
     match value.entries() {
-        Entries::Set(elements) => add_entries(pairs, key, elements_of(before), elements),
-        Entries::Map(entries) => add_entries(pairs, key, pairs_of(before), entries),
+        Entries::Set(elements) => add_entries(pairs, went, key, elements_of(before), elements),
+        Entries::Map(entries) => add_entries(pairs, went, key, pairs_of(before), entries),
     }
 }
 
-/// Keeps the key under what the entries mention, but for those that stand among the ones before, too. One pass
-/// over both.
+/// Keeps the key under what the entries mention, but for those that stand among the ones before, too, and notes what
+/// those mention that stand among the ones before alone. One pass over both.
 fn add_entries<E: Entry>(
     pairs: &mut BTreeSet<(Key, Key)>,
+    went: &mut Went,
     key: Key,
     before: &[E],
     entries: &[E],
@@ -44,16 +49,59 @@ fn add_entries<E: Entry>(
     ensures ok { OnOk result ((tag : model_uuid.Uuid) → list_any (E.mentions tag) entries.now ≡ true
         → (list_any (E.mentions tag) before.now ≡ true) ⊎ (has pairs.new tag key ≡ true)) }
 {
-    let mut left = before;
-    for entry in entries {
-        let (rest, is_shared) = pass_over(left, entry);
-        left = rest;
-        if is_shared {
-            continue;
+    let (mut old_left, mut new_left) = pass_common(before, entries);
+    while let [next, later @ ..] = new_left {
+        let [first, rest @ ..] = old_left else {
+            return add_each(pairs, key, new_left);
+        };
+        match first.cmp(next) {
+            Ordering::Less => {
+                note_entry(went, first)?;
+                old_left = rest;
+            }
+            Ordering::Greater => {
+                add_entry(pairs, key, next)?;
+                new_left = later;
+            }
+            Ordering::Equal => {
+                let (old_rest, new_rest) = pass_common(rest, later);
+                old_left = old_rest;
+                new_left = new_rest;
+            }
         }
+    }
+    note_each(went, old_left)
+}
+
+/// Keeps the key under what each of the entries mentions.
+fn add_each<E: Entry>(
+    pairs: &mut BTreeSet<(Key, Key)>,
+    key: Key,
+    entries: &[E],
+) -> Result<(), AllocError>
+    ensures grows { Grows pairs.old pairs.new }
+    ensures ok { OnOk result ((tag : model_uuid.Uuid) → list_any (E.mentions tag) entries.now ≡ true
+        → has pairs.new tag key ≡ true) }
+{
+    for entry in entries {
         add_entry(pairs, key, entry)?;
     }
     Ok(())
+}
+
+/// Notes what each of the entries mentions.
+fn note_each<E: Entry>(went: &mut Went, entries: &[E]) -> Result<(), AllocError> {
+    for entry in entries {
+        note_entry(went, entry)?;
+    }
+    Ok(())
+}
+
+/// Notes what the entry mentions.
+fn note_entry<E: Entry>(went: &mut Went, entry: &E) -> Result<(), AllocError> {
+    let (first, second) = entry.tags();
+    went.note(first)?;
+    went.note(second)
 }
 
 /// Keeps the key under what the entry mentions.

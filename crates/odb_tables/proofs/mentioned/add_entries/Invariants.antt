@@ -1,14 +1,17 @@
-use Rattle.std.proofs.Common.{◌≡◌, ◌⊎◌, true, drop}
+use Rattle.std.proofs.Common.{◌≡◌, ◌⊎◌, ◌+◌, true, length}
 use Rattle.std.specs.List.{list_any}
 use Rattle.odb_atoms.specs.Uuid.{Uuid}
 use Rattle.odb_tables.specs.Represented.Pairs.{Grows, has}
 use Rattle.odb_tables.proofs.mentioned.add_entries.Given as goal
 
-abbrev pub invariant-loop-entry : goal.invariant-loop-entry
-invariant-loop-entry g l =
+abbrev pub invariant-loop-new_left : goal.invariant-loop-new_left
+invariant-loop-new_left g l =
     let mentions = g.E.Entry.mentions in
     record {
       grows : Grows l.initial.pairs l.pairs;
-      within : (tag : Uuid) → list_any (mentions tag) l.left ≡ true → list_any (mentions tag) l.before ≡ true;
-      rest : (tag : Uuid) → list_any (mentions tag) l.entries ≡ true → ((list_any (mentions tag) l.before ≡ true) ⊎ (has l.pairs tag l.key ≡ true)) ⊎ (list_any (mentions tag) (drop l.entry-index l.entries) ≡ true);
+      within : (tag : Uuid) → list_any (mentions tag) l.old_left ≡ true → list_any (mentions tag) l.before ≡ true;
+      rest : (tag : Uuid) → list_any (mentions tag) l.entries ≡ true → ((list_any (mentions tag) l.before ≡ true) ⊎ (has l.pairs tag l.key ≡ true)) ⊎ (list_any (mentions tag) l.new_left ≡ true);
     }
+
+abbrev pub decreases-loop-new_left : goal.decreases-loop-new_left
+decreases-loop-new_left g l = length l.old_left + length l.new_left
