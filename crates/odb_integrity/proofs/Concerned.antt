@@ -1,5 +1,5 @@
 -- In which rows a reference may lead to a row that isn't there, where none did before: in those that gained it, and those that mention a row that went.
-use Rattle.std.specs.Prelude.{◌≡◌, ◌⊎◌, ℕ, ◌+◌, ◌<◌, Bool, true, false, cond, not, ◌&&◌, ◌||◌, List, [], ◌∷◌, ◌++◌, drop, filter, length, slice_get, is_some, unwrap_or, Option, Some, None, option_and_then, option_map}
+use Rattle.std.specs.Prelude.{◌≡◌, ◌⊎◌, ℕ, ◌+◌, ◌<◌, Bool, true, false, cond, not, ◌&&◌, ◌||◌, List, [], ◌∷◌, ◌++◌, drop, filter, flat_map, length, slice_get, is_some, unwrap_or, Option, Some, None, option_and_then, option_map}
 use Rattle.std.specs.List.{enumerate_from, list_any}
 use denote.Ref.{Bor}
 use mathlib.Core.Path.{refl, sym, ap, subst, ◌∙◌}
@@ -13,7 +13,7 @@ use Rattle.odb_atoms.proofs.Atoms.{atom_cmp-IsAntisymmetric}
 use Rattle.odb_atoms.proofs.Equal.{same_atom-itself}
 use Rattle.odb_atoms.proofs.FinMaps.{contains_key-keys, same_key}
 use Rattle.odb_atoms.proofs.FinSets.{contains-symmetric_difference}
-use Rattle.odb_atoms.proofs.Lists.{Member, any-map, any_gives, gives_any, or_right}
+use Rattle.odb_atoms.proofs.Lists.{Member, any-map, any_gives, either, gives_any, or_right}
 use Rattle.odb_atoms.proofs.Values.{same_value-equal}
 use Rattle.odb_atoms.specs.Atom.{Atom, same_atom, uuid}
 use Rattle.odb_atoms.specs.ColType.{ColType, is_single, value_base}
@@ -28,23 +28,30 @@ use Rattle.odb_atoms.specs.Row.{Row}
 use Rattle.odb_atoms.specs.Value.{Atoms, Pairs, Value, map_of, same_value, set_of}
 use Rattle.odb_atoms.specs.declared.atom.Atom as declared
 use Rattle.odb_atoms.specs.declared.value.Entries.TheVariants as entries
-use Rattle.odb_schema.specs.Schema.{Column, Schema, columns_at}
+use Rattle.odb_schema.specs.Schema.{Column, Schema, columns_at, is_root_at}
 use Rattle.odb_tables.specs.Database.{Db}
-use Rattle.odb_integrity.specs.Gained.{cell_of, gained, gains_missing, gains_stale, gains_stale_at, has_pair_of, has_stale_change, has_weak, value_gains_stale}
+use Rattle.odb_integrity.specs.Gained.{cell_of, gained, gaining, gains_missing, gains_stale, gains_stale_at, has_pair_of, has_stale_change, has_weak, value_gains_stale}
 use Rattle.odb_integrity.specs.Represented.Reference.{MentionGone, mentions, mentions_by, mentions_gone, references_of}
-use Rattle.odb_integrity.specs.Settlement.{RowId, any_row, dangles, is_stale, is_there, is_weak, refers, row_of, same_row, strong_of_row, weak_target}
+use Rattle.odb_integrity.specs.Settlement.{RowId, any_row, dangles, is_kept, is_stale, is_there, is_weak, kept, refers, row_ids, row_of, same_row, strong_of_row, weak_target}
 use Rattle.odb_integrity.specs.Steps.{has_stale, row_has_stale}
-use Rattle.odb_integrity.specs.Touched.{Covers, SameBut}
+use Rattle.odb_integrity.specs.Touched.{Covers, GainMissing, SameBut}
 use Rattle.odb_integrity.specs.declared.referrers.Reference.{Reference}
 use Rattle.odb_integrity.proofs.Gains.{IsGained, has_it, in_zip, pair_gained, referred_before}
-use Rattle.odb_integrity.proofs.Ids.{any-filter, listed, member}
+use Rattle.odb_integrity.proofs.Databases.{any-row_ids}
+use Rattle.odb_integrity.proofs.Held.{referrer_there}
+use Rattle.odb_integrity.proofs.Kept.{kept_is_largest, kept_is_supported}
+use Rattle.odb_integrity.proofs.Ids.{any-filter, listed, member, own_row, same_row_equal}
 use Rattle.odb_integrity.proofs.Prunings.{neither, not_found}
 use Rattle.odb_integrity.proofs.Referring.{Names, NamesIn, gone, in_enumerated, in_stale, in_value, names_passes, names_stale, stale_names, strong_found, strong_names, weak_found, weak_kind}
-use Rattle.odb_integrity.proofs.Settles.{passes_nowhere}
+use Rattle.odb_integrity.proofs.Settles.{any-flat_map, kept_left, passes_nowhere, was_kept}
 
 not_not : (b : Bool) → not b ≡ false → b ≡ true
 not_not true e = refl
 not_not false e = absurd (true≢false e)
+
+not_so : (b : Bool) → not b ≡ true → b ≡ false
+not_so true e = sym e
+not_so false e = refl
 
 -- where no row of the list is missing, none mentions such a one
 pub none_mentions : (rs : List Reference) (db : Db) (xs : List RowId) → list_any (λ x. not (is_there db x)) xs ≡ false → (x : RowId) → false ≡ list_any (mentions_gone rs db x) xs
@@ -148,6 +155,86 @@ module _ (s : Schema) (db : Db) (t : ColType) where
         by true same = subst (λ v. NamesIn (weak_target s) t v y) (sym (same_value-equal before now same)) h
         by false same = differing before now h ((λ i. not (sym same i) && has_stale_change s db t (difference before now t) now) ∙ f)
 
+-- ---- the rows that gained a reference
+
+module _ (s : Schema) (old now : Db) (touched : List RowId) (same : SameBut touched old now) where
+  -- to what a row refers that didn't gain it, it referred before
+  referred : (x y : RowId) → refers s now x y ≡ true → not (is_there now y) ≡ true → (list_any (same_row x) touched && gains_missing s old now x) ≡ false → refers s old x y ≡ true
+  referred x y e gone none = by (list_any (same_row x) touched) refl
+    where
+      gained_none : (b : Bool) → list_any (same_row y) (gained s old now x) ≡ b → gains_missing s old now x ≡ false → b ≡ false
+      gained_none true is f = sym (gives_any (λ z. not (is_there now z)) (gained s old now x) y (member y (gained s old now x) is) gone) ∙ f
+      gained_none false is f = refl
+
+      by : (b : Bool) → list_any (same_row x) touched ≡ b → refers s old x y ≡ true
+      by true t = referred_before s old now x y e (gained_none (list_any (same_row y) (gained s old now x)) refl (ap (λ b. b && gains_missing s old now x) (sym t) ∙ none))
+      by false t = ap (λ o. unwrap_or (option_map (λ r. list_any (same_row y) (strong_of_row s x r)) o) false) (sym (same x t)) ∙ e
+
+  -- a touched row that gained nothing that is missing isn't listed
+  pub gain_missing : (before gaining_rows : List RowId) → gaining_rows ≡ before ++ flat_map (gaining s old now) touched → GainMissing s gaining_rows old now
+  gain_missing before gaining_rows is x y absent here gone = referred x y here (ap not gone) (by (list_any (same_row x) touched) refl (gains_missing s old now x) refl)
+    where
+      none : list_any (λ z. list_any (same_row x) (gaining s old now z)) touched ≡ false
+      none =
+          sym (any-flat_map (same_row x) (gaining s old now) touched)
+          ∙ (neither (list_any (same_row x) before) (list_any (same_row x) (flat_map (gaining s old now) touched)) (sym (list_any-append (same_row x) before (flat_map (gaining s old now) touched)) ∙ ap (list_any (same_row x)) (sym is) ∙ absent)).1
+
+      by : (b : Bool) → list_any (same_row x) touched ≡ b → (c : Bool) → gains_missing s old now x ≡ c → (list_any (same_row x) touched && gains_missing s old now x) ≡ false
+      by false t c g = ap (λ b. b && gains_missing s old now x) t
+      by true t false g = (λ i. t i && g i)
+      by true t true g = absurd (true≢false (
+          sym (gives_any (λ z. list_any (same_row x) (gaining s old now z)) touched x (member x touched t)
+          (ap (λ b. list_any (same_row x) (cond b (x ∷ []) [])) g ∙ ap (λ b. b || false) (own_row x)))
+          ∙ none))
+
+-- ---- the rows that garbage collection leaves
+
+-- a row to which a kept one refers stays as well
+module _ (s : Schema) (db : Db) (x y : RowId) (kept_x : is_kept s db x ≡ true) (here : refers s db x y ≡ true) (there : is_there db y ≡ true) where
+  abbrev stays : RowId → Bool
+  stays z = is_kept s db z || same_row z y
+
+  abbrev HasSupport : RowId → Type 0
+  HasSupport z = (list_any (same_row z) (row_ids db) ≡ true) × ((is_root_at s z.0 ≡ true) ⊎ ((w : RowId) × (stays w ≡ true) × (same_row z w ≡ false) × (refers s db w z ≡ true)))
+
+  kept_stays : (z : RowId) → is_kept s db z ≡ true → stays z ≡ true
+  kept_stays z k = ap (λ b. b || same_row z y) k
+
+  kept_support : (z : RowId) → is_kept s db z ≡ true → HasSupport z
+  kept_support z k = ((kept_is_supported s db z k).0, by (kept_is_supported s db z k).1)
+    where
+      by : (is_root_at s z.0 ≡ true) ⊎ ((w : RowId) × (is_kept s db w ≡ true) × (same_row z w ≡ false) × (refers s db w z ≡ true)) → (is_root_at s z.0 ≡ true) ⊎ ((w : RowId) × (stays w ≡ true) × (same_row z w ≡ false) × (refers s db w z ≡ true))
+      by (inl root) = inl root
+      by (inr v) = inr (v.0, kept_stays v.0 v.1, v.2, v.3)
+
+  new_support : same_row y x ≡ false → (z : RowId) → same_row z y ≡ true → HasSupport z
+  new_support apart z is =
+      let at : z ≡ y = same_row_equal z y is in
+      (any-row_ids db z ∙ ap (is_there db) at ∙ there, inr (x, kept_stays x kept_x, ap (λ w. same_row w x) at ∙ apart, ap (refers s db x) at ∙ here))
+
+  support : same_row y x ≡ false → (z : RowId) → (is_kept s db z ≡ true) ⊎ (same_row z y ≡ true) → HasSupport z
+  support apart z (inl k) = kept_support z k
+  support apart z (inr is) = new_support apart z is
+
+  referent_kept : (b : Bool) → same_row y x ≡ b → is_kept s db y ≡ true
+  referent_kept true is = ap (is_kept s db) (same_row_equal y x is) ∙ kept_x
+  referent_kept false apart = kept_is_largest s db stays (λ z e. support apart z (either (is_kept s db z) (same_row z y) e)) y (or_right (is_kept s db y) (same_row y y) (own_row y))
+
+module _ (s : Schema) (db : Db) where
+  -- no row that isn't listed has gained one then either
+  pub kept_gain : (old : Db) (xs : List RowId) → GainMissing s xs old db → GainMissing s xs old (kept s db)
+  kept_gain old xs gain x y absent here gone = by (is_there db y) refl
+    where
+      kept_x : is_kept s db x ≡ true
+      kept_x = was_kept s db x (referrer_there s (kept s db) x y here)
+
+      before : refers s db x y ≡ true
+      before = ap (λ o. unwrap_or (option_map (λ r. list_any (same_row y) (strong_of_row s x r)) o) false) (sym (kept_left s db x kept_x)) ∙ here
+
+      by : (b : Bool) → is_there db y ≡ b → refers s old x y ≡ true
+      by true there = absurd (true≢false (sym there ∙ sym (ap is_some (kept_left s db y (referent_kept s db x y kept_x before there (same_row y x) refl))) ∙ gone))
+      by false none = gain x y absent before none
+
 -- ---- the rows that are looked at
 
 module _ (s : Schema) (old now : Db) (touched mentioning : List RowId) (same : SameBut touched old now) (mention : MentionGone (references_of s) now touched mentioning) where
@@ -165,18 +252,6 @@ module _ (s : Schema) (old now : Db) (touched mentioning : List RowId) (same : S
       let parts = neither (list_any (same_row x) (filter p touched)) (list_any (same_row x) mentioning) (sym (list_any-append (same_row x) (filter p touched) mentioning) ∙ ap (list_any (same_row x)) (sym is) ∙ absent) in
       (sym (any-filter p x touched) ∙ parts.0, parts.1)
 
-  -- to what a row refers that didn't gain it, it referred before
-  referred : (x y : RowId) → refers s now x y ≡ true → not (is_there now y) ≡ true → (list_any (same_row x) touched && gains_missing s old now x) ≡ false → refers s old x y ≡ true
-  referred x y e gone none = by (list_any (same_row x) touched) refl
-    where
-      gained_none : (b : Bool) → list_any (same_row y) (gained s old now x) ≡ b → gains_missing s old now x ≡ false → b ≡ false
-      gained_none true is f = sym (gives_any (λ z. not (is_there now z)) (gained s old now x) y (member y (gained s old now x) is) gone) ∙ f
-      gained_none false is f = refl
-
-      by : (b : Bool) → list_any (same_row x) touched ≡ b → refers s old x y ≡ true
-      by true t = referred_before s old now x y e (gained_none (list_any (same_row y) (gained s old now x)) refl (ap (λ b. b && gains_missing s old now x) (sym t) ∙ none))
-      by false t = ap (λ o. unwrap_or (option_map (λ r. list_any (same_row y) (strong_of_row s x r)) o) false) (sym (same x t)) ∙ e
-
   -- it was there
   target_there : any_row (dangles s old) old ≡ false → (x y : RowId) → refers s old x y ≡ true → is_there old y ≡ true
   target_there none x y = by (row_of old x) refl
@@ -185,17 +260,17 @@ module _ (s : Schema) (old now : Db) (touched mentioning : List RowId) (same : S
       by None was e = absurd (true≢false (sym e))
       by (Some r) was e = not_not (is_there old y) (not_found (λ z. not (is_there old z)) (strong_of_row s x r) (passes_nowhere (dangles s old) old none x r was) y (member y (strong_of_row s x r) e))
 
-  pub covers_dangling : any_row (dangles s old) old ≡ false → (rows : List RowId) → rows ≡ filter (gains_missing s old now) touched ++ mentioning → Covers (dangles s now) now rows
-  covers_dangling none rows is x r there absent = by (dangles s now x r) refl
+  pub covers_dangling : any_row (dangles s old) old ≡ false → (gaining_rows rows : List RowId) → GainMissing s gaining_rows old now → rows ≡ gaining_rows ++ mentioning → Covers (dangles s now) now rows
+  covers_dangling none gaining_rows rows gain is x r there absent = by (dangles s now x r) refl
     where
       by : (b : Bool) → dangles s now x r ≡ b → b ≡ false
       by true e =
-          let out = fails (gains_missing s old now) rows x is absent in
+          let out = neither (list_any (same_row x) gaining_rows) (list_any (same_row x) mentioning) (sym (list_any-append (same_row x) gaining_rows mentioning) ∙ ap (list_any (same_row x)) (sym is) ∙ absent) in
           let w = any_gives (λ y. not (is_there now y)) (strong_of_row s x r) e in
           let named : list_any (same_row w.0) (strong_of_row s x r) ≡ true = listed w.0 (strong_of_row s x r) w.1 in
           let here : refers s now x w.0 ≡ true = ap (λ o. unwrap_or (option_map (λ r. list_any (same_row w.0) (strong_of_row s x r)) o) false) there ∙ named in
           let f = strong_found s now x w.0 r there (strong_names s w.0 x r named) in
-          not_mentioned x w.0 out.1 (target_there none x w.0 (referred x w.0 here w.2 out.0)) w.2 f.0 f.1 f.3
+          not_mentioned x w.0 out.1 (target_there none x w.0 (gain x w.0 out.0 here (not_so (is_there now w.0) w.2))) w.2 f.0 f.1 f.3
       by false e = refl
 
   -- what a row names that didn't gain it, it named before

@@ -1,5 +1,6 @@
 pub mod Concerned
 pub mod Databases
+pub mod Differing
 pub mod Gains
 pub mod Held
 pub mod Ids

@@ -87,3 +87,9 @@ flat_more f before now xs i x inside is done more =
     ∙ ap (λ ys. flat_map f (take i xs) ++ ys) (sym (append-nil (f x)))
     ∙ sym (flat_map-append f (take i xs) (x ∷ []))
     ∙ ap (flat_map f) (ap (λ y. take i xs ++ y ∷ []) is ∙ sym (take_more xs i x inside))
+
+-- the same behind others
+pub flat_more_after : {X Y : Type 0} (f : X → List Y) (all before now : List Y) (xs : List X) (i : ℕ) (x : X) → i < length xs → x ≡ get_or xs i x → before ≡ all ++ flat_map f (take i xs) → now ≡ before ++ f x → now ≡ all ++ flat_map f (take (i + 1) xs)
+flat_more_after f all before now xs i x inside is done more =
+    more ∙ ap (λ ys. ys ++ f x) done ∙ append_assoc all (flat_map f (take i xs)) (f x)
+    ∙ ap (λ ys. all ++ ys) (flat_more f (flat_map f (take i xs)) (flat_map f (take i xs) ++ f x) xs i x inside is refl refl)

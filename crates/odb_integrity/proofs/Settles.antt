@@ -190,7 +190,7 @@ module _ (s : Schema) (db : Db) where
   row_left x = row_of-each_row (λ x r. cond (is_kept s db x) (Some r) None) db x
 
   -- who is left was kept
-  was_kept : (x : RowId) → is_there left x ≡ true → is_kept s db x ≡ true
+  pub was_kept : (x : RowId) → is_there left x ≡ true → is_kept s db x ≡ true
   was_kept x e = by (row_of db x) (is_kept s db x) (sym (ap is_some (row_left x)) ∙ e)
     where
       by : (o : Option Row) (b : Bool) → is_some (option_and_then (λ r. cond b (Some r) None) o) ≡ true → b ≡ true
@@ -198,7 +198,7 @@ module _ (s : Schema) (db : Db) where
       by (Some r) true e = refl
       by (Some r) false e = e
 
-  kept_left : (x : RowId) → is_kept s db x ≡ true → row_of left x ≡ row_of db x
+  pub kept_left : (x : RowId) → is_kept s db x ≡ true → row_of left x ≡ row_of db x
   kept_left x e = row_left x ∙ ap (λ b. option_and_then (λ r. cond b (Some r) None) (row_of db x)) e ∙ by (row_of db x)
     where
       by : (o : Option Row) → option_and_then (λ r. Some r) o ≡ o

@@ -2,13 +2,13 @@
 use Rattle.std.specs.Prelude.{ℕ, Bool, false, cond, not, ◌&&◌, ◌||◌, List, [], ◌∷◌, ◌++◌, filter, filter_map, flat_map, slice_get, unwrap_or, Option, option_and_then, option_map}
 use Rattle.std.specs.List.{enumerate_from, list_any}
 use Rattle.odb_atoms.specs.Atom.{Atom}
-use Rattle.odb_atoms.specs.ColType.{ColType, value_base}
+use Rattle.odb_atoms.specs.ColType.{ColType, is_single, value_base}
 use Rattle.odb_atoms.specs.Difference.{difference}
 use Rattle.odb_atoms.specs.FinSet as set
 use Rattle.odb_atoms.specs.FinMap as map
 use Rattle.odb_atoms.specs.Members.{has, value_at}
 use Rattle.odb_atoms.specs.Row.{Row}
-use Rattle.odb_atoms.specs.Value.{Value, is_atom, map_of, same_value, set_of}
+use Rattle.odb_atoms.specs.Value.{Value, is_atom, is_map, map_of, same_value, set_of}
 use Rattle.odb_schema.specs.Schema.{Schema, columns_at}
 use Rattle.odb_tables.specs.Database.{Db}
 use Rattle.odb_integrity.specs.References.{is_strong}
@@ -54,6 +54,14 @@ gained s before now x = unwrap_or (option_map (gained_since s x (row_of before x
 -- a row gained a strong reference to a row that isn't there
 abbrev pub gains_missing : Schema → Db → Db → RowId → Bool
 gains_missing s before now x = list_any (λ y. not (is_there now y)) (gained s before now x)
+
+-- the row itself, where it did
+abbrev pub gaining : Schema → Db → Db → RowId → List RowId
+gaining s before now x = cond (gains_missing s before now x) (x ∷ []) []
+
+-- of sets of any number of elements: what leads from one to the other leads back as well
+abbrev pub leads_back : ColType → Value → Value → Bool
+leads_back t before now = not (is_single t) && not (is_map before) && not (is_map now)
 
 -- ---- weak references
 

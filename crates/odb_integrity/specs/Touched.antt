@@ -41,3 +41,9 @@ is_lost s db x = is_there db x && not (has_support s db (row_ids db) x)
 -- each row that is there has it, but for listed ones
 abbrev pub SupportedBut : Schema → Db → List RowId → Type 0
 SupportedBut s db xs = (x : RowId) → is_there db x ≡ true → list_any (same_row x) xs ≡ false → has_support s db (row_ids db) x ≡ true
+
+-- ---- strong references to rows that aren't there
+
+-- no row but listed ones gained one
+abbrev pub GainMissing : Schema → List RowId → Db → Db → Type 0
+GainMissing s xs old now = (x y : RowId) → list_any (same_row x) xs ≡ false → refers s now x y ≡ true → is_there now y ≡ false → refers s old x y ≡ true

@@ -3,37 +3,17 @@ ghost use Rattle.std.specs.Prelude.{◌≡◌, not, IfOk};
 ghost use Rattle.std.specs.List.{list_any};
 ghost use Rattle.odb_integrity.specs.Settlement as model;
 ghost use Rattle.odb_integrity.specs.Settlement.{at_row, is_there};
-ghost use Rattle.odb_integrity.specs.Represented.Reference.{MentionGone, references_of};
-ghost use Rattle.odb_integrity.specs.Settled.{IsSettled};
-ghost use Rattle.odb_integrity.specs.Touched.{Covers, SameBut};
+ghost use Rattle.odb_integrity.specs.Touched.{Covers};
 
 use crate::references::strong_of_row;
 use crate::row_id::RowId;
-use crate::suspects::may_dangle;
 use odb_schema::Schema;
 use odb_tables::Draft;
 use std::alloc::{AllocError, Global};
 
-/// Returns whether a row has a strong reference to a row that isn't there. Looked at are the touched rows, of each
-/// what it gained, and the rows that mention a touched row that isn't there, `mentioning`, with all their atoms.
-pub(crate) fn has_dangling(
-    alloc: Global,
-    draft: &Draft,
-    schema: &Schema,
-    touched: &[RowId],
-    mentioning: &[RowId],
-) -> Result<bool, AllocError>
-    requires base { IsSettled schema.now draft.now.old }
-    requires touched { SameBut touched.now draft.now.old draft.now.now }
-    requires mentioning { MentionGone (references_of schema.now) draft.now.now touched.now mentioning.now }
-    ensures { IfOk result (λ dangling. dangling ≡ model.has_dangling schema.now draft.now.now) }
-{
-    let rows = may_dangle(alloc, draft, schema, touched, mentioning)?;
-    one_dangles(alloc, draft, schema, &rows)
-}
-
 /// Returns whether a row of the list has a strong reference to a row that isn't there. No other row may have one.
-fn one_dangles(
+/// O(their atoms).
+pub(crate) fn has_dangling(
     alloc: Global,
     draft: &Draft,
     schema: &Schema,

@@ -1,14 +1,15 @@
-//! The strong references that a row has now and may not have had before (RFC 7047, section 3.2, `refType`). [P 5]
+//! The strong references that a row lost, and those that it gained (RFC 7047, section 3.2, `refType`). [P 5]
 ghost use Rattle.std.specs.Prelude.{◌≡◌, ◌++◌, filter, flat_map, IfOk, OnOk};
 ghost use Rattle.std.specs.List.{list_any};
 ghost use Rattle.std.specs.Option.{option_copied};
+ghost use Rattle.odb_atoms.specs.Difference.{difference};
 ghost use Rattle.odb_atoms.specs.Represented.ColType.{type_of};
 ghost use Rattle.odb_atoms.specs.Represented.Value.{pair_of};
 ghost use Rattle.odb_integrity.specs.Gained as model;
 ghost use Rattle.odb_integrity.specs.Settlement.{same_row, strong_of_value};
 
 use crate::references::{
-    append_elements, columns_of, is_strong, strong_of_row, strong_of_value, strong_target,
+    append_elements, append_value, columns_of, is_strong, strong_of_value, strong_target,
     value_base, value_refers,
 };
 use crate::row_id::RowId;
@@ -17,49 +18,37 @@ use odb_schema::{Schema, TableId};
 use std::alloc::{AllocError, Global};
 use std::slice;
 
-/// Returns the rows to which the row has strong references now, but for those to which it had them before, where it
-/// was there: what `gained_by_row` lists.
-pub(crate) fn gained(
-    alloc: Global,
-    schema: &Schema,
-    id: RowId,
-    before: Option<&Row>,
-    now: &Row,
-) -> Result<Vec<RowId>, AllocError>
-    ensures { IfOk result (λ rows.
-        rows.items ≡ model.gained_since schema.now id (option_copied before.entry) now.now) }
-{
-    match before {
-        Some(before) => gained_by_row(alloc, schema, id, before, now),
-        None => strong_of_row(alloc, schema, id, now),
-    }
-}
-
-/// Returns the rows to which the row `now` has strong references by elements or pairs that the same column of
-/// `before` hasn't; of a column of one value that is another one, by all that it has. O(columns), and for columns with
-/// strong references a comparison of their values; O(n) for the n atoms of those that differ, and O(log n) for each
-/// that one of the two has alone.
-fn gained_by_row(
+/// Appends to `lost` the rows to which the row `before` has strong references by elements or pairs that the same column
+/// of `now` hasn't, and to `gained` those to which `now` has by what `before` hasn't; of a column of one value that is
+/// another one, by all that it has. O(columns), and for columns with strong references a comparison of their values;
+/// of those that differ O(n) for their n atoms, once for sets and twice for maps, and O(log n) for each that one of
+/// the two has alone.
+pub(crate) fn append_changes(
     alloc: Global,
     schema: &Schema,
     id: RowId,
     before: &Row,
     now: &Row,
-) -> Result<Vec<RowId>, AllocError>
-    ensures { IfOk result (λ rows. rows.items ≡ model.gained_by_row schema.now id before.now now.now) }
+    lost: &mut Vec<RowId>,
+    gained: &mut Vec<RowId>,
+) -> Result<(), AllocError>
+    ensures lost { OnOk result
+        (lost.new.items ≡ lost.old.items ++ model.gained_by_row schema.now id now.now before.now) }
+    ensures gained { OnOk result
+        (gained.new.items ≡ gained.old.items ++ model.gained_by_row schema.now id before.now now.now) }
 {
-    let mut rows = Vec::new(alloc);
     for (place, column) in columns_of(schema, id.table()).iter().enumerate() {
-        let part = gained_at(
+        append_changes_at(
             alloc,
             schema,
             column.column_type(),
             before.get(place),
             now.get(place),
+            lost,
+            gained,
         )?;
-        append_all(&part, &mut rows)?;
     }
-    Ok(rows)
+    Ok(())
 }
 
 /// Appends the rows. O(the rows appended).
@@ -69,44 +58,106 @@ pub(crate) fn append_all(part: &[RowId], rows: &mut Vec<RowId>) -> Result<(), Al
     rows.extend_from_slice(part)
 }
 
-/// Returns what a column gained that may have had no value before, and may have none now.
-fn gained_at(
+/// Appends what a column lost and gained that may have had no value before, and may have none now.
+fn append_changes_at(
     alloc: Global,
     schema: &Schema,
     column: &ColType,
     before: Option<&Value>,
     now: Option<&Value>,
-) -> Result<Vec<RowId>, AllocError>
-    ensures { IfOk result (λ rows.
-        rows.items ≡ model.gained_at schema.now (type_of column.now) (option_copied before.entry) (option_copied now.entry)) }
+    lost: &mut Vec<RowId>,
+    gained: &mut Vec<RowId>,
+) -> Result<(), AllocError>
+    ensures lost { OnOk result
+        (lost.new.items
+        ≡ lost.old.items ++ model.gained_at schema.now (type_of column.now) (option_copied now.entry) (option_copied before.entry)) }
+    ensures gained { OnOk result
+        (gained.new.items
+        ≡ gained.old.items ++ model.gained_at schema.now (type_of column.now) (option_copied before.entry) (option_copied now.entry)) }
 {
-    let Some(now) = now else {
-        return Ok(Vec::new(alloc));
-    };
     match before {
-        Some(before) => gained_by_value(alloc, schema, column, before, now),
-        None => strong_of_value(alloc, schema, column, now),
+        Some(before) => match now {
+            Some(now) => append_of_values(alloc, schema, column, before, now, lost, gained),
+            None => append_value(schema, column, before, lost),
+        },
+        None => match now {
+            Some(now) => append_value(schema, column, now, gained),
+            None => Ok(()),
+        },
     }
 }
 
-fn gained_by_value(
+fn append_of_values(
     alloc: Global,
     schema: &Schema,
     column: &ColType,
     before: &Value,
     now: &Value,
-) -> Result<Vec<RowId>, AllocError>
-    ensures { IfOk result (λ rows.
-        rows.items ≡ model.gained_by_value schema.now (type_of column.now) before.now now.now) }
+    lost: &mut Vec<RowId>,
+    gained: &mut Vec<RowId>,
+) -> Result<(), AllocError>
+    ensures lost { OnOk result
+        (lost.new.items ≡ lost.old.items ++ model.gained_by_value schema.now (type_of column.now) now.now before.now) }
+    ensures gained { OnOk result
+        (gained.new.items ≡ gained.old.items ++ model.gained_by_value schema.now (type_of column.now) before.now now.now) }
 {
     if !has_strong(column) {
-        return Ok(Vec::new(alloc));
+        return Ok(());
     }
     if *before == *now {
-        return Ok(Vec::new(alloc));
+        return Ok(());
     }
+    append_differing(alloc, schema, column, before, now, lost, gained)
+}
+
+/// Appends what a column lost and gained whose values differ. Of two sets one difference tells both.
+fn append_differing(
+    alloc: Global,
+    schema: &Schema,
+    column: &ColType,
+    before: &Value,
+    now: &Value,
+    lost: &mut Vec<RowId>,
+    gained: &mut Vec<RowId>,
+) -> Result<(), AllocError>
+    ensures lost { OnOk result
+        (lost.new.items
+        ≡ lost.old.items ++ model.strong_of_change schema.now (type_of column.now) (difference now.now before.now (type_of column.now)) before.now) }
+    ensures gained { OnOk result
+        (gained.new.items
+        ≡ gained.old.items ++ model.strong_of_change schema.now (type_of column.now) (difference before.now now.now (type_of column.now)) now.now) }
+{
     let change = difference(alloc, before, now, column)?;
-    strong_of_change(alloc, schema, column, &change, now)
+    append_of_change(alloc, schema, column, &change, now, gained)?;
+    if leads_back(column, before, now) {
+        return append_of_change(alloc, schema, column, &change, before, lost);
+    }
+    let back = difference(alloc, now, before, column)?;
+    append_of_change(alloc, schema, column, &back, before, lost)
+}
+
+/// Returns whether the difference of the two values leads back as well. O(1).
+fn leads_back(column: &ColType, before: &Value, now: &Value) -> bool
+    ensures { result ≡ model.leads_back (type_of column.now) before.now now.now }
+{
+    !column.is_single() && !before.is_map() && !now.is_map()
+}
+
+/// Appends the rows that the elements or pairs of the change name, where the value has them too.
+fn append_of_change(
+    alloc: Global,
+    schema: &Schema,
+    column: &ColType,
+    change: &Value,
+    value: &Value,
+    rows: &mut Vec<RowId>,
+) -> Result<(), AllocError>
+    ensures { OnOk result
+        (rows.new.items
+        ≡ rows.old.items ++ model.strong_of_change schema.now (type_of column.now) change.now value.now) }
+{
+    let part = strong_of_change(alloc, schema, column, change, value)?;
+    append_all(&part, rows)
 }
 
 /// Returns whether values of the column may make strong references. O(1).

@@ -1,22 +1,23 @@
 //! Garbage collection (RFC 7047, section 3.2, `isRoot`). [P 5]
-ghost use Rattle.std.specs.Prelude.{◌≡◌, ◌++◌, ◌&&◌, ◌||◌, ◌<◌, false, filter, flat_map, length, not, true, ℕ, IfOk, IsTrue, OnOk};
+ghost use Rattle.std.specs.Prelude.{◌≡◌, [], ◌∷◌, ◌++◌, ◌&&◌, ◌||◌, ◌<◌, cond, false, filter, flat_map, length, not, true, ℕ, IfOk, IsTrue, OnOk};
 ghost use Rattle.std.specs.BTreeSet.{contains};
 ghost use Rattle.std.specs.List.{All, list_any};
 ghost use Rattle.odb_atoms.specs.Represented.Atom.{uuid_of};
+ghost use Rattle.odb_integrity.specs.References.{has_type, is_mixed};
 ghost use Rattle.odb_integrity.specs.Settled.{IsSettled};
 ghost use Rattle.odb_integrity.specs.Settlement as model;
-ghost use Rattle.odb_integrity.specs.Settlement.{kept, refers, row_ids, same_row};
+ghost use Rattle.odb_integrity.specs.Settlement.{is_there, kept, refers, row_ids, same_row};
 ghost use Rattle.odb_integrity.specs.Steps.{without_rows};
 ghost use Rattle.odb_integrity.specs.Represented.Reference.{mentions_by, references_of};
 ghost use Rattle.odb_integrity.specs.Represented.RowId.{row_id_cmp, supports};
 ghost use Rattle.odb_integrity.specs.Gained as gains;
-ghost use Rattle.odb_integrity.specs.Touched.{SupportedBut, hanging, is_lost, is_newly_referred, is_referrer};
+ghost use Rattle.odb_integrity.specs.Touched.{GainMissing, SupportedBut, hanging, is_lost, is_newly_referred, is_referrer};
 ghost use Rattle.odb_schema.specs.Schema.{is_root_at};
 ghost use Rattle.odb_tables.specs.Typed.{IsTyped};
 
-use crate::dangling::is_missing;
-use crate::gained::{append_all, gained};
-use crate::references::{has_mixed, row_refers, strong_of_row};
+use crate::dangling::{is_missing, is_one_missing};
+use crate::gained::append_changes;
+use crate::references::{append_strong, has_mixed, row_refers, strong_of_row};
 use crate::referrers::{Reference, references_of};
 use crate::row_id::RowId;
 use crate::rows::{in_order, remove_all, rows_of, touched_rows};
@@ -28,21 +29,58 @@ use uuid::Uuid;
 
 /// Takes out the rows that nothing keeps: those that are neither of a root table nor strongly referenced
 /// by another row that is kept. Only rows that may have lost what kept them are looked at, and what a row
-/// that goes out referred to.
+/// that goes out referred to. Returns the rows that gained a strong reference to a row that isn't there.
 pub(crate) fn collect_garbage(
     alloc: Global,
     draft: &mut Draft,
     schema: &Schema,
-) -> Result<(), AllocError>
+) -> Result<Vec<RowId>, AllocError>
     requires typed { IsTyped schema.now draft.old.now }
     requires settled { IsSettled schema.now draft.old.old }
+    ensures kept { IfOk result (λ _. draft.new.now ≡ kept schema.now draft.old.now) }
+    ensures gaining { IfOk result (λ gaining. GainMissing schema.now gaining.items draft.new.old draft.new.now) }
+    ensures base { draft.new.old ≡ draft.old.old }
+{
+    let mut gaining = Vec::new(alloc);
+    let waiting = first_waiting(alloc, draft, schema, &mut gaining)?;
+    remove_unkept(alloc, draft, schema, waiting)?;
+    Ok(gaining)
+}
+
+/// Takes out the rows that nothing keeps. Those that wait are all that may have lost it; but where a column pairs weak
+/// references with strong ones, a row of a settled database may lack it, and all rows are looked at.
+fn remove_unkept(
+    alloc: Global,
+    draft: &mut Draft,
+    schema: &Schema,
+    waiting: Vec<RowId>,
+) -> Result<(), AllocError>
+    requires typed { IsTyped schema.now draft.old.now }
+    requires waiting { has_type is_mixed schema.now ≡ false → SupportedBut schema.now draft.old.now waiting.items }
     ensures kept { OnOk result (draft.new.now ≡ kept schema.now draft.old.now) }
     ensures base { draft.new.old ≡ draft.old.old }
 {
     if is_all_root(schema) {
         return Ok(());
     }
-    let waiting = first_waiting(alloc, draft, schema)?;
+    if has_mixed(schema) {
+        let all = rows_of(alloc, draft)?;
+        return remove_waiting(alloc, draft, schema, all);
+    }
+    remove_waiting(alloc, draft, schema, waiting)
+}
+
+/// Takes out the rows that nothing keeps, where the waiting ones are all that may have lost it.
+fn remove_waiting(
+    alloc: Global,
+    draft: &mut Draft,
+    schema: &Schema,
+    waiting: Vec<RowId>,
+) -> Result<(), AllocError>
+    requires { SupportedBut schema.now draft.old.now waiting.items }
+    ensures kept { OnOk result (draft.new.now ≡ kept schema.now draft.old.now) }
+    ensures base { draft.new.old ≡ draft.old.old }
+{
     if waiting.is_empty() {
         return Ok(());
     }
@@ -62,60 +100,134 @@ fn is_all_root(schema: &Schema) -> bool
     true
 }
 
-/// Returns the rows that may lack what keeps them: those that are new, and those to which touched rows lost their
-/// strong references, but for rows to which a touched row gained one. Where a column pairs weak references
-/// with strong ones, a row of a settled database may lack it, and all rows are listed.
-fn first_waiting(alloc: Global, draft: &Draft, schema: &Schema) -> Result<Vec<RowId>, AllocError>
+/// Returns the rows that may lack what keeps them, where no column pairs weak references with strong ones: those that
+/// are new, and those to which touched rows lost their strong references, but for rows to which a touched row gained
+/// one. Lists in `gaining` the touched rows that gained one to a row that isn't there.
+fn first_waiting(
+    alloc: Global,
+    draft: &Draft,
+    schema: &Schema,
+    gaining: &mut Vec<RowId>,
+) -> Result<Vec<RowId>, AllocError>
     requires { IsSettled schema.now draft.now.old }
-    ensures { IfOk result (λ waiting. SupportedBut schema.now draft.now.now waiting.items) }
+    ensures waiting { IfOk result (λ waiting.
+        has_type is_mixed schema.now ≡ false → SupportedBut schema.now draft.now.now waiting.items) }
+    ensures gaining { IfOk result (λ _. GainMissing schema.now gaining.new.items draft.now.old draft.now.now) }
 {
-    if has_mixed(schema) {
-        return rows_of(alloc, draft);
-    }
     let touched = touched_rows(alloc, draft)?;
-    let rows = hanging_on(alloc, draft, schema, &touched)?;
-    let referred = newly_referred(alloc, draft, schema, &touched)?;
+    let mut rows = Vec::new(alloc);
+    let mut referred = BTreeSet::new(alloc);
+    note_all(
+        alloc,
+        draft,
+        schema,
+        &touched,
+        &mut rows,
+        &mut referred,
+        gaining,
+    )?;
     let waiting = without_support(alloc, schema, &referred, &rows)?;
     once_each(alloc, &waiting)
 }
 
-/// Returns the rows of the list that weren't there before, and those to which the others lost strong references.
-fn hanging_on(
+/// Compares each row of the list with what it was. Appends to `lost` those that weren't there, and the rows to which
+/// the others lost strong references; adds to `referred` the rows to which others gained one; and appends to `gaining`
+/// those that gained one to a row that isn't there.
+fn note_all(
     alloc: Global,
     draft: &Draft,
     schema: &Schema,
     rows: &[RowId],
-) -> Result<Vec<RowId>, AllocError>
-    ensures { IfOk result (λ all. all.items ≡ flat_map (hanging schema.now draft.now.old draft.now.now) rows.now) }
+    lost: &mut Vec<RowId>,
+    referred: &mut BTreeSet<RowId>,
+    gaining: &mut Vec<RowId>,
+) -> Result<(), AllocError>
+    ensures lost { OnOk result
+        (lost.new.items ≡ lost.old.items ++ flat_map (hanging schema.now draft.now.old draft.now.now) rows.now) }
+    ensures referred { OnOk result ((x : model.RowId)
+        → contains row_id_cmp referred.new x
+        ≡ (contains row_id_cmp referred.old x || is_newly_referred schema.now draft.now.old draft.now.now rows.now x)) }
+    ensures gaining { OnOk result
+        (gaining.new.items
+        ≡ gaining.old.items ++ flat_map (gains.gaining schema.now draft.now.old draft.now.now) rows.now) }
 {
-    let mut all = Vec::new(alloc);
     for row in rows {
-        append_hanging(alloc, draft, schema, *row, &mut all)?;
+        note_row(alloc, draft, schema, *row, lost, referred, gaining)?;
     }
-    Ok(all)
+    Ok(())
 }
 
-fn append_hanging(
+/// Does the same for one row.
+fn note_row(
     alloc: Global,
     draft: &Draft,
     schema: &Schema,
     id: RowId,
-    all: &mut Vec<RowId>,
+    lost: &mut Vec<RowId>,
+    referred: &mut BTreeSet<RowId>,
+    gaining: &mut Vec<RowId>,
 ) -> Result<(), AllocError>
-    ensures { OnOk result
-        (all.new.items ≡ all.old.items ++ hanging schema.now draft.now.old draft.now.now id) }
+    ensures lost { OnOk result
+        (lost.new.items ≡ lost.old.items ++ hanging schema.now draft.now.old draft.now.now id) }
+    ensures referred { OnOk result ((x : model.RowId)
+        → contains row_id_cmp referred.new x
+        ≡ (contains row_id_cmp referred.old x
+        || (not (same_row x id) && list_any (same_row x) (gains.gained schema.now draft.now.old draft.now.now id)))) }
+    ensures gaining { OnOk result
+        (gaining.new.items ≡ gaining.old.items ++ gains.gaining schema.now draft.now.old draft.now.now id) }
+{
+    let mut gained = Vec::new(alloc);
+    append_row(alloc, draft, schema, id, lost, &mut gained)?;
+    insert_others(id, &gained, referred)?;
+    note_missing(draft, id, &gained, gaining)
+}
+
+/// Appends to `lost` the row where it wasn't there before, else the rows to which it lost strong references; and to
+/// `gained` those to which it gained one.
+fn append_row(
+    alloc: Global,
+    draft: &Draft,
+    schema: &Schema,
+    id: RowId,
+    lost: &mut Vec<RowId>,
+    gained: &mut Vec<RowId>,
+) -> Result<(), AllocError>
+    ensures lost { OnOk result
+        (lost.new.items ≡ lost.old.items ++ hanging schema.now draft.now.old draft.now.now id) }
+    ensures gained { OnOk result
+        (gained.new.items ≡ gained.old.items ++ gains.gained schema.now draft.now.old draft.now.now id) }
 {
     match draft.before(id.table(), id.uuid()) {
-        Some(before) => {
-            // What the row as it was has, and the row as it is has not: that is what it lost.
-            let lost = gained(alloc, schema, id, draft.get(id.table(), id.uuid()), before)?;
-            append_all(&lost, all)
-        }
+        Some(before) => match draft.get(id.table(), id.uuid()) {
+            Some(now) => append_changes(alloc, schema, id, before, now, lost, gained),
+            None => append_strong(schema, id, before, lost),
+        },
         None => {
-            all.push(id)?;
-            Ok(())
+            lost.push(id)?;
+            match draft.get(id.table(), id.uuid()) {
+                Some(now) => append_strong(schema, id, now, gained),
+                None => Ok(()),
+            }
         }
     }
+}
+
+/// Appends the row, where one of those that it gained isn't there.
+fn note_missing(
+    draft: &Draft,
+    id: RowId,
+    gained: &[RowId],
+    gaining: &mut Vec<RowId>,
+) -> Result<(), AllocError>
+    ensures { OnOk result
+        (gaining.new.items
+        ≡ gaining.old.items ++ cond (list_any (λ y. not (is_there draft.now.now y)) gained.now) (id ∷ []) []) }
+{
+    if is_one_missing(draft, gained) {
+        gaining.push(id)?;
+        return Ok(());
+    }
+    Ok(())
 }
 
 /// Returns the rows in order, each of them once. O(n log n).
@@ -302,45 +414,6 @@ fn refers(draft: &Draft, schema: &Schema, id: RowId, referent: RowId) -> bool
     match draft.get(id.table(), id.uuid()) {
         Some(row) => row_refers(schema, id, row, referent),
         None => false,
-    }
-}
-
-/// Returns the rows to which a row of the list, and not they themselves, gained a strong reference.
-fn newly_referred(
-    alloc: Global,
-    draft: &Draft,
-    schema: &Schema,
-    rows: &[RowId],
-) -> Result<BTreeSet<RowId>, AllocError>
-    ensures { IfOk result (λ referred. (x : model.RowId)
-        → contains row_id_cmp referred x ≡ is_newly_referred schema.now draft.now.old draft.now.now rows.now x) }
-{
-    let mut referred = BTreeSet::new(alloc);
-    for row in rows {
-        insert_gained(alloc, draft, schema, *row, &mut referred)?;
-    }
-    Ok(referred)
-}
-
-/// Adds the other rows to which the row gained strong references.
-fn insert_gained(
-    alloc: Global,
-    draft: &Draft,
-    schema: &Schema,
-    id: RowId,
-    referred: &mut BTreeSet<RowId>,
-) -> Result<(), AllocError>
-    ensures { OnOk result ((x : model.RowId)
-        → contains row_id_cmp referred.new x
-        ≡ (contains row_id_cmp referred.old x
-        || (not (same_row x id) && list_any (same_row x) (gains.gained schema.now draft.now.old draft.now.now id)))) }
-{
-    match draft.get(id.table(), id.uuid()) {
-        Some(row) => {
-            let gained = gained(alloc, schema, id, draft.before(id.table(), id.uuid()), row)?;
-            insert_others(id, &gained, referred)
-        }
-        None => Ok(()),
     }
 }
 

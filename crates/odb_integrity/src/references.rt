@@ -84,7 +84,7 @@ pub(crate) fn strong_of_row(
 }
 
 /// Appends the rows to which a row has strong references. O(atoms).
-fn append_strong(
+pub(crate) fn append_strong(
     schema: &Schema,
     id: RowId,
     row: &Row,
@@ -185,7 +185,8 @@ pub(crate) fn strong_of_value(
     Ok(rows)
 }
 
-fn append_value(
+/// Appends the rows to which a value has strong references. O(atoms).
+pub(crate) fn append_value(
     schema: &Schema,
     column: &ColType,
     value: &Value,

@@ -7,6 +7,7 @@ ghost use Rattle.odb_tables.specs.Typed.{IsTyped};
 
 use crate::constraints::{exceeds_limit, has_too_few, has_too_many};
 use crate::dangling::has_dangling;
+use crate::gained::append_all;
 use crate::garbage::collect_garbage;
 use crate::indexes::has_duplicates;
 use crate::pruning::prune;
@@ -33,8 +34,9 @@ use std::alloc::{AllocError, Global};
 ///
 /// It costs what the transaction touched: O(rows touched, and their columns), O(tables) and O(columns of the schema).
 /// For each column of a touched row that may refer to rows, its values before and now are compared; where they differ
-/// it costs O(n) for the n atoms in them, and O(log n) for each that one of the two has alone. All that a new row names
-/// is looked up. Beyond that settlement looks at these rows, and at no others:
+/// it costs O(n) for the n atoms in them, and O(log n) for each that one of the two has alone. These n are gone over
+/// once, but twice in a column of maps, and in one that pairs weak references with strong ones once more. All that a
+/// new row names is looked up. Beyond that settlement looks at these rows, and at no others:
 ///
 /// - for each index, the touched rows of its table, and of the others those that may have the same values in its
 ///   columns as one that is new or has another value there, at what `Draft::has_new_twins` costs;
@@ -61,10 +63,11 @@ pub fn settle(
         answer_of settled draft.new.now ≡ model.settle schema.now max_rows draft.old.now) }
     ensures base { draft.new.old ≡ draft.old.old }
 {
-    collect_garbage(alloc, draft, schema)?;
+    let mut suspects = collect_garbage(alloc, draft, schema)?;
     let touched = touched_rows(alloc, draft)?;
     let mentioning = mentioning_missing(alloc, draft, schema, &touched)?;
-    if has_dangling(alloc, draft, schema, &touched, &mentioning)? {
+    append_all(&mentioning, &mut suspects)?;
+    if has_dangling(alloc, draft, schema, &suspects)? {
         return Ok(Err(Error::ReferentialIntegrityViolation));
     }
     prune(alloc, draft, schema, &touched, &mentioning)?;

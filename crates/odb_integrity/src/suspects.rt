@@ -1,4 +1,4 @@
-//! The rows in which a reference may lead to a row that isn't there (RFC 7047, section 3.2, `refType`). [P 5]
+//! The rows in which a weak reference may lead to a row that isn't there (RFC 7047, section 3.2, `refType`). [P 5]
 ghost use Rattle.std.specs.Prelude.{◌≡◌, ◌&&◌, ◌||◌, filter, option_and_then, slice_get, IfOk};
 ghost use Rattle.std.specs.List.{list_any};
 ghost use Rattle.std.specs.Option.{option_copied};
@@ -10,12 +10,11 @@ ghost use Rattle.odb_integrity.specs.Gained as model;
 ghost use Rattle.odb_integrity.specs.Gained.{cell_of};
 ghost use Rattle.odb_integrity.specs.Represented.Reference.{MentionGone, references_of};
 ghost use Rattle.odb_integrity.specs.Settled.{IsSettled};
-ghost use Rattle.odb_integrity.specs.Settlement.{dangles, is_stale};
+ghost use Rattle.odb_integrity.specs.Settlement.{is_stale};
 ghost use Rattle.odb_integrity.specs.Steps.{row_has_stale};
 ghost use Rattle.odb_integrity.specs.Touched.{Covers, SameBut};
 
-use crate::dangling::is_one_missing;
-use crate::gained::{append_all, gained, has_pair};
+use crate::gained::{append_all, has_pair};
 use crate::pruning::{has_stale, is_stale, is_stale_pair};
 use crate::references::{columns_of, is_weak, value_base, weak_target};
 use crate::row_id::RowId;
@@ -23,62 +22,6 @@ use odb_atoms::{Atom, ColType, Entries, Row, Value, difference};
 use odb_schema::{Schema, TableId};
 use odb_tables::Draft;
 use std::alloc::{AllocError, Global};
-
-/// Returns the rows that may have a strong reference to a row that isn't there. The rows of the base had none; so
-/// these are the touched rows that gained one, and the rows that mention a row that went, `mentioning`. For each
-/// touched row what `gained` costs.
-pub(crate) fn may_dangle(
-    alloc: Global,
-    draft: &Draft,
-    schema: &Schema,
-    touched: &[RowId],
-    mentioning: &[RowId],
-) -> Result<Vec<RowId>, AllocError>
-    requires base { IsSettled schema.now draft.now.old }
-    requires touched { SameBut touched.now draft.now.old draft.now.now }
-    requires mentioning { MentionGone (references_of schema.now) draft.now.now touched.now mentioning.now }
-    ensures { IfOk result (λ rows. Covers (dangles schema.now draft.now.now) draft.now.now rows.items) }
-{
-    let mut rows = gaining_missing(alloc, draft, schema, touched)?;
-    append_all(mentioning, &mut rows)?;
-    Ok(rows)
-}
-
-fn gaining_missing(
-    alloc: Global,
-    draft: &Draft,
-    schema: &Schema,
-    rows: &[RowId],
-) -> Result<Vec<RowId>, AllocError>
-    ensures { IfOk result (λ gaining.
-        gaining.items ≡ filter (model.gains_missing schema.now draft.now.old draft.now.now) rows.now) }
-{
-    let mut gaining = Vec::new(alloc);
-    for row in rows {
-        if gains_missing(alloc, draft, schema, *row)? {
-            gaining.push(*row)?;
-        }
-    }
-    Ok(gaining)
-}
-
-/// Returns whether the row gained a strong reference to a row that isn't there.
-fn gains_missing(
-    alloc: Global,
-    draft: &Draft,
-    schema: &Schema,
-    id: RowId,
-) -> Result<bool, AllocError>
-    ensures { IfOk result (λ gains. gains ≡ model.gains_missing schema.now draft.now.old draft.now.now id) }
-{
-    match draft.get(id.table(), id.uuid()) {
-        Some(row) => {
-            let gained = gained(alloc, schema, id, draft.before(id.table(), id.uuid()), row)?;
-            Ok(is_one_missing(draft, &gained))
-        }
-        None => Ok(false),
-    }
-}
 
 /// Returns the rows that may have a weak reference to a row that isn't there. The rows of the base had none; so
 /// these are the touched rows that gained one, and the rows that mention a row that went, `mentioning`. O(touched

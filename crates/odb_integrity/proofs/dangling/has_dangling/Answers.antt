@@ -1,7 +1,7 @@
 use Rattle.std.proofs.Common.{rules, ◌≡◌, true}
 use Rattle.odb_integrity.specs.Settlement.{at_row, dangles}
 use Rattle.odb_integrity.proofs.Touched.{no_row, one_row}
-use Rattle.odb_integrity.proofs.dangling.one_dangles.Goals as goal
+use Rattle.odb_integrity.proofs.dangling.has_dangling.Goals as goal
 
 pub returns-then-branch : goal.returns-then-branch
 returns-then-branch c =
