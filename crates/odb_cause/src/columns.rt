@@ -16,9 +16,9 @@ struct PartReader<'a> {
     is_update: bool,
 }
 
-/// What was found of parts of an operation.
+/// What is wrong with parts of an operation.
 #[derive(Clone, Copy)]
-enum Search {
+enum PartFault {
     /// All can be read.
     Nothing,
     /// One can't be, which is of this column where that is a declared one.
@@ -85,86 +85,86 @@ pub(crate) fn column_of(
         is_update: matches!(text_member("op", operation), Some("update")),
     };
     match reader.search(members)? {
-        Search::Unreadable(column) => Ok(column),
-        Search::Nothing => Ok(reader.only_one(items_of("mutations", members))),
+        PartFault::Unreadable(column) => Ok(column),
+        PartFault::Nothing => Ok(reader.only_one(items_of("mutations", members))),
     }
 }
 
 impl PartReader<'_> {
     /// Looks for the first part of an operation that can't be read.
-    fn search(self, members: &Map<String, Value>) -> Result<Search, AllocError> {
+    fn search(self, members: &Map<String, Value>) -> Result<PartFault, AllocError> {
         let found = self.in_conditions(items_of("where", members))?;
-        if matches!(found, Search::Unreadable(_)) {
+        if matches!(found, PartFault::Unreadable(_)) {
             return Ok(found);
         }
         let found = self.in_mutations(items_of("mutations", members))?;
-        if matches!(found, Search::Unreadable(_)) {
+        if matches!(found, PartFault::Unreadable(_)) {
             return Ok(found);
         }
         let found = self.in_row(member("row", members))?;
-        if matches!(found, Search::Unreadable(_)) {
+        if matches!(found, PartFault::Unreadable(_)) {
             return Ok(found);
         }
         self.in_rows(items_of("rows", members))
     }
 
     /// Looks for the first condition that can't be read.
-    fn in_conditions(self, items: &[Value]) -> Result<Search, AllocError> {
+    fn in_conditions(self, items: &[Value]) -> Result<PartFault, AllocError> {
         for item in items {
             if !self.reads_condition(item)? {
-                return Ok(Search::Unreadable(self.first_of(item)));
+                return Ok(PartFault::Unreadable(self.first_of(item)));
             }
         }
-        Ok(Search::Nothing)
+        Ok(PartFault::Nothing)
     }
 
     /// Looks for the first mutation that can't be read.
-    fn in_mutations(self, items: &[Value]) -> Result<Search, AllocError> {
+    fn in_mutations(self, items: &[Value]) -> Result<PartFault, AllocError> {
         for item in items {
             if !self.reads_mutation(item)? {
-                return Ok(Search::Unreadable(self.first_of(item)));
+                return Ok(PartFault::Unreadable(self.first_of(item)));
             }
         }
-        Ok(Search::Nothing)
+        Ok(PartFault::Nothing)
     }
 
     /// Looks for the first column of the row that is written, by ascending name, whose value can't be read.
-    fn in_row(self, row: Option<&Value>) -> Result<Search, AllocError> {
+    fn in_row(self, row: Option<&Value>) -> Result<PartFault, AllocError> {
         let Some(Value::Object(members)) = row else {
-            return Ok(Search::Nothing);
+            return Ok(PartFault::Nothing);
         };
         for (name, value) in members.iter() {
             let column = self.table.column(name.as_str());
             if !self.reads_value(column, value)? {
-                return Ok(Search::Unreadable(column));
+                return Ok(PartFault::Unreadable(column));
             }
         }
-        Ok(Search::Nothing)
+        Ok(PartFault::Nothing)
     }
 
     /// Looks for the first column of rows to compare with whose value isn't of its kind.
-    fn in_rows(self, rows: &[Value]) -> Result<Search, AllocError> {
+    fn in_rows(self, rows: &[Value]) -> Result<PartFault, AllocError> {
         for row in rows {
             let found = self.in_expected(row)?;
-            if matches!(found, Search::Unreadable(_)) {
+            if matches!(found, PartFault::Unreadable(_)) {
                 return Ok(found);
             }
         }
-        Ok(Search::Nothing)
+        Ok(PartFault::Nothing)
     }
 
     /// Looks for the first column of a row to compare with, by ascending name, whose value isn't of its kind.
-    fn in_expected(self, row: &Value) -> Result<Search, AllocError> {
+    fn in_expected(self, row: &Value) -> Result<PartFault, AllocError> {
         let Some(members) = row.as_object() else {
-            return Ok(Search::Unreadable(None));
+            return Ok(PartFault::Unreadable(None));
         };
         for (name, value) in members.iter() {
             let column = self.table.column(name.as_str());
             if !self.reads_expected(column, value)? {
-                return Ok(Search::Unreadable(column));
+                return Ok(PartFault::Unreadable(column));
             }
         }
-        Ok(Search::Nothing)
+        Ok(PartFault::Nothing)
     }
 
     /// Returns whether the condition can be read.

@@ -19,7 +19,7 @@ ghost use Rattle.odb_schema.specs.Json.{array_of};
 ghost use Rattle.odb_schema.specs.SchemaText.{write_schema};
 
 use crate::finished::Finished;
-use crate::meaning::{Meaning, Printed, Transacted};
+use crate::meaning::{MessageMeaning, Printed, Transacted};
 use crate::post::Post;
 use crate::results::results_text;
 use crate::served_schema::ServedSchema;
@@ -53,7 +53,7 @@ pub fn answer_at_once(
     Ok(Some(Finished {
         text,
         is_reply: true,
-        meaning: Meaning::of(&Printed::AtOnce(request, served.schema())),
+        meaning: MessageMeaning::of(&Printed::AtOnce(request, served.schema())),
     }))
 }
 
@@ -120,7 +120,7 @@ pub fn replied(alloc: Global, request: &Request, value: &Value) -> Result<Finish
     Ok(Finished {
         text,
         is_reply: true,
-        meaning: Meaning::of(&Printed::Success(request, value)),
+        meaning: MessageMeaning::of(&Printed::Success(request, value)),
     })
 }
 
@@ -140,7 +140,7 @@ pub fn replied_as(
     Ok(Finished {
         text,
         is_reply: true,
-        meaning: Meaning::of_results(&Transacted { request, results }),
+        meaning: MessageMeaning::of_results(&Transacted { request, results }),
     })
 }
 
@@ -154,7 +154,7 @@ pub fn failed(alloc: Global, request: &Request, why: Failure) -> Result<Finished
     Ok(Finished {
         text,
         is_reply: true,
-        meaning: Meaning::of(&Printed::Failure(request, &why)),
+        meaning: MessageMeaning::of(&Printed::Failure(request, &why)),
     })
 }
 
@@ -183,7 +183,7 @@ fn noticed(alloc: Global, notice: &Notice) -> Result<Finished, AllocError>
     Ok(Finished {
         text,
         is_reply: false,
-        meaning: Meaning::of(&Printed::Notice(notice)),
+        meaning: MessageMeaning::of(&Printed::Notice(notice)),
     })
 }
 

@@ -4,7 +4,7 @@ ghost use Rattle.std.specs.Prelude.{◌≡◌};
 ghost use Rattle.serde_json.specs.Written.{compact_text};
 ghost use Rattle.odb_service.specs.Session.{is_answer};
 
-use crate::meaning::Meaning;
+use crate::meaning::MessageMeaning;
 use std::alloc::AllocError;
 
 /// A finished text, whether it is a reply, and what it means.
@@ -12,7 +12,7 @@ use std::alloc::AllocError;
 pub struct Finished {
     pub text: Vec<u8>,
     pub is_reply: bool,
-    pub meaning: Meaning,
+    pub meaning: MessageMeaning,
     ghost printed: { text.items ≡ compact_text meaning.message },
     ghost counted: { is_reply ≡ is_answer meaning.answers },
 }

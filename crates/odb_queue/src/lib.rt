@@ -14,6 +14,6 @@ mod served_schema;
 
 pub use answer::{answer_at_once, failed, notices, replied, replied_as};
 pub use finished::Finished;
-pub use meaning::Meaning;
+pub use meaning::MessageMeaning;
 pub use post::Post;
 pub use served_schema::ServedSchema;

@@ -37,39 +37,39 @@ pub(crate) struct Transacted<'a> {
 
 /// Which request a message replies to, and the message as data.
 #[derive(Drop)]
-pub struct Meaning {
+pub struct MessageMeaning {
     pub ghost answers: { Answers } by { answers_code },
     pub ghost message: { Data } by { data_code },
 }
 
-impl Model for Meaning {
+impl Model for MessageMeaning {
     ghost also_owns = { λ _. ftrue };
 }
 
 // It owns nothing.
-unsafe impl Send for Meaning {}
+unsafe impl Send for MessageMeaning {}
 
-impl Meaning {
+impl MessageMeaning {
     /// Returns the meaning of what is printed from these.
-    pub(crate) fn of(_printed: &Printed<'_>) -> Meaning
+    pub(crate) fn of(_printed: &Printed<'_>) -> MessageMeaning
         ensures { (result.answers ≡ (out_of _printed.now).answers)
             × (result.message ≡ (out_of _printed.now).message) }
     {
-        Meaning {}
+        MessageMeaning {}
     }
 
     /// Returns the meaning of the reply of a transaction.
-    pub(crate) fn of_results(_transacted: &Transacted<'_>) -> Meaning
+    pub(crate) fn of_results(_transacted: &Transacted<'_>) -> MessageMeaning
         ensures { (result.answers ≡ (reply_of _transacted.entry.now).answers)
             × (result.message ≡ (reply_of _transacted.entry.now).message) }
     {
-        Meaning {}
+        MessageMeaning {}
     }
 
     /// Makes the same.
-    pub fn copy(&self) -> Meaning
+    pub fn copy(&self) -> MessageMeaning
         ensures { (result.answers ≡ self.now.answers) × (result.message ≡ self.now.message) }
     {
-        Meaning {}
+        MessageMeaning {}
     }
 }

@@ -1,6 +1,6 @@
 -- A meaning owns nothing, so it may go to another thread.
 use denote.Param.Send.{IsSend, owning_send}
-use Rattle.odb_queue.specs.contracts.meaning.Meaning.{the_row, the_type}
+use Rattle.odb_queue.specs.contracts.meaning.MessageMeaning.{the_row, the_type}
 
 pub send : IsSend the_row
 send = owning_send the_type tt (λ d. tt) (λ k x w. tt)

@@ -25,13 +25,13 @@ use denote.Triple.Entry.{alive}
 use denote.Triple.Spec.{Meets, triple_of}
 use denote.Triple.Table.{entered}
 use denote.Triple.Walked.{says, Stays, stay_dropped, walk_of, ends_at, walk_Meets, Goes-dropped}
-use Rattle.odb_queue.specs.contracts.meaning.Meaning as Meaning
+use Rattle.odb_queue.specs.contracts.meaning.MessageMeaning as MessageMeaning
 use Rattle.odb_queue.specs.contracts.meaning.Transacted as Transacted
-use Rattle.odb_queue.specs.contracts.meaning.Meaning.of_results as F
-use Rattle.odb_queue.specs.contracts.meaning.Meaning.of_results.Key.{name as #self}
+use Rattle.odb_queue.specs.contracts.meaning.MessageMeaning.of_results as F
+use Rattle.odb_queue.specs.contracts.meaning.MessageMeaning.of_results.Key.{name as #self}
 use Rattle.odb_queue.specs.Represented.Printed.{reply_of}
-use Rattle.odb_queue.proofs.meaning.Meaning.of_results.Statement as stated
-use Rattle.odb_queue.proofs.meaning.Meaning.of_results.Code as code
+use Rattle.odb_queue.proofs.meaning.MessageMeaning.of_results.Statement as stated
+use Rattle.odb_queue.proofs.meaning.MessageMeaning.of_results.Code as code
 
 abbrev stayed : Stays (F.ended).signature.params (F.ended).kept
 stayed = (stay_dropped _ yes, tt)
@@ -53,7 +53,7 @@ module _ {M : Type 1} {𝓤 : Ura M} (𝓛 : Logic 𝓤) (at_mem : Memory → SP
     walks =
         let a = z.0.3 in
         let vss = z.0.4 in
-        let made : (Meaning.the_row).Denot = record { answers = (reply_of a.0.now).answers; message = (reply_of a.0.now).message } in
+        let made : (MessageMeaning.the_row).Denot = record { answers = (reply_of a.0.now).answers; message = (reply_of a.0.now).message } in
         qed 𝓛 ((raw toks ⊛ ‵ (owns (types_at (F.ended).signature.params z.0.0) a vss)) ∷ raw ((held z.0.0 a).requires z.1) ∷ []) ∵
         keep ! (0 ∷ []) $ split ! $ move ! (1 ∷ []) $
         fsplit ! $ fsplit ! $ feq_l ! (λ is₀. drop ! $ drop ! $
@@ -63,7 +63,7 @@ module _ {M : Type 1} {𝓤 : Ura M} (𝓛 : Logic 𝓤) (at_mem : Memory → SP
         sets ! (agg ! (no_more !)) refl (tt, tt) $
         returns ! (look_at ! 0 refl) $ free_all ! refl $
         suffices ! _ (ends_at 𝓛 F.ended stayed held z (vstruct vnil) made (tt, tt) (tt, tt)) $ says ! (refl, refl) $
-        pure_i ! (Meaning.the_row.own_val made (vstruct vnil ∷ [])) ((λ vss. (tt, tt)), tt) ((tt, (refl, tt)), tt) $
+        pure_i ! (MessageMeaning.the_row.own_val made (vstruct vnil ∷ [])) ((λ vss. (tt, tt)), tt) ((tt, (refl, tt)), tt) $
         nothing ! $ nothing ! $ fjoin ! $ move ! (2 ∷ 0 ∷ 1 ∷ []) $ done !))
 
   meets : (𝓣 : Tables 𝓤 H) → Meets 𝓛 (F.ended).signature (WpFn 𝓤 H 𝓣.C 𝓣.Λ code.function) (closing 𝓛 F.ended held)
