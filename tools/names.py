@@ -26,10 +26,8 @@ TWICE = {
     "Kind": "odb_request: a notation of updates; odb_atoms: an atomic type",
     "Line": "ovsdbd: a line of the log; odb_monitor: what becomes of a row",
     "Reference": "odb_integrity: with the column that makes it; odb_atoms: as the type has it",
-    "Refused": "odb_core: why a call did nothing; odb_atoms: a list that makes no value",
     "Rows": "odb_ops: rows that are printed; odb_tables: rows of a table",
     "Select": "odb_request: kinds of change (RFC 7047, 4.1.5, <monitor-select>); odb_json: the operation (5.2.2)",
-    "Setting": "odb_core: what transactions are tried with; odb_ops: what operations are carried out with",
     "Told": "odb_sessions: what all clients were told, as marks; odb_monitor: what one was told of a table's rows",
 }
 

@@ -24,5 +24,5 @@ pub use failed::Failed;
 pub use odb_cause::{Cause, Detail, Stage};
 pub use odb_locks::SessionId;
 pub use odb_sessions::{FirstText, Job, Jobs, Out, Prepared, Told};
-pub use refused::Refused;
+pub use refused::EventRefusal;
 pub use server::{Core, MAX_SESSIONS};

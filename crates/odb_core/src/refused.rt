@@ -1,13 +1,13 @@
 //! Why an event is refused. [P 13.1]
 ghost use Rattle.std.specs.Prelude.{◌≡◌};
-ghost use Rattle.odb_core.specs.declared.refused.Refused.TheVariants.{Memory};
+ghost use Rattle.odb_core.specs.declared.refused.EventRefusal.TheVariants.{Memory};
 
 use std::alloc::AllocError;
 use thiserror::Error;
 
 /// Why a call on a [`Core`](crate::Core) did nothing: with each of these the core is as it was.
 #[derive(Clone, Copy, Debug, Error)]
-pub enum Refused {
+pub enum EventRefusal {
     /// Memory was refused.
     #[error("out of memory")]
     Memory,
@@ -22,10 +22,10 @@ pub enum Refused {
     Gone,
 }
 
-impl From<AllocError> for Refused {
+impl From<AllocError> for EventRefusal {
     ghost from_gives = { λ _ refused. refused ≡ Memory };
 
-    fn from(_refused: AllocError) -> Refused {
-        Refused::Memory
+    fn from(_refused: AllocError) -> EventRefusal {
+        EventRefusal::Memory
     }
 }

@@ -9,10 +9,10 @@ ghost use Rattle.odb_wire.specs.Shown.{request_data};
 ghost use Rattle.odb_service.specs.Run.{closed, max_sessions, once, opened, round, submitted, ticked};
 ghost use Rattle.odb_core.specs.Causes.{FailsFor};
 ghost use Rattle.odb_core.specs.Deadlines.{earliest};
-ghost use Rattle.odb_core.specs.declared.refused.Refused.TheVariants as refused;
+ghost use Rattle.odb_core.specs.declared.refused.EventRefusal.TheVariants as refused;
 
 use crate::failed::Failed;
-use crate::refused::Refused;
+use crate::refused::EventRefusal;
 use crate::state::State;
 use odb_cause::Cause;
 use odb_locks::SessionId;
@@ -102,7 +102,7 @@ impl Core {
     /// Opens a session, and returns its number, which no session had before: they are numbered from 0
     /// in order of opening. It is refused with `TooMany` where 4,096 sessions are open, and with
     /// `Memory`, also where 2^64-1 sessions were opened and no number is left. O(log n).
-    pub fn open(&mut self) -> Result<SessionId, Refused>
+    pub fn open(&mut self) -> Result<SessionId, EventRefusal>
         ensures number { IfOk result (λ session. session ≡ self.old.opened) }
         ensures ok { IfOk result (λ session. serve (opened session) self.old ≡ Ok (self.new, [])) }
         ensures why { IfErr result (λ why. IsReason why (serve (opened self.old.opened) self.old)) }
@@ -110,7 +110,7 @@ impl Core {
         ensures err { OnErr result (self.new ≡ self.old) }
     {
         if self.state.sessions.len() >= MAX_SESSIONS {
-            return Err(Refused::TooMany);
+            return Err(EventRefusal::TooMany);
         }
         Ok(self.state.open()?)
     }
@@ -125,13 +125,13 @@ impl Core {
     /// Ends a session: its claims are released, with the notices to those that own now, its transactions
     /// that wait and its queue are dropped. It is refused with `Gone` where no such session is open, and
     /// with `Memory`. O(log n + w + its claims).
-    pub fn close(&mut self, session: SessionId) -> Result<(), Refused>
+    pub fn close(&mut self, session: SessionId) -> Result<(), EventRefusal>
         ensures ok { OnOk result (serve (closed session) self.old ≡ Ok (self.new, [])) }
         ensures why { IfErr result (λ why. IsReason why (serve (closed session) self.old)) }
         ensures err { OnErr result (self.new ≡ self.old) }
     {
         if !self.state.sessions.has(session) {
-            return Err(Refused::Gone);
+            return Err(EventRefusal::Gone);
         }
         self.state.close(session)?;
         Ok(())
@@ -150,7 +150,7 @@ impl Core {
         request: Request,
         fresh: &[Uuid],
         now: u64,
-    ) -> Result<(), (Request, Refused)>
+    ) -> Result<(), (Request, EventRefusal)>
         requires { inserts_of (request_data request) ≤ length fresh.now }
         ensures ok { OnOk result (serve (submitted session (request_data request) (map uuid_of fresh.now) now) self.old
             ≡ Ok (self.new, [])) }
@@ -160,13 +160,13 @@ impl Core {
         ensures request_back { IfErr result (λ back. back.0 ≡ request) }
     {
         match self.state.is_busy(session, &request) {
-            None => return Err((request, Refused::Gone)),
-            Some(true) => return Err((request, Refused::Busy)),
+            None => return Err((request, EventRefusal::Gone)),
+            Some(true) => return Err((request, EventRefusal::Busy)),
             Some(false) => {}
         }
         match self.state.receive(session, request, fresh, now) {
             Ok(()) => Ok(()),
-            Err((request, _)) => Err((request, Refused::Memory)),
+            Err((request, _)) => Err((request, EventRefusal::Memory)),
         }
     }
 

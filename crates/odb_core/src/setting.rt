@@ -22,14 +22,14 @@ pub(crate) const MAX_ROWS: usize = 1_000_000;
 
 /// What transactions are tried with: the schema, the locks and the moment, in milliseconds.
 #[derive(Clone, Copy)]
-pub(crate) struct Setting<'a> {
+pub(crate) struct TransactionSetting<'a> {
     pub(crate) alloc: Global,
     pub(crate) schema: &'a Schema,
     pub(crate) locks: &'a Locks,
     pub(crate) now: u64,
 }
 
-impl Setting<'_> {
+impl TransactionSetting<'_> {
     /// Returns what a transaction comes to on the database of the draft, in which nothing is changed yet, after so many
     /// commits.
     pub(crate) fn outcome(

@@ -20,7 +20,7 @@ ghost use Rattle.odb_sessions.specs.Represented.Ended.{ending_of};
 
 use crate::failed::Failed;
 use crate::failures::Failures;
-use crate::setting::Setting;
+use crate::setting::TransactionSetting;
 use crate::submitted::Submitted;
 use crate::upcoming::Plan;
 use crate::waiting_list::WaitingList;
@@ -122,12 +122,12 @@ impl State {
     }
 
     /// Returns what transactions are tried with.
-    pub(crate) fn setting(&self) -> Setting<'_>
+    pub(crate) fn setting(&self) -> TransactionSetting<'_>
         ensures schema { result.schema.now ≡ self.entry.now.schema }
         ensures locks { result.locks.now ≡ self.entry.now.world.locks }
         ensures now { result.now ≡ self.entry.now.world.now }
     {
-        Setting {
+        TransactionSetting {
             alloc: self.alloc,
             schema: self.served.schema(),
             locks: &self.locks,

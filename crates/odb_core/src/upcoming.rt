@@ -16,7 +16,7 @@ ghost use Rattle.odb_core.specs.Represented.Waiting.{IsDone, IsOutcome, ends, le
 
 use crate::failed::Failed;
 use crate::marks::{is_marked, unmark};
-use crate::setting::Setting;
+use crate::setting::TransactionSetting;
 use crate::state::{State, changes_rows};
 use crate::submitted::Submitted;
 use crate::waiting::{Tried, Waiting};
@@ -44,7 +44,7 @@ pub(crate) struct Plan {
 #[derive(Drop)]
 pub(crate) struct Upcoming<'a> {
     alloc: Global,
-    setting: Setting<'a>,
+    setting: TransactionSetting<'a>,
     opened: usize,
     sessions: &'a Sessions,
     pending: Pending<'a>,

@@ -4,7 +4,7 @@ use Rattle.std.specs.Prelude.{Result, reverse}
 use Rattle.std.proofs.lemmas.List.{drop_at, get_or-map, get_or-reverse, length-append, length-map, length-reverse, map-append, nil_from_length, reverse-append, reverse-reverse, take_at}
 use Rattle.std.proofs.lemmas.List.Elements.{filter-append}
 use Rattle.serde_json.specs.Data.{Data, null}
-use Rattle.odb_core.specs.declared.refused.Refused.{Refused}
+use Rattle.odb_core.specs.declared.refused.EventRefusal.{EventRefusal}
 use Rattle.odb_service.specs.Run.{Event, closed, opened, round, submitted, ticked}
 use Rattle.odb_wire.specs.Feeding.{Adds}
 use Rattle.odb_wire.specs.Stream.{messages}
@@ -15,7 +15,7 @@ use Rattle.odb_hub.specs.Inbox.{Inbox, IsInOrder, Pending, is_asked, messages_of
 use Rattle.odb_hub.specs.Represented.Inbox.{pending_in, pending_of, submitted_in}
 use Rattle.odb_hub.specs.Represented.Submission.{events_of}
 use Rattle.odb_hub.specs.declared.submission.Submission.{Submission}
-use Rattle.odb_hub.specs.declared.submitted.Step.{Step}
+use Rattle.odb_hub.specs.declared.submitted.BatchStep.{BatchStep}
 
 map-reverse : {A B : Type 0} (f : A → B) (xs : List A) → map f (reverse xs) ≡ reverse (map f xs)
 map-reverse f [] = refl
@@ -50,7 +50,7 @@ front_is s now ps qs taken e =
     sym (asked_back s now ps) ∙ ap (map asked_in) e ∙ map-append asked_in taken (events_at s now qs) ∙ ap (λ rest. map asked_in taken ++ rest) (asked_back s now qs)
 
 -- a turn takes what is pending from the front
-pub turn_front : {A : Type 0} (r : Result A Refused) (s now : ℕ) (xs ys : List Submission) (old new : Kept) → Submits r s (events_of s now xs) (events_of s now ys) old new → (front : List Pending) × (pending_of xs ≡ front ++ pending_of ys)
+pub turn_front : {A : Type 0} (r : Result A EventRefusal) (s now : ℕ) (xs ys : List Submission) (old new : Kept) → Submits r s (events_of s now xs) (events_of s now ys) old new → (front : List Pending) × (pending_of xs ≡ front ++ pending_of ys)
 turn_front r s now xs ys old new h =
     (map asked_in h.1.0, front_is s now (pending_of xs) (pending_of ys) h.1.0 (sym (events_are s now xs) ∙ h.1.1 ∙ ap (λ es. h.1.0 ++ es) (events_are s now ys)))
 
@@ -67,7 +67,7 @@ front_taken xs ys front e =
     ap (take (length xs - length ys)) e ∙ take_at front (pending_of ys) (length xs - length ys) long
 
 -- what is gone of a batch is the front of what was pending
-pub noted : (step : Step) (xs ys : List Submission) (front : List Pending) → step.before.value.items ≡ xs → step.left.value.items ≡ ys → pending_of xs ≡ front ++ pending_of ys → submitted_in step ≡ messages_of front
+pub noted : (step : BatchStep) (xs ys : List Submission) (front : List Pending) → step.before.value.items ≡ xs → step.left.value.items ≡ ys → pending_of xs ≡ front ++ pending_of ys → submitted_in step ≡ messages_of front
 noted step xs ys front before left e =
     (λ i. messages_of (take (length (before i) - length (left i)) (pending_of (before i)))) ∙ ap messages_of (front_taken xs ys front e)
 

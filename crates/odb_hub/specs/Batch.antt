@@ -2,7 +2,7 @@
 use Rattle.std.specs.Prelude.{◌≡◌, ℕ, ◌≤◌, ◌<◌, ◌+◌, nat_lt, Bool, true, false, List, [], ◌∷◌, ◌++◌, Option, Some, None, IfErr, Result}
 use Rattle.odb_service.specs.Run.{Event}
 use Rattle.odb_service.specs.Server.{Server, serve}
-use Rattle.odb_core.specs.declared.refused.Refused.{Refused}
+use Rattle.odb_core.specs.declared.refused.EventRefusal.{EventRefusal}
 use Rattle.odb_core.specs.Represented.Reason.{IsReason}
 use Rattle.odb_hub.specs.Kept.{Kept, Takes}
 use Rattle.odb_hub.specs.Own.{GivesOwn}
@@ -17,12 +17,12 @@ abbrev pub TakesUpTo : List Event → List Event → Kept → Kept → Type 0
 TakesUpTo events left old new = (taken : List Event) × (events ≡ taken ++ left) × TakesAll taken old new
 
 -- there is a first event, and the server refuses it for this reason
-abbrev pub RefusesFirst : Refused → List Event → Server → Type 0
+abbrev pub RefusesFirst : EventRefusal → List Event → Server → Type 0
 RefusesFirst why [] server = ⊥
 RefusesFirst why (e ∷ es) server = IsReason why (serve e server)
 
 -- these events of a session are taken up to what is left, of which the first is refused for the reason of the result; then come rounds of the session alone
-abbrev pub Submits : {A : Type 0} → Result A Refused → ℕ → List Event → List Event → Kept → Kept → Type 0
+abbrev pub Submits : {A : Type 0} → Result A EventRefusal → ℕ → List Event → List Event → Kept → Kept → Type 0
 Submits result s events left old new = (taken : Kept) × TakesUpTo events left old taken × IfErr result (λ why. RefusesFirst why left taken.server) × GivesOwn s taken new
 
 -- a turn takes at most 64 of a batch of so many, and leaves so many

@@ -1,6 +1,6 @@
 //! What the lock guards, and the ledger of what its seats were answered.
 ghost use Rattle.std.specs.Prelude.{◌≡◌, ◌+◌, ◌-◌, ◌⊎◌, ℕ, [], length, true, false, IfErr, IfOk, OnErr, OnOk};
-ghost use Rattle.odb_core.specs.declared.refused.Refused.TheVariants as refused;
+ghost use Rattle.odb_core.specs.declared.refused.EventRefusal.TheVariants as refused;
 ghost use Rattle.odb_hub.specs.Batch as batch;
 ghost use Rattle.odb_service.specs.Run.{opened, ticked};
 
@@ -11,7 +11,7 @@ use crate::seat::Seat;
 use crate::state::HubState;
 use crate::submission::Submission;
 use crate::turn::Turn;
-use odb_core::{Core, Refused, SessionId};
+use odb_core::{Core, EventRefusal, SessionId};
 use odb_par::{Gate, Workers};
 use std::alloc::{AllocError, Global};
 use std::marker::Model;
@@ -24,7 +24,7 @@ use std::time::{Clock, Duration};
 #[derive(Drop)]
 pub struct BatchOutcome {
     /// Whether a session may be owed something, where nothing was refused; else why the turn stopped.
-    pub owes: Result<bool, Refused>,
+    pub owes: Result<bool, EventRefusal>,
     /// Whether the session was given what it is owed; an error says that memory was refused, and that it is owed it still.
     pub given: Result<(), AllocError>,
     /// Whether few sessions may be owed something, of which half or more have rested, so that they are to be told at once.
@@ -114,7 +114,7 @@ impl<L: Ledger> Counted<L> {
 
     /// Opens a session, with a seat that was answered nothing. It is refused as [`HubState::open`] is, and with `Memory`
     /// where all seats are given. O(log n).
-    pub fn open(&mut self, bell: Bell) -> Result<(Seat<L>, Mailbox), Refused>
+    pub fn open(&mut self, bell: Bell) -> Result<(Seat<L>, Mailbox), EventRefusal>
         ensures ok { IfOk result (λ ends. Takes (opened ends.0.session) self.old.kept self.new.kept []) }
         ensures ring { IfOk result (λ ends. self.new.kept.rings ≡ insert self.old.kept.rings ends.0.session (fresh_ring (name_of ends.1))) }
         ensures mailbox { IfOk result (λ ends. taken ends.1 ≡ []) }
@@ -124,7 +124,7 @@ impl<L: Ledger> Counted<L> {
         ensures err { OnErr result (self.new ≡ self.old) }
     {
         if self.seats == 0 {
-            return Err(Refused::Memory);
+            return Err(EventRefusal::Memory);
         }
         let (session, mailbox) = self.state.open(bell)?;
         let share = self.parted.split_off(1, 0);
@@ -276,7 +276,7 @@ impl<L: Ledger> Counted<L> {
     {
         match self.state.close(session) {
             Ok(()) => true,
-            Err(Refused::Gone) => true,
+            Err(EventRefusal::Gone) => true,
             Err(_) => false,
         }
     }

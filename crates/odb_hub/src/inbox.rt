@@ -10,7 +10,7 @@ ghost use Rattle.odb_hub.specs.Inbox.{messages_of, requests_in};
 use crate::counted::{BatchOutcome, Counted};
 use crate::seat::Seat;
 use crate::submission::Submission;
-use crate::submitted::{Step, SubmittedRequests};
+use crate::submitted::{BatchStep, SubmittedRequests};
 use odb_rpc::inserts;
 use odb_wire::{Framer, Message, Request, WireFault};
 use std::alloc::{AllocError, Global};
@@ -161,7 +161,7 @@ impl Inbox {
             return None;
         };
         let left = Snapshot::of(&self.batch);
-        let step = Step { before, left };
+        let step = BatchStep { before, left };
         self.submitted = self.submitted.after(&step);
         Some(first)
     }
@@ -196,7 +196,7 @@ impl Inbox {
             unreachable!();
         };
         let left = Snapshot::of(&self.batch);
-        let step = Step { before, left };
+        let step = BatchStep { before, left };
         self.submitted = self.submitted.after(&step);
         Ok(outcome)
     }
@@ -222,7 +222,7 @@ impl Inbox {
     {
         let before = Snapshot::of(&self.batch);
         let outcome = hub.submit_turn(rt, seat, &mut self.batch, now);
-        let step = Step {
+        let step = BatchStep {
             before,
             left: Snapshot::of(&self.batch),
         };

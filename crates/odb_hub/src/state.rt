@@ -2,7 +2,7 @@
 ghost use Rattle.std.specs.Prelude.{◌≡◌, ◌⊎◌, ℕ, true, false, [], map, length, IfErr, IfOk, Ok, OnErr, OnOk};
 ghost use Rattle.odb_atoms.specs.Represented.Atom.{uuid_of};
 ghost use Rattle.odb_wire.specs.Shown.{request_data};
-ghost use Rattle.odb_core.specs.declared.refused.Refused.TheVariants as refused;
+ghost use Rattle.odb_core.specs.declared.refused.EventRefusal.TheVariants as refused;
 ghost use Rattle.odb_service.specs.Run.{closed, opened, round, submitted, ticked};
 
 use crate::bell::Bell;
@@ -13,7 +13,7 @@ use crate::mailbox::Mailbox;
 use crate::rings::Rings;
 use crate::submission::Submission;
 use crate::turn::Turn;
-use odb_core::{Core, Refused, SessionId};
+use odb_core::{Core, EventRefusal, SessionId};
 use odb_par::{Gate, Open, Workers};
 use std::alloc::{AllocError, Global};
 use std::marker::Model;
@@ -100,7 +100,7 @@ impl HubState {
     /// Opens a session, with a ring of its own that rings this bell, and the mailbox where that comes out. Ring and mailbox
     /// are the two ends of one ring, so the mailbox gives just what is sent into it. It is refused with `TooMany` where
     /// 4,096 sessions are open, and with `Memory`, also where no number is left. O(log n).
-    pub fn open(&mut self, bell: Bell) -> Result<(SessionId, Mailbox), Refused>
+    pub fn open(&mut self, bell: Bell) -> Result<(SessionId, Mailbox), EventRefusal>
         ensures ok { IfOk result (λ ends. Takes (opened ends.0) self.old self.new []) }
         ensures ring { IfOk result (λ ends. self.new.rings ≡ insert self.old.rings ends.0 (fresh_ring (name_of ends.1))) }
         ensures mailbox { IfOk result (λ ends. taken ends.1 ≡ []) }
@@ -129,7 +129,7 @@ impl HubState {
         session: SessionId,
         submission: Submission,
         now: u64,
-    ) -> Result<(), (Submission, Refused)>
+    ) -> Result<(), (Submission, EventRefusal)>
         ensures ok { OnOk result (Takes (submitted session (request_data submission.request) (map uuid_of submission.fresh.items) now) self.old self.new []) }
         ensures rings { OnOk result (self.new.rings ≡ self.old.rings) }
         ensures why { IfErr result (λ back. IsReason back.1
@@ -148,7 +148,7 @@ impl HubState {
         session: SessionId,
         submission: Submission,
         now: u64,
-    ) -> Result<(), (Submission, Refused)>
+    ) -> Result<(), (Submission, EventRefusal)>
         ensures ok { OnOk result (Takes (submitted session (request_data submission.request) (map uuid_of submission.fresh.items) now) self.old self.new []) }
         ensures rings { OnOk result (self.new.rings ≡ self.old.rings) }
         ensures why { IfErr result (λ back. IsReason back.1
@@ -196,7 +196,7 @@ impl HubState {
         session: SessionId,
         batch: &mut Vec<Submission>,
         now: u64,
-    ) -> Result<(), Refused>
+    ) -> Result<(), EventRefusal>
         ensures taken { TakesUpTo (events_of session now batch.old.items) (events_of session now batch.new.items) self.old self.new }
         ensures most { IsTurn (length batch.old.items) (length batch.new.items) }
         ensures some { OnOk result (IsSome (length batch.old.items) (length batch.new.items)) }
@@ -239,7 +239,7 @@ impl HubState {
     }
 
     /// Ends a session: its ring goes with what is held back. It is refused as `Core::close` is.
-    pub fn close(&mut self, session: SessionId) -> Result<(), Refused>
+    pub fn close(&mut self, session: SessionId) -> Result<(), EventRefusal>
         ensures ok { OnOk result (Takes (closed session) self.old self.new []) }
         ensures rings { OnOk result (self.new.rings ≡ remove self.old.rings session) }
         ensures why { IfErr result (λ why. IsReason why (serve (closed session) self.old.server)) }

@@ -11,7 +11,7 @@ use std::snapshot::Snapshot;
 
 /// A batch before a turn of it was submitted, and what is left of it after. It takes no memory.
 #[derive(Drop)]
-pub(crate) struct Step {
+pub(crate) struct BatchStep {
     pub(crate) before: Snapshot<Vec<Submission>>,
     pub(crate) left: Snapshot<Vec<Submission>>,
 }
@@ -37,7 +37,7 @@ impl SubmittedRequests {
     }
 
     /// Returns these with those of a turn.
-    pub(crate) fn after(&self, _step: &Step) -> SubmittedRequests
+    pub(crate) fn after(&self, _step: &BatchStep) -> SubmittedRequests
         ensures { result.requests ≡ self.now.requests ++ submitted_in _step.now }
     {
         SubmittedRequests {}

@@ -12,7 +12,7 @@ use crate::command::Command;
 use crate::draining::{drain, drain_all, print_line};
 use crate::fresh::fresh_uuids;
 use crate::session::ScriptSession;
-use odb_core::{Core, Refused, SessionId};
+use odb_core::{Core, EventRefusal, SessionId};
 use odb_rpc::inserts;
 use odb_schema::Schema;
 use odb_wire::{Framer, Message, Request, WireFault};
@@ -144,7 +144,7 @@ impl Engine {
                 })?;
                 Ok(())
             }
-            Err(Refused::TooMany) => print_line(text, name, "!toomany"),
+            Err(EventRefusal::TooMany) => print_line(text, name, "!toomany"),
             Err(_) => Err(AllocError),
         }
     }
@@ -336,8 +336,8 @@ impl Engine {
             .submit(session, request, fresh.as_slice(), self.moment)
         {
             Ok(()) => Ok(()),
-            Err((_, Refused::Busy)) => print_line(text, name, "!busy"),
-            Err((_, Refused::Gone)) => print_line(text, name, "!gone"),
+            Err((_, EventRefusal::Busy)) => print_line(text, name, "!busy"),
+            Err((_, EventRefusal::Gone)) => print_line(text, name, "!gone"),
             Err(_) => Err(AllocError),
         }
     }
@@ -353,7 +353,7 @@ fn close_if_open(core: &mut Core, session: SessionId) -> Result<(), AllocError>
 {
     match core.close(session) {
         Ok(()) => Ok(()),
-        Err(Refused::Gone) => Ok(()),
+        Err(EventRefusal::Gone) => Ok(()),
         Err(_) => Err(AllocError),
     }
 }

@@ -4,7 +4,7 @@ ghost use Rattle.std.specs.Prelude.{◌≡◌};
 ghost use Rattle.odb_hub.specs.Kept.{IsNew};
 
 use crate::requests::{NET, core, note, request};
-use odb_core::{Core, Out, Refused};
+use odb_core::{Core, EventRefusal, Out};
 use odb_hub::{Bell, Calls, Hub, Mailbox, Seat};
 use odb_par::{Open, Workers};
 use std::alloc::{AllocError, Global};
@@ -77,7 +77,7 @@ pub(crate) fn submit<L: Ledger, R: Threads + Wait + Clock + Sync>(
     let outcome = hub.enter(rt).submit_turn(rt, seat, &mut batch, 0);
     match outcome.owes {
         Ok(_) => Ok(true),
-        Err(Refused::Busy) => Ok(false),
+        Err(EventRefusal::Busy) => Ok(false),
         Err(_) => Err(AllocError),
     }
 }

@@ -10,7 +10,7 @@ use crate::log::Happened;
 use crate::server_database::ServerDatabase;
 use mio::net::TcpStream;
 use mio::{Events, Interest, Poll, Token};
-use odb_core::{Refused, SessionId};
+use odb_core::{EventRefusal, SessionId};
 use odb_hub::{Bell, Calls};
 use odb_waking::LoopPlace;
 use rand::make_rng;
@@ -212,8 +212,8 @@ impl<'a, L: Ledger, M: Ledger, R: Wait + Clock> Clerk<'a, L, M, R> {
     }
 
     /// Returns why a connection is closed for which no session could be opened, and has it said that there are too many.
-    fn refuse(&self, stream: &TcpStream, why: Refused) -> Error {
-        if matches!(why, Refused::TooMany) {
+    fn refuse(&self, stream: &TcpStream, why: EventRefusal) -> Error {
+        if matches!(why, EventRefusal::TooMany) {
             self.note_too_many(stream);
         }
         self.log_refused(stream);

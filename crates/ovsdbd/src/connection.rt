@@ -8,7 +8,7 @@ use crate::second::{NamingRequest, Second, SecondSeat};
 use crate::server_database::{ServerDatabase, ServerRequest};
 use mio::event::Event;
 use mio::net::TcpStream;
-use odb_core::{Out, Refused, SessionId};
+use odb_core::{EventRefusal, Out, SessionId};
 use odb_front::{Destination, IdText, Naming, destination_of, first_id, names_monitor};
 use odb_hub::{Bell, Calls, Identifiers, Inbox, Mailbox, Outbox, Seat};
 use odb_rpc::reply_id;
@@ -519,7 +519,7 @@ impl<'a, L: Ledger, M: Ledger> Connection<'a, L, M> {
         self.is_slow = turn.is_slow;
         match turn.outcome {
             Ok(()) => {}
-            Err(Refused::Busy) => self.is_busy = true,
+            Err(EventRefusal::Busy) => self.is_busy = true,
             Err(_) => self.give_up(),
         }
     }

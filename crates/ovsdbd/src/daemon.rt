@@ -9,7 +9,7 @@ use crate::notices::Notices;
 use crate::pace::Pace;
 use crate::second::Second;
 use crate::serve::Terms;
-use odb_core::{Core, MAX_SESSIONS, Refused, SessionId};
+use odb_core::{Core, EventRefusal, MAX_SESSIONS, SessionId};
 use odb_hub::{BatchOutcome, Counted, Hub, Inbox, Seat};
 use odb_par::{Open, Workers};
 use odb_waking::PumpPlace;
@@ -36,7 +36,7 @@ const SEATS: u64 = MAX_SESSIONS as u64 + 1;
 #[derive(Drop)]
 pub(crate) struct SubmittedTurn {
     /// Nothing, or why the turn stopped.
-    pub(crate) outcome: Result<(), Refused>,
+    pub(crate) outcome: Result<(), EventRefusal>,
     /// Whether it had the lock for long.
     pub(crate) is_slow: bool,
 }
@@ -275,7 +275,7 @@ impl<L: Ledger> Daemon<L> {
         } = held;
         let Ok(submitted) = submitted else {
             return SubmittedTurn {
-                outcome: Err(Refused::Memory),
+                outcome: Err(EventRefusal::Memory),
                 is_slow,
             };
         };
@@ -416,7 +416,7 @@ pub(crate) fn has_lasted<R: Clock>(rt: &R, begun: &io::Result<Instant>, micros: 
 }
 
 /// Returns whether nothing was refused, and no session is owed anything.
-fn is_quiet(owes: &Result<bool, Refused>) -> bool {
+fn is_quiet(owes: &Result<bool, EventRefusal>) -> bool {
     matches!(owes, Ok(false))
 }
 

@@ -3,7 +3,7 @@
 use crate::connection::{PAUSE, RandomIdentifiers, part_at_last, part_once};
 use crate::daemon::{Daemon, HeldTurn, SubmittedTurn};
 use crate::front::identifier;
-use odb_core::{Out, Refused, SessionId};
+use odb_core::{EventRefusal, Out, SessionId};
 use odb_front::{Destination, IdText, Ids, Naming, request_as};
 use odb_hub::{Bell, Inbox, Mailbox, Outbox, Seat};
 use odb_rpc::Printable;
@@ -155,7 +155,7 @@ impl<'a, M: Ledger> SecondSeat<'a, M> {
     ) -> bool {
         match self.second.daemon.tell(rt, held).outcome {
             Ok(()) => true,
-            Err(Refused::Memory) => self.submit_at_last(rt, inbox),
+            Err(EventRefusal::Memory) => self.submit_at_last(rt, inbox),
             Err(_) => false,
         }
     }
@@ -172,7 +172,7 @@ impl<'a, M: Ledger> SecondSeat<'a, M> {
             };
             match turn.outcome {
                 Ok(()) => return true,
-                Err(Refused::Memory) => thread::sleep(rt, Duration::from_millis(PAUSE)),
+                Err(EventRefusal::Memory) => thread::sleep(rt, Duration::from_millis(PAUSE)),
                 Err(_) => return false,
             }
         }

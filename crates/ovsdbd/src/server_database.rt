@@ -2,7 +2,7 @@
 
 use crate::connection::RandomIdentifiers;
 use crate::fault::ProgramFault;
-use odb_core::{Core, Out, Refused, SessionId};
+use odb_core::{Core, EventRefusal, Out, SessionId};
 use odb_front::{PrintedSchema, after_write, has_writes, names_database, params_for, with_refusal};
 use odb_hub::{Submission, submission_of};
 use odb_rpc::operations;
@@ -168,7 +168,7 @@ pub(crate) struct ServerDatabase {
 
 impl ServerDatabase {
     /// Opens a session.
-    pub(crate) fn open(&mut self) -> Result<SessionId, Refused> {
+    pub(crate) fn open(&mut self) -> Result<SessionId, EventRefusal> {
         self.core.open()
     }
 
@@ -176,7 +176,7 @@ impl ServerDatabase {
     pub(crate) fn close(&mut self, session: SessionId) -> bool {
         match self.core.close(session) {
             Ok(()) => true,
-            Err(Refused::Gone) => true,
+            Err(EventRefusal::Gone) => true,
             Err(_) => false,
         }
     }

@@ -5,7 +5,7 @@ use crate::refusals::made::submission;
 use crate::refusals::scripts::MOMENT;
 use crate::refusals::sent::Sent;
 use crate::requests::note;
-use odb_core::{Core, Out, Refused, SessionId};
+use odb_core::{Core, EventRefusal, Out, SessionId};
 use odb_hub::Submission;
 use std::alloc::{AllocError, Global};
 
@@ -59,7 +59,7 @@ impl Play {
         let Submission { request, fresh } = submission(self.alloc, text, self.inserts)?;
         self.inserts = self.inserts.saturating_add(fresh.len());
         let request = match self.core.submit(session, request, fresh.as_slice(), 0) {
-            Err((request, Refused::Memory)) => request,
+            Err((request, EventRefusal::Memory)) => request,
             Err(_) => return Err(AllocError),
             Ok(()) => return Ok(()),
         };
@@ -112,7 +112,7 @@ impl Play {
 
     fn close(&mut self, session: SessionId) -> Result<(), AllocError> {
         match self.core.close(session) {
-            Err(Refused::Memory) => {}
+            Err(EventRefusal::Memory) => {}
             Err(_) => return Err(AllocError),
             Ok(()) => return self.give(),
         }

@@ -7,7 +7,7 @@ use crate::refusals::made::submission;
 use crate::refusals::scripts::MOMENT;
 use crate::refusals::sent::Sent;
 use crate::requests::note;
-use odb_core::{Core, Refused};
+use odb_core::{Core, EventRefusal};
 use odb_hub::{Hub, Mailbox, Round, Seat};
 use odb_par::{Open, Workers};
 use std::alloc::{AllocError, Global};
@@ -132,7 +132,7 @@ impl<'a, L: Ledger, R: Threads + Wait + Clock + Sync> Stage<'a, L, R> {
                 .submit_turn(self.rt, seat, &mut batch, 0);
             match outcome.owes {
                 Ok(_) => return Ok(made),
-                Err(Refused::Memory) => {}
+                Err(EventRefusal::Memory) => {}
                 Err(_) => return Err(AllocError),
             }
         }

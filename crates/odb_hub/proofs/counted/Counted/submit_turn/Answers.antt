@@ -1,6 +1,6 @@
 use Rattle.std.proofs.Common.{rules, ◌≡◌, ℕ, ◌+◌, ◌-◌, length, Bool, List, Ok, Err, ap, subst, arith}
 use Rattle.std.specs.Prelude.{Result}
-use Rattle.odb_core.specs.declared.refused.Refused.{Refused}
+use Rattle.odb_core.specs.declared.refused.EventRefusal.{EventRefusal}
 use Rattle.odb_hub.specs.Batch.{Submits, TakesUpTo}
 use Rattle.odb_hub.specs.Counted.{Counted, Seat, submits}
 use Rattle.odb_hub.specs.Kept.{Kept}
@@ -11,7 +11,7 @@ use Rattle.odb_hub.proofs.OwnRounds.{own_counted}
 use Rattle.odb_hub.proofs.counted.Counted.submit_turn.Goals.{in-Ok, in-Err}
 use Rattle.odb_hub.proofs.counted.Counted.submit_turn.Goals as goal
 
-abbrev Submitted : Result Bool Refused → ℕ → ℕ → List Submission → List Submission → Kept → Kept → Type 0
+abbrev Submitted : Result Bool EventRefusal → ℕ → ℕ → List Submission → List Submission → Kept → Kept → Type 0
 Submitted r s now xs ys old new = Submits r s (events_of s now xs) (events_of s now ys) old new
 
 pub invariant_of-self : goal.invariant_of-self
@@ -41,11 +41,11 @@ returns-clause-submits g c =
     let same_kept : c.self.inside.state ≡ c.args.self.now.kept = ap (λ (x : Counted). x.kept) c.self.view_is in
     elim c.match-submitted.branch [
       | in-Ok w ↦ rw (w.result-is) (
-          let r : Result Bool Refused = Ok w.owes.result in
+          let r : Result Bool EventRefusal = Ok w.owes.result in
           subst (λ q. Submitted r q c.args.now xs ys c.args.self.now.kept new) same_seat
           (subst (λ (k : Kept). Submitted r s c.args.now xs ys k new) same_kept (mid, taken, tt, c.rounds_for-given.ensures.rounds)))
       | in-Err w ↦ rw (w.result-is) (
-          let r : Result Bool Refused = Err w.in-Err.why in
+          let r : Result Bool EventRefusal = Err w.in-Err.why in
           subst (λ q. Submitted r q c.args.now xs ys c.args.self.now.kept new) same_seat
           (subst (λ (k : Kept). Submitted r s c.args.now xs ys k new) same_kept (mid, taken, search rules, c.rounds_for-given.ensures.rounds)))
     ]

@@ -1,7 +1,7 @@
 use Rattle.std.proofs.Common.{rules, ◌≡◌, ℕ, ◌-◌, ◌<◌, ◌≤◌, Bool, List, ◌++◌, drop, take, length, sym, ap, subst, ◌∙◌, append-nil, arith, take-append-drop}
 use Rattle.std.specs.Prelude.{Result}
 use Rattle.serde_json.specs.Data.{Data}
-use Rattle.odb_core.specs.declared.refused.Refused.{Refused}
+use Rattle.odb_core.specs.declared.refused.EventRefusal.{EventRefusal}
 use Rattle.odb_service.specs.Run.{Event}
 use Rattle.odb_hub.specs.Batch.{Submits}
 use Rattle.odb_hub.specs.Inbox.{Inbox, IsInOrder, Pending, events_at, messages_of}
@@ -9,7 +9,7 @@ use Rattle.odb_hub.specs.Kept.{Kept}
 use Rattle.odb_hub.specs.Represented.Inbox.{pending_of, submitted_in}
 use Rattle.odb_hub.specs.Represented.Submission.{events_of}
 use Rattle.odb_hub.specs.declared.submission.Submission.{Submission}
-use Rattle.odb_hub.specs.declared.submitted.Step.{Step}
+use Rattle.odb_hub.specs.declared.submitted.BatchStep.{BatchStep}
 use Rattle.odb_hub.proofs.Inboxes.{all_kept, events_are, length_pending, moved_on, none_dropped, noted, parts_pending, run_first, run_rest, run_taken, some_others, turn_front}
 use Rattle.odb_hub.proofs.inbox.Inbox.submit_run.Goals as goal
 
@@ -21,7 +21,7 @@ returns-then-others-eq0-clause-submits g c =
     let ps : List Pending = c.args.self.now.pending in
     let left : List Pending = c.submit_turn.new.self.pending in
     let s : ℕ = c.args.seat.now.session in
-    let r : Result Bool Refused = c.submit_turn.result.owes in
+    let r : Result Bool EventRefusal = c.submit_turn.result.owes in
     let others : c.saturating_sub-others.result ≡ length c.self.inside.batch.items - c.args.most = search rules in
     let zero : c.saturating_sub-others.result ≡ 0 = c.if-others-eq0.true in
     let long : length ps ≡ length c.self.inside.batch.items = ap (λ (x : Inbox). length x.pending) (sym c.self.view_is) ∙ length_pending c.self.inside.batch.items in
@@ -46,7 +46,7 @@ invariant_of-self-2 g c =
     let f : Fronts run left = turn_front c.submit_turn-outcome.result.owes c.args.seat.now.session c.args.now run left c.args.hub.now.kept c.submit_turn-outcome.new.self.kept c.submit_turn-outcome.ensures.submits in
     let parts : rest ++ run ≡ xs = (λ j. rest_is j ++ run_is j) ∙ take-append-drop n xs in
     let e : pending_of xs ≡ f.0 ++ pending_of ys = ap pending_of (sym parts) ∙ run_taken rest run left f.0 f.1 ∙ ap (λ zs. f.0 ++ pending_of zs) (sym whole) in
-    let step : Step = record { before = c.of-before.result; left = c.of-left.result } in
+    let step : BatchStep = record { before = c.of-before.result; left = c.of-left.result } in
     let took : submitted_in step ≡ messages_of f.0 = noted step xs ys f.0 (λ j. (c.of-before.ensures j).items) (λ j. (c.of-left.ensures j).items) e in
     let submitted : c.after-self-inside.result.requests ≡ i.submitted.requests ++ messages_of f.0 = c.after-self-inside.ensures ∙ ap (λ ds. i.submitted.requests ++ ds) took in
     let old : Inbox = record { most = i.framer.most; bytes = i.framer.bytes; submitted = i.submitted.requests; pending = pending_of xs; is_stopped = i.is_stopped } in
@@ -67,7 +67,7 @@ returns-clause-order g c =
     let f : Fronts run left = turn_front c.submit_turn-outcome.result.owes c.args.seat.now.session c.args.now run left c.args.hub.now.kept c.submit_turn-outcome.new.self.kept c.submit_turn-outcome.ensures.submits in
     let parts : rest ++ run ≡ xs = (λ j. rest_is j ++ run_is j) ∙ take-append-drop n xs in
     let e : pending_of xs ≡ f.0 ++ pending_of ys = ap pending_of (sym parts) ∙ run_taken rest run left f.0 f.1 ∙ ap (λ zs. f.0 ++ pending_of zs) (sym whole) in
-    let step : Step = record { before = c.of-before.result; left = c.of-left.result } in
+    let step : BatchStep = record { before = c.of-before.result; left = c.of-left.result } in
     let took : submitted_in step ≡ messages_of f.0 = noted step xs ys f.0 (λ j. (c.of-before.ensures j).items) (λ j. (c.of-left.ensures j).items) e in
     let view : record { most = i.framer.most; bytes = i.framer.bytes; submitted = i.submitted.requests; pending = pending_of xs; is_stopped = i.is_stopped } ≡ c.args.self.now = c.self.view_is in
     let submitted : c.after-self-inside.result.requests ≡ c.args.self.now.submitted ++ messages_of f.0 =
@@ -91,7 +91,7 @@ returns-clause-submits g c =
     let whole : ys ≡ rest ++ left = search rules in
     let s : ℕ = c.args.seat.now.session in
     let now : ℕ = c.args.now in
-    let r : Result Bool Refused = c.submit_turn-outcome.result.owes in
+    let r : Result Bool EventRefusal = c.submit_turn-outcome.result.owes in
     let before : Kept = c.args.hub.now.kept in
     let after : Kept = c.submit_turn-outcome.new.self.kept in
     let others : n ≡ length xs - most = search rules in

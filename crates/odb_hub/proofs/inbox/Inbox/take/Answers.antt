@@ -2,7 +2,7 @@ use Rattle.std.proofs.Common.{rules, ◌≡◌, List, [], ◌∷◌, ◌++◌, s
 use Rattle.odb_hub.specs.Inbox.{Inbox, IsInOrder, Pending, messages_of}
 use Rattle.odb_hub.specs.Represented.Inbox.{pending_in, pending_of, submitted_in}
 use Rattle.odb_hub.specs.declared.submission.Submission.{Submission}
-use Rattle.odb_hub.specs.declared.submitted.Step.{Step}
+use Rattle.odb_hub.specs.declared.submitted.BatchStep.{BatchStep}
 use Rattle.odb_hub.proofs.Inboxes.{moved_on, noted, popped_front}
 use Rattle.odb_hub.proofs.inbox.Inbox.take.Goals as goal
 
@@ -14,7 +14,7 @@ invariant_of-self-2 c =
     let front : List Pending = pending_in c.in-Some.first ∷ [] in
     let popped : xs ≡ ys ++ c.in-Some.first ∷ [] = search rules in
     let e : pending_of xs ≡ front ++ pending_of ys = popped_front xs ys c.in-Some.first popped in
-    let step : Step = record { before = c.of-before.result; left = c.of-left.result } in
+    let step : BatchStep = record { before = c.of-before.result; left = c.of-left.result } in
     let took : submitted_in step ≡ messages_of front = noted step xs ys front (λ j. (c.of-before.ensures j).items) (λ j. (c.of-left.ensures j).items) e in
     let submitted : c.after-self-inside.result.requests ≡ i.submitted.requests ++ messages_of front = c.after-self-inside.ensures ∙ ap (λ ds. i.submitted.requests ++ ds) took in
     let old : Inbox = record { most = i.framer.most; bytes = i.framer.bytes; submitted = i.submitted.requests; pending = pending_of xs; is_stopped = i.is_stopped } in
@@ -28,7 +28,7 @@ returns-clause-some c =
     let front : List Pending = pending_in c.in-Some.first ∷ [] in
     let popped : xs ≡ ys ++ c.in-Some.first ∷ [] = search rules in
     let e : pending_of xs ≡ front ++ pending_of ys = popped_front xs ys c.in-Some.first popped in
-    let step : Step = record { before = c.of-before.result; left = c.of-left.result } in
+    let step : BatchStep = record { before = c.of-before.result; left = c.of-left.result } in
     let took : submitted_in step ≡ messages_of front = noted step xs ys front (λ j. (c.of-before.ensures j).items) (λ j. (c.of-left.ensures j).items) e in
     let view : record { most = i.framer.most; bytes = i.framer.bytes; submitted = i.submitted.requests; pending = pending_of xs; is_stopped = i.is_stopped } ≡ c.args.self.now = c.self.view_is in
     let submitted : c.after-self-inside.result.requests ≡ c.args.self.now.submitted ++ messages_of front =

@@ -29,14 +29,14 @@ use Rattle.odb_hub.specs.Represented.Inbox.{submitted_in}
 use Rattle.odb_hub.specs.contracts.submitted.SubmittedRequests as Submitted
 use Rattle.odb_hub.specs.contracts.submitted.SubmittedRequests.after as F
 use Rattle.odb_hub.specs.contracts.submitted.SubmittedRequests.after.Key.{name as #self}
-use Rattle.odb_hub.specs.contracts.submitted.Step as Step
+use Rattle.odb_hub.specs.contracts.submitted.BatchStep as BatchStep
 use Rattle.odb_hub.proofs.submitted.SubmittedRequests.after.Statement as stated
 use Rattle.odb_hub.proofs.submitted.SubmittedRequests.after.Code as code
 
 abbrev stayed : Stays (F.ended).signature.params (F.ended).kept
 stayed = (
   stay_dropped (RefOf (0 ∷ []) tt (plain (λ _. Submitted.the_row)) (λ _. tt)) yes,
-  (stay_dropped (RefOf (1 ∷ []) tt (plain (λ _. Step.the_row)) (λ _. tt)) yes, tt),
+  (stay_dropped (RefOf (1 ∷ []) tt (plain (λ _. BatchStep.the_row)) (λ _. tt)) yes, tt),
 )
 
 module _ {M : Type 1} {𝓤 : Ura M} (𝓛 : Logic 𝓤) (at_mem : Memory → SProp 𝓤) (run : Routine → Fun 𝓤) where
@@ -75,7 +75,7 @@ module _ {M : Type 1} {𝓤 : Ura M} (𝓛 : Logic 𝓤) (at_mem : Memory → SP
   meets 𝓣 =
       walk_Meets 𝓛 F.ended stayed (
         Goes-dropped 𝓛 2 (RefOf (0 ∷ []) tt (plain (λ _. Submitted.the_row)) (λ _. tt)) yes (λ κs x f. refl),
-        (Goes-dropped 𝓛 2 (RefOf (1 ∷ []) tt (plain (λ _. Step.the_row)) (λ _. tt)) yes (λ κs x f. refl), tt),
+        (Goes-dropped 𝓛 2 (RefOf (1 ∷ []) tt (plain (λ _. BatchStep.the_row)) (λ _. tt)) yes (λ κs x f. refl), tt),
       ) held
       (WpFn 𝓤 H 𝓣.C 𝓣.Λ code.function) (WpFn-mono 𝓤 H 𝓛.laws 𝓣 code.function) (walks 𝓣.C 𝓣.Λ)
 
