@@ -24,7 +24,6 @@ TWICE = {
     "Job": "odb_sessions: a job of odb_monitor, and its text where that is kept",
     "Key": "odb_interest: by what a session is looked up; odb_tables: an identifier in a hash map",
     "Kind": "odb_request: a notation of updates; odb_atoms: an atomic type",
-    "Line": "ovsdbd: a line of the log; odb_monitor: what becomes of a row",
     "Reference": "odb_integrity: with the column that makes it; odb_atoms: as the type has it",
     "Rows": "odb_ops: rows that are printed; odb_tables: rows of a table",
     "Select": "odb_request: kinds of change (RFC 7047, 4.1.5, <monitor-select>); odb_json: the operation (5.2.2)",

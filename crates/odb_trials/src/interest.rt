@@ -18,7 +18,7 @@ const DIGITS: &[u8; 10] = b"0123456789";
 
 /// What was found after a row was renamed from the name of the session 1 to that of the session 2.
 #[derive(Clone, Copy, Debug, PartialEq, Eq)]
-struct Found {
+struct RenameOutcome {
     /// How many sessions may be owed something after rounds gave all; after a row of another table was inserted; and after
     /// the row was renamed.
     owed: [usize; 3],
@@ -102,7 +102,7 @@ const INSERT_ELSEWHERE: &[u8] =
 const RENAME: &[u8] =
     b"{\"id\":1,\"method\":\"transact\",\"params\":[\"net\",{\"op\":\"update\",\"table\":\"T\",\"where\":[[\"name\",\"==\",\"s001\"]],\"row\":{\"name\":\"s002\"}}]}";
 
-fn trial(alloc: Global, core: &mut Core) -> Result<Found, AllocError> {
+fn trial(alloc: Global, core: &mut Core) -> Result<RenameOutcome, AllocError> {
     let listed = watchers(alloc, core)?;
     let writer = open(core)?;
     submit(alloc, core, writer, INSERT)?;
@@ -113,7 +113,7 @@ fn trial(alloc: Global, core: &mut Core) -> Result<Found, AllocError> {
     let elsewhere = core.owed().len();
     take_all(core, &[writer])?;
     submit(alloc, core, writer, RENAME)?;
-    Ok(Found {
+    Ok(RenameOutcome {
         owed: [before, elsewhere, core.owed().len()],
         are_concerned: are_concerned(core, writer),
         jobs: core.jobs(listed.as_slice())?.list().len(),
@@ -124,7 +124,7 @@ fn trial(alloc: Global, core: &mut Core) -> Result<Found, AllocError> {
 fn a_row_that_is_renamed_concerns_two_of_a_thousand(rt: HostRuntime) -> Result<(), Fail> {
     let mut core = core(rt.alloc(), RandomState::new(&rt)?, NAMES)?;
     let found = trial(rt.alloc(), &mut core)?;
-    let wanted = Found {
+    let wanted = RenameOutcome {
         owed: [0, 1, 3],
         are_concerned: true,
         jobs: 2,

@@ -21,9 +21,9 @@ const CLIENTS: usize = 64;
 /// How many commits there are then, of which nobody is told.
 const COMMITS: usize = 50;
 
-/// What is kept of a table.
+/// How much is kept of a table.
 #[derive(Clone, Copy, Debug, PartialEq, Eq)]
-struct Kept {
+struct KeptCounts {
     marks: usize,
     contents: usize,
     /// Whether there are as many segments as contents, or fewer.
@@ -31,8 +31,8 @@ struct Kept {
 }
 
 /// Returns so many marks and contents, and few segments.
-fn few(marks: usize, contents: usize) -> Kept {
-    Kept {
+fn few(marks: usize, contents: usize) -> KeptCounts {
+    KeptCounts {
         marks,
         contents,
         are_few: true,
@@ -40,7 +40,7 @@ fn few(marks: usize, contents: usize) -> Kept {
 }
 
 /// Returns what is kept of the first table.
-fn kept_by(alloc: Global, core: &Core) -> Result<Kept, AllocError> {
+fn kept_by(alloc: Global, core: &Core) -> Result<KeptCounts, AllocError> {
     let told = core.told();
     let marks = told.marks(alloc)?.len();
     let chains = told.chains();
@@ -49,7 +49,7 @@ fn kept_by(alloc: Global, core: &Core) -> Result<Kept, AllocError> {
     }
     let contents = chains.distinct_marks(TableId::at(0));
     let segments = chains.segments(TableId::at(0));
-    Ok(Kept {
+    Ok(KeptCounts {
         marks,
         contents,
         are_few: segments <= contents,
@@ -84,7 +84,7 @@ fn close_all(core: &mut Core, sessions: &[SessionId]) -> Result<(), AllocError> 
 }
 
 /// Returns what is kept while nobody is told of the commits, once one client is told of half of them, and once all are gone.
-fn trial(alloc: Global, hashing: RandomState) -> Result<[Kept; 3], AllocError> {
+fn trial(alloc: Global, hashing: RandomState) -> Result<[KeptCounts; 3], AllocError> {
     let mut core = core(alloc, hashing, NET)?;
     let sessions = subscribers(alloc, &mut core)?;
     insert_some(alloc, &mut core)?;

@@ -26,7 +26,7 @@ use Rattle.ovsdbd.specs.contracts.daemon.Daemon as Daemon
 use Rattle.ovsdbd.specs.contracts.daemon.Daemons as Daemons
 use Rattle.ovsdbd.specs.contracts.daemon.Patience as Patience
 use Rattle.ovsdbd.specs.contracts.desk.Desk as Desk
-use Rattle.ovsdbd.specs.contracts.front.Front as Front
+use Rattle.ovsdbd.specs.contracts.front.FrontEnd as FrontEnd
 use Rattle.ovsdbd.specs.contracts.notices.Notices as Notices
 use Rattle.ovsdbd.specs.contracts.pace.Pace as Pace
 use Rattle.ovsdbd.specs.contracts.second.Second as Second
@@ -74,8 +74,8 @@ IdText-sync = id.the_sync
 ServerBegun-sync : IsSync ServerBegun.the_row
 ServerBegun-sync = search (Core-send, sendable, heap.crosses) depth 40
 
-Front-sync : IsSync Front.the_row
-Front-sync = search (ServerBegun-sync, Databases-sync, Answers-sync, Ids-sync, sendable, heap.crosses) depth 40
+FrontEnd-sync : IsSync FrontEnd.the_row
+FrontEnd-sync = search (ServerBegun-sync, Databases-sync, Answers-sync, Ids-sync, sendable, heap.crosses) depth 40
 
 pub Daemon-sync : (L : RattleType) (g : Ghosts L.Denot) → IsSend L → IsSync (Daemon.the_field L g).row
 Daemon-sync L g s = search (Hub-sync, Desk-sync, Desk-send, Notices-sync, Notices-send, notices.the_field_sync, Patience-sync, Pace-sync, Workers-sync, Instant-sync, sendable, heap.crosses) depth 40 fits 20000
@@ -84,6 +84,6 @@ Second-sync : (M : RattleType) (g : Ghosts M.Denot) → IsSend M → IsSync (Sec
 Second-sync M g s = search (Daemon-sync, IdText-sync, sendable, heap.crosses) depth 40 fits 20000
 
 pub Daemons-sync : (L : RattleType) (g : Ghosts L.Denot) (M : RattleType) (h : Ghosts M.Denot) → IsSend L → IsSend M → IsSync (Daemons.the_field L M g h).row
-Daemons-sync L g M h s t = search (Daemon-sync, Second-sync, Front-sync, sendable, heap.crosses) depth 40 fits 20000
+Daemons-sync L g M h s t = search (Daemon-sync, Second-sync, FrontEnd-sync, sendable, heap.crosses) depth 40 fits 20000
 
 pub ruleset crosses = (Daemon-sync, Daemons-sync, Desk-sync, Poll-send, sendable, heap.crosses)

@@ -5,8 +5,8 @@ ghost use Rattle.odb_waking.specs.Loop as loops;
 use crate::connection::{Connection, Next, PAUSE, PIECE, RandomIdentifiers, Tools};
 use crate::daemon::{Daemon, Daemons, has_lasted};
 use crate::desk::Desk;
-use crate::front::Front;
-use crate::log::Happened;
+use crate::front::FrontEnd;
+use crate::log::ConnectionEvent;
 use crate::server_database::ServerDatabase;
 use mio::net::TcpStream;
 use mio::{Events, Interest, Poll, Token};
@@ -155,11 +155,11 @@ impl<'a, L: Ledger, M: Ledger, R: Threads + Wait + Clock + RandomSource + Sync> 
 /// Makes the thread's database `_Server`, where that is asked for.
 fn start_server<R: Wait>(
     rt: &R,
-    front: Option<&Front>,
+    front: Option<&FrontEnd>,
 ) -> Result<Option<ServerDatabase>, AllocError> {
     match front {
         Some(
-            Front {
+            FrontEnd {
                 databases: _,
                 answers: _,
                 nothing: _,
@@ -226,7 +226,7 @@ impl<'a, L: Ledger, M: Ledger, R: Wait + Clock> Clerk<'a, L, M, R> {
             return;
         }
         if let Ok(client) = stream.peer_addr() {
-            daemon.log(self.tools.rt, client, Happened::Refused);
+            daemon.log(self.tools.rt, client, ConnectionEvent::Refused);
         }
     }
 

@@ -1,9 +1,9 @@
 //! A connection and its sessions, as the thread that serves it has them. [P 15.2, 15.4]
 
 use crate::daemon::{Daemon, Patience, SubmittedTurn};
-use crate::front::Front;
-use crate::front_seat::{FrontSeat, Noted};
-use crate::log::{Happened, Line, Reason};
+use crate::front::FrontEnd;
+use crate::front_seat::{FrontSeat, RequestIds};
+use crate::log::{ConnectionEvent, Reason};
 use crate::second::{NamingRequest, Second, SecondSeat};
 use crate::server_database::{ServerDatabase, ServerRequest};
 use mio::event::Event;
@@ -57,7 +57,7 @@ pub(crate) struct Tools<'a, L: Ledger, M: Ledger, R> {
     pub(crate) daemon: &'a Daemon<L>,
     pub(crate) second: Option<&'a Second<M>>,
     /// What there is where there are several databases.
-    pub(crate) front: Option<&'a Front>,
+    pub(crate) front: Option<&'a FrontEnd>,
     /// By what the thread is called, and the place of the connection that has its turn.
     pub(crate) calls: &'a Arc<Calls>,
     pub(crate) place: usize,
@@ -588,7 +588,7 @@ impl<'a, L: Ledger, M: Ledger> Connection<'a, L, M> {
                 if let Some(other) = mem::replace(&mut self.second, Some(seat)) {
                     Box::into_inner(other).end_both(rt, daemon, None);
                 }
-                self.log(rt, daemon, Happened::OpenedSecond(session));
+                self.log(rt, daemon, ConnectionEvent::OpenedSecond(session));
                 Ok(())
             }
             Err(refused) => {
@@ -915,11 +915,11 @@ impl<'a, L: Ledger, M: Ledger> Connection<'a, L, M> {
     /// Has it logged that the session was opened, and remembers who is at the other end.
     pub(crate) fn log_open<R: Wait + Clock>(&mut self, rt: &R, daemon: &Daemon<L>) {
         self.client = self.stream.peer_addr().ok();
-        self.log(rt, daemon, Happened::Opened(self.session));
+        self.log(rt, daemon, ConnectionEvent::Opened(self.session));
     }
 
     /// Has it logged what happened, where it was logged that the session was opened.
-    fn log<R: Wait + Clock>(&self, rt: &R, daemon: &Daemon<L>, happened: Happened) {
+    fn log<R: Wait + Clock>(&self, rt: &R, daemon: &Daemon<L>, happened: ConnectionEvent) {
         if let Some(client) = self.client {
             daemon.log(rt, client, happened);
         }
@@ -928,7 +928,7 @@ impl<'a, L: Ledger, M: Ledger> Connection<'a, L, M> {
     /// Has it logged that the connection is closed, and why.
     fn log_close<R: Wait + Clock>(&self, rt: &R, daemon: &Daemon<L>) {
         let reason = self.reason.unwrap_or(Reason::Ended);
-        self.log(rt, daemon, Happened::Closed(self.session, reason));
+        self.log(rt, daemon, ConnectionEvent::Closed(self.session, reason));
     }
 
     /// Returns whether a peer counts as gone that said nothing for so long; it is asked after half of that time.
@@ -1007,8 +1007,8 @@ pub(crate) fn part_at_last<L: Ledger, R: Wait + Clock>(rt: &R, daemon: &Daemon<L
 }
 
 /// Returns what is to be noted of a request to `_Server`.
-fn noted_of(alloc: Global, request: &Request) -> Result<Noted, AllocError> {
-    let mut noted = Noted {
+fn noted_of(alloc: Global, request: &Request) -> Result<RequestIds, AllocError> {
+    let mut noted = RequestIds {
         naming: None,
         transaction: None,
         canceled: None,

@@ -3,8 +3,8 @@ ghost use Rattle.odb_hub.specs.Kept.{IsNew};
 
 use crate::desk::Desk;
 use crate::fault::Which;
-use crate::front::Front;
-use crate::log::{Happened, Line, Said};
+use crate::front::FrontEnd;
+use crate::log::{ConnectionEvent, LogLine, Said};
 use crate::notices::Notices;
 use crate::pace::Pace;
 use crate::second::Second;
@@ -110,7 +110,7 @@ pub(crate) struct Daemons<L: Ledger, M: Ledger> {
     pub(crate) first: Daemon<L>,
     pub(crate) second: Option<Second<M>>,
     /// What there is where there are several databases.
-    pub(crate) front: Option<Front>,
+    pub(crate) front: Option<FrontEnd>,
 }
 
 /// How many milliseconds the daemon bears a peer; none: for ever.
@@ -187,10 +187,15 @@ impl<L: Ledger> Daemon<L> {
     }
 
     /// Has it logged what happened to a client's connection now.
-    pub(crate) fn log<R: Wait + Clock>(&self, rt: &R, client: SocketAddr, happened: Happened) {
+    pub(crate) fn log<R: Wait + Clock>(
+        &self,
+        rt: &R,
+        client: SocketAddr,
+        happened: ConnectionEvent,
+    ) {
         let moment = self.now(rt);
         let said = Said::OfClient(client, happened);
-        self.notices.add_line(rt, Line { moment, said });
+        self.notices.add_line(rt, LogLine { moment, said });
     }
 
     /// Has it logged which transactions failed since it was last called, where that is logged.
@@ -202,7 +207,7 @@ impl<L: Ledger> Daemon<L> {
         for failure in &failures {
             let moment = self.now(rt);
             let said = Said::OfTransaction(self.which, *failure);
-            self.notices.add_line(rt, Line { moment, said });
+            self.notices.add_line(rt, LogLine { moment, said });
         }
     }
 

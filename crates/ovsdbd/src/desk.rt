@@ -30,12 +30,12 @@ pub(crate) struct Desk {
     came: AtomicU64,
     /// How many connections it was given that go on.
     count: AtomicU64,
-    given: Mutex<Given>,
+    given: Mutex<NewConnections>,
 }
 
 /// The connections that a thread was given and hasn't taken yet, and whether none will come any more.
 #[derive(Drop)]
-struct Given {
+struct NewConnections {
     streams: Vec<TcpStream>,
     is_closed: bool,
 }
@@ -50,7 +50,7 @@ impl Desk {
             asleep: AtomicU64::new(0),
             came: AtomicU64::new(0),
             count: AtomicU64::new(0),
-            given: Mutex::new(Given {
+            given: Mutex::new(NewConnections {
                 streams: Vec::new(alloc),
                 is_closed: false,
             }),

@@ -35,7 +35,7 @@ impl Schemas {
 
 /// By what it is found where a message of a connection goes, what no database answers, and what `_Server` begins with, where that
 /// is asked for.
-pub(crate) struct Front {
+pub(crate) struct FrontEnd {
     pub(crate) databases: Databases,
     pub(crate) answers: Answers,
     /// The ids of a connection that has named nothing.
@@ -43,21 +43,21 @@ pub(crate) struct Front {
     pub(crate) server: Option<ServerBegun>,
 }
 
-impl Front {
+impl FrontEnd {
     /// Makes that of a server of these schemas, and of `_Server` if it has that.
     pub(crate) fn new<R: RandomSource>(
         rt: &R,
         alloc: Global,
         schemas: &Schemas,
         has_server: bool,
-    ) -> Result<Front, ProgramFault> {
+    ) -> Result<FrontEnd, ProgramFault> {
         let mut identifiers = RandomIdentifiers {
             rng: make_rng(rt).map_err(|_| memory())?,
         };
         let printed = printed_schemas(alloc, schemas, has_server)?;
         let server = server_of(rt, alloc, printed.as_slice(), has_server, &mut identifiers)?;
         let id = Uuid::new_v4(&mut identifiers.rng);
-        Ok(Front {
+        Ok(FrontEnd {
             databases: databases_of(alloc, schemas, has_server)?,
             answers: Answers {
                 names: names_of(alloc, printed.as_slice())?,
@@ -71,9 +71,9 @@ impl Front {
 }
 
 // Written, and not derived, so that each end of a scope is one call to prove.
-impl Drop for Front {
+impl Drop for FrontEnd {
     fn drop(self) {
-        let Front {
+        let FrontEnd {
             databases: _,
             answers: _,
             nothing: _,

@@ -22,9 +22,9 @@ pub(crate) struct FrontSeat {
     outs: VecDeque<Out>,
 }
 
-/// What is to be noted of a request once `_Server` took it.
+/// The ids of a request that are to be noted once `_Server` took it.
 #[derive(Drop)]
-pub(crate) struct Noted {
+pub(crate) struct RequestIds {
     /// How it names monitors, if it does.
     pub(crate) naming: Option<Naming>,
     /// The id of a transaction, which may wait.
@@ -84,8 +84,12 @@ impl FrontSeat {
     }
 
     /// Takes in what `_Server` gave for a request.
-    pub(crate) fn take_in(&mut self, noted: Noted, outs: VecDeque<Out>) -> Result<(), AllocError> {
-        let Noted {
+    pub(crate) fn take_in(
+        &mut self,
+        noted: RequestIds,
+        outs: VecDeque<Out>,
+    ) -> Result<(), AllocError> {
+        let RequestIds {
             naming,
             transaction,
             canceled,

@@ -3,7 +3,7 @@
 use crate::connection::{RandomIdentifiers, part_at_last};
 use crate::daemon::{Daemon, Daemons};
 use crate::fault::{LoadFault, ProgramFault};
-use crate::front::Front;
+use crate::front::FrontEnd;
 use crate::second::Second;
 use odb_front::{Destination, destination_of};
 use odb_hub::{Bell, Calls, Outbox, Seat, Submission, submission_of};
@@ -29,7 +29,7 @@ const PIECE: usize = 65_536;
 const END: &[u8] = b"{\"method\":\"echo\",\"params\":[],\"id\":0}";
 
 /// A session of a database by which messages are submitted: its seat, where its replies come, and what reads these.
-struct Target<'a, L: Ledger, R> {
+struct LoadSession<'a, L: Ledger, R> {
     rt: &'a R,
     daemon: &'a Daemon<L>,
     seat: Seat<L>,
@@ -39,11 +39,11 @@ struct Target<'a, L: Ledger, R> {
 
 /// What files are loaded by: a session in each database, and what reads messages.
 struct Loader<'a, L: Ledger, M: Ledger, R> {
-    first: Target<'a, L, R>,
-    second: Option<Target<'a, M, R>>,
+    first: LoadSession<'a, L, R>,
+    second: Option<LoadSession<'a, M, R>>,
     /// The second database, and where messages go, where there are several.
     other: Option<&'a Second<M>>,
-    front: Option<&'a Front>,
+    front: Option<&'a FrontEnd>,
     framer: Framer,
     identifiers: RandomIdentifiers,
     /// How many messages were submitted.
@@ -71,22 +71,22 @@ pub(crate) fn load_file<
 fn open_second<'a, M: Ledger, R: Threads + Wait + Clock + Sync>(
     rt: &'a R,
     second: Option<&'a Second<M>>,
-) -> Result<Option<Target<'a, M, R>>, ProgramFault> {
+) -> Result<Option<LoadSession<'a, M, R>>, ProgramFault> {
     match second {
-        Some(second) => Ok(Some(Target::open(rt, &second.daemon)?)),
+        Some(second) => Ok(Some(LoadSession::open(rt, &second.daemon)?)),
         None => Ok(None),
     }
 }
 
-impl<'a, L: Ledger, R: Threads + Wait + Clock + Sync> Target<'a, L, R> {
+impl<'a, L: Ledger, R: Threads + Wait + Clock + Sync> LoadSession<'a, L, R> {
     /// Opens a session of a database.
-    fn open(rt: &'a R, daemon: &'a Daemon<L>) -> Result<Target<'a, L, R>, ProgramFault> {
+    fn open(rt: &'a R, daemon: &'a Daemon<L>) -> Result<LoadSession<'a, L, R>, ProgramFault> {
         let bell = silent_bell(daemon.alloc)?;
         let opened = daemon.hub.enter(rt).open(bell);
         let Ok((seat, mailbox)) = opened else {
             return Err(memory());
         };
-        Ok(Target {
+        Ok(LoadSession {
             rt,
             daemon,
             seat,
@@ -97,7 +97,7 @@ impl<'a, L: Ledger, R: Threads + Wait + Clock + Sync> Target<'a, L, R> {
 
     /// Ends the session.
     fn close(self) {
-        let Target {
+        let LoadSession {
             rt,
             daemon,
             seat,
@@ -166,7 +166,7 @@ impl<'a, L: Ledger, M: Ledger, R: Threads + Wait + Clock + Sync> Loader<'a, L, M
         identifiers: RandomIdentifiers,
     ) -> Result<Loader<'a, L, M, R>, ProgramFault> {
         let daemon = &daemons.first;
-        let first = Target::open(rt, daemon)?;
+        let first = LoadSession::open(rt, daemon)?;
         let second = match open_second(rt, daemons.second.as_ref()) {
             Ok(second) => second,
             Err(fault) => {

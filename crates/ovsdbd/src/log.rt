@@ -46,7 +46,7 @@ pub(crate) enum Reason {
 
 /// What happened to a client's connection.
 #[derive(Clone, Copy)]
-pub(crate) enum Happened {
+pub(crate) enum ConnectionEvent {
     /// A session was opened for a connection.
     Opened(SessionId),
     /// A session of the second database was opened for it.
@@ -61,19 +61,19 @@ pub(crate) enum Happened {
 #[derive(Clone, Copy)]
 pub(crate) enum Said {
     /// What happened to this client's connection.
-    OfClient(SocketAddr, Happened),
+    OfClient(SocketAddr, ConnectionEvent),
     /// That a transaction of a database failed.
     OfTransaction(Which, TransactionFailure),
 }
 
 /// A line of the log: what it says, and of which moment, in milliseconds since the start.
 #[derive(Clone, Copy)]
-pub(crate) struct Line {
+pub(crate) struct LogLine {
     pub(crate) moment: u64,
     pub(crate) said: Said,
 }
 
-impl Line {
+impl LogLine {
     /// Writes it. Whether it could be written doesn't matter. The schemas have the names of what a transaction failed for.
     fn write<R: Eprint>(&self, rt: &R, schemas: Option<&Schemas>) {
         match self.said {
@@ -83,23 +83,23 @@ impl Line {
     }
 
     /// Writes what happened to a client's connection.
-    fn write_client<R: Eprint>(&self, rt: &R, client: SocketAddr, happened: Happened) {
+    fn write_client<R: Eprint>(&self, rt: &R, client: SocketAddr, happened: ConnectionEvent) {
         let moment = self.moment;
         match happened {
-            Happened::Opened(session) => {
+            ConnectionEvent::Opened(session) => {
                 drop(eprintln!(rt; "ovsdbd: {moment} ms: {client}: session {session} is open"));
             }
-            Happened::OpenedSecond(session) => {
+            ConnectionEvent::OpenedSecond(session) => {
                 drop(eprintln!(rt;
                     "ovsdbd: {moment} ms: {client}: session {session} of the second database is open"
                 ));
             }
-            Happened::Closed(session, reason) => {
+            ConnectionEvent::Closed(session, reason) => {
                 drop(eprintln!(rt;
                     "ovsdbd: {moment} ms: {client}: session {session} is closed: {reason}"
                 ));
             }
-            Happened::Refused => {
+            ConnectionEvent::Refused => {
                 drop(eprintln!(rt; "ovsdbd: {moment} ms: {client}: no session can be opened"));
             }
         }
@@ -148,16 +148,16 @@ impl Line {
 
 /// The lines that wait to be written, and how many were left out since some were written.
 #[derive(Drop)]
-pub(crate) struct Log {
+pub(crate) struct LogBuffer {
     alloc: Global,
-    lines: Vec<Line>,
+    lines: Vec<LogLine>,
     left_out: u64,
 }
 
-impl Log {
+impl LogBuffer {
     /// Makes one without lines.
-    pub(crate) fn new(alloc: Global) -> Log {
-        Log {
+    pub(crate) fn new(alloc: Global) -> LogBuffer {
+        LogBuffer {
             alloc,
             lines: Vec::new(alloc),
             left_out: 0,
@@ -165,16 +165,16 @@ impl Log {
     }
 
     /// Adds a line; it is left out where too many wait, or memory is refused.
-    pub(crate) fn add(&mut self, line: Line) {
+    pub(crate) fn add(&mut self, line: LogLine) {
         if self.lines.len() >= MOST || self.lines.push(line).is_err() {
             self.left_out = self.left_out.saturating_add(1);
         }
     }
 
     /// Takes out what there is.
-    pub(crate) fn take(&mut self) -> Log {
+    pub(crate) fn take(&mut self) -> LogBuffer {
         let alloc = self.alloc;
-        mem::replace(self, Log::new(alloc))
+        mem::replace(self, LogBuffer::new(alloc))
     }
 
     /// Writes the lines, and how many were left out, and returns whether there was something.

@@ -28,8 +28,8 @@ mod server_database;
 
 use crate::daemon::{Begun, Patience};
 use crate::fault::{ProgramFault, Which};
-use crate::front::{Front, Schemas};
-use crate::serve::{Beginning, Memory, SecondBegun, Start, Terms, begin, serve_all};
+use crate::front::{FrontEnd, Schemas};
+use crate::serve::{Beginning, Memory, SecondBegun, StartOptions, Terms, begin, serve_all};
 use clap::builder::ValueParser;
 use clap::error::ErrorKind;
 use clap::{Arg, ArgAction, ArgMatches, Command, Error};
@@ -485,7 +485,7 @@ fn serve_schemas<
         + Eprint
         + Sync,
 >(rt: &R, alloc: Global, schemas: Schemas, words: &ArgMatches<'_>) -> Result<(), ProgramFault> {
-    let start = Start {
+    let start = StartOptions {
         address: word(words, "listen", ADDRESS),
         file: words.get_str("load"),
     };
@@ -553,12 +553,12 @@ fn front_of<R: RandomSource>(
     alloc: Global,
     schemas: &Schemas,
     words: &ArgMatches<'_>,
-) -> Result<Option<Front>, ProgramFault> {
+) -> Result<Option<FrontEnd>, ProgramFault> {
     let has_server = words.get_flag(SERVER_DATABASE);
     if !has_server && schemas.second.is_none() {
         return Ok(None);
     }
-    Ok(Some(Front::new(rt, alloc, schemas, has_server)?))
+    Ok(Some(FrontEnd::new(rt, alloc, schemas, has_server)?))
 }
 
 /// Makes equal schemas, where transactions that fail are to be logged.

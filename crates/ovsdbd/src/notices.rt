@@ -1,7 +1,7 @@
 //! What is said on standard error while the daemon serves. [P 15.2]
 
 use crate::front::Schemas;
-use crate::log::{Line, Log};
+use crate::log::{LogBuffer, LogLine};
 use std::alloc::Global;
 use std::io::{self, Eprint};
 use std::mem;
@@ -42,7 +42,7 @@ impl Closed {
 
 /// What is to be said.
 #[derive(Drop)]
-struct Pending {
+struct PendingNotices {
     /// Those of whom a message is too long.
     too_long: Closed,
     /// Those who came when as many sessions were open as may be.
@@ -52,9 +52,9 @@ struct Pending {
     code: i32,
 }
 
-impl Pending {
-    fn nothing() -> Pending {
-        Pending {
+impl PendingNotices {
+    fn nothing() -> PendingNotices {
+        PendingNotices {
             too_long: Closed::none(),
             too_many: Closed::none(),
             unaccepted: 0,
@@ -68,8 +68,8 @@ impl Pending {
 /// there is a log, each line of it is written too.
 #[derive(Drop)]
 pub(crate) struct Notices {
-    pending: Mutex<Pending>,
-    log: Mutex<Log>,
+    pending: Mutex<PendingNotices>,
+    log: Mutex<LogBuffer>,
     has_log: bool,
     /// The schemas by which it is told why transactions failed, where that is logged.
     schemas: Option<Schemas>,
@@ -90,8 +90,8 @@ impl Notices {
         schemas: Option<Schemas>,
     ) -> Notices {
         Notices {
-            pending: Mutex::new(Pending::nothing()),
-            log: Mutex::new(Log::new(alloc)),
+            pending: Mutex::new(PendingNotices::nothing()),
+            log: Mutex::new(LogBuffer::new(alloc)),
             has_log,
             schemas,
             writer: Parker::new(),
@@ -133,7 +133,7 @@ impl Notices {
     }
 
     /// Adds a line to the log.
-    pub(crate) fn add_line<R: Wait>(&self, rt: &R, line: Line) {
+    pub(crate) fn add_line<R: Wait>(&self, rt: &R, line: LogLine) {
         self.log.lock(rt).add(line);
         self.writer.unpark();
     }
@@ -188,7 +188,7 @@ impl Notices {
     /// Writes a line for each kind of things of which some happened, and returns whether there was one. Whether it could be
     /// written doesn't matter.
     fn write_pending<R: Eprint + Wait>(&self, rt: &R) -> bool {
-        let pending = mem::replace(&mut *self.pending.lock(rt), Pending::nothing());
+        let pending = mem::replace(&mut *self.pending.lock(rt), PendingNotices::nothing());
         let long = self.write_too_long(rt, &pending.too_long);
         let many = self.write_too_many(rt, &pending.too_many);
         let failed = write_unaccepted(rt, pending.unaccepted, pending.code);

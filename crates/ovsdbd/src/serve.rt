@@ -7,7 +7,7 @@ use crate::clerk::serve_desk;
 use crate::daemon::{Begun, Common, Daemon, Daemons, Patience};
 use crate::desk::Desk;
 use crate::fault::{ProgramFault, Which};
-use crate::front::{Front, Schemas};
+use crate::front::{FrontEnd, Schemas};
 use crate::load::load_file;
 use crate::notices::Notices;
 use crate::second::Second;
@@ -56,7 +56,7 @@ pub(crate) struct Terms {
 
 /// What the daemon begins with.
 #[derive(Clone, Copy)]
-pub(crate) struct Start<'a> {
+pub(crate) struct StartOptions<'a> {
     /// Where it listens.
     pub(crate) address: &'a str,
     /// The file of messages that it submits before.
@@ -68,7 +68,7 @@ pub(crate) struct Start<'a> {
 pub(crate) struct Beginning {
     pub(crate) first: Begun,
     pub(crate) second: Option<SecondBegun>,
-    pub(crate) front: Option<Front>,
+    pub(crate) front: Option<FrontEnd>,
     /// The schemas by which it is told why transactions failed, where that is logged.
     pub(crate) names: Option<Schemas>,
 }
@@ -124,7 +124,7 @@ pub(crate) fn serve_all<
         + Print
         + Eprint
         + Sync,
->(rt: &R, beginning: Beginning, start: Start<'_>, terms: Terms) -> Result<(), ProgramFault>
+>(rt: &R, beginning: Beginning, start: StartOptions<'_>, terms: Terms) -> Result<(), ProgramFault>
     requires first { IsNew beginning.first.core }
     requires second { IfSome beginning.second (λ second. IsNew second.begun.core) }
 {
@@ -152,7 +152,7 @@ fn serve_under<
     rt: &R,
     beginning: Beginning,
     blanks: Blanks,
-    start: Start<'_>,
+    start: StartOptions<'_>,
     terms: Terms,
 ) -> Result<(), ProgramFault>
     requires core { IsNew beginning.first.core }
@@ -243,7 +243,7 @@ fn begin_to_listen<
         + RandomSource
         + Print
         + Sync,
->(rt: &R, daemons: &Daemons<L, M>, start: Start<'_>) -> Result<TcpListener, ProgramFault> {
+>(rt: &R, daemons: &Daemons<L, M>, start: StartOptions<'_>) -> Result<TcpListener, ProgramFault> {
     if let Some(file) = start.file {
         load_file(rt, daemons, file)?;
     }

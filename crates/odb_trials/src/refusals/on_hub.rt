@@ -50,13 +50,13 @@ impl<L: Ledger> Players<L> {
 
 /// A hub to which scripts are played. A call for which memory is refused is made once more.
 #[derive(Drop)]
-struct Stage<'a, L: Ledger, R> {
+struct TrialHub<'a, L: Ledger, R> {
     rt: &'a R,
     alloc: Global,
     hub: &'a Hub<L>,
 }
 
-impl<'a, L: Ledger, R: Threads + Wait + Clock + Sync> Stage<'a, L, R> {
+impl<'a, L: Ledger, R: Threads + Wait + Clock + Sync> TrialHub<'a, L, R> {
     fn play(&self, script: &[&str]) -> Result<Sent, AllocError> {
         let sent = Sent::new(self.alloc)?;
         let first = self.open()?;
@@ -228,10 +228,10 @@ pub(crate) fn play_to_hub<L: Ledger, R: Threads + Wait + Clock + Sync>(
     requires parts { blank.parts ≡ 3 }
 {
     let hub: Hub<L> = Hub::new(alloc, core, blank, 2, Workers::new(1, 0));
-    let stage = Stage {
+    let trial = TrialHub {
         rt,
         alloc,
         hub: &hub,
     };
-    stage.play(script)
+    trial.play(script)
 }
