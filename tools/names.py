@@ -19,8 +19,6 @@ STEPS = re.compile(r"\b[Ss]teps?:? (`.*|(?:those of|what) .*)")
 # another name; who renames one of these takes its line out.
 TWICE = {
     "Change": "odb_request: of a filter; odb_monitor: of a row",
-    "Column": "odb_interest: the sessions that name atoms in a column; odb_schema: a declared column",
-    "Index": "odb_interest: sessions by keys of filters; odb_locks: sessions by names of locks",
     "Job": "odb_sessions: a job of odb_monitor, and its text where that is kept",
     "Key": "odb_interest: by what a session is looked up; odb_tables: an identifier in a hash map",
     "Kind": "odb_request: a notation of updates; odb_atoms: an atomic type",

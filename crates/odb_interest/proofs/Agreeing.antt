@@ -14,10 +14,10 @@ use Rattle.odb_cond.specs.Represented.Filter.{member_of}
 use Rattle.odb_cond.specs.declared.filter.Member.{Member}
 use Rattle.odb_interest.specs.Keys.{Asked, Interests, Key, asked_at, key_of}
 use Rattle.odb_interest.specs.Represented.Asked.{LosesFirst}
-use Rattle.odb_interest.specs.Represented.Index.{Covers, CoversLacking, CoversSome, Indexes, IsUnchanged, Puts, Uncovers, UncoversAll, UncoversAt, UncoversFound, finds, is_own}
+use Rattle.odb_interest.specs.Represented.SessionsByKey.{Covers, CoversLacking, CoversSome, Indexes, IsUnchanged, Puts, Uncovers, UncoversAll, UncoversAt, UncoversFound, finds, is_own}
 use Rattle.odb_interest.specs.Represented.Key.{among, has_key, held, is_asked, same_key}
 use Rattle.odb_interest.specs.Represented.Lists.{Asks, IsSame, with_filter}
-use Rattle.odb_interest.specs.declared.index.Index.{Index}
+use Rattle.odb_interest.specs.declared.index.SessionsByKey.{SessionsByKey}
 use Rattle.odb_interest.proofs.Booleans.{all_out, back, both_parts, each_part, exchanged_none, exchanged_one, goes, grouped, middle_out, never_own, not_own, one_fewer, one_filter_fewer, one_more, or_false, or_turned, own, part_reached, put_among, some_reached, stays, stays_so, twice_not}
 use Rattle.odb_interest.proofs.Asking.{asks_itself}
 use Rattle.odb_interest.proofs.Touching.{key_is, same_number}
@@ -53,44 +53,44 @@ among_part ms i k h =
 -- ---- one key
 
 module _ (table session : ℕ) where
-  pub put_covers : (now new : Index) (key : Key) → Puts now new table key session true → Covers now new table (λ k. same_key k key) session
+  pub put_covers : (now new : SessionsByKey) (key : Key) → Puts now new table key session true → Covers now new table (λ k. same_key k key) session
   put_covers now new key puts t k s = puts t k s ∙ put_among (finds now t k s) (table == t) (same_key k key) (session == s)
 
-  pub put_releases : (now new : Index) (key : Key) (others : List Asked) → is_asked others table key ≡ false → Puts now new table key session false → Uncovers now new table (λ k. same_key k key) session others
+  pub put_releases : (now new : SessionsByKey) (key : Key) (others : List Asked) → is_asked others table key ≡ false → Puts now new table key session false → Uncovers now new table (λ k. same_key k key) session others
   put_releases now new key others none puts t k s =
       puts t k s
       ∙ goes (finds now t k s) (table == t) (same_key k key) (session == s) (is_asked others t k)
       (λ here same. (λ i. is_asked others (sym (same_number table t here) i) (key_is k key same i)) ∙ none)
 
-  pub none_releases : (now : Index) (key : Key) (others : List Asked) → is_asked others table key ≡ true → Uncovers now now table (λ k. same_key k key) session others
+  pub none_releases : (now : SessionsByKey) (key : Key) (others : List Asked) → is_asked others table key ≡ true → Uncovers now now table (λ k. same_key k key) session others
   none_releases now key others some t k s =
       stays (finds now t k s) (table == t) (same_key k key) (session == s) (is_asked others t k)
       (λ here same. (λ i. is_asked others (sym (same_number table t here) i) (key_is k key same i)) ∙ some)
 
   -- ---- the same for other tests, and for one member more
 
-  pub covers_by : (old new : Index) (p q : Key → Bool) → ((k : Key) → p k ≡ q k) → Covers old new table p session → Covers old new table q session
+  pub covers_by : (old new : SessionsByKey) (p q : Key → Bool) → ((k : Key) → p k ≡ q k) → Covers old new table p session → Covers old new table q session
   covers_by old new p q is h t k s = h t k s ∙ ap (λ b. finds old t k s || (is_own table session t s && b)) (is k)
 
-  pub covers_some_by : (old new : Index) (p q : Key → Bool) → ((k : Key) → p k ≡ q k) → CoversSome old new table p session → CoversSome old new table q session
+  pub covers_some_by : (old new : SessionsByKey) (p q : Key → Bool) → ((k : Key) → p k ≡ q k) → CoversSome old new table p session → CoversSome old new table q session
   covers_some_by old new p q is h t k s = let w = h t k s in (w.0, w.1 ∙ ap (λ b. finds old t k s || (w.0 && (is_own table session t s && b))) (is k))
 
-  pub uncovers_by : (old new : Index) (p q : Key → Bool) (others : List Asked) → ((k : Key) → p k ≡ q k) → Uncovers old new table p session others → Uncovers old new table q session others
+  pub uncovers_by : (old new : SessionsByKey) (p q : Key → Bool) (others : List Asked) → ((k : Key) → p k ≡ q k) → Uncovers old new table p session others → Uncovers old new table q session others
   uncovers_by old new p q others is h t k s = h t k s ∙ ap (λ b. finds old t k s && not (is_own table session t s && (b && not (is_asked others t k)))) (is k)
 
-  pub covers_more : (old now new : Index) (ms : List Member) (i : ℕ) (m : Member) → i < length ms → m ≡ get_or ms i m → Covers old now table (among (take i ms)) session → Covers now new table (λ k. held (same_key k) (key_of (member_of m))) session → Covers old new table (among (take (i + 1) ms)) session
+  pub covers_more : (old now new : SessionsByKey) (ms : List Member) (i : ℕ) (m : Member) → i < length ms → m ≡ get_or ms i m → Covers old now table (among (take i ms)) session → Covers now new table (λ k. held (same_key k) (key_of (member_of m))) session → Covers old new table (among (take (i + 1) ms)) session
   covers_more old now new ms i m inside is before more t k s =
       more t k s ∙ ap (λ b. b || (is_own table session t s && held (same_key k) (key_of (member_of m)))) (before t k s)
       ∙ one_more (finds old t k s) (is_own table session t s) (among (take i ms) k) (held (same_key k) (key_of (member_of m)))
       ∙ ap (λ b. finds old t k s || (is_own table session t s && b)) (sym (among_more ms i m k inside is))
 
-  pub uncovers_more : (old now new : Index) (ms : List Member) (i : ℕ) (m : Member) (others : List Asked) → i < length ms → m ≡ get_or ms i m → Uncovers old now table (among (take i ms)) session others → Uncovers now new table (λ k. held (same_key k) (key_of (member_of m))) session others → Uncovers old new table (among (take (i + 1) ms)) session others
+  pub uncovers_more : (old now new : SessionsByKey) (ms : List Member) (i : ℕ) (m : Member) (others : List Asked) → i < length ms → m ≡ get_or ms i m → Uncovers old now table (among (take i ms)) session others → Uncovers now new table (λ k. held (same_key k) (key_of (member_of m))) session others → Uncovers old new table (among (take (i + 1) ms)) session others
   uncovers_more old now new ms i m others inside is before more t k s =
       more t k s ∙ ap (λ b. b && not (is_own table session t s && (held (same_key k) (key_of (member_of m)) && not (is_asked others t k)))) (before t k s)
       ∙ one_fewer (finds old t k s) (is_own table session t s) (among (take i ms) k) (held (same_key k) (key_of (member_of m))) (not (is_asked others t k))
       ∙ ap (λ b. finds old t k s && not (is_own table session t s && (b && not (is_asked others t k)))) (sym (among_more ms i m k inside is))
 
-  pub none_covers : (now : Index) (p : Key → Bool) → ((k : Key) → p k ≡ false) → Covers now now table p session
+  pub none_covers : (now : SessionsByKey) (p : Key → Bool) → ((k : Key) → p k ≡ false) → Covers now now table p session
   none_covers now p none t k s = by (finds now t k s) (is_own table session t s) ∙ ap (λ b. finds now t k s || (is_own table session t s && b)) (sym (none k))
     where
       by : (b o : Bool) → b ≡ (b || (o && false))
@@ -98,7 +98,7 @@ module _ (table session : ℕ) where
       by false true = refl
       by false false = refl
 
-  pub none_uncovers : (now : Index) (p : Key → Bool) (others : List Asked) → ((k : Key) → p k ≡ false) → Uncovers now now table p session others
+  pub none_uncovers : (now : SessionsByKey) (p : Key → Bool) (others : List Asked) → ((k : Key) → p k ≡ false) → Uncovers now now table p session others
   none_uncovers now p others none t k s = by (finds now t k s) (is_own table session t s) (not (is_asked others t k)) ∙ ap (λ b. finds now t k s && not (is_own table session t s && (b && not (is_asked others t k)))) (sym (none k))
     where
       by : (b o n : Bool) → b ≡ (b && not (o && (false && n)))
@@ -107,7 +107,7 @@ module _ (table session : ℕ) where
       by true false n = refl
 
   -- where memory was refused, the keys so far are covered
-  pub covers_so_far : (old now new : Index) (ms : List Member) (i : ℕ) → Covers old now table (among (take i ms)) session → IsUnchanged now new → CoversSome old new table (among ms) session
+  pub covers_so_far : (old now new : SessionsByKey) (ms : List Member) (i : ℕ) → Covers old now table (among (take i ms)) session → IsUnchanged now new → CoversSome old new table (among ms) session
   covers_so_far old now new ms i before same t k s = (
     among (take i ms) k,
     same t k s ∙ before t k s ∙ some_reached (finds old t k s) (is_own table session t s) (among (take i ms) k) (among ms k) (among_part ms i k),
@@ -129,21 +129,21 @@ pub near_has : (ms : List Member) (o : Option Key) (key k : Key) → o ≡ Some 
 near_has ms o key k is found h = ap (among ms) (key_is k key (sym (ap (held (same_key k)) is) ∙ h)) ∙ found
 
 module _ (table session : ℕ) where
-  pub covers_lacking : (old new : Index) (p other : Key → Bool) → Covers old new table p session → CoversLacking old new table p other session
+  pub covers_lacking : (old new : SessionsByKey) (p other : Key → Bool) → Covers old new table p session → CoversLacking old new table p other session
   covers_lacking old new p other h t k s = (true, λ _. refl, h t k s)
 
-  pub none_lacking : (now : Index) (p other : Key → Bool) → ((k : Key) → p k ≡ true → other k ≡ true) → CoversLacking now now table p other session
+  pub none_lacking : (now : SessionsByKey) (p other : Key → Bool) → ((k : Key) → p k ≡ true → other k ≡ true) → CoversLacking now now table p other session
   none_lacking now p other h t k s = (false, h k, or_false (finds now t k s))
 
-  pub covers_lacking_by : (old new : Index) (p q other : Key → Bool) → ((k : Key) → p k ≡ q k) → CoversLacking old new table p other session → CoversLacking old new table q other session
+  pub covers_lacking_by : (old new : SessionsByKey) (p q other : Key → Bool) → ((k : Key) → p k ≡ q k) → CoversLacking old new table p other session → CoversLacking old new table q other session
   covers_lacking_by old new p q other is h t k s =
       let w = h t k s in
       (w.0, λ has. w.1 (is k ∙ has), w.2 ∙ ap (λ b. finds old t k s || (w.0 && (is_own table session t s && b))) (is k))
 
-  pub some_lacking : (old new : Index) (p other : Key → Bool) → CoversLacking old new table p other session → CoversSome old new table p session
+  pub some_lacking : (old new : SessionsByKey) (p other : Key → Bool) → CoversLacking old new table p other session → CoversSome old new table p session
   some_lacking old new p other h t k s = let w = h t k s in (w.0, w.2)
 
-  pub lacking_more : (old now new : Index) (ms : List Member) (i : ℕ) (m : Member) (other : Key → Bool) → i < length ms → m ≡ get_or ms i m → CoversLacking old now table (among (take i ms)) other session → CoversLacking now new table (λ k. held (same_key k) (key_of (member_of m))) other session → CoversLacking old new table (among (take (i + 1) ms)) other session
+  pub lacking_more : (old now new : SessionsByKey) (ms : List Member) (i : ℕ) (m : Member) (other : Key → Bool) → i < length ms → m ≡ get_or ms i m → CoversLacking old now table (among (take i ms)) other session → CoversLacking now new table (λ k. held (same_key k) (key_of (member_of m))) other session → CoversLacking old new table (among (take (i + 1) ms)) other session
   lacking_more old now new ms i m other inside is before more t k s =
       let w = before t k s in
       let v = more t k s in
@@ -157,7 +157,7 @@ module _ (table session : ℕ) where
       )
 
   -- where memory was refused, some keys are covered
-  pub lacking_so_far : (old now new : Index) (ms : List Member) (i : ℕ) (other : Key → Bool) → CoversLacking old now table (among (take i ms)) other session → IsUnchanged now new → CoversSome old new table (among ms) session
+  pub lacking_so_far : (old now new : SessionsByKey) (ms : List Member) (i : ℕ) (other : Key → Bool) → CoversLacking old now table (among (take i ms)) other session → IsUnchanged now new → CoversSome old new table (among ms) session
   lacking_so_far old now new ms i other before same t k s =
       let w = before t k s in (
         (w.0 && among (take i ms) k),
@@ -166,16 +166,16 @@ module _ (table session : ℕ) where
 
   -- ---- the keys by which another index finds it
 
-  pub found_by : (old new : Index) (p q : Key → Bool) (found : Index) → ((k : Key) → p k ≡ q k) → UncoversFound old new table p session found → UncoversFound old new table q session found
+  pub found_by : (old new : SessionsByKey) (p q : Key → Bool) (found : SessionsByKey) → ((k : Key) → p k ≡ q k) → UncoversFound old new table p session found → UncoversFound old new table q session found
   found_by old new p q found is h t k s = h t k s ∙ ap (λ b. finds old t k s && not (is_own table session t s && (b && finds found table k session))) (is k)
 
-  pub found_more : (old now new : Index) (ms : List Member) (i : ℕ) (m : Member) (found : Index) → i < length ms → m ≡ get_or ms i m → UncoversFound old now table (among (take i ms)) session found → UncoversFound now new table (λ k. held (same_key k) (key_of (member_of m))) session found → UncoversFound old new table (among (take (i + 1) ms)) session found
+  pub found_more : (old now new : SessionsByKey) (ms : List Member) (i : ℕ) (m : Member) (found : SessionsByKey) → i < length ms → m ≡ get_or ms i m → UncoversFound old now table (among (take i ms)) session found → UncoversFound now new table (λ k. held (same_key k) (key_of (member_of m))) session found → UncoversFound old new table (among (take (i + 1) ms)) session found
   found_more old now new ms i m found inside is before more t k s =
       more t k s ∙ ap (λ b. b && not (is_own table session t s && (held (same_key k) (key_of (member_of m)) && finds found table k session))) (before t k s)
       ∙ one_fewer (finds old t k s) (is_own table session t s) (among (take i ms) k) (held (same_key k) (key_of (member_of m))) (finds found table k session)
       ∙ ap (λ b. finds old t k s && not (is_own table session t s && (b && finds found table k session))) (sym (among_more ms i m k inside is))
 
-  pub none_found : (now found : Index) (p : Key → Bool) → ((k : Key) → p k ≡ false) → UncoversFound now now table p session found
+  pub none_found : (now found : SessionsByKey) (p : Key → Bool) → ((k : Key) → p k ≡ false) → UncoversFound now now table p session found
   none_found now found p none t k s = by (finds now t k s) (is_own table session t s) (finds found table k session) ∙ ap (λ b. finds now t k s && not (is_own table session t s && (b && finds found table k session))) (sym (none k))
     where
       by : (b o n : Bool) → b ≡ (b && not (o && (false && n)))
@@ -183,14 +183,14 @@ module _ (table session : ℕ) where
       by true true n = refl
       by true false n = refl
 
-  pub put_found_out : (now new found : Index) (key : Key) → finds found table key session ≡ true → Puts now new table key session false → UncoversFound now new table (λ k. same_key k key) session found
+  pub put_found_out : (now new found : SessionsByKey) (key : Key) → finds found table key session ≡ true → Puts now new table key session false → UncoversFound now new table (λ k. same_key k key) session found
   put_found_out now new found key there puts t k s =
       puts t k s
       ∙ goes (finds now t k s) (table == t) (same_key k key) (session == s) (not (finds found table k session))
       (λ here same. (λ i. not (finds found table (key_is k key same i) session)) ∙ ap not there)
       ∙ ap (λ b. finds now t k s && not (is_own table session t s && (same_key k key && b))) (twice_not (finds found table k session))
 
-  pub none_found_out : (now found : Index) (key : Key) → finds found table key session ≡ false → UncoversFound now now table (λ k. same_key k key) session found
+  pub none_found_out : (now found : SessionsByKey) (key : Key) → finds found table key session ≡ false → UncoversFound now now table (λ k. same_key k key) session found
   none_found_out now found key gone t k s =
       stays (finds now t k s) (table == t) (same_key k key) (session == s) (not (finds found table k session))
       (λ here same. (λ i. not (finds found table (key_is k key same i) session)) ∙ ap not gone)
@@ -198,14 +198,14 @@ module _ (table session : ℕ) where
 
   -- ---- the filters of a table
 
-  pub at_table : (old now new : Index) (fs : List Asked) (i : ℕ) (a : Asked) → i < length fs → a ≡ get_or fs i a → UncoversAt old now table session (take i fs) → UncoversAt now new table session (a ∷ []) → UncoversAt old new table session (take (i + 1) fs)
+  pub at_table : (old now new : SessionsByKey) (fs : List Asked) (i : ℕ) (a : Asked) → i < length fs → a ≡ get_or fs i a → UncoversAt old now table session (take i fs) → UncoversAt now new table session (a ∷ []) → UncoversAt old new table session (take (i + 1) fs)
   at_table old now new fs i a inside is before more t k s =
       more t k s ∙ ap (λ b. b && not (is_own table session t s && is_asked (a ∷ []) t k)) (before t k s)
       ∙ one_filter_fewer (finds old t k s) (is_own table session t s) (is_asked (take i fs) t k) (is_asked (a ∷ []) t k)
       ∙ ap (λ b. finds old t k s && not (is_own table session t s && b)) (sym (ap (λ xs. is_asked xs t k) (take_more fs i a inside ∙ ap (λ x. take i fs ++ x ∷ []) (sym is)) ∙ list_any-append (λ (x : Asked). (x.0 == t) && has_key k x.1) (take i fs) (a ∷ [])))
 
   -- a filter of another table
-  pub other_table : (now : Index) (a : Asked) → (a.0 == table) ≡ false → UncoversAt now now table session (a ∷ [])
+  pub other_table : (now : SessionsByKey) (a : Asked) → (a.0 == table) ≡ false → UncoversAt now now table session (a ∷ [])
   other_table now a e t k s = by (table == t) refl
     where
       apart : (table == t) ≡ true → (a.0 == t) ≡ false
@@ -216,7 +216,7 @@ module _ (table session : ℕ) where
       by false h = sym (ap (λ b. finds now t k s && not ((b && (session == s)) && (((a.0 == t) && has_key k a.1) || false))) h ∙ stays_so (finds now t k s))
 
   -- a filter of this one, which no others share
-  pub own_table : (now new : Index) (a : Asked) → a.0 ≡ table → Uncovers now new table (λ k. has_key k a.1) session [] → UncoversAt now new table session (a ∷ [])
+  pub own_table : (now new : SessionsByKey) (a : Asked) → a.0 ≡ table → Uncovers now new table (λ k. has_key k a.1) session [] → UncoversAt now new table session (a ∷ [])
   own_table now new a same h t k s = h t k s ∙ ap (λ b. finds now t k s && not b) (by (table == t) (session == s) (has_key k a.1)) ∙ ap (λ (n : ℕ). finds now t k s && not (((table == t) && (session == s)) && (((n == t) && has_key k a.1) || false))) (sym same)
     where
       by : (t s h : Bool) → ((t && s) && (h && true)) ≡ ((t && s) && ((t && h) || false))
@@ -265,8 +265,8 @@ past_last [] place f e = refl
 past_last (x ∷ xs) zero f e = absurd (none-some x (sym e))
 past_last (x ∷ xs) (suc place) f e = ap (λ ys. x ∷ ys) (past_last xs place f e)
 
-module _ (x : Index) (v : Interests) (agrees : Indexes x v) (session : ℕ) where
-  pub entered : (y : Index) (w : Interests) (a : Asked) → Covers x y a.0 (λ k. has_key k a.1) session → Asks v w session (asked_at v session ++ a ∷ []) → Indexes y w
+module _ (x : SessionsByKey) (v : Interests) (agrees : Indexes x v) (session : ℕ) where
+  pub entered : (y : SessionsByKey) (w : Interests) (a : Asked) → Covers x y a.0 (λ k. has_key k a.1) session → Asks v w session (asked_at v session ++ a ∷ []) → Indexes y w
   entered y w a covers asks t k s = covers t k s ∙ ap (λ b. b || (is_own a.0 session t s && has_key k a.1)) (agrees t k s) ∙ by (session == s) refl ∙ sym (ap (λ fs. is_asked fs t k) (asks s))
     where
       by : (b : Bool) → (session == s) ≡ b → (is_asked (asked_at v s) t k || (((a.0 == t) && (session == s)) && has_key k a.1)) ≡ is_asked (cond b (asked_at v session ++ a ∷ []) (asked_at v s)) t k
@@ -277,7 +277,7 @@ module _ (x : Index) (v : Interests) (agrees : Indexes x v) (session : ℕ) wher
           ∙ sym (is_asked-append (asked_at v session) (a ∷ []) t k)
       by false e = ap (λ b. is_asked (asked_at v s) t k || (((a.0 == t) && b) && has_key k a.1)) e ∙ not_own (is_asked (asked_at v s) t k) (a.0 == t) (has_key k a.1)
 
-  pub taken_back : (y z : Index) (w : Interests) (a : Asked) → CoversSome x y a.0 (λ k. has_key k a.1) session → IsSame v w → Uncovers y z a.0 (λ k. has_key k a.1) session (asked_at w session) → Indexes z w
+  pub taken_back : (y z : SessionsByKey) (w : Interests) (a : Asked) → CoversSome x y a.0 (λ k. has_key k a.1) session → IsSame v w → Uncovers y z a.0 (λ k. has_key k a.1) session (asked_at w session) → Indexes z w
   taken_back y z w a covers same uncovers t k s =
       let part = covers t k s in
       let o = is_own a.0 session t s in
@@ -290,7 +290,7 @@ module _ (x : Index) (v : Interests) (agrees : Indexes x v) (session : ℕ) wher
       second true q e = e
       second false q e = absurd (true≢false (sym e))
 
-  pub taken_out : (z : Index) (w : Interests) (a : Asked) → LosesFirst a (asked_at v session) (asked_at w session) → Asks v w session (asked_at w session) → Uncovers x z a.0 (λ k. has_key k a.1) session (asked_at w session) → Indexes z w
+  pub taken_out : (z : SessionsByKey) (w : Interests) (a : Asked) → LosesFirst a (asked_at v session) (asked_at w session) → Asks v w session (asked_at w session) → Uncovers x z a.0 (λ k. has_key k a.1) session (asked_at w session) → Indexes z w
   taken_out z w a loses asks uncovers t k s =
       uncovers t k s ∙ ap (λ b. b && not (is_own a.0 session t s && (has_key k a.1 && not (is_asked (asked_at w session) t k)))) (agrees t k s) ∙ by (session == s) refl ∙ sym (ap (λ fs. is_asked fs t k) (asks s))
     where
@@ -323,7 +323,7 @@ module _ (x : Index) (v : Interests) (agrees : Indexes x v) (session : ℕ) wher
           ∙ stays_so (is_asked (asked_at v s) t k)
 
   -- a filter in the place of another of its table, over an index of what the old one alone may have
-  pub exchanged : (y z none going left : Index) (w : Interests) (place : ℕ) (old : Asked) (f : Filter) → slice_get (asked_at v session) place ≡ Some old → ((t : ℕ) (k : Key) (s : ℕ) → finds none t k s ≡ false) → CoversLacking none going old.0 (λ k. has_key k old.1) (λ k. has_key k f) session → UncoversAt going left old.0 session (asked_at w session) → CoversLacking x y old.0 (λ k. has_key k f) (λ k. has_key k old.1) session → Asks v w session (with_filter (asked_at v session) place f) → UncoversFound y z old.0 (λ k. has_key k old.1) session left → Indexes z w
+  pub exchanged : (y z none going left : SessionsByKey) (w : Interests) (place : ℕ) (old : Asked) (f : Filter) → slice_get (asked_at v session) place ≡ Some old → ((t : ℕ) (k : Key) (s : ℕ) → finds none t k s ≡ false) → CoversLacking none going old.0 (λ k. has_key k old.1) (λ k. has_key k f) session → UncoversAt going left old.0 session (asked_at w session) → CoversLacking x y old.0 (λ k. has_key k f) (λ k. has_key k old.1) session → Asks v w session (with_filter (asked_at v session) place f) → UncoversFound y z old.0 (λ k. has_key k old.1) session left → Indexes z w
   exchanged y z none going left w place old f there empty goes leaves comes asks uncovers t k s = uncovers t k s ∙ by (session == s) refl (old.0 == t) refl
     where
       o : Bool
@@ -373,7 +373,7 @@ module _ (x : Index) (v : Interests) (agrees : Indexes x v) (session : ℕ) wher
           ∙ exchanged_one part.0 o n here.0 gone.0 here.1 gone.1
           ∙ sym now ∙ ap (λ fs. is_asked fs t k) (sym own_session) ∙ ap (λ m. is_asked (asked_at w m) t k) (at_session session s e)
 
-  pub forgotten : (y : Index) (w : Interests) → UncoversAll x y session (asked_at v session) → Asks v w session [] → Indexes y w
+  pub forgotten : (y : SessionsByKey) (w : Interests) → UncoversAll x y session (asked_at v session) → Asks v w session [] → Indexes y w
   forgotten y w uncovers asks t k s = uncovers t k s ∙ ap (λ b. b && not ((session == s) && is_asked (asked_at v session) t k)) (agrees t k s) ∙ by (session == s) refl ∙ sym (ap (λ fs. is_asked fs t k) (asks s))
     where
       by : (b : Bool) → (session == s) ≡ b → (is_asked (asked_at v s) t k && not ((session == s) && is_asked (asked_at v session) t k)) ≡ is_asked (cond b [] (asked_at v s)) t k

@@ -17,7 +17,7 @@ use Rattle.odb_atoms.specs.Represented.Atom.{atom_of}
 use Rattle.odb_atoms.specs.Represented.AtomOrder.{atom_cmp_total}
 use Rattle.odb_atoms.specs.declared.atom.Atom as code
 use Rattle.odb_interest.proofs.Booleans.{turned}
-use Rattle.odb_interest.specs.Represented.Column.{at_atom}
+use Rattle.odb_interest.specs.Represented.SessionsByAtom.{at_atom}
 use Rattle.odb_interest.specs.Represented.Key.{held}
 
 pub is_eq-nat_cmp : (s t : ℕ) → is_eq (nat_cmp s t) ≡ (s == t)

@@ -21,10 +21,10 @@ use Rattle.odb_atoms.specs.Value.{Value, map_of, set_of}
 use Rattle.odb_atoms.specs.declared.atom.Atom.{Atom}
 use Rattle.odb_atoms.specs.declared.value.Entries.TheVariants as entries
 use Rattle.odb_interest.specs.Keys.{atoms_in}
-use Rattle.odb_interest.specs.Represented.Column.{names}
+use Rattle.odb_interest.specs.Represented.SessionsByAtom.{names}
 use Rattle.odb_interest.specs.Represented.Found.{RowChange, names_in, names_some}
 use Rattle.odb_interest.specs.Represented.Key.{held}
-use Rattle.odb_interest.specs.declared.column.Column.{Column}
+use Rattle.odb_interest.specs.declared.column.SessionsByAtom.{SessionsByAtom}
 
 pub atoms-listed : (s : Bor (List Atom)) (v : Value) → Lists (entries.Set s) v → map atom_of s.now ≡ atoms_in v
 atoms-listed s (set_of t) h = h
@@ -56,7 +56,7 @@ any_never p (x ∷ xs) h = ap (λ b. b || list_any p xs) (h x) ∙ any_never p x
 
 -- ---- no session names an atom of the column
 
-module _ (c : Column) (none : btree_map_len c.sessions ≡ 0) where
+module _ (c : SessionsByAtom) (none : btree_map_len c.sessions ≡ 0) where
   names_none : (a : model.Atom) (s : ℕ) → names c a s ≡ false
   names_none a s = ap (λ es. held (λ sessions. contains nat_cmp sessions s) (lookup (is_at (λ k. atom_cmp a (atom_of k))) es)) (nil_from_length c.sessions.entries none)
 

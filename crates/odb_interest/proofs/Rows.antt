@@ -17,7 +17,7 @@ use Rattle.odb_atoms.specs.Row.{Selector, declared, own_uuid, own_version}
 use Rattle.odb_atoms.specs.Uuid.{uuid_cmp}
 use Rattle.odb_interest.specs.Represented.Found.{RowChange, is_found, names_in, names_some}
 use Rattle.odb_interest.specs.Represented.Key.{held}
-use Rattle.odb_interest.specs.declared.column.Column.{Column}
+use Rattle.odb_interest.specs.declared.column.SessionsByAtom.{SessionsByAtom}
 use Rattle.odb_interest.specs.declared.watched.Watched.{Watched}
 use Rattle.odb_tables.proofs.KeyedMaps.{get-from_entries, none_behind}
 use Rattle.odb_tables.specs.Change.{Changes}
@@ -60,5 +60,5 @@ found-rows w es d h is s =
     (λ i. contains nat_cmp w.loose s || (alike w.uuids own_uuid i || (alike w.versions own_version i || list_any (λ j. held (λ c. alike c (declared j) i) (get nat_cmp w.columns j)) (keys_of w.columns.entries))))
     ∙ ap (λ (m : Changes). is_found w (finite.entries_of m) s) is
   where
-    alike : (c : Column) (at : Selector) → names_some c at es s ≡ names_some c at (finite.entries_of (finite.from_entries {R = uuid_cmp} es)) s
+    alike : (c : SessionsByAtom) (at : Selector) → names_some c at es s ≡ names_some c at (finite.entries_of (finite.from_entries {R = uuid_cmp} es)) s
     alike c at = any-rows (λ e. names_in c at e.0 e.1.0 s || names_in c at e.0 e.1.1 s) es h

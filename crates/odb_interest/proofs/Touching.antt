@@ -25,13 +25,13 @@ use Rattle.odb_atoms.specs.Uuid.{Uuid, uuid_cmp}
 use Rattle.odb_atoms.specs.Value.{Value, map_of, set_of}
 use Rattle.odb_interest.proofs.Levels.{is_eq-nat_cmp}
 use Rattle.odb_interest.specs.Keys.{Asked, Interests, Key, any_row, asked_at, atoms_in, change_at, is_hit, is_met, is_touched, keys_of, named, row_has}
-use Rattle.odb_interest.specs.Represented.Column.{names}
+use Rattle.odb_interest.specs.Represented.SessionsByAtom.{names}
 use Rattle.odb_interest.specs.Represented.Found.{RowChange, any_below, is_found, names_declared, names_in, names_some}
-use Rattle.odb_interest.specs.Represented.Index.{Indexes, finds_among, finds_for}
+use Rattle.odb_interest.specs.Represented.SessionsByKey.{Indexes, finds_among, finds_for}
 use Rattle.odb_interest.specs.Represented.Key.{has_key, held, is_asked, same_column, same_key}
 use Rattle.odb_interest.specs.Represented.Watched.{names_at, watches}
-use Rattle.odb_interest.specs.declared.column.Column.{Column}
-use Rattle.odb_interest.specs.declared.index.Index.{Index}
+use Rattle.odb_interest.specs.declared.column.SessionsByAtom.{SessionsByAtom}
+use Rattle.odb_interest.specs.declared.index.SessionsByKey.{SessionsByKey}
 use Rattle.odb_interest.specs.declared.watched.Watched.{Watched}
 use Rattle.odb_tables.specs.Change.{Changes}
 
@@ -112,20 +112,20 @@ has_any p v a h is =
 
 -- ---- rows in which a session names an atom
 
-row_gives : (c : Column) (at : Selector) (u : Uuid) (o : Option Row) (s : ℕ) → names_in c at u o s ≡ true → (a : Atom) × (row_has at a u o ≡ true) × (names c a s ≡ true)
+row_gives : (c : SessionsByAtom) (at : Selector) (u : Uuid) (o : Option Row) (s : ℕ) → names_in c at u o s ≡ true → (a : Atom) × (row_has at a u o ≡ true) × (names c a s ≡ true)
 row_gives c at u None s e = absurd (true≢false (sym e))
 row_gives c at u (Some r) s e =
     let found = any_gives (λ a. names c a s) (atoms_in (cell u r at)) e in
     (found.0, gives_has (cell u r at) found.0 found.1, found.2)
 
-gives_row : (c : Column) (at : Selector) (u : Uuid) (o : Option Row) (s : ℕ) (a : Atom) → row_has at a u o ≡ true → names c a s ≡ true → names_in c at u o s ≡ true
+gives_row : (c : SessionsByAtom) (at : Selector) (u : Uuid) (o : Option Row) (s : ℕ) (a : Atom) → row_has at a u o ≡ true → names c a s ≡ true → names_in c at u o s ≡ true
 gives_row c at u None s a h is = absurd (true≢false (sym h))
 gives_row c at u (Some r) s a h is = has_any (λ b. names c b s) (cell u r at) a h is
 
 abbrev meets_one : Selector → Atom → RowChange → Bool
 meets_one at a e = row_has at a e.0 e.1.0 || row_has at a e.0 e.1.1
 
-some_gives : (c : Column) (at : Selector) (rows : List RowChange) (s : ℕ) → names_some c at rows s ≡ true → (a : Atom) × (list_any (meets_one at a) rows ≡ true) × (names c a s ≡ true)
+some_gives : (c : SessionsByAtom) (at : Selector) (rows : List RowChange) (s : ℕ) → names_some c at rows s ≡ true → (a : Atom) × (list_any (meets_one at a) rows ≡ true) × (names c a s ≡ true)
 some_gives c at rows s h =
     let row = any_gives (λ e. names_in c at e.0 e.1.0 s || names_in c at e.0 e.1.1 s) rows h in
     let e : RowChange = row.0 in
@@ -134,7 +134,7 @@ some_gives c at rows s h =
       | inr new ↦ let a = row_gives c at e.0 e.1.1 s new in (a.0, gives_any (meets_one at a.0) rows e row.1 (or_right (row_has at a.0 e.0 e.1.0) (row_has at a.0 e.0 e.1.1) a.1), a.2)
     ]
 
-gives_some : (c : Column) (at : Selector) (rows : List RowChange) (s : ℕ) (a : Atom) → list_any (meets_one at a) rows ≡ true → names c a s ≡ true → names_some c at rows s ≡ true
+gives_some : (c : SessionsByAtom) (at : Selector) (rows : List RowChange) (s : ℕ) (a : Atom) → list_any (meets_one at a) rows ≡ true → names c a s ≡ true → names_some c at rows s ≡ true
 gives_some c at rows s a h is =
     let row = any_gives (meets_one at a) rows h in
     let e : RowChange = row.0 in
@@ -154,14 +154,14 @@ key_of_found (f ∷ fs) i x e = by (is_at (nat_cmp i) f.0) refl e (key_of_found 
     by true t e rest = inl (same_number i f.0 (sym (is_eq-nat_cmp i f.0) ∙ t))
     by false t e rest = inr (rest e)
 
-declared_gives : (m : BTreeMap ℕ Column) (rows : List RowChange) (s : ℕ) → names_declared m rows s ≡ true → (i : ℕ) × (a : Atom) × (list_any (meets_one (declared i) a) rows ≡ true) × (names_at m i a s ≡ true)
+declared_gives : (m : BTreeMap ℕ SessionsByAtom) (rows : List RowChange) (s : ℕ) → names_declared m rows s ≡ true → (i : ℕ) × (a : Atom) × (list_any (meets_one (declared i) a) rows ≡ true) × (names_at m i a s ≡ true)
 declared_gives m rows s h =
     let place = any_gives (λ i. held (λ c. names_some c (declared i) rows s) (tree.get nat_cmp m i)) (listed_keys m.entries) h in
     let column = held_gives (λ c. names_some c (declared place.0) rows s) (tree.get nat_cmp m place.0) place.2 in
     let a = some_gives column.0 (declared place.0) rows s column.2 in
     (place.0, a.0, a.1, gives_held (λ c. names c a.0 s) (tree.get nat_cmp m place.0) column.0 column.1 a.2)
 
-gives_declared : (m : BTreeMap ℕ Column) (rows : List RowChange) (s i : ℕ) (a : Atom) → list_any (meets_one (declared i) a) rows ≡ true → names_at m i a s ≡ true → names_declared m rows s ≡ true
+gives_declared : (m : BTreeMap ℕ SessionsByAtom) (rows : List RowChange) (s i : ℕ) (a : Atom) → list_any (meets_one (declared i) a) rows ≡ true → names_at m i a s ≡ true → names_declared m rows s ≡ true
 gives_declared m rows s i a h is =
     let column = held_gives (λ c. names c a s) (tree.get nat_cmp m i) is in
     gives_any (λ j. held (λ c. names_some c (declared j) rows s) (tree.get nat_cmp m j)) (listed_keys m.entries) i (key_of_found m.entries i column.0 column.1)
@@ -220,7 +220,7 @@ inside cs t h = by (nat_lt t (length cs)) refl
     by true e = grind (arith, nat_tests)
     by false e = absurd (true≢false (sym h ∙ ap (λ (o : Option Changes). nat_lt 0 (finite.len (unwrap_or o finite.empty))) (slice_get_past cs t (past e)) ∙ no_rows))
 
-module _ (x : Index) (v : Interests) (agrees : Indexes x v) (cs : List Changes) (s : ℕ) where
+module _ (x : SessionsByKey) (v : Interests) (agrees : Indexes x v) (cs : List Changes) (s : ℕ) where
   abbrev filters : List Asked
   filters = asked_at v s
 

@@ -17,20 +17,20 @@ use uuid::Uuid;
 
 /// The sessions that name atoms in one column, by the atoms. An atom that no session names takes no room.
 #[derive(Drop)]
-pub(crate) struct Column {
+pub(crate) struct SessionsByAtom {
     sessions: BTreeMap<Atom, BTreeSet<SessionId>>,
 }
 
-impl Column {
+impl SessionsByAtom {
     ghost use Rattle.odb_interest.specs.Keys.{atoms_in};
-    ghost use Rattle.odb_interest.specs.Represented.Column.{IsUnchanged, Puts, names};
+    ghost use Rattle.odb_interest.specs.Represented.SessionsByAtom.{IsUnchanged, Puts, names};
     ghost use Rattle.odb_interest.specs.Represented.Found.{Grows, names_in, names_some};
 
     /// Makes a column in which no session names an atom.
-    pub(crate) fn new(alloc: Global) -> Column
+    pub(crate) fn new(alloc: Global) -> SessionsByAtom
         ensures { (a : model.Atom) (s : ℕ) → names result a s ≡ false }
     {
-        Column {
+        SessionsByAtom {
             sessions: BTreeMap::new(alloc),
         }
     }

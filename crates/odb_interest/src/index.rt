@@ -16,23 +16,23 @@ use std::collections::{BTreeMap, BTreeSet};
 
 /// The sessions by the keys of the filters that they ask, table by table.
 #[derive(Drop)]
-pub(crate) struct Index {
+pub(crate) struct SessionsByKey {
     tables: BTreeMap<usize, Watched>,
 }
 
-impl Index {
-    ghost use Rattle.odb_interest.specs.Represented.Index.{Covers, CoversLacking, CoversSome, IsUnchanged, Puts, Uncovers, UncoversAll, UncoversAt, UncoversFound, finds, finds_among, finds_for};
+impl SessionsByKey {
+    ghost use Rattle.odb_interest.specs.Represented.SessionsByKey.{Covers, CoversLacking, CoversSome, IsUnchanged, Puts, Uncovers, UncoversAll, UncoversAt, UncoversFound, finds, finds_among, finds_for};
 
     /// Makes an index of no sessions.
-    pub(crate) fn new(alloc: Global) -> Index
+    pub(crate) fn new(alloc: Global) -> SessionsByKey
         ensures { (t : ℕ) (k : model.Key) (s : ℕ) → finds result t k s ≡ false }
     {
-        Index {
+        SessionsByKey {
             tables: BTreeMap::new(alloc),
         }
     }
 
-    /// Has the session found by the key of the table. O(log n), as `Column::insert` says it.
+    /// Has the session found by the key of the table. O(log n), as `SessionsByAtom::insert` says it.
     fn insert(
         &mut self,
         alloc: Global,
@@ -53,7 +53,7 @@ impl Index {
         Ok(())
     }
 
-    /// Has the session not found by the key of the table. O(log n), as `Column::remove` says it.
+    /// Has the session not found by the key of the table. O(log n), as `SessionsByAtom::remove` says it.
     fn remove(&mut self, table: TableId, key: Key<'_>, session: SessionId)
         ensures { Puts self.old self.new table (key_in key.entry) session false }
     {
@@ -63,7 +63,7 @@ impl Index {
         }
     }
 
-    /// Returns whether the session is found by the key of the table. O(log n), as `Column::has` says it.
+    /// Returns whether the session is found by the key of the table. O(log n), as `SessionsByAtom::has` says it.
     fn has(&self, table: TableId, key: Key<'_>, session: SessionId) -> bool
         ensures { result ≡ finds self.now table (key_in key.entry) session }
     {
@@ -199,7 +199,7 @@ impl Index {
     }
 
     /// Has the session not found by those keys of the filter by which the other index finds it.
-    pub(crate) fn uncover_found(&mut self, asked: &Asked, session: SessionId, found: &Index)
+    pub(crate) fn uncover_found(&mut self, asked: &Asked, session: SessionId, found: &SessionsByKey)
         ensures { UncoversFound self.old self.new asked.now.0 (λ k. has_key k asked.now.1) session found.now }
     {
         let table = asked.table();
@@ -215,7 +215,13 @@ impl Index {
     }
 
     /// Has the session not found by the key, if the other index finds it by that.
-    fn remove_found(&mut self, table: TableId, key: Key<'_>, session: SessionId, found: &Index)
+    fn remove_found(
+        &mut self,
+        table: TableId,
+        key: Key<'_>,
+        session: SessionId,
+        found: &SessionsByKey,
+    )
         ensures { UncoversFound self.old self.new table (λ k. same_key k (key_in key.entry)) session found.now }
     {
         if found.has(table, key, session) {

@@ -6,13 +6,13 @@ ghost use Rattle.std.specs.List.Sorted.{IsStrictlySortedBy};
 ghost use Rattle.std.specs.Ordering.{nat_cmp};
 ghost use Rattle.odb_interest.specs.Keys.{asked_at, is_touched};
 ghost use Rattle.odb_interest.specs.Represented.Asked.{LosesFirst};
-ghost use Rattle.odb_interest.specs.Represented.Index.{Covers, CoversSome};
+ghost use Rattle.odb_interest.specs.Represented.SessionsByKey.{Covers, CoversSome};
 ghost use Rattle.odb_interest.specs.Represented.Key.{has_key};
 ghost use Rattle.odb_interest.specs.Represented.Lists.{Asks, IsSame, with_filter};
 
 use crate::asked::Asked;
 use crate::found::ascending;
-use crate::index::Index;
+use crate::index::SessionsByKey;
 use crate::lists::Lists;
 use odb_cond::Filter;
 use odb_locks::SessionId;
@@ -34,12 +34,12 @@ use std::sync::Arc;
 pub struct Interest {
     alloc: Global,
     lists: Lists,
-    index: Index,
+    index: SessionsByKey,
 }
 
 impl Model for Interest {
     ghost use Rattle.odb_interest.specs.Keys as model;
-    ghost use Rattle.odb_interest.specs.Represented.Index.{Indexes};
+    ghost use Rattle.odb_interest.specs.Represented.SessionsByKey.{Indexes};
 
     ghost Value = { model.Interests };
 
@@ -56,7 +56,7 @@ impl Interest {
         Interest {
             alloc,
             lists: Lists::new(alloc),
-            index: Index::new(alloc),
+            index: SessionsByKey::new(alloc),
         }
     }
 
@@ -126,7 +126,7 @@ impl Interest {
         ensures ok { OnOk result (Asks self.old self.new session (with_filter (asked_at self.old session) place new.1)) }
         ensures err { OnErr result (IsSame self.old self.new) }
     {
-        let mut going = Index::new(self.alloc);
+        let mut going = SessionsByKey::new(self.alloc);
         going.cover_lacking(self.alloc, old, new.filter(), session)?;
         if let Err(refused) = self
             .index
@@ -214,7 +214,7 @@ fn add_lists(copy: &mut Interest, lists: &Lists) -> Result<(), AllocError>
 
 /// Enters a filter that the session asks; where memory is refused, some of its keys alone.
 fn enter(
-    index: &mut Index,
+    index: &mut SessionsByKey,
     lists: &mut Lists,
     alloc: Global,
     session: SessionId,

@@ -6,7 +6,7 @@ ghost use Rattle.odb_interest.specs.Represented.Key.{key_in};
 ghost use Rattle.odb_interest.specs.Represented.Found.{Grows, names_declared};
 ghost use Rattle.odb_interest.specs.Represented.Watched.{AreUnchanged, PutsAt};
 
-use crate::column::Column;
+use crate::column::SessionsByAtom;
 use crate::found::add_all;
 use crate::key::Key;
 use odb_atoms::Atom;
@@ -21,10 +21,10 @@ pub(crate) struct Watched {
     /// Those that any row concerns.
     loose: BTreeSet<SessionId>,
     /// Those that name an identifier in `_uuid`, and in `_version`.
-    uuids: Column,
-    versions: Column,
+    uuids: SessionsByAtom,
+    versions: SessionsByAtom,
     /// Those that name an atom in a declared column, by its place.
-    columns: BTreeMap<usize, Column>,
+    columns: BTreeMap<usize, SessionsByAtom>,
 }
 
 impl Watched {
@@ -37,13 +37,13 @@ impl Watched {
     {
         Watched {
             loose: BTreeSet::new(alloc),
-            uuids: Column::new(alloc),
-            versions: Column::new(alloc),
+            uuids: SessionsByAtom::new(alloc),
+            versions: SessionsByAtom::new(alloc),
             columns: BTreeMap::new(alloc),
         }
     }
 
-    /// Has the session found by the key. O(log n), as `Column::insert` says it.
+    /// Has the session found by the key. O(log n), as `SessionsByAtom::insert` says it.
     pub(crate) fn insert(
         &mut self,
         alloc: Global,
@@ -66,7 +66,7 @@ impl Watched {
         }
     }
 
-    /// Has the session not found by the key. O(log n), as `Column::remove` says it.
+    /// Has the session not found by the key. O(log n), as `SessionsByAtom::remove` says it.
     pub(crate) fn remove(&mut self, key: Key<'_>, session: SessionId)
         ensures { Puts self.old self.new (key_in key.entry) session false }
     {
@@ -82,7 +82,7 @@ impl Watched {
         }
     }
 
-    /// Returns whether the session is found by the key. O(log n), as `Column::has` says it.
+    /// Returns whether the session is found by the key. O(log n), as `SessionsByAtom::has` says it.
     pub(crate) fn has(&self, key: Key<'_>, session: SessionId) -> bool
         ensures { result ≡ watches self.now (key_in key.entry) session }
     {
@@ -114,7 +114,7 @@ impl Watched {
 
 /// Adds the sessions that name an atom which one of the rows has in its column.
 fn find_declared(
-    columns: &BTreeMap<usize, Column>,
+    columns: &BTreeMap<usize, SessionsByAtom>,
     rows: &[RowChange],
     found: &mut BTreeSet<SessionId>,
 ) -> Result<(), AllocError>
@@ -128,7 +128,7 @@ fn find_declared(
 
 /// Enters that the session names the atom in the column at the place.
 fn insert_at(
-    columns: &mut BTreeMap<usize, Column>,
+    columns: &mut BTreeMap<usize, SessionsByAtom>,
     alloc: Global,
     place: usize,
     atom: &Atom,
@@ -140,14 +140,19 @@ fn insert_at(
     if let Some(column) = columns.get_mut(&place) {
         return column.insert(alloc, atom, session);
     }
-    let mut column = Column::new(alloc);
+    let mut column = SessionsByAtom::new(alloc);
     column.insert(alloc, atom, session)?;
     drop(columns.insert(place, column)?);
     Ok(())
 }
 
 /// Takes out that the session names the atom in the column at the place.
-fn remove_at(columns: &mut BTreeMap<usize, Column>, place: usize, atom: &Atom, session: SessionId)
+fn remove_at(
+    columns: &mut BTreeMap<usize, SessionsByAtom>,
+    place: usize,
+    atom: &Atom,
+    session: SessionId,
+)
     ensures { PutsAt columns.old columns.new place (atom_of atom.now) session false }
 {
     if let Some(column) = columns.get_mut(&place) {

@@ -8,9 +8,9 @@ use Rattle.std.specs.Ordering.{nat_cmp}
 use Rattle.odb_atoms.specs.Row.{Row, Selector, cell, declared, own_uuid, own_version}
 use Rattle.odb_atoms.specs.Uuid.{Uuid}
 use Rattle.odb_interest.specs.Keys.{atoms_in}
-use Rattle.odb_interest.specs.Represented.Column.{names}
+use Rattle.odb_interest.specs.Represented.SessionsByAtom.{names}
 use Rattle.odb_interest.specs.Represented.Key.{held}
-use Rattle.odb_interest.specs.declared.column.Column.{Column}
+use Rattle.odb_interest.specs.declared.column.SessionsByAtom.{SessionsByAtom}
 use Rattle.odb_interest.specs.declared.watched.Watched.{Watched}
 
 -- the sessions that pass the test are in it too, and no others
@@ -21,15 +21,15 @@ abbrev pub RowChange : Type 0
 RowChange = Uuid × (Option Row × Option Row)
 
 -- the session names an atom that the row has in the column
-abbrev pub names_in : Column → Selector → Uuid → Option Row → ℕ → Bool
+abbrev pub names_in : SessionsByAtom → Selector → Uuid → Option Row → ℕ → Bool
 names_in c at u None s = false
 names_in c at u (Some r) s = list_any (λ a. names c a s) (atoms_in (cell u r at))
 
 -- it names one that some row has there, as it was or as it is
-abbrev pub names_some : Column → Selector → List RowChange → ℕ → Bool
+abbrev pub names_some : SessionsByAtom → Selector → List RowChange → ℕ → Bool
 names_some c at rows s = list_any (λ e. names_in c at e.0 e.1.0 s || names_in c at e.0 e.1.1 s) rows
 
-abbrev pub names_declared : BTreeMap ℕ Column → List RowChange → ℕ → Bool
+abbrev pub names_declared : BTreeMap ℕ SessionsByAtom → List RowChange → ℕ → Bool
 names_declared m rows s = list_any (λ i. held (λ c. names_some c (declared i) rows s) (get nat_cmp m i)) (keys_of m.entries)
 
 -- the session is found for a change of the table, which has these rows

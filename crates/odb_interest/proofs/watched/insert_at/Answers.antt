@@ -5,12 +5,12 @@ use Rattle.std.specs.Ordering.{nat_cmp}
 use Rattle.std.specs.Prelude.{◌==◌, ◌&&◌}
 use Rattle.odb_atoms.specs.Atom.{Atom, same_atom}
 use Rattle.odb_atoms.specs.Represented.Atom.{atom_of}
-use Rattle.odb_interest.specs.Represented.Column.{Puts, names}
-use Rattle.odb_interest.specs.declared.column.Column.{Column}
+use Rattle.odb_interest.specs.Represented.SessionsByAtom.{Puts, names}
+use Rattle.odb_interest.specs.declared.column.SessionsByAtom.{SessionsByAtom}
 use Rattle.odb_interest.proofs.Levels.{column_now, kept, put_first, put_found, same_column}
 use Rattle.odb_interest.proofs.watched.insert_at.Goals as goal
 
-abbrev has : Column → Atom × ℕ → Bool
+abbrev has : SessionsByAtom → Atom × ℕ → Bool
 has x q = names x q.0 q.1
 
 pub returns-in-Some-clause-ok : goal.returns-in-Some-clause-ok
@@ -18,8 +18,8 @@ returns-in-Some-clause-ok c =
     let place = c.args.place in
     let atom = atom_of c.args.atom.now in
     let m = c.args.columns.now in
-    let x : Column = c.in-Some.column.now in
-    let y : Column = c.insert.new.self in
+    let x : SessionsByAtom = c.in-Some.column.now in
+    let y : SessionsByAtom = c.insert.new.self in
     let n = c.get_mut.follows.lender y in
     let found : Some x ≡ tree.get nat_cmp m place = search rules in
     on_ok_weaker c.insert.result
@@ -30,8 +30,8 @@ pub returns-in-Some-clause-err : goal.returns-in-Some-clause-err
 returns-in-Some-clause-err c =
     let place = c.args.place in
     let m = c.args.columns.now in
-    let x : Column = c.in-Some.column.now in
-    let y : Column = c.insert.new.self in
+    let x : SessionsByAtom = c.in-Some.column.now in
+    let y : SessionsByAtom = c.insert.new.self in
     let n = c.get_mut.follows.lender y in
     let found : Some x ≡ tree.get nat_cmp m place = search rules in
     on_err_weaker c.insert.result
@@ -44,8 +44,8 @@ returns-clause-ok c =
     let atom = atom_of c.args.atom.now in
     let m = c.args.columns.now in
     let m' = c.get_mut.follows.lender-at-none in
-    let x : Column = c.new-column.result in
-    let y : Column = c.insert-2.new.self in
+    let x : SessionsByAtom = c.new-column.result in
+    let y : SessionsByAtom = c.insert-2.new.self in
     let n = c.insert-3.new.self in
     let none : None ≡ tree.get nat_cmp m place = search rules in
     let puts : Puts x y atom c.args.session true = search rules in

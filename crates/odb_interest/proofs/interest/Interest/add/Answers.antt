@@ -1,7 +1,7 @@
 use Rattle.std.proofs.Common.{rules, ◌≡◌, ◌∙◌}
 use Rattle.std.specs.Prelude.{not, ◌&&◌}
 use Rattle.odb_interest.specs.Keys.{Asked, asked_at}
-use Rattle.odb_interest.specs.Represented.Index.{CoversSome, Uncovers, finds, is_own}
+use Rattle.odb_interest.specs.Represented.SessionsByKey.{CoversSome, Uncovers, finds, is_own}
 use Rattle.odb_interest.specs.Represented.Key.{has_key, is_asked}
 use Rattle.odb_interest.specs.Represented.Lists.{IsSame}
 use Rattle.odb_interest.proofs.Agreeing.{taken_back}

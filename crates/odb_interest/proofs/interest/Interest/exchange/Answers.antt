@@ -1,7 +1,7 @@
 use Rattle.std.proofs.Common.{rules, ◌≡◌, slice_get, Some, refl, ap, subst, ◌∙◌}
 use Rattle.std.specs.Prelude.{not, ◌&&◌}
 use Rattle.odb_interest.specs.Keys.{Asked, Interests, Key, asked_at}
-use Rattle.odb_interest.specs.Represented.Index.{CoversLacking, CoversSome, Uncovers, UncoversAt, UncoversFound, finds, is_own}
+use Rattle.odb_interest.specs.Represented.SessionsByKey.{CoversLacking, CoversSome, Uncovers, UncoversAt, UncoversFound, finds, is_own}
 use Rattle.odb_interest.specs.Represented.Key.{has_key, is_asked}
 use Rattle.odb_interest.specs.Represented.Lists.{Asks, with_filter}
 use Rattle.odb_interest.proofs.Agreeing.{exchanged, taken_back}

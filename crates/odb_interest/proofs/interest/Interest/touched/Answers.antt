@@ -4,7 +4,7 @@ use Rattle.std.specs.List.{list_any}
 use Rattle.std.specs.Prelude.{◌==◌}
 use Rattle.odb_interest.specs.Keys.{Interests, asked_at, is_touched}
 use Rattle.odb_interest.specs.Represented.Found.{Grows}
-use Rattle.odb_interest.specs.Represented.Index.{finds_among}
+use Rattle.odb_interest.specs.Represented.SessionsByKey.{finds_among}
 use Rattle.odb_interest.proofs.Growing.{found_in_empty, session-keys}
 use Rattle.odb_interest.proofs.Touching.{finds-touched}
 use Rattle.odb_interest.proofs.interest.Interest.touched.Goals as goal
