@@ -19,13 +19,11 @@ STEPS = re.compile(r"\b[Ss]teps?:? (`.*|(?:those of|what) .*)")
 # another name; who renames one of these takes its line out.
 TWICE = {
     "Change": "odb_request: of a filter; odb_monitor: of a row",
-    "Job": "odb_sessions: a job of odb_monitor, and its text where that is kept",
     "Key": "odb_interest: by what a session is looked up; odb_tables: an identifier in a hash map",
     "Kind": "odb_request: a notation of updates; odb_atoms: an atomic type",
     "Reference": "odb_integrity: with the column that makes it; odb_atoms: as the type has it",
     "Rows": "odb_ops: rows that are printed; odb_tables: rows of a table",
     "Select": "odb_request: kinds of change (RFC 7047, 4.1.5, <monitor-select>); odb_json: the operation (5.2.2)",
-    "Told": "odb_sessions: what all clients were told, as marks; odb_monitor: what one was told of a table's rows",
 }
 
 # Names in documents that are the toolchain's.

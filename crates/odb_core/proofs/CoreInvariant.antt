@@ -17,7 +17,7 @@ use Rattle.odb_service.proofs.WhoIsOpen as open_ones
 use Rattle.odb_service.proofs.SessionMaps.{get-insert, same_key}
 use Rattle.odb_core.proofs.SessionNumbers.{unused_in_none, unused_opened, unused_same}
 use Rattle.odb_core.proofs.SessionsOfSchema.{Keeps, closes_of, none_of, put_of, takes_of}
-use Rattle.odb_sessions.specs.OfSchema.{AreSessionsOf}
+use Rattle.odb_round.specs.OfSchema.{AreSessionsOf}
 
 pub new_valid : (run most : ℕ) (s : Schema) → IsValid (new_server run most s)
 new_valid run most s = (λ h. refl, unused_in_none, none_of s)

@@ -31,7 +31,7 @@ use Rattle.odb_service.specs.Service.{Outcome, Service, ended, waiting}
 use Rattle.odb_service.specs.Session.{Item, Monitor, Out, Revision, Session, Watch, at_first, begun, brought, changed, drop_first, filter_of, gives, has_id, leaves, no_request, no_result, refilter, renamed, same_id, say, shift, start, stop_at, stopped, sync, take, take_from, take_rest, to, update_to, with_content}
 use Rattle.odb_service.specs.World.{Waiting, World, answer, are_monitored, asked_of, at_moment, attempt, cancel_one, change_of, close, end_transaction, fail, handle, is_due, is_of, lock_error, locked, notice_of, on_cancel_monitor, on_lock, on_monitor, on_outcome, post, post_notices, post_to, push, retry, retry_all, revision_of, shift_with, split_first, start_with, tick, try_due, try_one, untried, watched, with_waiting}
 use Rattle.odb_sessions.specs.Book.{Sessions}
-use Rattle.odb_sessions.specs.OfSchema.{AreOfSchema, AreSessionsOf, IsItemOf, IsMonitorOf, IsOfSchema, IsSessionOf}
+use Rattle.odb_round.specs.OfSchema.{AreOfSchema, AreSessionsOf, IsItemOf, IsMonitorOf, IsOfSchema, IsSessionOf}
 use Rattle.odb_tables.specs.Database.{Db}
 use Rattle.odb_wire.specs.Message.{id_of}
 

@@ -23,6 +23,7 @@ mod waiting_list;
 pub use failed::Failed;
 pub use odb_cause::{Cause, Detail, Stage};
 pub use odb_locks::SessionId;
-pub use odb_sessions::{FirstText, Job, Jobs, Out, Prepared, Told};
+pub use odb_round::{Jobs, PreparedRound, RoundJob};
+pub use odb_sessions::{FirstText, Out, ToldMarks};
 pub use refused::EventRefusal;
 pub use server::{Core, MAX_SESSIONS};

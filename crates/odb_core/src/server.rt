@@ -16,8 +16,9 @@ use crate::refused::EventRefusal;
 use crate::state::State;
 use odb_cause::Cause;
 use odb_locks::SessionId;
+use odb_round::{Jobs, PreparedRound, plan_round};
 use odb_schema::Schema;
-use odb_sessions::{FirstText, Jobs, Out, Prepared, Told};
+use odb_sessions::{FirstText, Out, ToldMarks};
 use odb_wire::Request;
 use std::alloc::{AllocError, Global};
 use std::collections::BTreeSet;
@@ -60,8 +61,8 @@ impl Core {
     ghost use Rattle.odb_core.specs.Represented.Core.{IsQuietBut, new_server};
     ghost use Rattle.odb_core.specs.Represented.Rounds.{AreRound, AreRoundOf, book_in};
     ghost use Rattle.odb_sessions.specs.FirstTexts.{IsFirstText, IsOfNow};
-    ghost use Rattle.odb_sessions.specs.Jobs.{AreByMarks, AreEachOnce, AreOfJobs};
-    ghost use Rattle.odb_sessions.specs.Taken.{given_by, sessions_in};
+    ghost use Rattle.odb_round.specs.Jobs.{AreByMarks, AreEachOnce, AreOfJobs};
+    ghost use Rattle.odb_round.specs.Taken.{given_by, sessions_in};
     ghost use Rattle.odb_sessions.specs.Told.{IsToldOf};
     ghost use Rattle.odb_sessions.specs.Represented.Out.{sent_in};
     ghost use Rattle.odb_core.specs.Represented.Reason.{IsReason};
@@ -219,7 +220,7 @@ impl Core {
 
     /// Lends what clients were told, as it is kept: of each table of a monitor a mark, and the chains that keep what marks
     /// stand for. O(1).
-    pub fn told(&self) -> Told<'_>
+    pub fn told(&self) -> ToldMarks<'_>
         ensures { IsToldOf (book_in self.now.world) result }
     {
         self.state.sessions.told()
@@ -242,7 +243,7 @@ impl Core {
     {
         let listed = once(self.alloc, ready)?;
         let schema = self.state.served.schema();
-        self.state.sessions.jobs(schema, listed.as_slice())
+        plan_round(&self.state.sessions, schema, listed.as_slice())
     }
 
     /// Keeps the text of a first reply, if there is one, which [`Jobs::first_text`] found for this core as it is: until the
@@ -257,7 +258,7 @@ impl Core {
 
     /// Carries out a round that was planned for this core as it is, and of which everything is composed: then it is a
     /// `round` of these sessions. It takes no memory, and can't be refused. O(k log n) for k sessions.
-    pub fn accept(&mut self, prepared: Prepared) -> Vec<Out>
+    pub fn accept(&mut self, prepared: PreparedRound) -> Vec<Out>
         requires { AreRound self.old prepared }
         ensures round { (ready : List ℕ) → sessions_in prepared ≡ once ready → serve (round ready) self.old
             ≡ Ok (self.new, map sent_in result.items) }

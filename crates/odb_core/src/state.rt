@@ -5,10 +5,10 @@ ghost use Rattle.std.specs.List.{list_any};
 ghost use Rattle.odb_atoms.specs.FinMap as finite;
 ghost use Rattle.odb_tables.specs.Change.{all_changed_by};
 ghost use Rattle.odb_sessions.specs.FirstTexts.{IsFirstText};
-ghost use Rattle.odb_sessions.specs.OfSchema.{AreSessionsOf};
-ghost use Rattle.odb_sessions.specs.Planned.{AreOnce};
+ghost use Rattle.odb_round.specs.OfSchema.{AreSessionsOf};
+ghost use Rattle.odb_round.specs.Planned.{AreOnce};
 ghost use Rattle.odb_sessions.specs.Represented.Out.{sent_in};
-ghost use Rattle.odb_sessions.specs.Taken.{AreOf, given_by, sessions_in};
+ghost use Rattle.odb_round.specs.Taken.{AreOf, given_by, sessions_in};
 ghost use Rattle.odb_core.specs.Represented.Core.{empty_world};
 ghost use Rattle.odb_core.specs.Represented.Rounds.{book_in};
 ghost use Rattle.odb_core.specs.Represented.Upcoming.{after_due, after_ended, IsPlanOf};
@@ -29,8 +29,9 @@ use odb_commit::Outcome;
 use odb_locks::{Locks, SessionId};
 use odb_ops::OperationResult;
 use odb_queue::{Finished, Post, ServedSchema, replied_as};
+use odb_round::{PreparedRound, accept_round, give_round};
 use odb_schema::Schema;
-use odb_sessions::{FirstText, Out, Prepared, Sessions};
+use odb_sessions::{FirstText, Out, Sessions};
 use odb_tables::{ChangeSet, Db, Draft};
 use std::alloc::{AllocError, Global};
 use std::hash::RandomState;
@@ -357,7 +358,7 @@ impl State {
         ensures err { OnErr result (self.new ≡ self.old) }
     {
         let schema = self.served.schema();
-        self.sessions.round(schema, listed)
+        give_round(&mut self.sessions, schema, listed)
     }
 
     /// Keeps the text of a first reply, if there is one.
@@ -369,14 +370,14 @@ impl State {
     }
 
     /// Carries out a round that was planned for this state, and of which everything is composed. It can't be refused.
-    pub(crate) fn accept(&mut self, prepared: Prepared) -> Vec<Out>
+    pub(crate) fn accept(&mut self, prepared: PreparedRound) -> Vec<Out>
         requires once { AreOnce (sessions_in prepared) }
         requires ready { AreOf (book_in self.old.world) prepared }
         ensures ok { IsRoundOf (sessions_in prepared) self.old self.new (map sent_in result.items) }
         ensures texts { map sent_in result.items ≡ flat_map (given_by (book_in self.old.world)) prepared }
         ensures rest { OnlySessions self.old self.new }
     {
-        self.sessions.accept(prepared)
+        accept_round(&mut self.sessions, prepared)
     }
 
     /// Makes an equal state. O(rows + waiting transactions + claims + bytes queued + bytes of the schema).

@@ -4,11 +4,11 @@ ghost use Rattle.odb_core.specs.Represented.Rounds.{AreRoundOf};
 ghost use Rattle.odb_service.specs.Run.{round};
 ghost use Rattle.odb_service.specs.Server.{serve};
 ghost use Rattle.odb_sessions.specs.FirstTexts.{IsFirstText};
-ghost use Rattle.odb_sessions.specs.Jobs.{composition};
+ghost use Rattle.odb_sessions.specs.Composed.{composition};
 ghost use Rattle.odb_sessions.specs.Represented.Composed.{bytes_in};
 ghost use Rattle.odb_sessions.specs.Represented.Out.{sent_in};
 
-use odb_core::{Core, FirstText, Jobs, Out, Prepared, SessionId};
+use odb_core::{Core, FirstText, Jobs, Out, PreparedRound, SessionId};
 use odb_par::{Gate, Workers, compose_all};
 use std::alloc::AllocError;
 use std::sync::Arc;
@@ -17,7 +17,7 @@ use std::thread::Threads;
 /// A round that is composed, and the text of a first reply of it that is to be kept.
 #[derive(Drop)]
 struct ComposedRound {
-    prepared: Prepared,
+    prepared: PreparedRound,
     first: Option<FirstText>,
 }
 

@@ -22,7 +22,7 @@ use Rattle.odb_schema.specs.contracts.schema.Schema as Schema
 use Rattle.odb_wire.proofs.JsonCrosses.{Value-send, Value-sync}
 use Rattle.odb_sessions.specs.contracts.id.Id as Id
 use Rattle.odb_sessions.specs.contracts.item.Changes as Changes
-use Rattle.odb_sessions.specs.contracts.job.Job as Job
+use Rattle.odb_round.specs.contracts.job.RoundJob as Job
 use Rattle.odb_sessions.specs.contracts.monitor.Monitor as Monitor
 use Rattle.odb_sessions.specs.contracts.monitor.Watching as Watching
 use Rattle.odb_sessions.specs.contracts.under.Under as Under

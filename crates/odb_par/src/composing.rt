@@ -1,7 +1,7 @@
 //! The jobs of a round, composed by several threads.
 ghost use Rattle.std.specs.Prelude.{◌≡◌, ◌≤◌, IfOk, map};
 ghost use Rattle.odb_par.specs.Shares.{AreShares};
-ghost use Rattle.odb_sessions.specs.Jobs.{composition};
+ghost use Rattle.odb_sessions.specs.Composed.{composition};
 ghost use Rattle.odb_sessions.specs.Represented.Composed.{bytes_in};
 
 use crate::dealing::in_order;
@@ -9,7 +9,7 @@ use crate::gate::Gate;
 use crate::picked::Picked;
 use crate::picking::pick;
 use crate::worker::{Share, own_bodies};
-use odb_sessions::Job;
+use odb_round::RoundJob;
 use std::alloc::{AllocError, Global};
 use std::sync::Arc;
 use std::thread;
@@ -25,7 +25,7 @@ use std::thread::Threads;
 pub fn compose_all<R: Threads + Sync, G: Gate + Sync>(
     rt: &R,
     alloc: Global,
-    jobs: &[Job<'_>],
+    jobs: &[RoundJob<'_>],
     workers: usize,
     gate: &G,
 ) -> Result<Vec<Option<Arc<Vec<u8>>>>, AllocError>
@@ -41,7 +41,7 @@ pub fn compose_all<R: Threads + Sync, G: Gate + Sync>(
 fn pick_all<'j, 'a, R: Threads + Sync>(
     rt: &R,
     alloc: Global,
-    jobs: &'j [Job<'a>],
+    jobs: &'j [RoundJob<'a>],
     workers: usize,
 ) -> Result<Vec<Picked<'j, 'a>>, AllocError>
     requires { (1 ≤ workers) × (workers ≤ 64) }
@@ -61,7 +61,7 @@ fn pick_all<'j, 'a, R: Threads + Sync>(
 fn pick_by<'j, 'a, R: Threads + Sync>(
     rt: &R,
     alloc: Global,
-    job: &'j Job<'a>,
+    job: &'j RoundJob<'a>,
     workers: usize,
 ) -> Result<Picked<'j, 'a>, AllocError>
     requires { (1 ≤ workers) × (workers ≤ 64) }

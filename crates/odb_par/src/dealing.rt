@@ -1,17 +1,17 @@
 //! What the workers composed, in the order of the jobs.
 ghost use Rattle.std.specs.Prelude.{◌≡◌, ◌≤◌, IfOk, map};
 ghost use Rattle.odb_par.specs.Shares.{AreShares};
-ghost use Rattle.odb_sessions.specs.Jobs.{composition};
+ghost use Rattle.odb_sessions.specs.Composed.{composition};
 ghost use Rattle.odb_sessions.specs.Represented.Composed.{bytes_in};
 
 use crate::worker::{Body, Share};
-use odb_sessions::Job;
+use odb_round::RoundJob;
 use std::alloc::{AllocError, Global};
 
 /// Deals out for each job its body, in the order of the jobs: each is shared with the worker's. O(n) for n jobs.
 pub(crate) fn in_order(
     alloc: Global,
-    jobs: &[Job<'_>],
+    jobs: &[RoundJob<'_>],
     workers: usize,
     shares: &[Share],
 ) -> Result<Vec<Body>, AllocError>

@@ -1,12 +1,12 @@
 //! Jobs as the workers compose them.
 ghost use Rattle.std.specs.Prelude.{◌≡◌, ◌≤◌, IfOk};
-ghost use Rattle.odb_sessions.specs.Jobs.{composition};
+ghost use Rattle.odb_sessions.specs.Composed.{composition};
 ghost use Rattle.odb_sessions.specs.Represented.Composed.{bytes_in};
 
 use crate::dealing::shared;
 use crate::pieces::compose_by_pieces;
 use crate::worker::Body;
-use odb_sessions::{Job, compose_over};
+use odb_round::{RoundJob, compose_over};
 use std::alloc::{AllocError, Global};
 use std::marker::Model;
 use std::sync::Arc;
@@ -16,7 +16,7 @@ use std::thread::Threads;
 /// composed of it by pieces. It lends the tables.
 #[derive(Drop)]
 pub struct Picked<'j, 'a> {
-    job: &'j Job<'a>,
+    job: &'j RoundJob<'a>,
     found: Option<odb_monitor::Job<'j>>,
     body: Option<Body>,
 }
@@ -25,7 +25,7 @@ impl<'j, 'a> Model for Picked<'j, 'a> {
     ghost use Rattle.std.specs.Prelude.{◌≡◌, IfSome};
     ghost use Rattle.odb_monitor.specs.Job as model;
     ghost use Rattle.odb_monitor.specs.Represented.Part.{job_code};
-    ghost use Rattle.odb_sessions.specs.Jobs.{composition};
+    ghost use Rattle.odb_sessions.specs.Composed.{composition};
     ghost use Rattle.odb_sessions.specs.Represented.Composed.{bytes_in};
 
     ghost Value = { model.Job };
@@ -39,7 +39,7 @@ impl<'j, 'a> Model for Picked<'j, 'a> {
 
 impl<'j, 'a> Picked<'j, 'a> {
     /// Takes the job as it is. O(1).
-    pub(crate) fn plain(job: &'j Job<'a>) -> Picked<'j, 'a>
+    pub(crate) fn plain(job: &'j RoundJob<'a>) -> Picked<'j, 'a>
         ensures { result ≡ job.now }
     {
         Picked {
@@ -50,7 +50,7 @@ impl<'j, 'a> Picked<'j, 'a> {
     }
 
     /// Takes the job with what was found for it. O(1).
-    pub(crate) fn of(job: &'j Job<'a>, found: odb_monitor::Job<'j>) -> Picked<'j, 'a>
+    pub(crate) fn of(job: &'j RoundJob<'a>, found: odb_monitor::Job<'j>) -> Picked<'j, 'a>
         requires { found ≡ job.now }
         ensures { result ≡ job.now }
     {
@@ -89,7 +89,7 @@ impl<'j, 'a> Picked<'j, 'a> {
 
     /// Composes the text of the table updates, without the monitor's id; `None` where nothing is sent. What was composed
     /// before is shared. Where rows were found the costs are those of `odb_monitor::compose` without the search for them,
-    /// else those of `Job::compose`.
+    /// else those of `RoundJob::compose`.
     pub fn compose(&self, alloc: Global) -> Result<Option<Arc<Vec<u8>>>, AllocError>
         ensures { IfOk result (λ body. bytes_in body ≡ composition self.now) }
     {

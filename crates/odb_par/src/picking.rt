@@ -4,7 +4,7 @@ ghost use Rattle.std.specs.Prelude.{◌≡◌, IfOk};
 use crate::picked::Picked;
 use crate::scan::selected_rows;
 use odb_monitor::{Part, Sought, Walk};
-use odb_sessions::Job;
+use odb_round::RoundJob;
 use std::alloc::{AllocError, Global};
 use std::thread::Threads;
 
@@ -14,11 +14,11 @@ const LEAST_TESTS: usize = 16_384;
 /// Looks for the rows of which the job is composed, where tables are gone through for it and that makes 16,384 tests of a
 /// member of a filter or more: each such table by several threads, one table after the other. Else nothing is looked for.
 ///
-/// O(rows of these tables), each tested once, and then what `Job::differences` costs; and what `Job::weight` does.
+/// O(rows of these tables), each tested once, and then what `RoundJob::differences` costs; and what `RoundJob::weight` does.
 pub fn pick<'j, 'a, R: Threads + Sync>(
     rt: &R,
     alloc: Global,
-    job: &'j Job<'a>,
+    job: &'j RoundJob<'a>,
 ) -> Result<Picked<'j, 'a>, AllocError>
     ensures { IfOk result (λ picked. picked ≡ job.now) }
 {

@@ -2,7 +2,7 @@
 ghost use Rattle.std.specs.Prelude.{◌≡◌, ◌≤◌, ◌*◌, ◌^◌, ◌<◌, IfOk, Ok, drop, length, map, take};
 ghost use Rattle.odb_monitor.specs.Listing.{AreOfRows, rows_text};
 ghost use Rattle.odb_par.specs.Pieces.{AreTexts};
-ghost use Rattle.odb_sessions.specs.Jobs.{composition};
+ghost use Rattle.odb_sessions.specs.Composed.{composition};
 ghost use Rattle.odb_sessions.specs.Represented.Composed.{bytes_in};
 
 use crate::worker::Body;

@@ -1,7 +1,7 @@
 //! What one worker composes.
 ghost use Rattle.std.specs.Prelude.{◌≡◌, ◌≤◌, IfOk, map};
 ghost use Rattle.odb_par.specs.Shares.{IsShare};
-ghost use Rattle.odb_sessions.specs.Jobs.{composition};
+ghost use Rattle.odb_sessions.specs.Composed.{composition};
 ghost use Rattle.odb_sessions.specs.Represented.Composed.{bytes_in};
 
 use crate::gate::Gate;

@@ -12,7 +12,7 @@ use Rattle.odb_sessions.specs.Composed.{AreTheirs, asked_of, told_so}
 use Rattle.odb_sessions.specs.Held.{Held, Watched, table_marks, view_of}
 use Rattle.odb_sessions.specs.Moved.{all_now, brought_to, told_now}
 use Rattle.odb_cond.specs.Filter.{Filter}
-use Rattle.odb_sessions.proofs.Composed.{mapped_twice}
+use Rattle.odb_sessions.proofs.Loops.{mapped_twice}
 
 -- ---- from a place on
 

@@ -23,7 +23,7 @@ use Rattle.odb_sessions.specs.contracts.item.Changes as Changes
 use Rattle.odb_sessions.specs.contracts.item.Item as Item
 use Rattle.odb_sessions.specs.contracts.item.Renamed as Renamed
 use Rattle.odb_sessions.specs.contracts.item.Shift as Shift
-use Rattle.odb_sessions.specs.contracts.item.Start as Start
+use Rattle.odb_sessions.specs.contracts.item.FirstReply as FirstReply
 use Rattle.odb_sessions.specs.contracts.item.Stopped as Stopped
 use Rattle.odb_sessions.specs.contracts.monitor.Monitor as Monitor
 use Rattle.odb_sessions.specs.contracts.monitor.Watching as Watching
@@ -81,8 +81,8 @@ Refreshing-send = search (sendable, heap.crosses) depth 20
 Monitor-send : IsSend (Monitor.the_field).row
 Monitor-send = search (Id-send, Id-sync, Watching-send, sendable, heap.crosses) depth 20
 
-Start-send : IsSend (Start.the_field).row
-Start-send = search (Origin-send, Monitor-send, sendable, heap.crosses) depth 20
+FirstReply-send : IsSend (FirstReply.the_field).row
+FirstReply-send = search (Origin-send, Monitor-send, sendable, heap.crosses) depth 20
 
 Shift-send : IsSend (Shift.the_field).row
 Shift-send = search (Id-send, Id-sync, Changes-send, sendable, heap.crosses) depth 20
@@ -94,7 +94,7 @@ Stopped-send : IsSend (Stopped.the_field).row
 Stopped-send = search (Id-send, Id-sync, Granted-send, sendable, heap.crosses) depth 20
 
 Item-send : IsSend (Item.the_field).row
-Item-send = search (Finished-send, Start-send, Id-send, Id-sync, Shift-send, Renamed-send, Stopped-send, sendable, heap.crosses) depth 20
+Item-send = search (Finished-send, FirstReply-send, Id-send, Id-sync, Shift-send, Renamed-send, Stopped-send, sendable, heap.crosses) depth 20
 
 Queue-send : IsSend (Queue.the_field).row
 Queue-send = search (Item-send, sendable, heap.crosses) depth 20

@@ -11,7 +11,7 @@ use Rattle.odb_service.specs.Service.{Service}
 use Rattle.odb_service.specs.Session.{Monitor, at_first, brought, drop_first, has_id}
 use Rattle.odb_sessions.specs.Asked.{is_same}
 use Rattle.odb_sessions.specs.Held.{Held, monitor_of}
-use Rattle.odb_sessions.specs.Planned.{first_brought}
+use Rattle.odb_sessions.specs.Carried.{first_brought}
 use Rattle.odb_sessions.proofs.Replays.{taken_found, taken_nowhere}
 use Rattle.odb_tables.specs.Database.{Db}
 

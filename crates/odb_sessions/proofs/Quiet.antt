@@ -1,8 +1,6 @@
 -- A client that has what its tables are now is owed nothing.
 use Rattle.std.proofs.Common.{◌≡◌, arith, List, [], ◌∷◌, length, Option, Some, None, refl, sym, ap, ◌∙◌}
 use Rattle.std.specs.List.{cons_option}
-use Rattle.std.specs.Prelude.{option_map}
-use Rattle.std.proofs.lemmas.Option.{none-some}
 use Rattle.odb_chain.specs.Chains.{Mark}
 use Rattle.odb_cond.specs.Filter.{Filter}
 use Rattle.odb_monitor.specs.View.{query, selected}
@@ -12,11 +10,8 @@ use Rattle.odb_service.specs.Session.{Monitor, Out, Revision, brought, update_to
 use Rattle.odb_service.proofs.WhatIsOwed.{all_owe_nothing}
 use Rattle.odb_sessions.specs.Composed.{AreNow}
 use Rattle.odb_sessions.specs.Held.{Held, Watched, monitor_of, view_of, watch_of}
-use Rattle.odb_sessions.specs.Planned.{Due, out_of, update_of}
 use Rattle.odb_sessions.specs.Represented.Told.{told_under}
-use Rattle.odb_sessions.specs.Sending.{due_sending, update_sending}
-use Rattle.odb_sessions.proofs.Composed.{mapped_twice}
-use Rattle.odb_sessions.proofs.Plans.{update_given}
+use Rattle.odb_sessions.proofs.Loops.{mapped_twice}
 use Rattle.odb_tables.specs.Database.{Db, table_at}
 
 -- a mark of now, under the filter that is asked
@@ -31,10 +26,6 @@ no_more : (o : Option Out) → cons_option o [] ≡ [] → o ≡ None
 no_more None e = refl
 no_more (Some x) e = let long : length (x ∷ []) ≡ 0 = ap length e in absurd (omega (arith, long))
 
-nothing_due : (f : Due → Out) (o : Option Due) → option_map f o ≡ None → o ≡ None
-nothing_due f None e = refl
-nothing_due f (Some d) e = absurd (none-some (f d) (sym e))
-
 -- such a client is brought to what it has, and is sent nothing
 pub brought_same : (h : Service) (db : Db) (x : Held) → AreNow db x.tables → monitor_of x ≡ brought h db (watch_of x).requests (monitor_of x)
 brought_same h db x same = (λ i. let n : Monitor = record { watch = watch_of x; view = view_now db x same i } in n)
@@ -44,9 +35,3 @@ nothing_sent h revision x same =
     let m : Monitor = monitor_of x in
     let qs : List Request = (watch_of x).requests in
     ap (λ (n : Monitor). update_to h revision qs n) (brought_same h revision.db x same) ∙ no_more (update_to h revision qs (brought h revision.db qs m)) (all_owe_nothing h revision (m ∷ []))
-
-pub quiet : (h : Service) (revision : Revision) (x : Held) → AreNow revision.db x.tables → None ≡ update_sending h revision (watch_of x).requests (monitor_of x)
-quiet h revision x same =
-    let m : Monitor = monitor_of x in
-    let qs : List Request = (watch_of x).requests in
-    sym (ap (option_map (due_sending h revision)) (nothing_due (out_of h revision) (update_of h revision.db qs m) (sym (update_given h revision qs m) ∙ nothing_sent h revision x same)))

@@ -7,13 +7,12 @@ use Rattle.odb_service.specs.Service.{Service}
 use Rattle.odb_service.specs.Session.{Item, Monitor, Out, Revision, Session, brought, nothing_earlier, stop_at, take_from, take_rest, update_to}
 use Rattle.odb_service.proofs.SessionMaps.{same_map}
 use Rattle.odb_sessions.specs.Book.{Book}
-use Rattle.odb_sessions.specs.Carried.{used_by}
+use Rattle.odb_sessions.specs.Carried.{used_by, first_brought}
 use Rattle.odb_sessions.specs.Held.{Sessions, all_seen}
 use Rattle.odb_sessions.specs.Owed.{book_seen}
-use Rattle.odb_sessions.specs.Planned.{first_brought}
 use Rattle.odb_sessions.specs.Posts.{at_number}
 use Rattle.odb_sessions.specs.Quiet.{IsQuiet, IsQuietAt}
-use Rattle.odb_sessions.proofs.Rounds.{no_schema}
+use Rattle.odb_sessions.proofs.AnySchema.{no_schema}
 use Rattle.odb_sessions.proofs.StillQuiet.{same_at}
 
 abbrev Rest : Type 0

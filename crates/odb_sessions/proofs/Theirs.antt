@@ -4,7 +4,7 @@ use Rattle.odb_chain.specs.Chains.{Chains}
 use Rattle.odb_service.specs.Service.{Service}
 use Rattle.odb_service.specs.Session.{brought, refilter}
 use Rattle.odb_sessions.specs.Composed.{AreTheirs, IsKnown, asked_of, told_so}
-use Rattle.odb_sessions.specs.Foreseen.{Filters}
+use Rattle.odb_sessions.specs.Filtered.{Filters}
 use Rattle.odb_sessions.specs.Held.{Held, Watched, marks_in, monitor_of, table_marks, watch_of}
 use Rattle.odb_sessions.specs.Moved.{all_now, brought_to}
 use Rattle.odb_sessions.specs.Tied.{AreLive}

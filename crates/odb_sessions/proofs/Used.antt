@@ -5,9 +5,8 @@ use Rattle.odb_chain.specs.Chains.{Chains, Mark}
 use Rattle.std.proofs.lemmas.List.Sums.{sum_by-cons}
 use Rattle.odb_service.specs.Service.{Service}
 use Rattle.odb_service.specs.Session.{Item, Monitor, Session, is_answer, label, leaves, replies_in}
-use Rattle.odb_sessions.specs.Carried.{Carries, IsReady, all_begin, begins, finished_in, last_finished, used_by}
+use Rattle.odb_sessions.specs.Carried.{Carries, IsReady, all_begin, begins, finished_in, last_finished, used_by, used_up}
 use Rattle.odb_sessions.specs.Held.{Held, Queued, due, item_seen, marks_due, marks_of, plain}
-use Rattle.odb_sessions.specs.Planned.{used_up}
 use Rattle.odb_sessions.proofs.Carried.{carried_among, carried_from, flat, ready_part, ready_turned, turned_uses}
 use Rattle.odb_tables.specs.Database.{Db}
 

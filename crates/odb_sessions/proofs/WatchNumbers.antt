@@ -1,15 +1,14 @@
 -- Numbers of what sessions ask, along each change of the sessions.
-use Rattle.std.proofs.Common.{◌≡◌, ℕ, zero, suc, ◌<◌, ◌≤◌, ◌+◌, arith, Bool, true, false, cond, List, [], ◌∷◌, length, map, Option, Some, None, get_or, refl, sym, ap, ◌∙◌}
+use Rattle.std.proofs.Common.{◌≡◌, ℕ, zero, suc, ◌≤◌, ◌+◌, arith, Bool, true, false, cond, List, [], ◌∷◌, map, Option, Some, None, refl, sym, ap, ◌∙◌}
 use Rattle.std.specs.Ordering.{eq_by_cmp, nat_cmp}
-use Rattle.std.specs.Prelude.{slice_get}
 use Rattle.std.proofs.lemmas.Option.{none-some, same_Some}
 use Rattle.odb_atoms.specs.FinMap.{empty, get, insert, remove}
 use Rattle.odb_service.specs.Service.{Service}
 use Rattle.odb_service.specs.Session.{Item, Monitor, at_first, leaves, renamed, say, shift, start, stopped, sync}
 use Rattle.odb_service.proofs.SessionMaps.{get-empty, get-insert, get-remove}
 use Rattle.odb_sessions.specs.Held.{Held, Kept, Sessions, monitor_of}
-use Rattle.odb_sessions.specs.Planned.{first_brought}
-use Rattle.odb_sessions.specs.Watches.{AreAlike, AreKnownAs, IsKnownAs, Joins, KeepsWatch, asking_in, asking_of, watch_after, with_watch}
+use Rattle.odb_sessions.specs.Carried.{first_brought}
+use Rattle.odb_sessions.specs.Watches.{AreAlike, Joins, KeepsWatch, asking_in, asking_of, watch_after, with_watch}
 use Rattle.odb_tables.specs.Database.{Db}
 
 -- ---- one session
@@ -96,21 +95,3 @@ module _ (h : Service) (db : Db) where
   brought_asks zero ms = refl
   brought_asks (suc n) [] = refl
   brought_asks (suc n) (m ∷ ms) = ap (λ qs. asking_of m ∷ qs) (brought_asks n ms)
-
--- ---- monitors by their places
-
-place_of_known : (hs : List Held) (k : ℕ) (d : Held) → k < length hs → slice_get (map asking_of (map monitor_of hs)) k ≡ Some (asking_of (monitor_of (get_or hs k d)))
-place_of_known [] k d low = absurd (omega (arith, low))
-place_of_known (x ∷ xs) zero d low = refl
-place_of_known (x ∷ xs) (suc k) d low = place_of_known xs k d (omega (arith, low))
-
-pub known_at : (m : Sessions) (n k : ℕ) (hs : List Held) (d : Held) → k < length hs → AreKnownAs m (Some n) hs → IsKnownAs m (Some (n, k)) (get_or hs k d)
-known_at m n k hs d low h = (h.0, h.1, h.2, h.3, ap (λ (xs : List Held). slice_get (map asking_of (map monitor_of xs)) k) h.4 ∙ place_of_known hs k d low)
-
--- the monitors of a session by its number, if it has one
-pub known_session : (m : Sessions) (s : ℕ) (x : Kept) → get m s ≡ Some x → AreKnownAs m x.watch x.monitors
-known_session m s x there = by x.watch refl
-  where
-    by : (w : Option ℕ) → x.watch ≡ w → AreKnownAs m w x.monitors
-    by None is = tt
-    by (Some n) is = (s, x, there, is, refl)

@@ -1,10 +1,10 @@
 -- What is composed for the client of a monitor, from the marks for what it was told. [P 9.2, 9.3, 9.8, 10.1]
-use Rattle.std.specs.Prelude.{◌≡◌, Bool, true, false, List, [], ◌∷◌, map, Option, Some, None, ℕ}
+use Rattle.std.specs.Prelude.{◌≡◌, Bool, true, false, List, [], ◌∷◌, map, Option, Some, None, ℕ, option_map, ◌++◌}
 use Rattle.serde_json.specs.Written.{compact_text}
 use Rattle.odb_atoms.specs.FinMap.{empty}
 use Rattle.odb_atoms.specs.Uuid.{Uuid}
 use Rattle.odb_chain.specs.Chains.{Chains, IsLive}
-use Rattle.odb_monitor.specs.Job.{Job, Part}
+use Rattle.odb_monitor.specs.Job.{Job, Part, updates_of}
 use Rattle.odb_monitor.specs.Update.{table_updates}
 use Rattle.odb_monitor.specs.View.{delta, nothing, query, selected, shown}
 use Rattle.odb_recent.specs.Undo.{Undo, table_ago}
@@ -99,3 +99,10 @@ abbrev pub all_asked_as : List Watched → List Request → List Watched
 all_asked_as [] qs = []
 all_asked_as (w ∷ ws) [] = []
 all_asked_as (w ∷ ws) (q ∷ qs) = asked_as w q ∷ all_asked_as ws qs
+
+-- what is composed of a job: a text, where something is sent
+abbrev pub composition : Job → Option (List ℕ)
+composition j = option_map compact_text (updates_of j)
+
+abbrev pub whole_text : List ℕ → List ℕ → List ℕ → List ℕ
+whole_text before body after = before ++ (body ++ after)

@@ -3,9 +3,8 @@ use Rattle.std.specs.Prelude.{◌≡◌, true, ℕ, List, map, Some}
 use Rattle.std.specs.List.{All}
 use Rattle.odb_monitor.specs.Job.{Job}
 use Rattle.odb_request.specs.Request.{Notation, Request}
-use Rattle.odb_sessions.specs.Composed.{asked_of, first_job}
+use Rattle.odb_sessions.specs.Composed.{asked_of, first_job, composition}
 use Rattle.odb_sessions.specs.Held.{Held}
-use Rattle.odb_sessions.specs.Jobs.{composition}
 use Rattle.odb_tables.specs.Database.{Db}
 
 -- the table updates of a first reply as text, and what was asked

@@ -1,7 +1,6 @@
 pub mod Alike
 pub mod Codes
 pub mod Composed
-pub mod Decided
 pub mod Digest
 pub mod Ended
 pub mod Job
@@ -10,7 +9,5 @@ pub mod LentSession
 pub mod Origin
 pub mod Out
 pub mod Queued
-pub mod Served
-pub mod Taking
 pub mod Told
 pub mod Under

@@ -1,64 +1,16 @@
 -- What clients were told, as it is kept: by marks in chains that all sessions share. What is alike is so by the places of these marks. [P 9.2, 10.1, 10.3]
-use Rattle.std.specs.Prelude.{◌≡◌, ◌⊎◌, IfSome, List, [], ◌∷◌, ◌++◌, flat_map, Option, Some, None, option_map, unwrap_or}
-use Rattle.std.specs.List.{AllZip}
-use Rattle.odb_atoms.specs.FinMap as map
-use Rattle.odb_chain.specs.Chains.{Chains, standing}
+use Rattle.std.specs.Prelude.{◌≡◌}
+use Rattle.odb_chain.specs.Chains.{Chains}
 use Rattle.odb_chain.specs.Marks.{AreAllMarks}
-use Rattle.odb_service.specs.Session.{Watch}
-use Rattle.odb_sessions.specs.Alike.{Contents, Likeness, Stand}
 use Rattle.odb_sessions.specs.Book.{Book}
-use Rattle.odb_sessions.specs.Held.{Held, Kept, Queued, Sessions, Watched, all_seen, due, plain, watch_of}
-use Rattle.odb_sessions.specs.Planned.{Due, first_due, grant_due, text_due, update_due}
+use Rattle.odb_sessions.specs.Held.{Sessions, all_seen}
 use Rattle.odb_sessions.specs.Tied.{all_marks}
 
 -- the database with its past, and what is kept of the open sessions
-pub record Told : Type 0 where
+pub record ToldMarks : Type 0 where
   pub chains : Chains
   pub sessions : Sessions
 
 -- The chains are of the database, clients have what the marks of their monitors stand for, and the chains count these marks and no others
-abbrev pub IsToldOf : Book → Told → Type 0
+abbrev pub IsToldOf : Book → ToldMarks → Type 0
 IsToldOf b t = (t.chains.db ≡ b.db) × (all_seen t.sessions ≡ b.sessions) × AreAllMarks t.chains (all_marks t.sessions)
-
--- what the chains keep of the tables, at the places of marks
-abbrev pub contents : Chains → Contents
-contents k t p = unwrap_or (option_map (λ s. s.content) (standing k t p)) map.empty
-
--- ---- whose marks a likeness has
-
--- where it counts at which change of the table a client was told of it, that is the place of the mark, and it was told under the filter for which the mark was made
-abbrev pub IsByMark : Stand → Watched → Type 0
-IsByMark s w = IfSome s.place (λ p. (p ≡ (w.mark.table, w.mark.place)) × (s.told ≡ Some w.told))
-
--- so it is of each table of the monitor
-abbrev pub IsByMarks : Likeness → Held → Type 0
-IsByMarks l h = (l.notation ≡ h.notation) × AllZip IsByMark l.stands h.tables
-
--- ---- to which monitor something is due
-
--- the monitor whose first reply is due by the item, if one is
-abbrev pub held_due : Queued → List Held
-held_due (plain i) = []
-held_due (due d h) = h ∷ []
-
--- the monitors of the session, and those whose first replies are queued
-abbrev pub held_in : Kept → List Held
-held_in x = x.monitors ++ flat_map held_due x.queue
-
-abbrev pub held_of : Option Kept → List Held
-held_of None = []
-held_of (Some x) = held_in x
-
-abbrev pub watch_due : Due → Option Watch
-watch_due (text_due a d) = None
-watch_due (first_due d k) = Some k
-watch_due (update_due m qs) = Some m.watch
-watch_due (grant_due d) = None
-
-abbrev pub IsOneOf : List Held → Held → Type 0
-IsOneOf [] h = ⊥
-IsOneOf (x ∷ xs) h = (h ≡ x) ⊎ IsOneOf xs h
-
--- it is one of these, and what is due is due to it
-abbrev pub IsDueTo : Option Due → List Held → Held → Type 0
-IsDueTo o hs h = IsOneOf hs h × IfSome o (λ d. watch_due d ≡ Some (watch_of h))

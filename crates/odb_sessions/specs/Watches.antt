@@ -1,10 +1,9 @@
 -- What sessions ask, under numbers: those that have one number ask the same. [P 10.1]
-use Rattle.std.specs.Prelude.{◌≡◌, ℕ, List, map, Option, Some, None, IfSome, slice_get}
+use Rattle.std.specs.Prelude.{◌≡◌, ℕ, List, map, Option, Some, None}
 use Rattle.odb_atoms.specs.FinMap.{get}
 use Rattle.odb_request.specs.Request.{Notation, Request}
-use Rattle.odb_schema.specs.Schema.{Schema}
 use Rattle.odb_service.specs.Session.{Item, Monitor, renamed, say, shift, start, stopped, sync}
-use Rattle.odb_sessions.specs.Held.{Held, Kept, Sessions, monitor_of, seen}
+use Rattle.odb_sessions.specs.Held.{Kept, Sessions, seen}
 
 -- in which notation a monitor asks, and of which tables
 abbrev pub asking_of : Monitor → Notation × List Request
@@ -42,18 +41,3 @@ watch_after (sync i) w = w
 watch_after (shift i fs) w = w
 watch_after (renamed d old new fs) w = None
 watch_after (stopped d i) w = None
-
--- ---- in a round
-
--- what a round stands on: the schema, and the sessions
-pub record Basis : Type 0 where
-  pub schema : Schema
-  pub sessions : Sessions
-
--- the monitor stands at this place in a session that has this number
-abbrev pub IsKnownAs : Sessions → Option (ℕ × ℕ) → Held → Type 0
-IsKnownAs m w h = IfSome w (λ p. (s : ℕ) × (x : Kept) × (get m s ≡ Some x) × (x.watch ≡ Some p.0) × (slice_get (asking_in x) p.1 ≡ Some (asking_of (monitor_of h))))
-
--- these are the monitors of a session that has this number
-abbrev pub AreKnownAs : Sessions → Option ℕ → List Held → Type 0
-AreKnownAs m w hs = IfSome w (λ n. (s : ℕ) × (x : Kept) × (get m s ≡ Some x) × (x.watch ≡ Some n) × (x.monitors ≡ hs))

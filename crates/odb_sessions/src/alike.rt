@@ -3,7 +3,7 @@ ghost use Rattle.std.specs.Prelude.{◌≡◌, map, option_map};
 ghost use Rattle.std.specs.Arc.{arc_value};
 ghost use Rattle.std.specs.Bool.{Decides};
 ghost use Rattle.odb_cond.specs.Represented.Clause.{selector_of};
-ghost use Rattle.odb_sessions.specs.OfSchema.{asks_of};
+ghost use Rattle.odb_sessions.specs.Alike.{asks_of};
 ghost use Rattle.odb_sessions.specs.Represented.Alike.{ago_in, bare_in, bare_likeness, filter_in, is_first, is_reply, place_in, told_in};
 
 use crate::monitor::{Monitor, Watching};
@@ -15,8 +15,8 @@ use odb_request::Request;
 use odb_schema::TableId;
 
 impl<'a> Way<'a> {
-    /// Returns whether it is a first reply with all that the monitor selects.
-    pub(crate) fn is_first(self) -> bool
+    /// Returns whether it is a first reply with all that the monitor selects. O(1).
+    pub fn is_first(self) -> bool
         ensures { result ≡ is_first self.entry }
     {
         match self {
@@ -28,8 +28,8 @@ impl<'a> Way<'a> {
         }
     }
 
-    /// Returns whether it is a reply, of which something is always sent.
-    pub(crate) fn is_reply(self) -> bool
+    /// Returns whether it is a reply, of which something is always sent. O(1).
+    pub fn is_reply(self) -> bool
         ensures { result ≡ is_reply self.entry }
     {
         match self {
@@ -206,12 +206,7 @@ impl Monitor {
     /// Returns whether what is composed for its client in this way is what is composed for the client of the other in
     /// the other way, where the requests of both are of one schema: names and types aren't looked at. O(n) for n columns of
     /// all tables and members of their filters.
-    pub(crate) fn is_like<'a>(
-        &'a self,
-        way: Way<'a>,
-        other: &'a Monitor,
-        other_way: Way<'a>,
-    ) -> bool
+    pub fn is_like<'a>(&'a self, way: Way<'a>, other: &'a Monitor, other_way: Way<'a>) -> bool
         ensures { Decides result (bare_likeness self.now way.entry ≡ bare_likeness other.now other_way.entry) }
     {
         self.is_told_like(way, other, other_way)

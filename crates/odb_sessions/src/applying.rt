@@ -7,9 +7,8 @@ ghost use Rattle.odb_service.specs.Server.{served_by};
 ghost use Rattle.odb_service.specs.Session as model;
 ghost use Rattle.odb_service.specs.Session.{at_first, begun, changed, drop_first, has_id, leaves};
 ghost use Rattle.odb_sessions.specs.Asked.{is_same};
-ghost use Rattle.odb_sessions.specs.Carried.{Carries, IsReady, begins, finished_in};
+ghost use Rattle.odb_sessions.specs.Carried.{Carries, IsReady, begins, finished_in, first_brought};
 ghost use Rattle.odb_sessions.specs.Held.{item_seen, marks_due, marks_in, monitor_of, watch_of};
-ghost use Rattle.odb_sessions.specs.Planned.{first_brought};
 ghost use Rattle.odb_sessions.specs.Represented.Origin.{granted};
 ghost use Rattle.odb_sessions.specs.Represented.Queued.{filters_of, queued_of};
 

@@ -1,10 +1,9 @@
 //! What is owed to the client of a monitor, by parts, from the marks for what it was told; and its messages. [P 9.2, 9.3, 9.8, 10.1]
 ghost use Rattle.std.specs.Prelude.{◌≡◌, IfOk, map, option_map};
 ghost use Rattle.std.specs.List.{All};
-ghost use Rattle.odb_sessions.specs.Composed.{IsKnown, part_in};
+ghost use Rattle.odb_sessions.specs.Composed.{IsKnown, part_in, whole_text};
 ghost use Rattle.odb_sessions.specs.Represented.Composed.{bytes_in};
 ghost use Rattle.odb_sessions.specs.Represented.Out.{sent_in};
-ghost use Rattle.odb_sessions.specs.Taken.{whole_text};
 
 use crate::out::Out;
 use crate::owed::Owed;
@@ -35,15 +34,18 @@ pub(crate) fn parts_of<'a>(
 /// A message that is planned: its text is what stands before the composition, that of the job at this place, and what
 /// stands after it.
 #[derive(Drop)]
-pub(crate) struct Envelope {
-    pub(crate) before: Vec<u8>,
-    pub(crate) job: usize,
-    pub(crate) after: Vec<u8>,
+pub struct Envelope {
+    /// What stands before the composition.
+    pub before: Vec<u8>,
+    /// The place of the job.
+    pub job: usize,
+    /// What stands after it.
+    pub after: Vec<u8>,
 }
 
 impl Envelope {
     /// Makes the message for a session of what is composed of its job, if something is. O(1).
-    pub(crate) fn seal(self, session: SessionId, body: Option<Arc<Vec<u8>>>) -> Option<Out>
+    pub fn seal(self, session: SessionId, body: Option<Arc<Vec<u8>>>) -> Option<Out>
         ensures { option_map sent_in result ≡ option_map (λ b. (session, whole_text self.before.items b self.after.items)) (bytes_in body) }
     {
         let Envelope {

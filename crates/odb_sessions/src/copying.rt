@@ -6,7 +6,7 @@ ghost use Rattle.odb_sessions.specs.Held.{marks_due, marks_in, marks_of, plain, 
 ghost use Rattle.odb_sessions.specs.Represented.Queued.{filters_of, queued_of};
 ghost use Rattle.odb_sessions.specs.Tied.{Gives, IsTied};
 
-use crate::item::{Changes, Item, Renamed, Shift, Start, Stopped};
+use crate::item::{Changes, FirstReply, Item, Renamed, Shift, Stopped};
 use crate::monitor::{Monitor, Watching};
 use crate::numbered::Numbered;
 use crate::past::Past;
@@ -21,11 +21,11 @@ use std::vec::IntoIter;
 
 /// Marks of a copy of the chains, which the copies of sessions take one after the other.
 #[derive(Drop)]
-pub(crate) struct Given {
+pub(crate) struct GivenMarks {
     marks: IntoIter<Mark>,
 }
 
-impl Model for Given {
+impl Model for GivenMarks {
     ghost use Rattle.std.specs.Prelude.{List};
     ghost use Rattle.std.specs.Coded.{coded_list};
     ghost use Rattle.odb_chain.specs.Chains as model;
@@ -38,12 +38,12 @@ impl Model for Given {
     ghost view = { λ g. g.marks.rest.items };
 }
 
-impl Given {
+impl GivenMarks {
     /// Takes these marks, the first one first.
-    pub(crate) fn new(marks: Vec<Mark>) -> Given
+    pub(crate) fn new(marks: Vec<Mark>) -> GivenMarks
         ensures { result ≡ marks.items }
     {
-        Given {
+        GivenMarks {
             marks: marks.into_iter(),
         }
     }
@@ -78,7 +78,7 @@ pub(crate) fn copy_tied(
 
 impl Session {
     /// Copies it, with the next marks.
-    pub(crate) fn copy(&self, alloc: Global, given: &mut Given) -> Result<Session, AllocError>
+    pub(crate) fn copy(&self, alloc: Global, given: &mut GivenMarks) -> Result<Session, AllocError>
         requires { Gives given.old (marks_of self.now) }
         ensures copy { IfOk result (λ copy. copy ≡ self.now) }
         ensures given { OnOk result (given.old ≡ marks_of self.now ++ given.new) }
@@ -106,7 +106,7 @@ impl Session {
 fn copy_monitors(
     alloc: Global,
     monitors: &[Monitor],
-    given: &mut Given,
+    given: &mut GivenMarks,
 ) -> Result<Vec<Monitor>, AllocError>
     requires { Gives given.old (flat_map marks_in monitors.now) }
     ensures copy { IfOk result (λ copies. copies.items ≡ monitors.now) }
@@ -123,7 +123,7 @@ fn copy_monitors(
 pub(crate) fn copy_tables(
     alloc: Global,
     tables: &[Watching],
-    given: &mut Given,
+    given: &mut GivenMarks,
 ) -> Result<Vec<Watching>, AllocError>
     requires { Gives given.old (table_marks tables.now) }
     ensures copy { IfOk result (λ copies. copies.items ≡ tables.now) }
@@ -147,7 +147,11 @@ pub(crate) fn filter_again(filter: &Option<Arc<Filter>>) -> Result<Option<Arc<Fi
 }
 
 /// Copies an item of a queue, with the next marks.
-pub(crate) fn copy_item(alloc: Global, item: &Item, given: &mut Given) -> Result<Item, AllocError>
+pub(crate) fn copy_item(
+    alloc: Global,
+    item: &Item,
+    given: &mut GivenMarks,
+) -> Result<Item, AllocError>
     requires { Gives given.old (marks_due (queued_of item.now)) }
     ensures copy { IfOk result (λ copy. queued_of copy ≡ queued_of item.now) }
     ensures given { OnOk result (given.old ≡ marks_due (queued_of item.now) ++ given.new) }
@@ -162,16 +166,16 @@ pub(crate) fn copy_item(alloc: Global, item: &Item, given: &mut Given) -> Result
     }
 }
 
-impl Start {
+impl FirstReply {
     /// Copies it, with the next marks.
-    fn copy(&self, alloc: Global, given: &mut Given) -> Result<Start, AllocError>
+    fn copy(&self, alloc: Global, given: &mut GivenMarks) -> Result<FirstReply, AllocError>
         requires { Gives given.old (marks_in self.now.monitor) }
         ensures copy { IfOk result (λ copy. (copy.origin ≡ self.now.origin) × (copy.monitor ≡ self.now.monitor)) }
         ensures given { OnOk result (given.old ≡ marks_in self.now.monitor ++ given.new) }
     {
         let origin = self.origin.try_copy()?;
         let monitor = self.monitor.copy(alloc, given)?;
-        Ok(Start { origin, monitor })
+        Ok(FirstReply { origin, monitor })
     }
 }
 

@@ -13,7 +13,7 @@ use std::hash::{DefaultHasher, Hash, Hasher};
 
 /// Returns the digest of what is composed for the client of a monitor in this way: what is alike has the same, other
 /// seldom has. O(n) for n tables, and the members and atoms of their filters, with their bytes.
-pub(crate) fn digest_of<'a>(monitor: &'a Monitor, way: Way<'a>) -> u64
+pub fn digest_of<'a>(monitor: &'a Monitor, way: Way<'a>) -> u64
     ensures { result ≡ spec.digest (likeness_in monitor.now way.entry) }
 {
     let mut state = DefaultHasher::new();

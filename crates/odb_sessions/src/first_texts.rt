@@ -1,9 +1,8 @@
 //! Texts of first replies: until the database changes, who asks the same is told the same, by one text. [P 9.2, 10.3]
 ghost use Rattle.std.specs.Prelude.{◌≡◌, [], IfOk, IfSome, Some};
 ghost use Rattle.std.specs.Bool.{OnTrue};
-ghost use Rattle.odb_sessions.specs.Composed.{asked_of};
+ghost use Rattle.odb_sessions.specs.Composed.{asked_of, composition};
 ghost use Rattle.odb_sessions.specs.FirstTexts.{AreFirstTexts, AsksSo, IsFirstText};
-ghost use Rattle.odb_sessions.specs.Jobs.{composition};
 ghost use Rattle.odb_sessions.specs.Represented.Composed.{bytes_of};
 ghost use Rattle.odb_sessions.specs.Represented.Job.{job_in};
 ghost use Rattle.odb_sessions.specs.declared.way.Way.TheVariants as way;
@@ -41,8 +40,9 @@ impl Model for FirstText {
 }
 
 impl FirstText {
-    /// Makes the text of what the client of this monitor is told first. O(n) for n tables.
-    pub(crate) fn new(
+    /// Makes the text of what the client of this monitor is told first. O(n) for n tables. An error says that memory was
+    /// refused.
+    pub fn new(
         alloc: Global,
         monitor: &Monitor,
         text: &Arc<Vec<u8>>,
@@ -99,7 +99,7 @@ fn ask_so(requests: &[Request], tables: &[Watching]) -> bool
 
 /// The texts of the newest first replies, each of other requests.
 #[derive(Drop)]
-pub(crate) struct FirstTexts {
+pub struct FirstTexts {
     texts: Vec<FirstText>,
 }
 
@@ -127,7 +127,7 @@ impl FirstTexts {
 
     /// Returns the text that the client of this monitor is told first, if it is one of these. At most eight comparisons
     /// of what is asked.
-    pub(crate) fn find(&self, monitor: &Monitor) -> Option<&Arc<Vec<u8>>>
+    pub fn find(&self, monitor: &Monitor) -> Option<&Arc<Vec<u8>>>
         ensures { IfSome result (λ text. (db : model_db.Db) → AreFirstTexts db self.now → Some (bytes_of text.now) ≡ composition (job_in db monitor.now way.First)) }
     {
         for first in &self.texts {

@@ -1,6 +1,7 @@
 //! What is queued for a session. [P 10.1]
-ghost use Rattle.std.specs.Prelude.{◌≡◌, option_map};
+ghost use Rattle.std.specs.Prelude.{◌≡◌, is_some, option_map};
 ghost use Rattle.odb_service.specs.Session.{is_answer, label};
+ghost use Rattle.odb_sessions.specs.Carried.{finished_text};
 ghost use Rattle.odb_sessions.specs.Held.{item_seen, marks_due, marks_in};
 ghost use Rattle.odb_sessions.specs.Represented.Queued.{queued_of};
 ghost use Rattle.odb_sessions.specs.Tied.{Frees, HasAll};
@@ -19,11 +20,11 @@ use std::sync::Arc;
 
 /// An item of a session's queue.
 #[derive(Drop)]
-pub(crate) enum Item {
+pub enum Item {
     /// A finished message.
     Say(Finished),
     /// The first reply of a monitor.
-    Start(Start),
+    Start(FirstReply),
     /// What the client of the monitor with this id lacks of the database at the taking.
     Sync(Arc<Id>),
     /// The same under new filters.
@@ -36,9 +37,11 @@ pub(crate) enum Item {
 
 /// The first reply of a monitor, and the monitor that begins with it.
 #[derive(Drop)]
-pub(crate) struct Start {
-    pub(crate) origin: Origin,
-    pub(crate) monitor: Monitor,
+pub struct FirstReply {
+    /// The request, with the text with which its reply begins.
+    pub origin: Origin,
+    /// The monitor.
+    pub monitor: Monitor,
 }
 
 /// New filters, by tables of the schema.
@@ -51,14 +54,16 @@ pub struct Changes {
 
 /// New filters for the monitor with this id.
 #[derive(Drop)]
-pub(crate) struct Shift {
-    pub(crate) id: Arc<Id>,
-    pub(crate) changes: Changes,
+pub struct Shift {
+    /// The monitor's id.
+    pub id: Arc<Id>,
+    /// The filters.
+    pub changes: Changes,
 }
 
 /// The reply to a change of the monitor with the old id: of its id and of its filters.
 #[derive(Drop)]
-pub(crate) struct Renamed {
+pub struct Renamed {
     pub(crate) reply: Granted,
     pub(crate) old_id: Arc<Id>,
     pub(crate) new_id: Arc<Id>,
@@ -67,7 +72,7 @@ pub(crate) struct Renamed {
 
 /// The reply to a cancel of the monitor with this id.
 #[derive(Drop)]
-pub(crate) struct Stopped {
+pub struct Stopped {
     pub(crate) reply: Granted,
     pub(crate) id: Arc<Id>,
 }
@@ -102,6 +107,20 @@ impl Item {
         }
     }
 
+    /// Returns whether its text was finished when it was queued. O(1).
+    pub fn is_finished(&self) -> bool
+        ensures { result ≡ is_some (finished_text (item_seen (queued_of self.now))) }
+    {
+        match self {
+            Item::Say(_) => true,
+            Item::Start(_) => false,
+            Item::Sync(_) => false,
+            Item::Shift(_) => false,
+            Item::Renamed(_) => true,
+            Item::Stopped(_) => true,
+        }
+    }
+
     /// Gives its marks back.
     pub(crate) fn release(self, past: &mut Past)
         requires { HasAll past.old (marks_due (queued_of self)) }
@@ -118,13 +137,13 @@ impl Item {
     }
 }
 
-impl Start {
+impl FirstReply {
     /// Gives the marks of its monitor back.
     fn release(self, past: &mut Past)
         requires { HasAll past.old (marks_in self.monitor) }
         ensures { Frees past.old past.new (marks_in self.monitor) }
     {
-        let Start { monitor, .. } = self;
+        let FirstReply { monitor, .. } = self;
         monitor.release(past);
     }
 }

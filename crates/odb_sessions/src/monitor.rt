@@ -3,6 +3,8 @@ ghost use Rattle.std.specs.Prelude.{IfOk, OnErr, OnOk, [], bytes_eq, length, map
 ghost use Rattle.std.specs.Arc.{arc_value};
 ghost use Rattle.std.specs.List.{list_any};
 ghost use Rattle.odb_chain.specs.Chains.{IsNow};
+ghost use Rattle.odb_atoms.specs.Represented.Atom.{uuid_of};
+ghost use Rattle.odb_sessions.specs.Asked.{is_same};
 ghost use Rattle.odb_sessions.specs.Composed.{AreTheirs};
 ghost use Rattle.odb_sessions.specs.Held.{marks_in, monitor_of, table_marks, watch_of};
 ghost use Rattle.odb_sessions.specs.Started.{AreOfTables};
@@ -14,7 +16,7 @@ ghost use Rattle.odb_sessions.specs.Moved.{Moves, all_now};
 ghost use Rattle.odb_sessions.specs.Represented.Queued.{filters_of};
 ghost use Rattle.odb_sessions.specs.Owed.{filter_asked};
 
-use crate::copying::{Given, copy_tables, filter_again, lend_tables};
+use crate::copying::{GivenMarks, copy_tables, filter_again, lend_tables};
 use crate::id::Id;
 use crate::item::Changes;
 use crate::moving::{ask_all_under, bring_all, bring_all_under};
@@ -94,7 +96,7 @@ impl Watching {
     }
 
     /// Copies it, with the next mark.
-    pub(crate) fn copy(&self, given: &mut Given) -> Result<Watching, AllocError>
+    pub(crate) fn copy(&self, given: &mut GivenMarks) -> Result<Watching, AllocError>
         requires { Gives given.old (self.now.mark ∷ []) }
         ensures copy { IfOk result (λ copy. copy ≡ self.now) }
         ensures given { OnOk result (given.old ≡ self.now.mark ∷ given.new) }
@@ -111,7 +113,7 @@ impl Watching {
 
 /// A monitor: one whose first reply was taken, or is due. Where a commit was named when it was asked for, its messages
 /// name commits.
-pub(crate) struct Monitor {
+pub struct Monitor {
     pub(crate) id: Arc<Id>,
     pub(crate) kind: Kind,
     pub(crate) tables: Vec<Watching>,
@@ -143,6 +145,21 @@ impl Monitor {
         ensures { IfOk result (λ id. arc_value id ≡ self.now.id) }
     {
         Ok(self.id.clone()?)
+    }
+
+    /// Returns whether it has this id. O(n) for ids of n bytes.
+    pub fn has_id(&self, id: &Id) -> bool
+        ensures { result ≡ is_same id.now self.now.id }
+    {
+        id.same(&self.id)
+    }
+
+    /// Returns the commit that was named when it was asked for, if one was. O(1).
+    pub fn since(&self) -> Option<Uuid>
+        ensures since { option_map uuid_of result ≡ self.now.since }
+        ensures theirs { AreTheirs self.now.tables }
+    {
+        self.since
     }
 
     /// Returns whether a table of this name is one of its tables.
@@ -202,7 +219,7 @@ impl Monitor {
     }
 
     /// Copies it, with the next marks.
-    pub(crate) fn copy(&self, alloc: Global, given: &mut Given) -> Result<Monitor, AllocError>
+    pub(crate) fn copy(&self, alloc: Global, given: &mut GivenMarks) -> Result<Monitor, AllocError>
         requires { Gives given.old (marks_in self.now) }
         ensures copy { IfOk result (λ copy. copy ≡ self.now) }
         ensures given { OnOk result (given.old ≡ marks_in self.now ++ given.new) }

@@ -14,7 +14,7 @@ ghost use Rattle.odb_sessions.specs.Represented.Queued.{queued_of};
 ghost use Rattle.odb_sessions.specs.Tied.{IsTied, all_marks};
 ghost use Rattle.odb_sessions.specs.Watches.{AreAlike, IsWatchFor, Joins, with_watch};
 
-use crate::copying::Given;
+use crate::copying::GivenMarks;
 use crate::item::Item;
 use crate::past::Past;
 use crate::session::Session;
@@ -29,7 +29,7 @@ use std::marker::Model;
 
 /// The open sessions by their numbers.
 #[derive(Drop)]
-pub(crate) struct Numbered {
+pub struct Numbered {
     /// The key of each open session in `sessions`.
     keys: BTreeMap<SessionId, usize>,
     sessions: Slab<Session>,
@@ -91,8 +91,8 @@ impl Numbered {
         self.sessions.try_remove(key)
     }
 
-    /// Returns a session, if it is open.
-    pub(crate) fn get(&self, number: SessionId) -> Option<&Session>
+    /// Returns a session, if it is open. O(log n) for n sessions.
+    pub fn get(&self, number: SessionId) -> Option<&Session>
         ensures { option_copied result ≡ finite.get self.now number }
     {
         let key = self.keys.get(&number)?;
@@ -361,7 +361,7 @@ impl Numbered {
         requires { marks.items ≡ all_marks self.now }
         ensures { IfOk result (λ copy. copy ≡ self.now) }
     {
-        let mut given = Given::new(marks);
+        let mut given = GivenMarks::new(marks);
         let mut copy = Numbered::new(alloc);
         for (number, key) in self.keys.iter() {
             if let Some(session) = self.sessions.get(*key) {

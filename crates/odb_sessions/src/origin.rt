@@ -17,7 +17,7 @@ use std::marker::Model;
 use uuid::Uuid;
 
 /// A request whose reply is due, with the text with which that begins. Contracts see the request.
-pub(crate) struct Origin {
+pub struct Origin {
     before: Vec<u8>,
     request: Granted,
 }
@@ -47,8 +47,9 @@ impl Origin {
         Ok(Origin { before, request })
     }
 
-    /// Returns the reply, with the result that is composed of the job. O(n) for an id of n bytes.
-    pub(crate) fn reply(&self, alloc: Global, job: usize) -> Result<Envelope, AllocError>
+    /// Returns the reply, with the result that is composed of the job. O(n) for an id of n bytes. An error says that memory was
+    /// refused.
+    pub fn reply(&self, alloc: Global, job: usize) -> Result<Envelope, AllocError>
         ensures { IfOk result (λ message. IsFrame message job (λ d. compact_text (reply (id_of self.now) d))) }
     {
         let before = self.before.clone()?;
@@ -57,8 +58,8 @@ impl Origin {
     }
 
     /// Makes the reply to who named a commit: whether that was found, the number of the newest commit, and what is
-    /// composed of the job. O(n) for an id of n bytes.
-    pub(crate) fn numbered_reply(
+    /// composed of the job. O(n) for an id of n bytes. An error says that memory was refused.
+    pub fn numbered_reply(
         &self,
         alloc: Global,
         found: bool,

@@ -22,8 +22,8 @@ pub struct Out {
 }
 
 impl Out {
-    /// Makes the message for a session that a finished text is.
-    pub(crate) fn finished(alloc: Global, session: SessionId, text: Finished) -> Out
+    /// Makes the message for a session that a finished text is. O(1).
+    pub fn finished(alloc: Global, session: SessionId, text: Finished) -> Out
         ensures session { result.session ≡ session }
         ensures text { text_of_out result ≡ text.text.items }
     {

@@ -10,7 +10,7 @@ ghost use Rattle.odb_sessions.specs.Represented.Told.{told_under};
 ghost use Rattle.odb_tables.specs.Database as model_table;
 ghost use Rattle.odb_tables.specs.Database.{table_at};
 ghost use Rattle.std.specs.List.{All};
-ghost use Rattle.odb_sessions.specs.Foreseen.{all_parts_again, part_again};
+ghost use Rattle.odb_sessions.specs.Filtered.{all_parts_again, part_again};
 ghost use Rattle.odb_sessions.specs.Represented.Under.{filters_in};
 
 use crate::monitor::Watching;

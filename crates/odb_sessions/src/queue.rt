@@ -9,7 +9,7 @@ ghost use Rattle.odb_sessions.specs.Represented.Queued.{queued_of};
 ghost use Rattle.odb_sessions.specs.Tied.{Frees, Gives, HasAll};
 
 use crate::asked::ask;
-use crate::copying::{Given, copy_item};
+use crate::copying::{GivenMarks, copy_item};
 use crate::id::Id;
 use crate::item::Item;
 use crate::named::{Named, ask_of};
@@ -52,6 +52,13 @@ impl Queue {
             items: VecDeque::new(alloc),
             replies: 0,
         }
+    }
+
+    /// Returns the items, the earliest first. O(1).
+    pub(crate) fn items(&self) -> &VecDeque<Item>
+        ensures { map queued_of result.now.items ≡ self.now }
+    {
+        &self.items
     }
 
     /// Returns how many replies are queued. O(1).
@@ -127,7 +134,7 @@ impl Queue {
     }
 
     /// Copies it, with the next marks.
-    pub(crate) fn copy(&self, alloc: Global, given: &mut Given) -> Result<Queue, AllocError>
+    pub(crate) fn copy(&self, alloc: Global, given: &mut GivenMarks) -> Result<Queue, AllocError>
         requires { Gives given.old (flat_map marks_due self.now) }
         ensures copy { IfOk result (λ copy. copy ≡ self.now) }
         ensures given { OnOk result (given.old ≡ flat_map marks_due self.now ++ given.new) }

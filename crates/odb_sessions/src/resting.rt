@@ -30,7 +30,7 @@ impl Sessions {
 
     /// Forgets that a session may be owed something, where it rests, and there is memory for what it asks in the
     /// index. What `interest::cover` costs.
-    pub(crate) fn forget_if_resting(&mut self, session: SessionId)
+    pub fn forget_if_resting(&mut self, session: SessionId)
         ensures { self.new ≡ self.old }
     {
         if !self.owed.contains(&session) {

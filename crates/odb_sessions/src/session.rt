@@ -31,6 +31,7 @@ use odb_queue::Finished;
 use odb_rpc::has_reply;
 use odb_wire::Request;
 use std::alloc::{AllocError, AllocFailed, Global};
+use std::collections::VecDeque;
 use std::marker::Model;
 use std::sync::Arc;
 
@@ -39,7 +40,7 @@ const MAX_OWED: usize = 256;
 
 /// A session: what is queued for it, and the monitors whose first reply was taken, the earliest first; and the number of what
 /// these ask, once it has one.
-pub(crate) struct Session {
+pub struct Session {
     pub(crate) queue: Queue,
     pub(crate) monitors: Vec<Monitor>,
     pub(crate) watch: Option<Watch>,
@@ -70,6 +71,20 @@ impl Session {
             monitors: Vec::new(alloc),
             watch: None,
         }
+    }
+
+    /// Returns what is queued, the earliest first. O(1).
+    pub fn items(&self) -> &VecDeque<Item>
+        ensures { map queued_of result.now.items ≡ self.now.queue }
+    {
+        self.queue.items()
+    }
+
+    /// Returns its monitors whose first reply was taken, the earliest first. O(1).
+    pub fn monitors(&self) -> &[Monitor]
+        ensures { result.now ≡ self.now.monitors }
+    {
+        self.monitors.as_slice()
     }
 
     /// Returns whether the request has a reply while the session is owed as many as it may be; `waiting` of them

@@ -1,5 +1,5 @@
 //! The database with its past and its last commits, and the open sessions. [P 9.1, 9.5, 9.6, 10.1, 10.2, 10.3]
-ghost use Rattle.std.specs.Prelude.{◌≡◌, ◌+◌, ◌&&◌, [], List, false, is_some, not, nat_lt, map, option_and_then, option_map, None, IfOk, OnErr, OnOk};
+ghost use Rattle.std.specs.Prelude.{◌≡◌, ◌+◌, ◌&&◌, [], List, false, is_some, not, nat_lt, map, option_and_then, option_map, None, IfOk, IfSome, OnErr, OnOk};
 ghost use Rattle.odb_atoms.specs.FinMap as finite;
 ghost use Rattle.odb_queue.specs.Represented.Answer.{call_at};
 ghost use Rattle.odb_queue.specs.Represented.Item.{item_of};
@@ -13,9 +13,10 @@ ghost use Rattle.odb_service.specs.Server.{served_by};
 ghost use Rattle.odb_service.specs.Session.{replies_in};
 ghost use Rattle.odb_service.specs.World.{asked_of, watched};
 ghost use Rattle.odb_sessions.specs.Asked.{ended_in};
-ghost use Rattle.odb_sessions.specs.Book.{book_of, fresh_session};
-ghost use Rattle.odb_sessions.specs.Carried.{last_finished, used_by};
+ghost use Rattle.odb_sessions.specs.Book.{book_of, book_with, fresh_session};
+ghost use Rattle.odb_sessions.specs.Carried.{last_finished, used_by, UsesUp};
 ghost use Rattle.odb_sessions.specs.Committed.{all_ended, all_left, each_changed_with, ended_with, posted_with, without_posts, AreChangesFrom, ComeTo};
+ghost use Rattle.odb_sessions.specs.FirstTexts.{AreFirstTexts, IsFirstText};
 ghost use Rattle.odb_sessions.specs.Represented.Ended.{ending_of};
 ghost use Rattle.odb_tables.specs.Change.{Changes, all_changed_by};
 ghost use Rattle.odb_sessions.specs.Named.{named};
@@ -23,7 +24,8 @@ ghost use Rattle.odb_sessions.specs.Owed.{AreNoted, AreOwed, addressed};
 ghost use Rattle.odb_sessions.specs.Posts.{all_posted, at_number, posted, unposted};
 ghost use Rattle.odb_sessions.specs.Started.{AreApart, AreOfTables, started};
 ghost use Rattle.odb_sessions.specs.Stopped.{changed_in, stopped_in};
-ghost use Rattle.odb_sessions.specs.Taken.{UsesUp};
+ghost use Rattle.odb_sessions.specs.Tied.{IsTied};
+ghost use Rattle.odb_sessions.specs.Told.{IsToldOf};
 ghost use Rattle.odb_tables.specs.Installing.{IsChangeOf};
 ghost use Rattle.odb_wire.specs.Message.{has_left_out, id_of};
 ghost use Rattle.odb_wire.specs.Shown.{request_data};
@@ -34,6 +36,7 @@ use crate::copying::copy_tied;
 use crate::ended::Ended;
 use crate::ending::stopping;
 use crate::ends::note_commits;
+use crate::first_texts::{FirstText, FirstTexts};
 use crate::id::Id;
 use crate::interest::forget_owed;
 use crate::item::Item;
@@ -43,6 +46,7 @@ use crate::past::Past;
 use crate::refreshing::{Refreshing, refresh_each};
 use crate::session::Session;
 use crate::starting::Starting;
+use crate::told::ToldMarks;
 use odb_interest::Interest;
 use odb_locks::SessionId;
 use odb_queue::{Finished, Post};
@@ -69,9 +73,8 @@ pub struct Sessions {
 }
 
 impl Model for Sessions {
-    ghost use Rattle.odb_sessions.specs.Book.{Book};
+    ghost use Rattle.odb_sessions.specs.Book.{Book, book_with};
     ghost use Rattle.odb_sessions.specs.Represented.Codes.{book_code};
-    ghost use Rattle.odb_sessions.specs.Book.{book_with};
     ghost use Rattle.odb_sessions.specs.Held.{all_seen};
     ghost use Rattle.odb_sessions.specs.Owed.{HangTogether};
 
@@ -119,6 +122,33 @@ impl Sessions {
         ensures { result ≡ self.now.commits }
     {
         self.recent.commits()
+    }
+
+    /// Returns the last commits. O(1).
+    pub fn recent(&self) -> &Recent
+        ensures { book_with self.now.db result.now self.now.sessions ≡ self.now }
+    {
+        &self.recent
+    }
+
+    /// Returns the texts of first replies that are kept. O(1).
+    pub fn firsts(&self) -> &FirstTexts
+        ensures { AreFirstTexts self.now.db result.now }
+    {
+        self.past.firsts()
+    }
+
+    /// Lends what clients were told, as it is kept. O(1).
+    pub fn told(&self) -> ToldMarks<'_>
+        ensures of { IsToldOf self.now result }
+        ensures tied { IsTied result.chains result.sessions }
+    {
+        ToldMarks::new(self.past.chains(), &self.sessions)
+    }
+
+    /// Returns the allocator with which they were made. O(1).
+    pub fn alloc(&self) -> Global {
+        self.alloc
     }
 
     /// Returns how many sessions are open. O(1).
@@ -408,11 +438,22 @@ impl Sessions {
         closed.release(&mut self.past);
     }
 
+    /// Keeps the text of a first reply, if there is one, until the database changes: who asks the same is told the same by
+    /// it. Where memory is refused it isn't kept. O(1), and what letting eight texts go costs.
+    pub fn keep(&mut self, first: Option<FirstText>)
+        requires { IfSome first (IsFirstText self.old.db) }
+        ensures { self.new ≡ self.old }
+    {
+        if let Some(first) = first {
+            self.past.keep(first);
+        }
+    }
+
     /// Carries a taking of a session out, if that is open: this many items of its queue are used up, and then the
     /// clients of this many of its monitors have what their tables are now. It returns the text that stands in
     /// the last of the items, if one does. It can't be refused. O(log n) for n sessions, and for each table of
     /// a monitor that is reached what `odb_chain::Chains::advance` costs.
-    pub(crate) fn carry_out(
+    pub fn carry_out(
         &mut self,
         session: SessionId,
         items: usize,

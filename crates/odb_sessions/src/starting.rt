@@ -12,7 +12,7 @@ ghost use Rattle.odb_wire.specs.Message.{has_left_out, id_of};
 ghost use Rattle.odb_wire.specs.Shown.{request_data};
 
 use crate::id::Id;
-use crate::item::Start;
+use crate::item::FirstReply;
 use crate::monitor::Monitor;
 use crate::origin::Origin;
 use crate::past::Past;
@@ -78,7 +78,7 @@ impl Starting {
     }
 
     /// Makes the item of its first reply, with a mark for each of its tables. Where memory is refused no mark is made.
-    pub(crate) fn begin(self, alloc: Global, past: &mut Past) -> Result<Start, AllocError>
+    pub(crate) fn begin(self, alloc: Global, past: &mut Past) -> Result<FirstReply, AllocError>
         requires tables { AreOfTables past.old.db self.watch.requests }
         requires apart { AreApart self.watch.requests }
         requires now { IsNow past.old }
@@ -100,7 +100,7 @@ impl Starting {
             tables,
             since,
         };
-        Ok(Start { origin, monitor })
+        Ok(FirstReply { origin, monitor })
     }
 }
 

@@ -11,18 +11,18 @@ use std::marker::Model;
 /// What clients were told, as it is kept: of each table of a monitor a mark, and the chains that keep what marks stand for.
 /// The chains count these marks and no others.
 #[derive(Drop)]
-pub struct Told<'a> {
+pub struct ToldMarks<'a> {
     chains: &'a Chains,
     sessions: &'a Numbered,
 }
 
-impl<'a> Model for Told<'a> {
+impl<'a> Model for ToldMarks<'a> {
     ghost use Rattle.odb_chain.specs.Marks.{AreAllMarks};
     ghost use Rattle.odb_sessions.specs.Represented.Codes.{told_code};
     ghost use Rattle.odb_sessions.specs.Tied.{all_marks};
     ghost use Rattle.odb_sessions.specs.Told as model;
 
-    ghost Value = { model.Told };
+    ghost Value = { model.ToldMarks };
 
     ghost coded = { told_code };
 
@@ -31,13 +31,13 @@ impl<'a> Model for Told<'a> {
     ghost invariant = { λ t. AreAllMarks t.chains.now (all_marks t.sessions.now) };
 }
 
-impl<'a> Told<'a> {
+impl<'a> ToldMarks<'a> {
     /// Lends the chains, and the sessions whose marks they count. O(1).
-    pub(crate) fn new(chains: &'a Chains, sessions: &'a Numbered) -> Told<'a>
+    pub(crate) fn new(chains: &'a Chains, sessions: &'a Numbered) -> ToldMarks<'a>
         requires { IsTied chains.now sessions.now }
         ensures { result ≡ record { chains = chains.now; sessions = sessions.now } }
     {
-        Told { chains, sessions }
+        ToldMarks { chains, sessions }
     }
 
     /// Returns the database with its past: what marks stand for. O(1).
@@ -45,6 +45,13 @@ impl<'a> Told<'a> {
         ensures { result.now ≡ self.now.chains }
     {
         self.chains
+    }
+
+    /// Returns the sessions whose marks these are. O(1).
+    pub fn sessions(&self) -> &'a Numbered
+        ensures { result.now ≡ self.now.sessions }
+    {
+        self.sessions
     }
 
     /// Lends the marks of all monitors, in the order of their sessions' numbers, those of monitors whose first reply is due

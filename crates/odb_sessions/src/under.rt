@@ -5,7 +5,7 @@ ghost use Rattle.odb_request.specs.Represented.Change.{change_of};
 ghost use Rattle.odb_request.specs.Represented.Shape.{table_name};
 ghost use Rattle.odb_service.specs.Session.{filter_of, refilter};
 ghost use Rattle.odb_sessions.specs.Composed.{asked_of};
-ghost use Rattle.odb_sessions.specs.Foreseen.{asked_under};
+ghost use Rattle.odb_sessions.specs.Filtered.{asked_under};
 ghost use Rattle.odb_sessions.specs.Represented.Queued.{filters_of};
 ghost use Rattle.odb_sessions.specs.Represented.Under.{filters_in};
 
@@ -19,7 +19,7 @@ use std::sync::Arc;
 
 /// Under which filters the client of a monitor is told.
 #[derive(Clone, Copy)]
-pub(crate) enum Under<'a> {
+pub enum Under<'a> {
     /// Those that the monitor asks.
     Asked,
     /// These, in place of those that the monitor asks of their tables.

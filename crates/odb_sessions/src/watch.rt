@@ -18,7 +18,7 @@ pub(crate) struct Watch {
 }
 
 /// The number of what a session's monitors ask, and the place of one of them: those with equal ones ask the same.
-pub(crate) type WatchId = (u64, usize);
+pub type WatchId = (u64, usize);
 
 impl Session {
     /// Returns the number of what its monitors ask, where it has one with this digest, and those of the other session ask the
@@ -48,8 +48,8 @@ impl Session {
         }
     }
 
-    /// Returns the number of what its monitors ask, if it has one.
-    pub(crate) fn number(&self) -> Option<u64>
+    /// Returns the number of what its monitors ask, if it has one. O(1).
+    pub fn number(&self) -> Option<u64>
         ensures { result ≡ self.now.watch }
     {
         match self.watch {

@@ -8,7 +8,7 @@ use odb_recent::Recent;
 
 /// What is composed for the client of a monitor.
 #[derive(Clone, Copy)]
-pub(crate) enum Way<'a> {
+pub enum Way<'a> {
     /// All that the monitor selects: its first reply.
     First,
     /// What the client lacks of it.

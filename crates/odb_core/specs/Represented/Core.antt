@@ -8,7 +8,7 @@ use Rattle.odb_service.specs.Session.{Session, nothing_earlier, take}
 use Rattle.odb_service.specs.World.{World, revision_of}
 use Rattle.odb_schema.specs.Schema.{Schema}
 use Rattle.odb_sessions.specs.Book.{fresh_session}
-use Rattle.odb_sessions.specs.OfSchema.{AreSessionsOf}
+use Rattle.odb_round.specs.OfSchema.{AreSessionsOf}
 use Rattle.odb_core.specs.Represented.Steps.{AreTried}
 
 -- no session has this number or a later one

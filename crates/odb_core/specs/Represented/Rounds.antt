@@ -4,7 +4,7 @@ use Rattle.odb_service.specs.Run.{once, take_each}
 use Rattle.odb_service.specs.Server.{Server, printed, served_by}
 use Rattle.odb_service.specs.World.{World}
 use Rattle.odb_sessions.specs.Book.{Book}
-use Rattle.odb_sessions.specs.Taken.{AreOf, Pending, sessions_in}
+use Rattle.odb_round.specs.Taken.{AreOf, Pending, sessions_in}
 
 -- the database, its commits and the sessions
 abbrev pub book_in : World → Book

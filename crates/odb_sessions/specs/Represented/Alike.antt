@@ -1,14 +1,11 @@
 -- The likeness of a job: of a monitor, in each of the ways.
-use Rattle.std.specs.Prelude.{◌≡◌, ◌≤◌, ℕ, Bool, true, false, List, [], length, map as map_list, Option, Some, None, unwrap_or}
+use Rattle.std.specs.Prelude.{ℕ, Bool, true, false, List, [], map as map_list, Option, Some, None, unwrap_or}
 use Rattle.odb_chain.specs.Chains.{Mark}
 use Rattle.odb_cond.specs.Filter.{Filter}
-use Rattle.odb_recent.specs.Recent.{Recent}
 use Rattle.odb_request.specs.Request.{Notation, Request}
-use Rattle.odb_schema.specs.Schema.{Schema}
 use Rattle.odb_service.specs.Session.{filter_of}
-use Rattle.odb_sessions.specs.Alike.{Likeness, Stand}
+use Rattle.odb_sessions.specs.Alike.{Likeness, Stand, Asks, asks_of}
 use Rattle.odb_sessions.specs.Held.{Held, Watched}
-use Rattle.odb_sessions.specs.OfSchema.{AreOfSchema, Asks, asks_of}
 use Rattle.odb_sessions.specs.Represented.Job.{filters_by}
 use Rattle.odb_sessions.specs.Represented.Under.{filters_in}
 use Rattle.odb_sessions.specs.declared.way.Way.{Way}
@@ -36,14 +33,6 @@ ago_in way.Asked = None
 ago_in (way.Changed u) = None
 ago_in (way.Again told u) = None
 ago_in (way.Since r n) = Some n
-
--- a commit that is found is one of these
-abbrev pub IsFoundIn : Recent → Way → Type 0
-IsFoundIn r way.First = Unit {0}
-IsFoundIn r way.Asked = Unit {0}
-IsFoundIn r (way.Changed u) = Unit {0}
-IsFoundIn r (way.Again told u) = Unit {0}
-IsFoundIn r (way.Since s n) = (s.now ≡ r) × (n ≤ length r.undos)
 
 -- the filter that is asked
 abbrev pub filter_in : Way → Request → Filter
@@ -90,7 +79,3 @@ pub record BareLikeness : Type 0 where
 
 abbrev pub bare_likeness : Held → Way → BareLikeness
 bare_likeness x w = record { notation = x.notation; first = is_first w; ago = ago_in w; stands = map_list (bare_in w) x.tables }
-
--- what it asks is of the schema
-abbrev pub IsLikenessOf : Schema → Likeness → Type 0
-IsLikenessOf s l = AreOfSchema s (map_list (λ t. t.request) l.stands)

@@ -4,7 +4,7 @@ use Rattle.odb_monitor.specs.Job.{Job}
 use Rattle.odb_request.specs.Request.{Request}
 use Rattle.odb_service.specs.Session.{refilter}
 use Rattle.odb_sessions.specs.Composed.{all_asked_as, asked_of, first_job, later_job, part_to, resumed_job}
-use Rattle.odb_sessions.specs.Foreseen.{Filters, all_parts_again}
+use Rattle.odb_sessions.specs.Filtered.{Filters, all_parts_again}
 use Rattle.odb_sessions.specs.Held.{Held, Watched}
 use Rattle.odb_sessions.specs.Represented.Under.{filters_in}
 use Rattle.odb_sessions.specs.declared.way.Way.{Way}

@@ -1,7 +1,7 @@
 use Rattle.std.proofs.Common.{rules, ◌≡◌, ◌<◌, ◌/◌, ◌++◌, List, [], ◌∷◌, Option, None, Some, Ok, ℕ, length, map, slice_get, slice_index_or, sym, subst, ◌∙◌}
 use Rattle.std.specs.Prelude.{vec_len}
 use Rattle.std.proofs.lemmas.List.{length-map}
-use Rattle.odb_sessions.specs.Jobs.{composition}
+use Rattle.odb_sessions.specs.Composed.{composition}
 use Rattle.odb_sessions.specs.Represented.Composed.{bytes_in}
 use Rattle.odb_par.proofs.Shares.{dealt, made_at, texts_more, within}
 use Rattle.odb_par.proofs.dealing.in_order.Goals as goal

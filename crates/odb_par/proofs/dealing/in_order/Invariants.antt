@@ -1,6 +1,6 @@
 use Rattle.std.proofs.Common.{◌≡◌, ◌≤◌, length, map, take}
 use Rattle.std.specs.Prelude.{vec_capacity, vec_len}
-use Rattle.odb_sessions.specs.Jobs.{composition}
+use Rattle.odb_sessions.specs.Composed.{composition}
 use Rattle.odb_sessions.specs.Represented.Composed.{bytes_in}
 use Rattle.odb_par.proofs.dealing.in_order.Given as goal
 

@@ -1,7 +1,7 @@
 use Rattle.std.proofs.Common.{rules, ◌≡◌, ◌≤◌, ◌<◌, ◌++◌, List, [], ◌∷◌, Some, Option, ℕ, length, map, slice_get, slice_index_or, subst, sym}
 use Rattle.std.proofs.lemmas.List.{append-nil, length-map}
 use Rattle.odb_par.specs.Shares.{IsShare}
-use Rattle.odb_sessions.specs.Jobs.{composition}
+use Rattle.odb_sessions.specs.Composed.{composition}
 use Rattle.odb_sessions.specs.Represented.Composed.{bytes_in}
 use Rattle.odb_par.proofs.Shares.{ends, goes_on, made_at, pushed}
 use Rattle.odb_par.proofs.worker.own_bodies.Goals as goal

@@ -1,6 +1,6 @@
 use Rattle.std.proofs.Common.{◌-◌, ◌++◌, ℕ, List, Option, length, map}
 use Rattle.odb_par.specs.Shares.{IsShare}
-use Rattle.odb_sessions.specs.Jobs.{composition}
+use Rattle.odb_sessions.specs.Composed.{composition}
 use Rattle.odb_sessions.specs.Represented.Composed.{bytes_in}
 use Rattle.odb_par.proofs.worker.own_bodies.Given as goal
 

@@ -1,6 +1,6 @@
 use Rattle.std.proofs.Common.{◌≡◌, ◌≤◌, ◌++◌, drop, length}
 use Rattle.std.specs.Prelude.{vec_len, vec_capacity}
-use Rattle.odb_sessions.specs.Foreseen.{all_parts_again}
+use Rattle.odb_sessions.specs.Filtered.{all_parts_again}
 use Rattle.odb_sessions.specs.Represented.Under.{filters_in}
 use Rattle.odb_sessions.proofs.owed.parts_again.Given as goal
 

@@ -2,8 +2,7 @@ use Rattle.std.proofs.Common.{rules, ◌≡◌, ◌≤◌, ◌++◌, ◌<◌, Li
 use Rattle.odb_monitor.specs.Job.{Part}
 use Rattle.odb_sessions.specs.Composed.{IsKnown, part_since}
 use Rattle.odb_sessions.specs.Held.{Watched}
-use Rattle.odb_sessions.proofs.Composed.{mapped_twice}
-use Rattle.odb_sessions.proofs.Loops.{mapped_more}
+use Rattle.odb_sessions.proofs.Loops.{mapped_twice, mapped_more}
 use Rattle.odb_sessions.proofs.owed.parts_since.Goals as goal
 
 pub part_since-requires : goal.part_since-requires

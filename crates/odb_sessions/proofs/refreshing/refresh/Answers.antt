@@ -7,7 +7,7 @@ use Rattle.odb_sessions.specs.Held.{Sessions}
 use Rattle.odb_sessions.proofs.Carried.{ready_at}
 use Rattle.odb_sessions.proofs.CarriedOut.{seen_after, tied_after}
 use Rattle.odb_sessions.proofs.Refreshed.{refreshed}
-use Rattle.odb_sessions.proofs.Rounds.{no_schema}
+use Rattle.odb_sessions.proofs.AnySchema.{no_schema}
 use Rattle.odb_sessions.proofs.refreshing.refresh.Goals as goal
 
 pub carry_out-requires : goal.carry_out-requires

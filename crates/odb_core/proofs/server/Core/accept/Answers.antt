@@ -2,10 +2,10 @@ use Rattle.std.proofs.Common.{map, subst, sym, ap, ◌∙◌}
 use Rattle.std.specs.Prelude.{flat_map}
 use Rattle.odb_service.specs.Run.{round}
 use Rattle.odb_service.specs.Server.{Server, serve}
-use Rattle.odb_sessions.proofs.Plans.{once_once}
-use Rattle.odb_sessions.specs.Planned.{AreOnce}
+use Rattle.odb_round.proofs.Plans.{once_once}
+use Rattle.odb_round.specs.Planned.{AreOnce}
 use Rattle.odb_sessions.specs.Represented.Out.{sent_in}
-use Rattle.odb_sessions.specs.Taken.{AreReady, given_by, sessions_in}
+use Rattle.odb_round.specs.Taken.{AreReady, given_by, sessions_in}
 use Rattle.odb_core.specs.Represented.Rounds.{book_in}
 use Rattle.odb_core.proofs.CoreInvariant.{valid_taken}
 use Rattle.odb_core.proofs.ServerSteps.{rounds}

@@ -1,7 +1,7 @@
 use Rattle.std.proofs.Common.{rules, ◌≡◌, map, subst, sym, ap, ◌∙◌}
 use Rattle.std.proofs.lemmas.Result.{IfOk-weaker}
-use Rattle.odb_sessions.proofs.Plans.{once_once}
-use Rattle.odb_sessions.specs.Planned.{AreOnce}
+use Rattle.odb_round.proofs.Plans.{once_once}
+use Rattle.odb_round.specs.Planned.{AreOnce}
 use Rattle.odb_sessions.specs.Represented.Out.{sent_in}
 use Rattle.odb_service.specs.Run.{once, round}
 use Rattle.odb_service.specs.Server.{Server, serve}

@@ -13,4 +13,4 @@ returns c =
     let v : Server = record { schema = r.served; world = w; opened = r.opened } in
     let is : v ≡ c.args.self.now = ap (λ i. i.state) c.self-inside.view_is ∙ c.self.view_is in
     let book : r.sessions ≡ book_in c.args.self.now.world = ap (λ (u : Server). book_in u.world) is in
-    subst (λ (b : Book). IsToldOf b c.told.result) book c.told.ensures
+    subst (λ (b : Book). IsToldOf b c.told.result) book c.told.ensures.of

@@ -2,7 +2,7 @@ use Rattle.std.proofs.Common.{rules, ◌≡◌, ◌<◌, true, List, Some, lengt
 use Rattle.std.specs.Bool.{OnTrue}
 use Rattle.odb_sessions.specs.FirstTexts.{AsksSo, FirstText, IsFirstText}
 use Rattle.odb_sessions.specs.Held.{Held}
-use Rattle.odb_sessions.proofs.FirstTexts.{found_first}
+use Rattle.odb_sessions.proofs.KeptTexts.{found_first}
 use Rattle.odb_sessions.proofs.first_texts.FirstTexts.find.Goals as goal
 
 pub returns-then-serves : goal.returns-then-serves

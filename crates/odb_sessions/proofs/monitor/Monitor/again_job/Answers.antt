@@ -4,7 +4,7 @@ use Rattle.odb_chain.specs.Chains.{Chains}
 use Rattle.odb_monitor.specs.Job.{Job}
 use Rattle.odb_request.specs.Represented.Kind.{notation_of}
 use Rattle.odb_sessions.specs.Composed.{IsKnown}
-use Rattle.odb_sessions.specs.Foreseen.{Filters, all_parts_again}
+use Rattle.odb_sessions.specs.Filtered.{Filters, all_parts_again}
 use Rattle.odb_sessions.specs.Held.{Held, Watched, marks_in}
 use Rattle.odb_sessions.specs.Represented.Under.{filters_in}
 use Rattle.odb_sessions.specs.Tied.{AreLive}

@@ -5,7 +5,7 @@ use Rattle.odb_monitor.specs.Job.{Job}
 use Rattle.odb_request.specs.Represented.Kind.{notation_of}
 use Rattle.odb_service.specs.Session.{refilter}
 use Rattle.odb_sessions.specs.Composed.{IsKnown, all_asked_as, asked_of, part_to}
-use Rattle.odb_sessions.specs.Foreseen.{Filters}
+use Rattle.odb_sessions.specs.Filtered.{Filters}
 use Rattle.odb_sessions.specs.Held.{Held, Watched, marks_in}
 use Rattle.odb_sessions.specs.Tied.{AreLive}
 use Rattle.odb_sessions.proofs.Theirs.{as_many, known_under}

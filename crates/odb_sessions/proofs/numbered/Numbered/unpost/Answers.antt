@@ -1,6 +1,5 @@
 use Rattle.std.proofs.Common.{rules, ◌≡◌, [], ◌∷◌, ◌++◌, sym, ap, ◌∙◌}
-use Rattle.odb_sessions.specs.Posts.{at_number, kept_unposted}
-use Rattle.odb_sessions.specs.Posts.{without_newest}
+use Rattle.odb_sessions.specs.Posts.{at_number, kept_unposted, without_newest}
 use Rattle.odb_sessions.proofs.Posts.{kept_unposted-append}
 use Rattle.odb_sessions.proofs.numbered.Numbered.unpost.Goals as goal
 

@@ -3,7 +3,7 @@ use Rattle.std.proofs.lemmas.Option.{same_Some}
 use Rattle.odb_atoms.specs.FinMap as finite
 use Rattle.odb_sessions.specs.Held.{Kept}
 use Rattle.odb_sessions.specs.Watches.{Joins, with_watch}
-use Rattle.odb_sessions.proofs.OneSchema.{if_some_weaker}
+use Rattle.odb_sessions.proofs.Options.{if_some_weaker}
 use Rattle.odb_sessions.proofs.numbered.Numbered.watch_for.Goals as goal
 
 pub returns : goal.returns

@@ -3,7 +3,7 @@ use Rattle.odb_atoms.specs.FinMap as finite
 use Rattle.odb_sessions.specs.Held.{Kept, Sessions}
 use Rattle.odb_sessions.specs.Represented.Keyed.{session_under}
 use Rattle.odb_sessions.proofs.Keyed.{get-at}
-use Rattle.odb_sessions.proofs.OneSchema.{if_some_weaker}
+use Rattle.odb_sessions.proofs.Options.{if_some_weaker}
 use Rattle.odb_sessions.proofs.WatchNumbers.{joins_like}
 use Rattle.odb_sessions.proofs.numbered.Numbered.watch_if_like.Goals as goal
 

@@ -2,7 +2,7 @@ use Rattle.std.proofs.Common.{◌≡◌, length, subst, sym, ap, ◌∙◌}
 use Rattle.odb_chain.specs.Chains.{Chains}
 use Rattle.odb_sessions.specs.FirstTexts.{AreFirstTexts}
 use Rattle.odb_sessions.specs.Tied.{HasRoom}
-use Rattle.odb_sessions.proofs.FirstTexts.{no_firsts}
+use Rattle.odb_sessions.proofs.KeptTexts.{no_firsts}
 use Rattle.odb_sessions.proofs.Room.{room_absorbed}
 use Rattle.odb_sessions.proofs.Ties.{either}
 use Rattle.odb_sessions.proofs.past.Past.absorb.Goals as goal

@@ -3,7 +3,7 @@ use Rattle.odb_chain.specs.Chains.{Chains, IsNow}
 use Rattle.odb_service.specs.Session.{brought}
 use Rattle.odb_sessions.specs.Held.{marks_in, monitor_of, watch_of}
 use Rattle.odb_sessions.specs.Tied.{HasAll, counted_in}
-use Rattle.odb_sessions.proofs.FirstTexts.{same_firsts}
+use Rattle.odb_sessions.proofs.KeptTexts.{same_firsts}
 use Rattle.odb_sessions.proofs.Room.{room_moved}
 use Rattle.odb_sessions.proofs.past.Past.bring.Goals as goal
 

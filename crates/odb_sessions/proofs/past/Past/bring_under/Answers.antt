@@ -4,7 +4,7 @@ use Rattle.odb_service.specs.Session.{brought, refilter}
 use Rattle.odb_sessions.specs.Held.{marks_in, monitor_of, watch_of}
 use Rattle.odb_sessions.specs.Represented.Queued.{filters_of}
 use Rattle.odb_sessions.specs.Tied.{HasAll, counted_in}
-use Rattle.odb_sessions.proofs.FirstTexts.{same_firsts}
+use Rattle.odb_sessions.proofs.KeptTexts.{same_firsts}
 use Rattle.odb_sessions.proofs.Room.{room_moved}
 use Rattle.odb_sessions.proofs.past.Past.bring_under.Goals as goal
 

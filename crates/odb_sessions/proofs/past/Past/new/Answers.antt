@@ -1,7 +1,7 @@
 use Rattle.std.proofs.Common.{rules, ◌≡◌, sym, subst}
 use Rattle.odb_chain.specs.Chains.{Chains, chains_of}
 use Rattle.odb_sessions.specs.FirstTexts.{AreFirstTexts}
-use Rattle.odb_sessions.proofs.FirstTexts.{no_firsts}
+use Rattle.odb_sessions.proofs.KeptTexts.{no_firsts}
 use Rattle.odb_sessions.proofs.Room.{room_none}
 use Rattle.odb_sessions.proofs.past.Past.new.Goals as goal
 

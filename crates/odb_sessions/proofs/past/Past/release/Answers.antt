@@ -1,6 +1,6 @@
 use Rattle.std.proofs.Common.{ap, subst, sym}
 use Rattle.odb_chain.specs.Chains.{Chains, IsLive}
-use Rattle.odb_sessions.proofs.FirstTexts.{same_firsts}
+use Rattle.odb_sessions.proofs.KeptTexts.{same_firsts}
 use Rattle.odb_sessions.proofs.Room.{room_released}
 use Rattle.odb_sessions.proofs.past.Past.release.Goals as goal
 

@@ -3,7 +3,7 @@ use Rattle.odb_chain.specs.Chains.{Chains, IsNow}
 use Rattle.odb_sessions.specs.Held.{table_marks}
 use Rattle.odb_sessions.specs.Started.{AreOfTables}
 use Rattle.odb_sessions.specs.Tied.{HasRoom, counted_in}
-use Rattle.odb_sessions.proofs.FirstTexts.{same_firsts}
+use Rattle.odb_sessions.proofs.KeptTexts.{same_firsts}
 use Rattle.odb_sessions.proofs.Room.{room_more}
 use Rattle.odb_sessions.proofs.past.Past.watch.Goals as goal
 

@@ -8,7 +8,7 @@ use Rattle.odb_sessions.proofs.Used.{monitors_carried, monitors_ready}
 use Rattle.odb_sessions.proofs.session.Session.bring.Goals as goal
 use Rattle.odb_sessions.specs.Watches.{asking_in, asking_of}
 use Rattle.odb_sessions.proofs.WatchNumbers.{brought_asks}
-use Rattle.odb_sessions.proofs.Rounds.{no_schema}
+use Rattle.odb_sessions.proofs.AnySchema.{no_schema}
 
 pub bring_first-requires : goal.bring_first-requires
 bring_first-requires c = monitors_ready c.args.past.now c.self.inside.queue c.self.inside.monitors.items (subst (λ (x : Kept). IsReady c.args.past.now (marks_of x)) (sym c.self.view_is) c.requires)

@@ -11,7 +11,7 @@ use Rattle.odb_sessions.proofs.Used.{item_carried, item_ready}
 use Rattle.odb_sessions.proofs.session.Session.use_one.Goals as goal
 use Rattle.odb_sessions.specs.Watches.{asking_in, asking_of, watch_after}
 use Rattle.odb_sessions.proofs.WatchNumbers.{keeps_so, leaves_asks}
-use Rattle.odb_sessions.proofs.Rounds.{no_schema}
+use Rattle.odb_sessions.proofs.AnySchema.{no_schema}
 
 pub carry_out-requires-clause-ready : goal.carry_out-requires-clause-ready
 carry_out-requires-clause-ready c =

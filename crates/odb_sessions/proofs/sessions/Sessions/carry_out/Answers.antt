@@ -6,13 +6,12 @@ use Rattle.odb_service.specs.Session.{Out, Session}
 use Rattle.odb_recent.specs.Recent.{recent_of}
 use Rattle.odb_sessions.specs.Book.{Book, book_with, revision_in}
 use Rattle.odb_sessions.specs.Held.{all_seen}
-use Rattle.odb_sessions.specs.Carried.{last_finished, used_by}
+use Rattle.odb_sessions.specs.Carried.{last_finished, used_by, UsesUp}
 use Rattle.odb_sessions.specs.Owed.{book_seen}
 use Rattle.odb_sessions.specs.Posts.{at_number}
-use Rattle.odb_sessions.specs.Taken.{UsesUp}
 use Rattle.odb_sessions.proofs.Carried.{ready_at}
 use Rattle.odb_sessions.proofs.OwedSessions.{together, used_rest}
-use Rattle.odb_sessions.proofs.Rounds.{no_schema}
+use Rattle.odb_sessions.proofs.AnySchema.{no_schema}
 use Rattle.odb_sessions.proofs.CarriedOut.{seen_after, text_seen, tied_after}
 use Rattle.odb_sessions.proofs.sessions.Sessions.carry_out.Goals as goal
 

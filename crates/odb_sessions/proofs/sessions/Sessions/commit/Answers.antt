@@ -1,5 +1,5 @@
 use Rattle.std.proofs.Common.{◌≡◌, ap, subst, sym, ◌∙◌}
-use Rattle.odb_sessions.proofs.Rounds.{no_schema}
+use Rattle.odb_sessions.proofs.AnySchema.{no_schema}
 use Rattle.odb_sessions.specs.Book.{Book}
 use Rattle.odb_sessions.specs.Posts.{unposted}
 use Rattle.odb_tables.specs.Installing.{IsChangeOf}

@@ -7,7 +7,7 @@ use Rattle.odb_sessions.specs.Represented.Ended.{ending_of}
 use Rattle.odb_sessions.specs.declared.ended.Ended.{Ended}
 use Rattle.odb_tables.specs.Installing.{IsChangeOf}
 use Rattle.odb_sessions.proofs.InTurn.{are_in_turn, ended_apart, left_in_turn}
-use Rattle.odb_sessions.proofs.Rounds.{no_schema}
+use Rattle.odb_sessions.proofs.AnySchema.{no_schema}
 use Rattle.odb_sessions.proofs.sessions.Sessions.end_all.Goals as goal
 
 pub install_after-requires : goal.install_after-requires

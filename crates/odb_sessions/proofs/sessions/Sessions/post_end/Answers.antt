@@ -15,7 +15,7 @@ use Rattle.odb_service.specs.Session.{Session}
 use Rattle.odb_sessions.specs.Owed.{HangTogether, book_seen}
 use Rattle.odb_sessions.specs.Tied.{IsTied}
 use Rattle.odb_sessions.proofs.OwedSessions.{grown_rest, posted_rest, together}
-use Rattle.odb_sessions.proofs.Rounds.{no_schema}
+use Rattle.odb_sessions.proofs.AnySchema.{no_schema}
 use Rattle.odb_sessions.proofs.Endings.{ending_seen, ending_tied}
 use Rattle.odb_sessions.proofs.Posts.{at_shut}
 use Rattle.odb_sessions.proofs.Seen.{either_posted, unposts_seen}

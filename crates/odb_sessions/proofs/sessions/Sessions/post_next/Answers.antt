@@ -3,7 +3,7 @@ use Rattle.odb_sessions.specs.Book.{Book}
 use Rattle.odb_sessions.specs.Committed.{end_posted, without_posts}
 use Rattle.odb_sessions.specs.Represented.Ended.{ending_of}
 use Rattle.odb_sessions.proofs.Books.{back-++, given_back}
-use Rattle.odb_sessions.proofs.Rounds.{no_schema}
+use Rattle.odb_sessions.proofs.AnySchema.{no_schema}
 use Rattle.odb_sessions.proofs.sessions.Sessions.post_next.Goals as goal
 
 pub returns-in-Ok-clause-back : goal.returns-in-Ok-clause-back

@@ -1,0 +1,20 @@
+mod Aheads
+mod Composed
+mod Decisions
+mod FirstTexts
+mod Known
+mod Leading
+mod Likenesses
+mod NamedCommits
+mod OneSchema
+mod Pendings
+mod Places
+mod PlannedTexts
+pub mod Plans
+mod Quiet
+mod Rests
+mod Rounds
+mod Served
+mod SharedPlaces
+mod Updates
+mod Ways

@@ -1,0 +1,12 @@
+use Rattle.std.proofs.Common.{rules, ◌≡◌, Some, ap, ◌∙◌}
+use Rattle.odb_sessions.specs.Composed.{composition}
+use Rattle.odb_sessions.specs.Represented.Composed.{bytes_of}
+use Rattle.odb_sessions.specs.Represented.Job.{job_in}
+use Rattle.odb_round.proofs.FirstTexts.{kept_in}
+use Rattle.odb_round.proofs.job.RoundJob.compose.Goals as goal
+
+pub returns-in-Some : goal.returns-in-Some
+returns-in-Some c =
+    let there : c.self.inside.text ≡ Some c.in-Some.text = search rules in
+    let kept : Some (bytes_of c.in-Some.text.now) ≡ composition (job_in c.self.inside.chains.now.db c.self.inside.monitor.now c.self.inside.way) = kept_in c.self.inside.text c.in-Some.text _ there c.self.invariant.2 in
+    (λ i. Some (c.in_ok-clone.ensures.cases i).items) ∙ kept ∙ ap composition c.self.view_is

@@ -1,0 +1,34 @@
+use Rattle.std.proofs.Common.{map, option_map, ap, ◌∙◌, ◌≡◌, subst, sym}
+use Rattle.std.proofs.lemmas.Result.{IfOk-weaker}
+use Rattle.odb_monitor.specs.Job.{Job, updates_of}
+use Rattle.odb_service.specs.Session.{refilter}
+use Rattle.odb_sessions.specs.Composed.{all_asked_as, asked_of, later_job, part_to}
+use Rattle.odb_round.specs.Jobs.{certainly}
+use Rattle.odb_sessions.specs.Held.{Held}
+use Rattle.odb_sessions.specs.Represented.Under.{filters_in}
+use Rattle.odb_round.specs.Sending.{notifying, sent_with}
+use Rattle.odb_round.proofs.Updates.{sent_under}
+use Rattle.odb_round.proofs.planning.update_under.Goals as goal
+use Rattle.odb_round.specs.Represented.Served.{IsServed}
+use Rattle.odb_sessions.specs.Book.{revision_at}
+
+pub returns-clause-text : goal.returns-clause-text
+returns-clause-text c =
+    let db = c.args.wanted.now.chains.db in
+    let revision = revision_at c.args.wanted.now.chains c.args.wanted.now.recent in
+    let x : Held = c.args.monitor.now in
+    let fs = filters_in c.args.under in
+    let job : Job = later_job x.notation (map (part_to db) (all_asked_as x.tables (refilter fs (asked_of x.tables)))) in
+    IfOk-weaker c.notification.result _ _
+    (λ message told. λ h all kept. told all job (c.in_ok-place.ensures.place all kept)
+    ∙ ap (option_map certainly) (ap (λ v. option_map (sent_with (notifying v x job)) (updates_of job)) c.number-number.ensures ∙ sent_under h revision fs x))
+    c.notification.ensures.text
+
+pub returns-clause-jobs : goal.returns-clause-jobs
+returns-clause-jobs c = c.want.ensures.jobs
+
+pub returns-clause-marks : goal.returns-clause-marks
+returns-clause-marks c =
+    IfOk-weaker c.notification.result _ _
+    (λ message same. subst (IsServed c.args.wanted.now.likenesses c.want.new.self.likenesses (λ h. h ≡ c.args.monitor.now)) (sym same) c.in_ok-place.ensures.marks)
+    c.notification.ensures.place

@@ -1,0 +1,10 @@
+pub mod Alike
+pub mod ByMarks
+pub mod Foreseen
+pub mod Jobs
+pub mod Known
+pub mod OfSchema
+pub mod Planned
+pub mod Represented
+pub mod Sending
+pub mod Taken

@@ -1,0 +1,5 @@
+pub mod Codes
+pub mod Decided
+pub mod Sending
+pub mod Served
+pub mod Taking

@@ -1,9 +1,0 @@
-use Rattle.std.proofs.Common.{rules, ◌≡◌, map, ap, ◌∙◌}
-use Rattle.std.proofs.lemmas.Result.{IfOk-weaker}
-use Rattle.odb_sessions.specs.Jobs.{Round, composition}
-use Rattle.odb_sessions.proofs.jobs.Jobs.compose.Goals as goal
-
-pub returns : goal.returns
-returns c =
-    let slice : c.as_slice.result.now ≡ c.self.inside.jobs.items = search rules in
-    IfOk-weaker c.compose_all.result _ _ (λ bodies e. e ∙ ap (map composition) slice ∙ ap (λ (r : Round). map composition r.jobs) c.self.view_is) c.compose_all.ensures
