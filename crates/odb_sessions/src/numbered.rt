@@ -22,9 +22,10 @@ use crate::watch::Watch;
 use odb_chain::Mark;
 use odb_locks::SessionId;
 use odb_queue::{Finished, Post};
+use odb_request::Request;
 use slab::Slab;
 use std::alloc::{AllocError, AllocFailed, Global};
-use std::collections::BTreeMap;
+use std::collections::{BTreeMap, VecDeque};
 use std::marker::Model;
 
 /// The open sessions by their numbers.
@@ -248,9 +249,10 @@ impl Numbered {
     }
 
     /// Gives what a session's monitors ask a number, where it is open and they have none: that of a session whose monitors
-    /// ask the same, or else one that no session has. O(n) for n sessions, O(n) for n tables and the members of
-    /// their filters, and a comparison of what is asked for each session of which the digest is the same.
-    pub(crate) fn recognise(&mut self, session: SessionId)
+    /// ask the same, with which it is kept once from then on, or else one that no session has. O(n) for n sessions, O(n) for
+    /// n tables and the members of their filters, and a comparison of what is asked for each session of which the digest is
+    /// the same.
+    pub(crate) fn recognise(&mut self, alloc: Global, session: SessionId)
         requires { AreAlike self.old }
         ensures seen { all_seen self.new ≡ all_seen self.old }
         ensures tied { (k : Chains) → IsTied k self.old → IsTied k self.new }
@@ -258,7 +260,34 @@ impl Numbered {
         let Some(watch) = self.watch_for(session) else {
             return;
         };
+        self.share(alloc, session, watch.number);
         self.set_watch(session, watch);
+    }
+
+    /// Has what a session's monitors ask kept once with another whose monitors have this number and ask the same, if there is
+    /// one, and memory for it.
+    fn share(&mut self, alloc: Global, session: SessionId, number: u64)
+        ensures { self.new ≡ self.old }
+    {
+        let Ok(mut requests) = self.requests(alloc, number) else {
+            return;
+        };
+        let Some(of) = self.get_mut(session) else {
+            return;
+        };
+        of.share(&mut requests);
+    }
+
+    /// Returns what the monitors of the first session with this number ask; nothing where none has it. No contract speaks of it.
+    fn requests(&self, alloc: Global, number: u64) -> Result<VecDeque<Request>, AllocError> {
+        for (_, key) in self.keys.iter() {
+            if let Some(session) = self.sessions.get(*key) {
+                if session.watch_number() == number {
+                    return session.requests(alloc);
+                }
+            }
+        }
+        Ok(VecDeque::new(alloc))
     }
 
     /// Gives what a session's monitors ask this number, if it is open.

@@ -29,7 +29,7 @@ impl Sessions {
     }
 
     /// Forgets that a session may be owed something, where it rests, and there is memory for what it asks in the
-    /// index. What `interest::cover` costs.
+    /// index. What `Numbered::recognise` and `interest::cover` cost.
     pub fn forget_if_resting(&mut self, session: SessionId)
         ensures { self.new ≡ self.old }
     {
@@ -39,10 +39,22 @@ impl Sessions {
         if !self.rests(session) {
             return;
         }
+        self.sessions.recognise(self.alloc, session);
+        self.forget_covered(session);
+    }
+
+    /// Forgets that a session may be owed something, once the index has what it asks, if there is memory for that. What
+    /// `interest::cover` costs.
+    fn forget_covered(&mut self, session: SessionId)
+        requires { IsQuietAt self.old session }
+        ensures { self.new ≡ self.old }
+    {
+        if !self.owed.contains(&session) {
+            return;
+        }
         if cover(&mut self.interest, session, self.sessions.get(session)).is_err() {
             return;
         }
-        self.sessions.recognise(session);
         self.owed.remove(&session);
     }
 }

@@ -1,5 +1,5 @@
 //! What sessions ask, under numbers: those that have one number ask the same. [P 9.1, 10.1]
-ghost use Rattle.std.specs.Prelude.{◌≡◌, IfSome, Some, map};
+ghost use Rattle.std.specs.Prelude.{◌≡◌, IfSome, Some, map, vec_capacity, vec_len};
 ghost use Rattle.std.specs.Bool.{OnTrue};
 ghost use Rattle.odb_sessions.specs.Composed.{asked_of};
 ghost use Rattle.odb_sessions.specs.Held.{monitor_of};
@@ -8,6 +8,9 @@ ghost use Rattle.odb_sessions.specs.Watches.{asking_in, asking_of};
 use crate::digest::feed_filter;
 use crate::monitor::{Monitor, Watching};
 use crate::session::Session;
+use odb_request::Request;
+use std::alloc::{AllocError, Global};
+use std::collections::VecDeque;
 use std::hash::{DefaultHasher, Hash, Hasher};
 
 /// The number of what a session's monitors ask, and its digest: what is the same has the same, other seldom has.
@@ -58,6 +61,26 @@ impl Session {
         }
     }
 
+    /// Returns what its monitors ask, table by table, each kept once with this session. O(n) for n tables. No contract speaks of
+    /// it.
+    pub(crate) fn requests(&self, alloc: Global) -> Result<VecDeque<Request>, AllocError> {
+        let mut requests = VecDeque::new(alloc);
+        for monitor in &self.monitors {
+            for table in &monitor.tables {
+                requests.push_back(table.request.try_copy()?)?;
+            }
+        }
+        Ok(requests)
+    }
+
+    /// Has each of these in the place of what its monitors ask of a table, one by one, where that is the same: so it is kept
+    /// once. O(n) for n tables, and a comparison of what is asked.
+    pub(crate) fn share(&mut self, requests: &mut VecDeque<Request>)
+        ensures { self.new ≡ self.old }
+    {
+        share_each(&mut self.monitors, requests);
+    }
+
     /// Returns the digest of what its monitors ask. O(n) for n tables, and the members and atoms of their filters, with their
     /// bytes. No contract speaks of it.
     pub(crate) fn digest(&self) -> u64 {
@@ -66,6 +89,39 @@ impl Session {
             feed_asked(&mut state, monitor.tables.as_slice());
         }
         state.finish()
+    }
+}
+
+/// Has each of these in the place of what the monitors ask of a table, where that is the same.
+fn share_each(monitors: &mut Vec<Monitor>, requests: &mut VecDeque<Request>)
+    ensures monitors { monitors.new.items ≡ monitors.old.items }
+    ensures few { vec_len monitors.new ≡ vec_len monitors.old }
+    ensures capacity { vec_capacity monitors.new ≡ vec_capacity monitors.old }
+{
+    for place in 0..monitors.len() {
+        monitors[place].share(requests);
+    }
+}
+
+/// Has each of these in the place of what is asked of a table, where that is the same.
+fn share_all(tables: &mut Vec<Watching>, requests: &mut VecDeque<Request>)
+    ensures { tables.new.items ≡ tables.old.items }
+{
+    for place in 0..tables.len() {
+        if let Some(request) = requests.pop_front() {
+            tables[place].share(request);
+        }
+    }
+}
+
+impl Watching {
+    /// Has this in the place of what is asked of it, where that is the same.
+    fn share(&mut self, request: Request)
+        ensures { self.new ≡ self.old }
+    {
+        if self.asks(&request) {
+            self.request = request;
+        }
     }
 }
 
@@ -93,6 +149,13 @@ fn ask_the_same(monitors: &[Monitor], others: &[Monitor]) -> bool
 }
 
 impl Monitor {
+    /// Has each of these in the place of what it asks of a table, where that is the same.
+    fn share(&mut self, requests: &mut VecDeque<Request>)
+        ensures { self.new ≡ self.old }
+    {
+        share_all(&mut self.tables, requests);
+    }
+
     /// Returns whether it asks what the other one does. `false` says nothing.
     fn asks_as(&self, other: &Monitor) -> bool
         ensures { OnTrue result (asking_of (monitor_of self.now) ≡ asking_of (monitor_of other.now)) }
