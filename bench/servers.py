@@ -25,7 +25,7 @@ from typing import Any, Union
 import figures  # which finds tests/
 import daemon
 from daemon import SERVER, TOOL
-from places import PROGRAM
+from places import PROGRAM, service_environment
 
 SCHEMA: dict[str, Any] = {"name": "bench", "version": "1.0.0", "tables": {"T": {"columns": {"k": {"type": "integer"}, "v": {"type": "integer"}}, "isRoot": True}}}
 WINDOW = 32
@@ -42,8 +42,11 @@ def schema_in(folder: str) -> str:
 
 
 class Ours(daemon.Daemon):
+    """The program, in the environment that the Debian package's service and `./ovsdbd` give it."""
+
     def __init__(self, folder: str, command: Sequence[str], words: Sequence[str] = ()) -> None:
-        super().__init__(command, schema_in(folder), words=words)
+        variables = (f"{name}={value}" for name, value in service_environment().items())
+        super().__init__(["env", *variables, *command], schema_in(folder), words=words)
 
 
 class Theirs(daemon.OvsdbServer):
