@@ -18,9 +18,9 @@ GENERATED = ("declared", "contracts")  # what the toolchain makes of code, below
 
 
 def service_environment() -> dict[str, str]:
-    """The variables by which the Debian package's service sets how memory is taken and goes back to the system (mallopt(3))."""
+    """The variables by which the Debian package's service has freed memory go back to the system (mallopt(3))."""
     with open(os.path.join(ROOT, "packaging", "ovsdbd@.service"), encoding="utf-8") as file:
-        return dict(re.findall(r"((?:MALLOC|GLIBC)_\w+)=([\w.:=]+)", file.read()))
+        return dict(re.findall(r"(MALLOC_\w+)=(\d+)", file.read()))
 
 
 def build() -> None:
