@@ -1,6 +1,6 @@
 //! What sets and maps have in common: entries in the order of their keys, searched and merged.
 
-ghost use Rattle.std.specs.Prelude.{◌≡◌, ◌<◌, ◌≤◌, Bool, not, length, map, take, ◌++◌, option_map, Option, Some, None};
+ghost use Rattle.std.specs.Prelude.{◌≡◌, ◌<◌, ◌≤◌, ◌∷◌, [], Bool, not, length, map, take, ◌++◌, option_map, Option, Some, None};
 ghost use Rattle.std.specs.Prelude.{IfOk, OnOk, IsTrue, IsPermutation};
 ghost use Rattle.std.specs.FinMap.Entries.{is_sorted};
 ghost use Rattle.std.specs.List.{list_all};
@@ -34,9 +34,10 @@ pub trait Entry: Drop {
     fn try_copy(&self, alloc: Global) -> Result<Self, AllocError>
         ensures { IfOk result (λ copy. entry copy ≡ entry self.now) };
 
-    /// Makes an equal entry, whose texts are shared with copies of it.
-    fn shared_copy(&self, alloc: Global) -> Result<Self, AllocError>
-        ensures { IfOk result (λ copy. entry copy ≡ entry self.now) };
+    /// Appends an equal entry, whose texts are shared with copies of it where that is wanted.
+    fn copy_to(&self, alloc: Global, shares: bool, copies: &mut Vec<Self>) -> Result<(), AllocError>
+        ensures { OnOk result
+            (map entry copies.new.items ≡ map entry copies.old.items ++ entry self.now ∷ []) };
 }
 
 impl Entry for Atom {
@@ -56,9 +57,25 @@ impl Entry for Atom {
         Atom::try_copy(self, alloc)
     }
 
+    // An identifier is written where it will lie, and not into a result first.
     #[inline(always)]
-    fn shared_copy(&self, alloc: Global) -> Result<Atom, AllocError> {
-        Atom::shared_copy(self, alloc)
+    fn copy_to(
+        &self,
+        alloc: Global,
+        shares: bool,
+        copies: &mut Vec<Atom>,
+    ) -> Result<(), AllocError> {
+        if let Atom::Uuid(uuid) = self {
+            copies.push(Atom::Uuid(*uuid))?;
+            return Ok(());
+        }
+        let copy = if shares {
+            Atom::shared_copy(self, alloc)?
+        } else {
+            Atom::try_copy(self, alloc)?
+        };
+        copies.push(copy)?;
+        Ok(())
     }
 }
 
@@ -80,8 +97,19 @@ impl Entry for (Atom, Atom) {
     }
 
     #[inline(always)]
-    fn shared_copy(&self, alloc: Global) -> Result<(Atom, Atom), AllocError> {
-        Ok((self.0.shared_copy(alloc)?, self.1.shared_copy(alloc)?))
+    fn copy_to(
+        &self,
+        alloc: Global,
+        shares: bool,
+        copies: &mut Vec<(Atom, Atom)>,
+    ) -> Result<(), AllocError> {
+        let copy = if shares {
+            (self.0.shared_copy(alloc)?, self.1.shared_copy(alloc)?)
+        } else {
+            (self.0.try_copy(alloc)?, self.1.try_copy(alloc)?)
+        };
+        copies.push(copy)?;
+        Ok(())
     }
 }
 
@@ -318,19 +346,7 @@ fn append_copies<E: Entry>(
     copies.reserve(entries.len())?;
     let shares = entries.len() >= SHARED;
     for entry in entries {
-        copies.push_reserved(copy_of(alloc, entry, shares)?);
+        entry.copy_to(alloc, shares, copies)?;
     }
     Ok(())
-}
-
-/// Makes an equal entry, whose texts are shared with copies of it where that is wanted.
-#[inline(always)]
-fn copy_of<E: Entry>(alloc: Global, entry: &E, shares: bool) -> Result<E, AllocError>
-    ensures { IfOk result (λ copy. E.entry copy ≡ E.entry entry.now) }
-{
-    if shares {
-        entry.shared_copy(alloc)
-    } else {
-        entry.try_copy(alloc)
-    }
 }

@@ -1,7 +1,6 @@
-use Rattle.std.proofs.Common.{◌≡◌, ◌+◌, ◌≤◌, map, ◌++◌, length, take, vec_len, vec_capacity}
+use Rattle.std.proofs.Common.{◌≡◌, map, ◌++◌, take}
 use Rattle.odb_atoms.proofs.entry.append_copies.Given as goal
 
 abbrev pub invariant-loop-entry : goal.invariant-loop-entry
 invariant-loop-entry g l =
-    (map g.E.Entry.entry l.copies.items ≡ map g.E.Entry.entry l.fn.copies.items ++ map g.E.Entry.entry (take l.entry-index l.entries))
-    × (vec_len l.copies + length l.entries ≤ vec_capacity l.copies + l.entry-index)
+    map g.E.Entry.entry l.copies.items ≡ map g.E.Entry.entry l.fn.copies.items ++ map g.E.Entry.entry (take l.entry-index l.entries)
