@@ -5,13 +5,12 @@ ghost use Rattle.odb_sessions.specs.Composed.{asked_of};
 ghost use Rattle.odb_sessions.specs.Held.{monitor_of};
 ghost use Rattle.odb_sessions.specs.Watches.{asking_in, asking_of};
 
-use crate::digest::feed_filter;
+use crate::digest::{mixed, with_filter};
 use crate::monitor::{Monitor, Watching};
 use crate::session::Session;
 use odb_request::Request;
 use std::alloc::{AllocError, Global};
 use std::collections::VecDeque;
-use std::hash::{DefaultHasher, Hash, Hasher};
 
 /// The number of what a session's monitors ask, and its digest: what is the same has the same, other seldom has.
 #[derive(Clone, Copy)]
@@ -81,14 +80,14 @@ impl Session {
         share_each(&mut self.monitors, requests);
     }
 
-    /// Returns the digest of what its monitors ask. O(n) for n tables, and the members and atoms of their filters, with their
-    /// bytes. No contract speaks of it.
+    /// Returns the digest of what its monitors ask. O(n) for n tables, and the atoms in the last member of each of their filters,
+    /// with their bytes. No contract speaks of it.
     pub(crate) fn digest(&self) -> u64 {
-        let mut state = DefaultHasher::new();
+        let mut sum = 0;
         for monitor in &self.monitors {
-            feed_asked(&mut state, monitor.tables.as_slice());
+            sum = with_asked(sum, monitor.tables.as_slice());
         }
-        state.finish()
+        sum
     }
 }
 
@@ -125,12 +124,13 @@ impl Watching {
     }
 }
 
-/// Feeds what is asked of these tables.
-fn feed_asked(state: &mut DefaultHasher, tables: &[Watching]) {
+/// Returns the number with what is asked of these tables.
+fn with_asked(sum: u64, tables: &[Watching]) -> u64 {
+    let mut sum = sum;
     for table in tables {
-        table.request.table().place().hash(state);
-        feed_filter(state, table.request.filter());
+        sum = with_filter(mixed(sum, table.request.table().place() as u64), table.request.filter());
     }
+    sum
 }
 
 /// Returns whether these monitors ask what the others do, one by one. `false` says nothing.
