@@ -316,7 +316,7 @@ impl<'a, L: Ledger, M: Ledger> Connection<'a, L, M> {
     /// Returns what comes next, after so much was written. Steps: `checks` where a request waits since it met Busy; those of
     /// `end`.
     fn next<R: Wait + Clock>(&mut self, tools: &Tools<'a, L, M, R>, written: Written) -> Next {
-        if self.has_read_all() || self.is_left_at_busy() {
+        if self.has_read_all() || self.is_left_at_busy(tools) {
             return self.end(tools, written);
         }
         if written == Written::Some || self.has_requests() && self.may_submit() {
@@ -332,8 +332,8 @@ impl<'a, L: Ledger, M: Ledger> Connection<'a, L, M> {
 
     /// Returns whether the peer ended its side while a request waits that met Busy, and nothing was given to the session
     /// since: then it is owed replies to transactions that wait, and to nothing else.
-    fn is_left_at_busy(&self) -> bool {
-        self.is_closed && self.is_busy && !self.outbox.bell().is_called()
+    fn is_left_at_busy<R>(&self, tools: &Tools<'a, L, M, R>) -> bool {
+        self.is_closed && self.is_busy && !tools.calls.is_called(tools.place)
     }
 
     /// Returns what comes next of a connection of which nothing more is submitted: what the session is given is written,

@@ -10,7 +10,7 @@ use crate::pace::Pace;
 use crate::second::Second;
 use crate::serve::Terms;
 use odb_core::{Core, EventRefusal, MAX_SESSIONS, SessionId};
-use odb_hub::{BatchOutcome, Counted, Hub, Inbox, Seat};
+use odb_hub::{BatchOutcome, Hub, HubState, Inbox, Seat};
 use odb_par::{Open, Workers};
 use odb_waking::PumpPlace;
 use std::alloc::{AllocError, Global};
@@ -251,7 +251,7 @@ impl<L: Ledger> Daemon<L> {
     pub(crate) fn submit_under<R: Threads + Clock + Sync>(
         &self,
         rt: &R,
-        hub: &mut Counted<L>,
+        hub: &mut HubState<L>,
         seat: &mut Seat<L>,
         inbox: &mut Inbox,
         most: usize,
