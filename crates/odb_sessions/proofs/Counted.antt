@@ -138,6 +138,3 @@ room_kept k new m has is =
     let up : counted_in k1.live ≡ counted_in k.live + 1 = one_counted k t low in
     let down : counted_in (released t m.place k1).live + 1 ≡ counted_in k1.live = one_released k1 t m.place low1 (omega (arith, some, there, more)) in
     subst (λ (c : Chains). KeepsRoom k c) (sym is) (length-set k1.live t _ ∙ same, omega (arith, up, down))
-
-pub room_on : (a b c : Chains) → KeepsRoom a b → KeepsRoom b c → KeepsRoom a c
-room_on a b c f g = (g.0 ∙ f.0, g.1 ∙ f.1)

@@ -60,7 +60,7 @@ fn begin(monitors: &mut Vec<Monitor>, monitor: Monitor, past: &mut Past)
     ensures capacity { vec_capacity monitors.new ≡ vec_capacity monitors.old }
 {
     let mut monitor = monitor;
-    past.bring(&mut monitor);
+    monitor.bring(past);
     monitors.push_reserved(monitor);
 }
 
@@ -75,7 +75,7 @@ fn sync(monitors: &mut Vec<Monitor>, id: &Id, past: &mut Past)
     let Some(place) = place_of(monitors.as_slice(), id) else {
         return;
     };
-    past.bring(&mut monitors[place]);
+    monitors[place].bring(past);
 }
 
 /// Does the same under new filters.
@@ -90,7 +90,7 @@ fn shift_to(monitors: &mut Vec<Monitor>, shift: Shift, past: &mut Past)
     let Some(place) = place_of(monitors.as_slice(), &id) else {
         return;
     };
-    past.bring_under(&mut monitors[place], changes);
+    monitors[place].bring_under(changes, past);
 }
 
 /// Gives the first monitor with the old id the new one, and the new filters. It returns the reply.
@@ -169,6 +169,6 @@ pub(crate) fn bring_first(monitors: &mut Vec<Monitor>, count: usize, past: &mut 
 {
     let all = count.min(monitors.len());
     for place in 0..all {
-        past.bring(&mut monitors[place]);
+        monitors[place].bring(past);
     }
 }

@@ -1,5 +1,5 @@
 //! Monitors: what is asked, and what the client was told. [P 9.1, 9.2]
-ghost use Rattle.std.specs.Prelude.{IfOk, OnErr, OnOk, [], bytes_eq, length, map, option_map, ◌++◌, ◌+◌, ◌-◌, ◌<◌, ◌^◌, ◌∷◌, ◌≡◌};
+ghost use Rattle.std.specs.Prelude.{IfOk, OnErr, OnOk, [], bytes_eq, length, map, option_map, ◌++◌, ◌+◌, ◌<◌, ◌^◌, ◌∷◌, ◌≡◌};
 ghost use Rattle.std.specs.Arc.{arc_value};
 ghost use Rattle.std.specs.List.{list_any};
 ghost use Rattle.odb_chain.specs.Chains.{IsNow};
@@ -8,7 +8,7 @@ ghost use Rattle.odb_sessions.specs.Asked.{is_same};
 ghost use Rattle.odb_sessions.specs.Composed.{AreTheirs};
 ghost use Rattle.odb_sessions.specs.Held.{marks_in, monitor_of, table_marks, watch_of};
 ghost use Rattle.odb_sessions.specs.Started.{AreOfTables};
-ghost use Rattle.odb_sessions.specs.Tied.{Adds, Frees, Gives, HasAll, KeepsRoom, counted_in};
+ghost use Rattle.odb_sessions.specs.Tied.{Adds, Frees, Gives, HasAll, counted_in};
 ghost use Rattle.std.specs.Bool.{OnTrue};
 ghost use Rattle.odb_service.specs.Service.{Service};
 ghost use Rattle.odb_service.specs.Session.{brought, changed, refilter};
@@ -184,29 +184,25 @@ impl Monitor {
     }
 
     /// Brings its client to what its tables are now.
-    pub(crate) fn bring(&mut self, chains: &mut Chains)
-        requires has { HasAll chains.old (marks_in self.old) }
-        requires few { counted_in chains.old.live < 2 ^ 64 - 1 }
-        requires now { IsNow chains.old }
-        ensures monitor { (h : Service) → monitor_of self.new ≡ brought h chains.old.db (watch_of self.old).requests (monitor_of self.old) }
-        ensures marks { marks_in self.new ≡ all_now chains.old (marks_in self.old) }
-        ensures moved { Moves chains.old chains.new (marks_in self.old) }
-        ensures room { KeepsRoom chains.old chains.new }
+    pub(crate) fn bring(&mut self, past: &mut Past)
+        requires has { HasAll past.old (marks_in self.old) }
+        requires now { IsNow past.old }
+        ensures monitor { (h : Service) → monitor_of self.new ≡ brought h past.old.db (watch_of self.old).requests (monitor_of self.old) }
+        ensures marks { marks_in self.new ≡ all_now past.old (marks_in self.old) }
+        ensures moved { Moves past.old past.new (marks_in self.old) }
     {
-        bring_all(&mut self.tables, chains);
+        bring_all(&mut self.tables, past);
     }
 
     /// Brings its client to what its tables are now, under these filters.
-    pub(crate) fn bring_under(&mut self, changes: Changes, chains: &mut Chains)
-        requires has { HasAll chains.old (marks_in self.old) }
-        requires few { counted_in chains.old.live < 2 ^ 64 - 1 }
-        requires now { IsNow chains.old }
-        ensures monitor { (h : Service) → monitor_of self.new ≡ brought h chains.old.db (refilter (filters_of changes) (watch_of self.old).requests) (monitor_of self.old) }
-        ensures marks { marks_in self.new ≡ all_now chains.old (marks_in self.old) }
-        ensures moved { Moves chains.old chains.new (marks_in self.old) }
-        ensures room { KeepsRoom chains.old chains.new }
+    pub(crate) fn bring_under(&mut self, changes: Changes, past: &mut Past)
+        requires has { HasAll past.old (marks_in self.old) }
+        requires now { IsNow past.old }
+        ensures monitor { (h : Service) → monitor_of self.new ≡ brought h past.old.db (refilter (filters_of changes) (watch_of self.old).requests) (monitor_of self.old) }
+        ensures marks { marks_in self.new ≡ all_now past.old (marks_in self.old) }
+        ensures moved { Moves past.old past.new (marks_in self.old) }
     {
-        bring_all_under(&mut self.tables, changes, chains);
+        bring_all_under(&mut self.tables, changes, past);
     }
 
     /// Gives it this id and these filters; what its client was told stays.

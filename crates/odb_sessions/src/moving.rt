@@ -1,50 +1,46 @@
 //! Clients that have what their tables are now. [P 9.2, 9.5, 10.1]
-ghost use Rattle.std.specs.Prelude.{◌≡◌, ℕ, ◌-◌, ◌^◌, ◌<◌, ◌∷◌, [], List, false, bytes_eq, map, option_map};
+ghost use Rattle.std.specs.Prelude.{◌≡◌, ℕ, ◌∷◌, [], List, false, bytes_eq, map, option_map};
 ghost use Rattle.std.specs.Arc.{arc_value};
 ghost use Rattle.odb_chain.specs.Chains.{IsNow};
 ghost use Rattle.odb_cond.specs.Filter as model;
 ghost use Rattle.odb_service.specs.Session.{filter_of};
 ghost use Rattle.odb_sessions.specs.Composed.{asked_of};
-ghost use Rattle.odb_sessions.specs.Moved.{Moves, asked_under, brought_to, brought_under, now_of, told_now};
+ghost use Rattle.odb_sessions.specs.Moved.{Moves, asked_under, brought_to, brought_under, told_now};
 ghost use Rattle.odb_sessions.specs.Represented.Queued.{filters_of};
 ghost use Rattle.odb_sessions.specs.Represented.Told.{told_under};
 ghost use Rattle.odb_sessions.specs.Started.{AreApart};
-ghost use Rattle.odb_sessions.specs.Tied.{HasAll, KeepsRoom, counted_in};
+ghost use Rattle.odb_sessions.specs.Tied.{HasAll};
 
 use crate::item::Changes;
 use crate::monitor::Watching;
-use odb_chain::{Chains, Mark};
+use crate::past::Past;
 use odb_cond::Filter;
 use std::sync::Arc;
 
 impl Watching {
     /// Brings the client to what the table is now, under this filter, or under the one that is asked where there is
     /// none.
-    pub(crate) fn bring(&mut self, filter: Option<Arc<Filter>>, chains: &mut Chains)
-        requires has { HasAll chains.old (self.old.mark ∷ []) }
-        requires few { counted_in chains.old.live < 2 ^ 64 - 1 }
-        requires now { IsNow chains.old }
-        ensures table { self.new ≡ told_now chains.old (told_under self.old.request (option_map arc_value filter)) self.old }
-        ensures moved { Moves chains.old chains.new (self.old.mark ∷ []) }
-        ensures room { KeepsRoom chains.old chains.new }
+    pub(crate) fn bring(&mut self, filter: Option<Arc<Filter>>, past: &mut Past)
+        requires has { HasAll past.old (self.old.mark ∷ []) }
+        requires now { IsNow past.old }
+        ensures table { self.new ≡ told_now past.old (told_under self.old.request (option_map arc_value filter)) self.old }
+        ensures moved { Moves past.old past.new (self.old.mark ∷ []) }
     {
-        bring_mark(&mut self.mark, chains);
+        past.advance(&mut self.mark);
         self.told = filter;
     }
 
     /// Brings the client to what the table is now, under the filter that is taken out for it, if there is one.
-    fn bring_under(&mut self, changes: &mut Changes, chains: &mut Chains)
-        requires has { HasAll chains.old (self.old.mark ∷ []) }
-        requires few { counted_in chains.old.live < 2 ^ 64 - 1 }
-        requires now { IsNow chains.old }
-        ensures table { self.new ≡ brought_under chains.old (filters_of changes.old) self.old }
-        ensures moved { Moves chains.old chains.new (self.old.mark ∷ []) }
-        ensures room { KeepsRoom chains.old chains.new }
+    fn bring_under(&mut self, changes: &mut Changes, past: &mut Past)
+        requires has { HasAll past.old (self.old.mark ∷ []) }
+        requires now { IsNow past.old }
+        ensures table { self.new ≡ brought_under past.old (filters_of changes.old) self.old }
+        ensures moved { Moves past.old past.new (self.old.mark ∷ []) }
         ensures others { (n : List ℕ) (f : model.Filter) → bytes_eq self.old.request.shape.name n ≡ false
             → filter_of (filters_of changes.new) n f ≡ filter_of (filters_of changes.old) n f }
     {
         let filter = changes.take(self.name());
-        self.bring(filter, chains);
+        self.bring(filter, past);
     }
 
     /// Asks for the table under this filter; what the client was told stays.
@@ -68,49 +64,30 @@ impl Watching {
     }
 }
 
-/// Lets the mark stand for what its table is now. O(1) where it does, and else what `odb_chain::Chains::advance` costs.
-fn bring_mark(mark: &mut Mark, chains: &mut Chains)
-    requires has { HasAll chains.old (mark.old ∷ []) }
-    requires few { counted_in chains.old.live < 2 ^ 64 - 1 }
-    requires now { IsNow chains.old }
-    ensures mark { mark.new ≡ now_of chains.old mark.old }
-    ensures moved { Moves chains.old chains.new (mark.old ∷ []) }
-    ensures room { KeepsRoom chains.old chains.new }
-{
-    if chains.is_now(mark) {
-        return;
-    }
-    chains.advance(mark);
-}
-
 /// Brings the client to what these tables are now, under the filters that are asked.
-pub(crate) fn bring_all(tables: &mut Vec<Watching>, chains: &mut Chains)
-    requires has { HasAll chains.old (map (λ w. w.mark) tables.old.items) }
-    requires few { counted_in chains.old.live < 2 ^ 64 - 1 }
-    requires now { IsNow chains.old }
-    ensures tables { tables.new.items ≡ map (brought_to chains.old) tables.old.items }
-    ensures moved { Moves chains.old chains.new (map (λ w. w.mark) tables.old.items) }
-    ensures room { KeepsRoom chains.old chains.new }
+pub(crate) fn bring_all(tables: &mut Vec<Watching>, past: &mut Past)
+    requires has { HasAll past.old (map (λ w. w.mark) tables.old.items) }
+    requires now { IsNow past.old }
+    ensures tables { tables.new.items ≡ map (brought_to past.old) tables.old.items }
+    ensures moved { Moves past.old past.new (map (λ w. w.mark) tables.old.items) }
 {
     for place in 0..tables.len() {
-        tables[place].bring(None, chains);
+        tables[place].bring(None, past);
     }
 }
 
 /// Brings the client to what these tables are now, each under the filter that is named for it, or under the one that
 /// is asked where none is.
-pub(crate) fn bring_all_under(tables: &mut Vec<Watching>, changes: Changes, chains: &mut Chains)
+pub(crate) fn bring_all_under(tables: &mut Vec<Watching>, changes: Changes, past: &mut Past)
     requires apart { AreApart (asked_of tables.old.items) }
-    requires has { HasAll chains.old (map (λ w. w.mark) tables.old.items) }
-    requires few { counted_in chains.old.live < 2 ^ 64 - 1 }
-    requires now { IsNow chains.old }
-    ensures tables { tables.new.items ≡ map (brought_under chains.old (filters_of changes)) tables.old.items }
-    ensures moved { Moves chains.old chains.new (map (λ w. w.mark) tables.old.items) }
-    ensures room { KeepsRoom chains.old chains.new }
+    requires has { HasAll past.old (map (λ w. w.mark) tables.old.items) }
+    requires now { IsNow past.old }
+    ensures tables { tables.new.items ≡ map (brought_under past.old (filters_of changes)) tables.old.items }
+    ensures moved { Moves past.old past.new (map (λ w. w.mark) tables.old.items) }
 {
     let mut changes = changes;
     for place in 0..tables.len() {
-        tables[place].bring_under(&mut changes, chains);
+        tables[place].bring_under(&mut changes, past);
     }
 }
 

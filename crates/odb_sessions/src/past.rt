@@ -1,21 +1,17 @@
 //! The database with its past, in which there is room for each mark that is made. [P 10.3]
-ghost use Rattle.std.specs.Prelude.{◌≡◌, map, IfErr, IfOk, OnErr, OnOk};
+ghost use Rattle.std.specs.Prelude.{◌≡◌, [], ◌∷◌, map, IfErr, IfOk, OnErr, OnOk};
 ghost use Rattle.odb_chain.specs.Chains.{IsLive, IsNow, absorbed, chains_of, released};
 ghost use Rattle.odb_chain.specs.Marks.{AreAllMarks};
 ghost use Rattle.odb_sessions.specs.Composed.{AreTheirs};
 ghost use Rattle.odb_sessions.specs.FirstTexts.{AreFirstTexts, IsFirstText};
-ghost use Rattle.odb_service.specs.Service.{Service};
-ghost use Rattle.odb_service.specs.Session.{brought, refilter};
-ghost use Rattle.odb_sessions.specs.Held.{marks_in, monitor_of, table_marks, watch_of};
-ghost use Rattle.odb_sessions.specs.Moved.{Moves, all_now};
-ghost use Rattle.odb_sessions.specs.Represented.Queued.{filters_of};
+ghost use Rattle.odb_sessions.specs.Held.{table_marks};
+ghost use Rattle.odb_sessions.specs.Moved.{Moves, now_of};
 ghost use Rattle.odb_sessions.specs.Started.{AreOfTables};
 ghost use Rattle.odb_sessions.specs.Tied.{Adds, HasAll};
 ghost use Rattle.odb_tables.specs.Installing.{IsChangeOf};
 
 use crate::first_texts::{FirstText, FirstTexts};
-use crate::item::Changes;
-use crate::monitor::{Monitor, Watching, watch_all};
+use crate::monitor::{Watching, watch_all};
 use odb_chain::{Chains, Mark};
 use odb_request::Request;
 use odb_tables::{ChangeSet, Db};
@@ -59,13 +55,6 @@ impl Past {
             made: 1,
             firsts: FirstTexts::new(alloc),
         })
-    }
-
-    /// Returns the database as it is now.
-    pub(crate) fn db(&self) -> &Db
-        ensures { result.now ≡ self.now.db }
-    {
-        self.chains.db()
     }
 
     /// Returns the database with its past. O(1).
@@ -132,26 +121,17 @@ impl Past {
         Ok(tables)
     }
 
-    /// Brings the client of the monitor to what its tables are now.
-    pub(crate) fn bring(&mut self, monitor: &mut Monitor)
-        requires has { HasAll self.old (marks_in monitor.old) }
+    /// Lets a mark stand for what its table is now. O(1) where it does, and else what `odb_chain::Chains::advance` costs.
+    pub(crate) fn advance(&mut self, mark: &mut Mark)
+        requires has { HasAll self.old (mark.old ∷ []) }
         requires now { IsNow self.old }
-        ensures monitor { (h : Service) → monitor_of monitor.new ≡ brought h self.old.db (watch_of monitor.old).requests (monitor_of monitor.old) }
-        ensures marks { marks_in monitor.new ≡ all_now self.old (marks_in monitor.old) }
-        ensures moved { Moves self.old self.new (marks_in monitor.old) }
+        ensures mark { mark.new ≡ now_of self.old mark.old }
+        ensures moved { Moves self.old self.new (mark.old ∷ []) }
     {
-        monitor.bring(&mut self.chains);
-    }
-
-    /// Does the same under the filters that are named.
-    pub(crate) fn bring_under(&mut self, monitor: &mut Monitor, changes: Changes)
-        requires has { HasAll self.old (marks_in monitor.old) }
-        requires now { IsNow self.old }
-        ensures monitor { (h : Service) → monitor_of monitor.new ≡ brought h self.old.db (refilter (filters_of changes) (watch_of monitor.old).requests) (monitor_of monitor.old) }
-        ensures marks { marks_in monitor.new ≡ all_now self.old (marks_in monitor.old) }
-        ensures moved { Moves self.old self.new (marks_in monitor.old) }
-    {
-        monitor.bring_under(changes, &mut self.chains);
+        if self.chains.is_now(mark) {
+            return;
+        }
+        self.chains.advance(mark);
     }
 
     /// Copies the database and its past, and the marks: these are all that are counted.

@@ -114,7 +114,7 @@ impl Sessions {
     pub fn db(&self) -> &Db
         ensures { result.now ≡ self.now.db }
     {
-        self.past.db()
+        self.past.chains().db()
     }
 
     /// Returns how many commits there were. O(1).

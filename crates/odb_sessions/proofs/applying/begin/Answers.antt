@@ -16,14 +16,14 @@ bring-requires-clause-now c = c.requires.ready.0
 pub returns-clause-monitors : goal.returns-clause-monitors
 returns-clause-monitors c = λ s.
     let xs : List Held = c.args.monitors.now.items in
-    let y : Held = c.bring.new.monitor in
+    let y : Held = c.bring.new.self in
     let pushed : c.push_reserved.new.self.items ≡ xs ++ y ∷ [] = search rules in
     ap (map monitor_of) pushed ∙ map-append monitor_of xs (y ∷ []) ∙ ap (λ (m : Monitor). map monitor_of xs ++ m ∷ []) (c.bring.ensures.monitor (served_by s))
 
 pub returns-clause-carried : goal.returns-clause-carried
 returns-clause-carried c =
     let xs : List Held = c.args.monitors.now.items in
-    let y : Held = c.bring.new.monitor in
+    let y : Held = c.bring.new.self in
     let pushed : c.push_reserved.new.self.items ≡ xs ++ y ∷ [] = search rules in
-    subst (λ (zs : List Held). Carries c.args.past.now c.bring.new.self (marks_in c.args.monitor ++ flat xs) (flat zs)) (sym pushed)
-    (begun_carried c.args.past.now c.bring.new.self c.args.monitor y xs c.requires.ready c.bring.ensures.moved c.bring.ensures.marks)
+    subst (λ (zs : List Held). Carries c.args.past.now c.bring.new.past (marks_in c.args.monitor ++ flat xs) (flat zs)) (sym pushed)
+    (begun_carried c.args.past.now c.bring.new.past c.args.monitor y xs c.requires.ready c.bring.ensures.moved c.bring.ensures.marks)

@@ -34,11 +34,11 @@ pub loop-place-preserved : goal.loop-place-preserved
 loop-place-preserved c =
     let old = c.loop-place in
     let k : Chains = old.past in
-    let new : Chains = c.bring.new.self in
+    let new : Chains = c.bring.new.past in
     let xs : List Held = old.monitors.items in
     let n = old.place in
     let x : Held = c.index_mut.result.now in
-    let y : Held = c.bring.new.monitor in
+    let y : Held = c.bring.new.self in
     let low : n < length xs = search rules in
     let at : x ≡ slice_index_or xs n x = search rules in
     let first : Chains = c.args.past.now in

@@ -36,7 +36,7 @@ returns-clause-monitors c = λ s.
     let x : Held = c.index_mut.result.now in
     let at : x ≡ slice_index_or xs n x = search rules in
     let found : IsFirst s (arc_value c.args.shift.id) xs n = search rules in
-    seen_found s (arc_value c.args.shift.id) xs (λ m. brought (served_by s) c.args.past.now.db (refilter (filters_of c.args.shift.changes) m.watch.requests) m) n x c.bring_under.new.monitor found at (c.bring_under.ensures.monitor (served_by s))
+    seen_found s (arc_value c.args.shift.id) xs (λ m. brought (served_by s) c.args.past.now.db (refilter (filters_of c.args.shift.changes) m.watch.requests) m) n x c.bring_under.new.self found at (c.bring_under.ensures.monitor (served_by s))
 
 pub returns-clause-carried : goal.returns-clause-carried
 returns-clause-carried c =
@@ -45,4 +45,4 @@ returns-clause-carried c =
     let x : Held = c.index_mut.result.now in
     let low : n < length xs = search rules in
     let at : x ≡ slice_index_or xs n x = search rules in
-    moved_one c.args.past.now xs n x low at c.requires c.bring_under.new.self c.bring_under.new.monitor c.bring_under.ensures.moved c.bring_under.ensures.marks
+    moved_one c.args.past.now xs n x low at c.requires c.bring_under.new.past c.bring_under.new.self c.bring_under.ensures.moved c.bring_under.ensures.marks

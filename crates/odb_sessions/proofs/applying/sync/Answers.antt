@@ -34,7 +34,7 @@ returns-clause-monitors c = λ s.
     let x : Held = c.index_mut.result.now in
     let at : x ≡ slice_index_or xs n x = search rules in
     let found : IsFirst s c.args.id.now xs n = search rules in
-    seen_found s c.args.id.now xs (λ m. brought (served_by s) c.args.past.now.db m.watch.requests m) n x c.bring.new.monitor found at (c.bring.ensures.monitor (served_by s))
+    seen_found s c.args.id.now xs (λ m. brought (served_by s) c.args.past.now.db m.watch.requests m) n x c.bring.new.self found at (c.bring.ensures.monitor (served_by s))
 
 pub returns-clause-carried : goal.returns-clause-carried
 returns-clause-carried c =
@@ -43,4 +43,4 @@ returns-clause-carried c =
     let x : Held = c.index_mut.result.now in
     let low : n < length xs = search rules in
     let at : x ≡ slice_index_or xs n x = search rules in
-    moved_one c.args.past.now xs n x low at c.requires c.bring.new.self c.bring.new.monitor c.bring.ensures.moved c.bring.ensures.marks
+    moved_one c.args.past.now xs n x low at c.requires c.bring.new.past c.bring.new.self c.bring.ensures.moved c.bring.ensures.marks

@@ -3,7 +3,7 @@ use Rattle.odb_chain.specs.Chains.{Chains, IsNow}
 use Rattle.odb_sessions.specs.Composed.{asked_of}
 use Rattle.odb_sessions.specs.Held.{table_marks}
 use Rattle.odb_sessions.specs.Moved.{Moves, brought_under}
-use Rattle.odb_sessions.specs.Tied.{HasAll, KeepsRoom}
+use Rattle.odb_sessions.specs.Tied.{HasAll}
 use Rattle.odb_sessions.specs.Represented.Queued.{filters_of}
 use Rattle.odb_sessions.specs.Started.{AreApart}
 use Rattle.odb_sessions.proofs.Brought.{from_place}
@@ -12,13 +12,12 @@ use Rattle.odb_sessions.proofs.moving.bring_all_under.Given as goal
 
 abbrev pub invariant-loop-place : goal.invariant-loop-place
 invariant-loop-place l = record {
-  has : HasAll l.chains (table_marks (drop l.place l.tables.items));
-  room : KeepsRoom l.initial.chains l.chains;
-  now : IsNow l.chains;
+  has : HasAll l.past (table_marks (drop l.place l.tables.items));
+  now : IsNow l.past;
   apart : AreApart (asked_of (drop l.place l.tables.items));
   named : SameFor (filters_of l.initial.changes) (filters_of l.changes) (drop l.place l.tables.items);
-  db : l.chains.db ≡ l.initial.chains.db;
-  versions : l.chains.versions ≡ l.initial.chains.versions;
-  made : from_place (brought_under l.initial.chains (filters_of l.initial.changes)) l.place l.tables.items ≡ map (brought_under l.initial.chains (filters_of l.initial.changes)) l.initial.tables.items;
-  moves : (k : Chains) → Moves l.chains k (table_marks (drop l.place l.tables.items)) → Moves l.initial.chains k (table_marks l.initial.tables.items);
+  db : l.past.db ≡ l.initial.past.db;
+  versions : l.past.versions ≡ l.initial.past.versions;
+  made : from_place (brought_under l.initial.past (filters_of l.initial.changes)) l.place l.tables.items ≡ map (brought_under l.initial.past (filters_of l.initial.changes)) l.initial.tables.items;
+  moves : (k : Chains) → Moves l.past k (table_marks (drop l.place l.tables.items)) → Moves l.initial.past k (table_marks l.initial.tables.items);
 }

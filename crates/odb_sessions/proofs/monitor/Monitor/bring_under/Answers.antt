@@ -14,13 +14,13 @@ bring_all_under-requires-clause-apart c = c.self.invariant.1
 pub invariant_of-self : goal.invariant_of-self
 invariant_of-self c =
     subst (λ (ws : List Watched). AreTheirs ws × AreApart (asked_of ws)) (sym c.bring_all_under.ensures.tables) (
-      theirs_under c.args.chains.now (filters_of c.args.changes) c.self.inside.tables.items c.self.invariant.0,
-      subst AreApart (sym (told_asked c.args.chains.now (filters_of c.args.changes) c.self.inside.tables.items)) c.self.invariant.1,
+      theirs_under c.args.past.now (filters_of c.args.changes) c.self.inside.tables.items c.self.invariant.0,
+      subst AreApart (sym (told_asked c.args.past.now (filters_of c.args.changes) c.self.inside.tables.items)) c.self.invariant.1,
     )
 
 pub returns-clause-monitor : goal.returns-clause-monitor
 returns-clause-monitor c = λ h.
-    let k : Chains = c.args.chains.now in
+    let k : Chains = c.args.past.now in
     let x : Held = c.args.self.now in
     let same : c.self.inside.tables.items ≡ x.tables = ap (λ (y : Held). y.tables) c.self.view_is in
     monitor_under h k x _ (filters_of c.args.changes) (ap (λ (y : Held). y.id) c.self.view_is) (ap (λ (y : Held). y.notation) c.self.view_is) (ap (λ (y : Held). y.since) c.self.view_is)
@@ -28,7 +28,7 @@ returns-clause-monitor c = λ h.
 
 pub returns-clause-marks : goal.returns-clause-marks
 returns-clause-marks c =
-    let k : Chains = c.args.chains.now in
+    let k : Chains = c.args.past.now in
     let x : Held = c.args.self.now in
     let same : c.self.inside.tables.items ≡ x.tables = ap (λ (y : Held). y.tables) c.self.view_is in
     marks_under k x c.bring_all_under.new.tables.items (filters_of c.args.changes) (c.bring_all_under.ensures.tables ∙ ap (λ (ws : List Watched). map (brought_under k (filters_of c.args.changes)) ws) same)
