@@ -6,7 +6,7 @@ use crate::fault::Which;
 use crate::front::FrontEnd;
 use crate::log::{ConnectionEvent, LogLine, Said};
 use crate::notices::Notices;
-use crate::pace::Pace;
+use crate::pace::{Pace, micros_of};
 use crate::second::Second;
 use crate::serve::Terms;
 use odb_core::{Core, EventRefusal, MAX_SESSIONS, SessionId};
@@ -186,6 +186,14 @@ impl<L: Ledger> Daemon<L> {
         }
     }
 
+    /// Returns the microseconds since the start.
+    fn micros<R: Clock>(&self, rt: &R) -> u64 {
+        match self.start.elapsed(rt) {
+            Ok(elapsed) => micros_of(elapsed),
+            Err(_) => 0,
+        }
+    }
+
     /// Has it logged what happened to a client's connection now.
     pub(crate) fn log<R: Wait + Clock>(
         &self,
@@ -321,15 +329,16 @@ impl<L: Ledger> Daemon<L> {
     }
 
     /// Gives each session its next message after so many requests, one or more, where few are owed something, and where the
-    /// pump sleeps and that is brief, so that an update doesn't wait for the pump. The pump does the rest. Step:
-    /// `keeps_silent`, where few are owed something and the round leaves nothing owed; else it tells the pump.
+    /// pump sleeps and lets others, so that an update doesn't wait for the pump. The pump does the rest. Step: `keeps_silent`, where
+    /// few are owed something or one request came alone, and the round leaves nothing owed; else it tells the pump.
     fn tell_all<R: Threads + Wait + Clock + Sync>(&self, rt: &R, few: bool, requests: u64) {
-        if few || self.pace.lets_others() {
+        let is_lone = requests == 1;
+        if few || self.pace.lets_others(is_lone, self.micros(rt)) {
             let round = self.hub.enter(rt).round(rt, self.workers, &Open);
             if let Ok(round) = round {
                 self.wake_called();
-                self.pace.note(round);
-                if few && !round.owes {
+                self.pace.note(round, self.micros(rt));
+                if !round.owes && (few || is_lone) {
                     return;
                 }
             }
@@ -367,9 +376,11 @@ impl<L: Ledger> Daemon<L> {
         let round = self.hub.enter(rt).round(rt, self.workers, &Open);
         self.wake_called();
         match round {
-            Ok(round) => self
-                .pace
-                .pause(rt, round, self.left(rt, round.deadline), place),
+            Ok(round) => {
+                self.pace.note(round, self.micros(rt));
+                let left = self.left(rt, round.deadline);
+                self.pace.pause(rt, round, left, place);
+            }
             Err(_) => {
                 self.give_each(rt, now);
                 self.pace.pause_after_refusal(rt, place);

@@ -14,6 +14,9 @@ const REST: u64 = 3;
 /// For how many microseconds it rests at least. A round that took less is brief.
 const BRIEF: u64 = 100;
 
+/// Up to how many microseconds a round takes that another thread runs where little comes.
+const SHORT: u64 = 1_000;
+
 /// For how many microseconds it rests at most before it looks whether much comes.
 const SOON: u64 = 500;
 
@@ -35,8 +38,9 @@ const REFUSED: u64 = 3;
 #[derive(Drop)]
 pub(crate) struct Pace {
     pub(crate) alarm: Alarm,
-    /// For how many microseconds the latest round took that gave something.
+    /// For how many microseconds the latest round took that gave something, and when it ended, in microseconds since the start.
     took: AtomicU64,
+    ended: AtomicU64,
 }
 
 impl Pace {
@@ -45,19 +49,27 @@ impl Pace {
         Pace {
             alarm: Alarm::new(),
             took: AtomicU64::new(0),
+            ended: AtomicU64::new(0),
         }
     }
 
-    /// Returns whether the pump sleeps, and a round of all is brief: then another thread may as well run it.
-    pub(crate) fn lets_others(&self) -> bool {
-        self.alarm.sleeps() && self.took.load(Ordering::SeqCst) < BRIEF
+    /// Returns whether the pump sleeps, and a round of all is brief: then another thread may as well run it. After a lone request
+    /// it may be longer, up to a millisecond, where as much time is over since the last, so that no thread is woken for it. `now` is
+    /// in microseconds since the start.
+    pub(crate) fn lets_others(&self, is_lone: bool, now: u64) -> bool {
+        if !self.alarm.sleeps() {
+            return false;
+        }
+        let took = self.took.load(Ordering::SeqCst);
+        let rested = now.saturating_sub(self.ended.load(Ordering::SeqCst));
+        took < BRIEF || is_lone && took < SHORT && rested >= took
     }
 
-    /// Remembers how long a round took that gave something.
-    pub(crate) fn note(&self, round: Round) {
+    /// Remembers how long a round took that gave something, and that it ended at this moment, in microseconds since the start.
+    pub(crate) fn note(&self, round: Round, now: u64) {
         if round.given > 0 {
-            let took = u64::try_from(round.took.as_micros()).unwrap_or(u64::MAX);
-            self.took.store(took, Ordering::SeqCst);
+            self.took.store(micros_of(round.took), Ordering::SeqCst);
+            self.ended.store(now, Ordering::SeqCst);
         }
     }
 
@@ -73,7 +85,6 @@ impl Pace {
         requires { place.old ≡ gives }
         ensures { place.new ≡ begins }
     {
-        self.note(round);
         if round.given == 0 {
             return self.pause_after_nothing(rt, round, left, place);
         }
@@ -142,6 +153,11 @@ impl Pace {
             next = long;
         }
     }
+}
+
+/// Returns the microseconds of a time.
+pub(crate) fn micros_of(time: Duration) -> u64 {
+    u64::try_from(time.as_micros()).unwrap_or(u64::MAX)
 }
 
 /// Returns how much of what a round took counts.
