@@ -1,5 +1,5 @@
 //! A session's queue. [P 10.1]
-ghost use Rattle.std.specs.Prelude.{◌≡◌, ◌++◌, true, [], ◌∷◌, flat_map, map, IfErr, IfNone, IfOk, OnErr, OnOk, option_map, option_to_list};
+ghost use Rattle.std.specs.Prelude.{◌≡◌, ◌++◌, [], ◌∷◌, flat_map, map, IfErr, IfNone, IfOk, OnErr, OnOk, option_map, option_to_list};
 ghost use Rattle.std.specs.Arc.{arc_value};
 ghost use Rattle.odb_service.specs.Session.{replies_in};
 ghost use Rattle.odb_sessions.specs.Asked.{ids_after};
@@ -54,25 +54,11 @@ impl Queue {
         }
     }
 
-    /// Returns the items, the earliest first. O(1).
-    pub(crate) fn items(&self) -> &VecDeque<Item>
-        ensures { map queued_of result.now.items ≡ self.now }
-    {
-        &self.items
-    }
-
     /// Returns how many replies are queued. O(1).
     pub(crate) fn replies(&self) -> usize
         ensures { result ≡ replies_in (map item_seen self.now) }
     {
         self.replies
-    }
-
-    /// Returns whether nothing is queued. O(1).
-    pub(crate) fn is_empty(&self) -> bool
-        ensures { result ≡ true → self.now ≡ [] }
-    {
-        self.items.is_empty()
     }
 
     /// Puts an item at the end. Where memory is refused it comes back.

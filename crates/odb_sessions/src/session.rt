@@ -77,7 +77,7 @@ impl Session {
     pub fn items(&self) -> &VecDeque<Item>
         ensures { map queued_of result.now.items ≡ self.now.queue }
     {
-        self.queue.items()
+        &self.queue.items
     }
 
     /// Returns its monitors whose first reply was taken, the earliest first. O(1).

@@ -162,7 +162,7 @@ impl Sessions {
     pub fn has(&self, session: SessionId) -> bool
         ensures { result ≡ is_some (finite.get self.now.sessions session) }
     {
-        self.sessions.has(session)
+        self.sessions.get(session).is_some()
     }
 
     /// Returns which sessions may be owed something: a taking of any other gives nothing and changes nothing. O(1).
@@ -237,9 +237,9 @@ impl Sessions {
         ensures ok { OnOk result (self.new ≡ record (self.old) { sessions = posted self.old.sessions (session, started starting) }) }
         ensures err { OnErr result (self.new ≡ self.old) }
     {
-        if !self.sessions.has(session) {
+        let Some(_) = self.sessions.get(session) else {
             return Ok(());
-        }
+        };
         self.owed.insert(session)?;
         let start = starting.begin(self.alloc, &mut self.past)?;
         match self.sessions.hand(session, Item::Start(start)) {

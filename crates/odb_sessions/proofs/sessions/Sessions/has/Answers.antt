@@ -1,4 +1,4 @@
-use Rattle.std.proofs.Common.{◌≡◌, Option, Some, None, is_some, option_map, refl, sym, ap, ◌∙◌}
+use Rattle.std.proofs.Common.{rules, ◌≡◌, Option, Some, None, is_some, option_map, refl, sym, ap, ◌∙◌}
 use Rattle.odb_atoms.specs.FinMap as finite
 use Rattle.odb_sessions.specs.Book.{Book}
 use Rattle.odb_sessions.specs.Held.{Kept, Sessions, seen}
@@ -13,5 +13,6 @@ still_there (Some x) = refl
 pub returns : goal.returns
 returns c =
     let m : Sessions = c.self.inside.sessions in
-    c.has.ensures ∙ sym (still_there (finite.get m c.args.session)) ∙ ap is_some (sym (get-seen m c.args.session))
+    let there : c.is_some.result ≡ is_some (finite.get m c.args.session) = search rules in
+    there ∙ sym (still_there (finite.get m c.args.session)) ∙ ap is_some (sym (get-seen m c.args.session))
     ∙ ap (λ (b : Book). is_some (finite.get b.sessions c.args.session)) c.self.view_is
