@@ -1,10 +1,9 @@
 //! What the client of a monitor lacks: the job that leads it there, and the notification that tells it. [P 9.2, 9.3, 9.5, 9.8, 10.1]
-ghost use Rattle.std.specs.Prelude.{◌≡◌, ◌++◌, IfOk, length, map, take, true};
+ghost use Rattle.std.specs.Prelude.{◌≡◌, ◌++◌, IfOk, map, take, true};
 ghost use Rattle.std.specs.List.{All};
 ghost use Rattle.serde_json.specs.Data.{Data};
 ghost use Rattle.serde_json.specs.Written.{compact_text};
 ghost use Rattle.odb_atoms.specs.Represented.Atom.{uuid_of};
-ghost use Rattle.odb_chain.specs.Chains as model;
 ghost use Rattle.odb_rpc.specs.Represented.Shared.{after_updates};
 ghost use Rattle.odb_sessions.specs.Composed.{AreNow, IsKnown, all_asked_as, asked_of, later_job, notified_text, own_job, part_to, resumed_job};
 ghost use Rattle.odb_sessions.specs.Filtered.{all_parts_again};
@@ -18,12 +17,11 @@ ghost use Rattle.odb_sessions.specs.declared.way.Way.TheVariants as way;
 
 use crate::composing::{Envelope, parts_of};
 use crate::monitor::{Monitor, Watching};
-use crate::owed::{Owed, all_owed, all_owed_as, parts_again, parts_since};
+use crate::owed::{all_owed, all_owed_as, parts_again, parts_since};
 use crate::under::{Under, requests_under};
 use crate::way::Way;
 use odb_chain::Chains;
 use odb_cond::Filter;
-use odb_monitor::Part;
 use odb_recent::Recent;
 use odb_request::Request;
 use odb_rpc::{after_updates, before_update3, before_updates};
@@ -36,14 +34,6 @@ use uuid::Uuid;
 const FEW_ROWS: usize = 8;
 
 impl Monitor {
-    /// Returns its tables, under what is asked of each. O(n) for n tables.
-    fn owed<'a>(&'a self, alloc: Global) -> Result<Vec<Owed<'a>>, AllocError>
-        ensures tables { IfOk result (λ owed. owed.items ≡ self.now.tables) }
-        ensures known { IfOk result (λ owed. (k : model.Chains) → AreLive k (marks_in self.now) → All (IsKnown k) owed.items) }
-    {
-        all_owed(alloc, self.tables.as_slice())
-    }
-
     /// Adds up how many rows its tables have, and 1.
     fn rows(&self, chains: &Chains) -> usize {
         let mut rows: usize = 1;
@@ -88,8 +78,9 @@ impl Monitor {
         requires { AreLive chains.now (marks_in self.now) }
         ensures { IfOk result (λ job. job ≡ own_job first chains.now.db self.now) }
     {
-        let tables = self.owed(alloc)?;
-        let parts = parts_of(alloc, chains, tables.as_slice(), first)?;
+        let tables = self.tables.as_slice();
+        let owed = all_owed(alloc, tables)?;
+        let parts = parts_of(alloc, chains, owed.as_slice(), first)?;
         Ok(odb_monitor::Job::new(self.kind, first, parts))
     }
 
@@ -106,7 +97,9 @@ impl Monitor {
         ensures { IfOk result (λ job. job
             ≡ later_job self.now.notation (map (part_to chains.now.db) (all_asked_as self.now.tables requests.now))) }
     {
-        let parts = parts_under(alloc, chains, self.tables.as_slice(), requests)?;
+        let tables = self.tables.as_slice();
+        let owed = all_owed_as(alloc, tables, requests)?;
+        let parts = parts_of(alloc, chains, owed.as_slice(), false)?;
         Ok(odb_monitor::Job::new(self.kind, false, parts))
     }
 
@@ -290,19 +283,4 @@ fn are_now(tables: &[Watching], chains: &Chains) -> bool
         }
     }
     true
-}
-
-/// Returns the parts for these tables, as if these were the requests.
-fn parts_under<'a>(
-    alloc: Global,
-    chains: &'a Chains,
-    tables: &'a [Watching],
-    requests: &'a [Request],
-) -> Result<Vec<Part<'a>>, AllocError>
-    requires many { length requests.now ≡ length tables.now }
-    requires known { All (IsKnown chains.now) (all_asked_as tables.now requests.now) }
-    ensures { IfOk result (λ parts. parts.items ≡ map (part_to chains.now.db) (all_asked_as tables.now requests.now)) }
-{
-    let owed = all_owed_as(alloc, tables, requests)?;
-    parts_of(alloc, chains, owed.as_slice(), false)
 }
