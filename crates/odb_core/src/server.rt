@@ -1,6 +1,6 @@
 //! The server as a machine over events. [P 10.3, 13.1, 14]
 
-ghost use Rattle.std.specs.Prelude.{◌≡◌, ◌≤◌, ◌↔◌, ℕ, List, [], flat_map, map, length, Ok, OnOk, OnErr, IfOk, IfErr, IfSome, IsErrOf};
+ghost use Rattle.std.specs.Prelude.{◌≡◌, ◌≤◌, ◌↔◌, ℕ, List, ◌∷◌, [], flat_map, map, length, Ok, OnOk, OnErr, IfNone, IfOk, IfErr, IfSome, IsErrOf};
 ghost use Rattle.std.specs.List.{All};
 ghost use Rattle.odb_atoms.specs.FinMap.{len};
 ghost use Rattle.odb_atoms.specs.Represented.Atom.{uuid_of};
@@ -20,7 +20,7 @@ use crate::waiting_list::WaitingList;
 use odb_cause::Cause;
 use odb_locks::{Locks, SessionId};
 use odb_queue::ServedSchema;
-use odb_round::{Jobs, PreparedRound, accept_round, give_round, plan_round};
+use odb_round::{Jobs, PreparedRound, accept_round, give_round, plan_round, take_finished};
 use odb_schema::Schema;
 use odb_sessions::{FirstText, Out, Sessions, ToldMarks};
 use odb_tables::{Db, Draft};
@@ -312,6 +312,16 @@ impl Core {
         ensures texts { map sent_in result.items ≡ flat_map (given_by (book_in self.old.world)) prepared }
     {
         accept_round(&mut self.sessions, prepared)
+    }
+
+    /// Gives a session its next message, where that is a text which was finished when it was queued, as most replies are: then
+    /// it is a `round` of this session alone. Else it gives nothing, and nothing has changed. It takes no memory. O(log n), and
+    /// where the session is owed nothing more O(1) for each table of its monitors.
+    pub fn take_finished(&mut self, session: SessionId) -> Option<Out>
+        ensures round { IfSome result (λ out. serve (round (session ∷ [])) self.old ≡ Ok (self.new, sent_in out ∷ [])) }
+        ensures none { IfNone result (self.new ≡ self.old) }
+    {
+        take_finished(&mut self.sessions, session)
     }
 
     /// Returns the sessions that may be owed something. A round gives nothing to any other, and changes nothing of it.

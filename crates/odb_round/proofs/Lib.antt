@@ -1,6 +1,7 @@
 mod Aheads
 mod Composed
 mod Decisions
+pub mod Finished
 mod FirstTexts
 mod Known
 mod Leading

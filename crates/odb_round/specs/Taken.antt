@@ -1,5 +1,5 @@
 -- A taking that is planned for a session, if that is open: what it will make of the session, and the text that will come. [P 10.1, 10.3]
-use Rattle.std.specs.Prelude.{◌≡◌, ℕ, List, [], ◌∷◌, map, Option, Some, None, option_and_then, option_map, option_to_list}
+use Rattle.std.specs.Prelude.{◌≡◌, ℕ, Bool, false, List, [], ◌∷◌, map, Option, Some, None, is_some, option_and_then, option_map, option_to_list}
 use Rattle.odb_atoms.specs.FinMap.{get}
 use Rattle.odb_queue.specs.Represented.Item.{text_of}
 use Rattle.odb_schema.specs.Schema.{Schema}
@@ -57,3 +57,13 @@ AreOf b ps = (s : Schema) → AreReady s b ps
 -- the message that comes by the taking, with its session, if one does
 abbrev pub given_by : Book → Pending → List (ℕ × List ℕ)
 given_by b p = option_to_list (option_map (λ t. let q : ℕ × List ℕ = (p.0, t) in q) (text_from p.1.text (option_and_then (λ x. last_used p.1.items x.queue) (get b.sessions p.0))))
+
+-- they begin with one whose text was finished when it was queued
+abbrev pub begins_finished : List Item → Bool
+begins_finished [] = false
+begins_finished (i ∷ is) = is_some (finished_text i)
+
+-- so does the queue of the session, if that is open
+abbrev pub is_finished : Option Session → Bool
+is_finished None = false
+is_finished (Some x) = begins_finished x.queue

@@ -17,4 +17,4 @@ mod wanted;
 
 pub use job::{RoundJob, compose_over};
 pub use jobs::{Jobs, PreparedRound};
-pub use round::{accept_round, give_round, plan_round};
+pub use round::{accept_round, give_round, plan_round, take_finished};

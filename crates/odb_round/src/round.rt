@@ -1,6 +1,6 @@
 //! Rounds: each listed session is given its next message, if it has one. All are planned, and composed, before one is
 //! carried out, which takes no memory. [P 10.3]
-ghost use Rattle.std.specs.Prelude.{◌≡◌, ◌≤◌, [], List, flat_map, map, length, option_map, vec_capacity, IfOk, IfSome, OnErr, OnOk};
+ghost use Rattle.std.specs.Prelude.{◌≡◌, ◌≤◌, ◌∷◌, [], List, flat_map, map, length, option_map, vec_capacity, IfNone, IfOk, IfSome, OnErr, OnOk};
 ghost use Rattle.std.specs.List.{All};
 ghost use Rattle.odb_atoms.specs.FinMap as finite;
 ghost use Rattle.odb_monitor.specs.Job as model_job;
@@ -11,15 +11,16 @@ ghost use Rattle.odb_service.specs.Session as machine;
 ghost use Rattle.odb_service.specs.World.{World, revision_of};
 ghost use Rattle.odb_sessions.specs.Alike.{Likeness};
 ghost use Rattle.odb_sessions.specs.FirstTexts.{IsFirstText, IsOfNow};
-ghost use Rattle.odb_sessions.specs.Held.{all_seen, seen};
+ghost use Rattle.odb_sessions.specs.Held.{all_seen, item_seen, seen};
 ghost use Rattle.odb_round.specs.Jobs.{AreByLikenesses, AreByMarks, AreEachOnce, AreMadeOf, AreOfJobs, IsByLikeness, IsOfJob, Keeps};
 ghost use Rattle.odb_round.specs.OfSchema.{AreSessionsOf};
 ghost use Rattle.odb_round.specs.Planned.{AreOnce};
 ghost use Rattle.odb_sessions.specs.Posts.{at_number};
 ghost use Rattle.odb_sessions.specs.Represented.Out.{sent_in};
 ghost use Rattle.odb_sessions.specs.Represented.Composed.{bytes_in};
+ghost use Rattle.odb_sessions.specs.Represented.Queued.{queued_of};
 ghost use Rattle.odb_round.specs.Represented.Taking.{pending_by, pending_of, ready_by, ready_of, text_by, text_planned};
-ghost use Rattle.odb_round.specs.Taken.{AreOf, AreReady, IsReadyFor, given_by, sessions_in, text_taken};
+ghost use Rattle.odb_round.specs.Taken.{AreOf, AreReady, IsReadyFor, begins_finished, given_by, is_finished, sessions_in, text_taken};
 ghost use Rattle.odb_sessions.specs.Tied.{AreAllLive};
 ghost use Rattle.odb_sessions.specs.Told.{IsToldOf};
 ghost use Rattle.odb_sessions.specs.Book.{book_with, revision_at, revision_in};
@@ -30,8 +31,9 @@ use crate::jobs::{Jobs, Planned, PreparedRound};
 use crate::taking::{Coming, Taking, taking_from};
 use odb_locks::SessionId;
 use odb_queue::Finished;
-use odb_sessions::{FirstText, Numbered, Out, Sessions};
+use odb_sessions::{FirstText, Item, Numbered, Out, Sessions};
 use std::alloc::{AllocError, Global};
+use std::collections::VecDeque;
 use std::sync::Arc;
 
 /// A round that is composed, and the text of a first reply of it that is to be kept.
@@ -243,4 +245,52 @@ pub fn give_round(
     let Composed { prepared, first } = compose_round(sessions, schema, listed)?;
     sessions.keep(first);
     Ok(accept_round(sessions, prepared))
+}
+
+/// Gives a session its next message, where that is a text which was finished when it was queued: so it is the round of this
+/// session alone. Else it gives nothing, and nothing has changed. It takes no memory. O(log n) for n sessions, and what
+/// `Sessions::forget_if_resting` costs.
+pub fn take_finished(sessions: &mut Sessions, session: SessionId) -> Option<Out>
+    ensures round { IfSome result (λ out. (schema : Schema) (w : World) → revision_of w ≡ revision_in sessions.old → w.sessions ≡ sessions.old.sessions
+        → (let r = take_each (served_by schema) (session ∷ []) w in (r.0 ≡ record w { sessions = sessions.new.sessions }) × (map printed r.1 ≡ sent_in out ∷ []))) }
+    ensures revision { revision_in sessions.new ≡ revision_in sessions.old }
+    ensures none { IfNone result (sessions.new ≡ sessions.old) }
+{
+    if !is_finished(sessions, session) {
+        return None;
+    }
+    let taking = Taking {
+        items: 1,
+        monitors: 0,
+        coming: Some(Coming::Queued),
+    };
+    let planned = Planned {
+        session,
+        taking,
+        body: None,
+    };
+    take(sessions, planned)
+}
+
+/// Returns whether the session is open, and its queue begins with a text that was finished when it was queued. O(log n) for
+/// n sessions.
+fn is_finished(sessions: &Sessions, session: SessionId) -> bool
+    ensures { result ≡ is_finished (finite.get sessions.now.sessions session) }
+{
+    let told = sessions.told();
+    let numbered = told.sessions();
+    let Some(of) = numbered.get(session) else {
+        return false;
+    };
+    begins_finished(of.items())
+}
+
+/// Returns whether these items begin with one whose text was finished when it was queued. O(1).
+fn begins_finished(items: &VecDeque<Item>) -> bool
+    ensures { result ≡ begins_finished (map item_seen (map queued_of items.now.items)) }
+{
+    let Some(first) = items.front() else {
+        return false;
+    };
+    first.is_finished()
 }
