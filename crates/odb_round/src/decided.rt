@@ -57,12 +57,6 @@ impl<'a> Decision<'a> {
     {
         digest_of(self.monitor, self.way)
     }
-
-    fn place(&self) -> Option<usize>
-        ensures { result ≡ self.now.place }
-    {
-        self.place
-    }
 }
 
 /// Decisions that have one digest.
@@ -111,7 +105,7 @@ impl<'a> Bucket<'a> {
     {
         for decision in &self.decisions {
             if decision.serves(monitor, way) {
-                return Some(decision.place());
+                return Some(decision.place);
             }
         }
         None

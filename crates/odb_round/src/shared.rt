@@ -63,12 +63,6 @@ impl<'a> SharedJob<'a> {
         let own = self.monitor;
         same_watch(self.watch, watch) && own.stands_as(monitor)
     }
-
-    fn place(&self) -> Option<usize>
-        ensures { result ≡ self.now.place }
-    {
-        self.place
-    }
 }
 
 /// Returns whether it is the same number and the same place.
@@ -116,7 +110,7 @@ impl<'a> SharedJobs<'a> {
     {
         for job in &self.jobs {
             if job.serves(monitor, watch) {
-                return Some(job.place());
+                return Some(job.place);
             }
         }
         None

@@ -172,16 +172,6 @@ impl Session {
         text
     }
 
-    /// Brings the clients of this many monitors, from the first on, to what their tables are now.
-    fn bring(&mut self, count: usize, past: &mut Past)
-        requires { IsReady past.old (marks_of self.old) }
-        ensures session { (s : Schema) → seen self.new ≡ used_by (served_by s) past.old.db 0 count (seen self.old) }
-        ensures carried { Carries past.old past.new (marks_of self.old) (marks_of self.new) }
-        ensures watch { KeepsWatch self.old self.new }
-    {
-        bring_first(&mut self.monitors, count, past);
-    }
-
     /// Carries a taking out: this many items of the queue, and then the clients of this many monitors have what
     /// their tables are now. It returns the text that stands in the last of the items, if one does.
     pub(crate) fn carry_out(
@@ -197,7 +187,7 @@ impl Session {
         ensures text { option_map item_of result ≡ last_finished items (seen self.old).queue }
     {
         let text = self.use_up(items, past);
-        self.bring(monitors, past);
+        bring_first(&mut self.monitors, monitors, past);
         text
     }
 

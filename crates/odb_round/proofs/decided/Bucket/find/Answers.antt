@@ -1,4 +1,4 @@
-use Rattle.std.proofs.Common.{rules, ◌≡◌, ◌<◌, true, false, List, length, slice_index_or, subst, sym}
+use Rattle.std.proofs.Common.{rules, ◌≡◌, ◌<◌, true, false, List, length, slice_index_or, subst, sym, ap}
 use Rattle.std.specs.List.{All}
 use Rattle.std.proofs.lemmas.List.Elements.{All-more}
 use Rattle.odb_sessions.specs.Alike.{Likeness}
@@ -13,11 +13,11 @@ returns-then-serves-clause-some c = λ s of other.
     let i = c.loop-decision.decision-index in
     let x : Decision = c.decision-item.result in
     let l : Likeness = likeness_in c.args.monitor.now c.args.way in
-    let d : Decision = record { likeness = l; place = c.place.result } in
+    let d : Decision = record { likeness = l; place = c.decision.inside.place } in
     let inside : i < length xs = search rules in
     let at : x ≡ slice_index_or xs i x = search rules in
     let serves : c.serves.result ≡ true = search rules in
-    let place : c.place.result ≡ x.place = search rules in
+    let place : c.decision.inside.place ≡ x.place = ap (λ (e : Decision). e.place) c.decision.view_is in
     let all : All (IsDecisionOf s) xs = subst (All (IsDecisionOf s)) (sym c.self.view_is) of in
     let alike : x.likeness ≡ l = c.serves.ensures.same serves s (subst (IsDecisionOf s) (sym at) (all i x inside)) other in
     let same : x ≡ d = λ j. let e : Decision = record { likeness = alike j; place = sym place j } in e in

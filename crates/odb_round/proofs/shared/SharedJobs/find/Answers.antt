@@ -1,4 +1,4 @@
-use Rattle.std.proofs.Common.{rules, ◌≡◌, ◌<◌, true, List, length, slice_index_or, subst, sym}
+use Rattle.std.proofs.Common.{rules, ◌≡◌, ◌<◌, true, List, length, slice_index_or, subst, sym, ap}
 use Rattle.std.specs.List.{All}
 use Rattle.odb_sessions.specs.Alike.{Likeness}
 use Rattle.odb_round.specs.Jobs.{Shared}
@@ -18,7 +18,7 @@ returns-then-serves-clause-job c = λ m k us js alike shared known all.
     let own : IsSharedIn m x = subst (IsSharedIn m) (sym is) (subst (λ (es : List Shared). All (IsSharedIn m) es) (sym c.self.view_is) shared i x inside) in
     let one : IsPlaceOf k us js x.likeness x.place = subst (λ (e : Shared). IsPlaceOf k us js e.likeness e.place) (sym is) (subst (ArePlacesOf k us js) (sym c.self.view_is) all i x inside) in
     let serves : c.serves.result ≡ true = search rules in
-    let place : x.place ≡ c.place.result = search rules in
+    let place : x.place ≡ c.job.inside.place = sym (ap (λ (e : Shared). e.place) c.job.view_is) in
     subst (IsPlaceOf k us js (likeness_in c.args.monitor.now way.Asked)) place (subst (λ (l : Likeness). IsPlaceOf k us js l x.place) (c.serves.ensures serves m alike own known) one)
 
 pub returns-then-serves-clause-likeness : goal.returns-then-serves-clause-likeness
@@ -31,5 +31,5 @@ returns-then-serves-clause-likeness c = λ m ls alike shared known all.
     let own : IsSharedIn m x = subst (IsSharedIn m) (sym is) (subst (λ (es : List Shared). All (IsSharedIn m) es) (sym c.self.view_is) shared i x inside) in
     let one : IsAtPlace ls x.likeness x.place = subst (λ (e : Shared). IsAtPlace ls e.likeness e.place) (sym is) (subst (AreSharedPlaced ls) (sym c.self.view_is) all i x inside) in
     let serves : c.serves.result ≡ true = search rules in
-    let place : x.place ≡ c.place.result = search rules in
+    let place : x.place ≡ c.job.inside.place = sym (ap (λ (e : Shared). e.place) c.job.view_is) in
     subst (IsAtPlace ls (likeness_in c.args.monitor.now way.Asked)) place (subst (λ (l : Likeness). IsAtPlace ls l x.place) (c.serves.ensures serves m alike own known) one)
