@@ -109,6 +109,14 @@ resting_rest o o' i j b s before changed others rests q out = by (eq_by_cmp nat_
     by true is = subst (IsAtRest j b) (sym (same_key q s is)) rests
     by false is = same_rest i j b b q refl (others q (other q s is)) refl (before q (stays o o' s q false changed is ∙ out))
 
+-- where the index says something else of one that is in the set, it says what it did of those that aren't
+pub said_others : (o : BTreeSet ℕ) (i j : Interests) (s : ℕ) → contains nat_cmp o s ≡ true → KeepsOthers i j s → (q : ℕ) → contains nat_cmp o q ≡ false → asked_at j q ≡ asked_at i q
+said_others o i j s there others q out = by (eq_by_cmp nat_cmp q s) refl
+  where
+    by : (c : Bool) → eq_by_cmp nat_cmp q s ≡ c → asked_at j q ≡ asked_at i q
+    by true is = absurd (true≢false (sym there ∙ sym (ap (contains nat_cmp o) (same_key q s is)) ∙ out))
+    by false is = others q (other q s is)
+
 -- of those that are in the set the index may say anything
 pub said_rest : (o : BTreeSet ℕ) (i j : Interests) (b : Book) → AreAtRest o i b → ((q : ℕ) → contains nat_cmp o q ≡ false → asked_at j q ≡ asked_at i q) → AreAtRest o j b
 said_rest o i j b before said q out = same_rest i j b b q refl (said q out) refl (before q out)

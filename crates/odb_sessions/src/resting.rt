@@ -40,18 +40,6 @@ impl Sessions {
             return;
         }
         self.sessions.recognise(self.alloc, session);
-        self.forget_covered(session);
-    }
-
-    /// Forgets that a session may be owed something, once the index has what it asks, if there is memory for that. What
-    /// `interest::cover` costs.
-    fn forget_covered(&mut self, session: SessionId)
-        requires { IsQuietAt self.old session }
-        ensures { self.new ≡ self.old }
-    {
-        if !self.owed.contains(&session) {
-            return;
-        }
         if cover(&mut self.interest, session, self.sessions.get(session)).is_err() {
             return;
         }
