@@ -245,17 +245,6 @@ fn all_stand_as(tables: &[Watching], others: &[Watching]) -> bool
 }
 
 impl Watching {
-    /// Returns whether the client has what the table is now, under what is asked. `false` says nothing. O(1).
-    fn is_now(&self, chains: &Chains) -> bool
-        requires { IsKnown chains.now self.now }
-        ensures { result ≡ true → (part_to chains.now.db self.now).told ≡ (part_to chains.now.db self.now).asked }
-    {
-        if self.told.is_some() {
-            return false;
-        }
-        chains.is_now(&self.mark)
-    }
-
     /// Returns whether the client stands to it as to the other, where the same is asked of both: it was told of both at the
     /// same change of the table, under what is asked. `false` says nothing. O(1).
     fn stands_as(&self, other: &Watching) -> bool
@@ -278,7 +267,10 @@ fn are_now(tables: &[Watching], chains: &Chains) -> bool
     ensures { result ≡ true → AreNow chains.now.db tables.now }
 {
     for table in tables {
-        if !table.is_now(chains) {
+        if table.told.is_some() {
+            return false;
+        }
+        if !chains.is_now(&table.mark) {
             return false;
         }
     }

@@ -292,7 +292,8 @@ impl Numbered {
         of.set_watch(watch);
     }
 
-    /// Returns a number for what a session's monitors ask, where it is open and they have none.
+    /// Returns a number for what a session's monitors ask, where it is open and they have none: that of a session whose monitors
+    /// ask the same, or else one that no session has.
     fn watch_for(&self, session: SessionId) -> Option<Watch>
         requires { AreAlike self.now }
         ensures { IfSome result (λ w. IsWatchFor self.now session w.number) }
@@ -303,25 +304,10 @@ impl Numbered {
         if of.watch.is_some() {
             return None;
         }
-        self.watch_of(of)
-    }
-
-    /// Returns a number for what the monitors of this session ask.
-    fn watch_of(&self, of: &Session) -> Option<Watch>
-        requires { AreAlike self.now }
-        ensures { IfSome result (λ w. Joins self.now (with_watch w.number of.now)) }
-    {
         let digest = of.digest();
-        match self.watch_like(of, digest) {
-            Some(number) => Some(Watch { number, digest }),
-            None => self.new_watch(digest),
+        if let Some(number) = self.watch_like(of, digest) {
+            return Some(Watch { number, digest });
         }
-    }
-
-    /// Returns a number that no session has.
-    fn new_watch(&self, digest: u64) -> Option<Watch>
-        ensures { IfSome result (λ w. (x : Kept) → Joins self.now (with_watch w.number x)) }
-    {
         let number = self.greatest_watch().checked_add(1)?;
         Some(Watch { number, digest })
     }
