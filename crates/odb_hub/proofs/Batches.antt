@@ -5,7 +5,10 @@ use mathlib.Core.List.{reverse, reverse-append, map-append, append_assoc}
 use Rattle.odb_atoms.specs.Represented.Atom.{uuid_of}
 use Rattle.odb_wire.specs.Shown.{request_data}
 use Rattle.odb_service.specs.Run.{Event, submitted}
-use Rattle.odb_hub.specs.Batch.{TakesAll, TakesUpTo}
+use Rattle.odb_core.specs.declared.refused.EventRefusal.{EventRefusal}
+use Rattle.odb_core.specs.Represented.Reason.{IsReason}
+use Rattle.odb_service.specs.Server.{Server, serve}
+use Rattle.odb_hub.specs.Batch.{RefusesFirst, TakesAll, TakesUpTo}
 use Rattle.odb_hub.specs.Counted.{Counted, IsAnswered, Seat}
 use Rattle.odb_hub.specs.Kept.{Kept, Takes}
 use Rattle.odb_hub.specs.Represented.Submission.{event_of, events_of}
@@ -77,3 +80,11 @@ same_event s now x y request fresh = λ i. submitted s (request_data (request i)
 pub came_back : (s now : ℕ) (xs ys zs : List Submission) (x y : Submission) → xs ≡ ys ++ x ∷ [] → zs ≡ ys ++ y ∷ [] → y.request ≡ x.request → y.fresh ≡ x.fresh → events_of s now zs ≡ events_of s now xs
 came_back s now xs ys zs x y old new request fresh =
     ap (events_of s now) new ∙ last_first s now ys y ∙ (λ i. same_event s now y x request fresh i ∷ events_of s now ys) ∙ sym (last_first s now ys x) ∙ sym (ap (events_of s now) old)
+
+-- what comes back is the first that is left, and was refused for this reason
+pub refused_first : (s t now : ℕ) (ys zs : List Submission) (x y : Submission) (why : EventRefusal) (a b : Server)
+    → t ≡ s → zs ≡ ys ++ y ∷ [] → y.request ≡ x.request → y.fresh ≡ x.fresh → b ≡ a → IsReason why (serve (event_of t now x) a) → RefusesFirst why (events_of s now zs) b
+refused_first s t now ys zs x y why a b session is request fresh same h =
+    let first : events_of s now zs ≡ event_of s now y ∷ events_of s now ys = ap (events_of s now) is ∙ last_first s now ys y in
+    let event : event_of t now x ≡ event_of s now y = ap (λ q. event_of q now x) session ∙ sym (same_event s now y x request fresh) in
+    subst (λ es. RefusesFirst why es b) (sym first) (subst (λ (v : Server). IsReason why (serve (event_of s now y) v)) (sym same) (subst (λ (e : Event). IsReason why (serve e a)) event h))
