@@ -2,7 +2,8 @@
 
 use crate::connection::RandomIdentifiers;
 use crate::fault::ProgramFault;
-use crate::server_database::{NAME, ServerBegun, printed_schema};
+use crate::server_database::{NAME, filled_core, printed_schema};
+use odb_core::Core;
 use odb_front::{Answers, Databases, Ids, PrintedSchema};
 use odb_schema::Schema;
 use odb_script::RunFault;
@@ -10,6 +11,7 @@ use rand::make_rng;
 use serde_json::{Value, json};
 use std::alloc::{AllocError, Global};
 use std::random::RandomSource;
+use std::sync::Mutex;
 use uuid::Uuid;
 
 /// The schemas of the databases that are served.
@@ -40,7 +42,7 @@ pub(crate) struct FrontEnd {
     pub(crate) answers: Answers,
     /// The ids of a connection that has named nothing.
     pub(crate) nothing: Ids,
-    pub(crate) server: Option<ServerBegun>,
+    pub(crate) server: Option<Mutex<Core>>,
 }
 
 impl FrontEnd {
@@ -88,11 +90,12 @@ fn server_of<R: RandomSource>(
     schemas: &[PrintedSchema],
     has_server: bool,
     identifiers: &mut RandomIdentifiers,
-) -> Result<Option<ServerBegun>, ProgramFault> {
+) -> Result<Option<Mutex<Core>>, ProgramFault> {
     if !has_server {
         return Ok(None);
     }
-    Ok(Some(ServerBegun::new(rt, alloc, schemas, identifiers)?))
+    let core = filled_core(rt, alloc, schemas, identifiers)?;
+    Ok(Some(Mutex::new(core)))
 }
 
 fn databases_of(

@@ -22,17 +22,20 @@ mod load;
 mod log;
 mod notices;
 mod pace;
+mod probe;
 mod second;
 mod serve;
 mod server_database;
+mod tuning;
 
-use crate::daemon::{Begun, Patience};
 use crate::fault::{ProgramFault, Which};
 use crate::front::{FrontEnd, Schemas};
-use crate::serve::{Beginning, Memory, SecondBegun, StartOptions, Terms, begin, serve_all};
+use crate::serve::{Beginning, Settings, begin, noting_failures, serve_all};
+use crate::tuning::HEAVY;
 use clap::builder::ValueParser;
 use clap::error::ErrorKind;
 use clap::{Arg, ArgAction, ArgMatches, Command, Error};
+use odb_core::Core;
 use odb_par::Workers;
 use odb_schema::{Schema, SchemaFault};
 use odb_script::{FailureLatch, RunFault, run_script};
@@ -51,7 +54,6 @@ use std::sync::Wait;
 use std::thread::Threads;
 use std::time::{Clock, Instant};
 use std::{env, fs, thread};
-use uuid::Uuid;
 
 fn main(rt: HostRuntime) -> io::Result<ExitCode> {
     let words: Vec<String> = env::args(&rt)?.collect(rt.alloc())?;
@@ -228,10 +230,6 @@ const LONGEST_MESSAGE: u64 = 1_073_741_824;
 
 /// How many threads may serve connections, and how many compose what clients are sent.
 const MOST_THREADS: u64 = 64;
-
-/// From which weight on the jobs of a round are composed by more than one: about how many rows are looked at in the time
-/// that a thread takes to start.
-const HEAVY: usize = 4_000;
 
 /// What the help ends with: an example, exit statuses, and the numbers of schema faults. [P 1.4, 15.1, 15.2]
 const AFTER_HELP: &str = "Example:
@@ -485,23 +483,21 @@ fn serve_schemas<
         + Eprint
         + Sync,
 >(rt: &R, alloc: Global, schemas: Schemas, words: &ArgMatches<'_>) -> Result<(), ProgramFault> {
-    let start = StartOptions {
-        address: word(words, "listen", ADDRESS),
-        file: words.get_str("load"),
-    };
     let names = names_to_log(alloc, &schemas, words)?;
     let front = front_of(rt, alloc, &schemas, words)?;
     let Schemas { first, second } = schemas;
-    let Ok(moment) = Instant::now(rt) else {
+    let Ok(start) = Instant::now(rt) else {
         return Err(ProgramFault::Run(RunFault::Read));
     };
+    let settings = settings_of(rt, words, start);
     let beginning = Beginning {
-        first: begin_one(rt, alloc, first, words, moment)?,
-        second: begin_second(rt, alloc, second, words, moment)?,
+        alloc,
+        first: begin_one(rt, alloc, first, &settings)?,
+        second: begin_second(rt, alloc, second, &settings)?,
         front,
         names,
     };
-    serve_all(rt, beginning, start, terms(rt, words))
+    serve_all(rt, beginning, &settings)
 }
 
 /// Begins the second database, if there is one.
@@ -509,40 +505,32 @@ fn begin_second<R: RandomSource>(
     rt: &R,
     alloc: Global,
     schema: Option<Schema>,
-    words: &ArgMatches<'_>,
-    moment: Instant,
-) -> Result<Option<SecondBegun>, ProgramFault>
-    ensures { IfOk result (λ second. IfSome second (λ second. IsNew second.begun.core)) }
+    settings: &Settings<'_>,
+) -> Result<Option<Core>, ProgramFault>
+    ensures { IfOk result (λ second. IfSome second (λ core. IsNew core)) }
 {
     let Some(schema) = schema else {
         return Ok(None);
     };
-    let rng: Result<StdRng, io::Error> = make_rng(rt);
-    let mut rng = rng.map_err(|_| ProgramFault::Run(RunFault::Memory))?;
-    let id = Uuid::new_v4(&mut rng);
-    match begin_one(rt, alloc, schema, words, moment) {
-        Ok(begun) => Ok(Some(SecondBegun { begun, id })),
+    match begin_one(rt, alloc, schema, settings) {
+        Ok(core) => Ok(Some(core)),
         Err(fault) => Err(fault),
     }
 }
 
-/// Begins a database at this moment.
+/// Begins a database.
 fn begin_one<R: RandomSource>(
     rt: &R,
     alloc: Global,
     schema: Schema,
-    words: &ArgMatches<'_>,
-    moment: Instant,
-) -> Result<Begun, ProgramFault>
-    ensures { IfOk result (λ begun. IsNew begun.core) }
+    settings: &Settings<'_>,
+) -> Result<Core, ProgramFault>
+    ensures { IfOk result (λ core. IsNew core) }
 {
     let hashing = RandomState::new(rt).map_err(|_| ProgramFault::Run(RunFault::Memory))?;
-    let memory = Memory {
-        run: run_word(rt)?,
-        kept: words.get_one("kept").unwrap_or(KEPT) as usize,
-    };
-    match begin(alloc, schema, hashing, memory, moment) {
-        Ok(begun) => Ok(begun.noting_failures(words.get_str("log").is_some())),
+    let run = run_word(rt)?;
+    match begin(alloc, schema, hashing, run, settings.kept) {
+        Ok(core) => Ok(noting_failures(core, settings.logs_errors)),
         Err(fault) => Err(ProgramFault::Run(fault)),
     }
 }
@@ -580,18 +568,21 @@ fn run_word<R: RandomSource>(rt: &R) -> Result<u64, ProgramFault> {
     Ok(rng.next_u64())
 }
 
-/// Returns whom the daemon is to serve.
-fn terms<R: Threads>(rt: &R, words: &ArgMatches<'_>) -> Terms {
-    Terms {
+/// Returns how the words say to serve, from this moment on.
+fn settings_of<'a, R: Threads>(rt: &R, words: &ArgMatches<'a>, start: Instant) -> Settings<'a> {
+    Settings {
+        address: word(words, "listen", ADDRESS),
+        file: words.get_str("load"),
         sessions: words.get_one("sessions"),
-        patience: Patience {
-            probe: milliseconds(words, "probe"),
-            stall: milliseconds(words, "stall"),
-        },
+        probe: milliseconds(words, "probe"),
+        stall: milliseconds(words, "stall"),
+        kept: words.get_one("kept").unwrap_or(KEPT) as usize,
         max_message: words.get_one("max-message").unwrap_or(MAX_MESSAGE as u64) as usize,
         has_log: words.contains_id("log"),
+        logs_errors: words.get_str("log").is_some(),
         threads: threads(rt, words, "threads"),
         workers: Workers::new(threads(rt, words, "workers"), HEAVY),
+        start,
     }
 }
 

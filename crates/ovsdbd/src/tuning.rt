@@ -1,0 +1,57 @@
+//! How much is done at once, how long is waited, and from when on something counts: what the daemon's speed rests on, and no
+//! contract does. How long the pump rests stands in `pace`.
+
+/// How many bytes are read at once of a connection.
+pub(crate) const PIECE: usize = 8_192;
+
+/// How many bytes are read at once of a file of messages.
+pub(crate) const FILE_PIECE: usize = 65_536;
+
+/// How many events a thread takes at once.
+pub(crate) const EVENTS: usize = 256;
+
+/// How many of those that ask something, and of the others, have a turn before a thread looks for events again.
+pub(crate) const TURNS: usize = 32;
+
+/// After how many microseconds of such turns it looks for events all the same.
+pub(crate) const BATCH: u64 = 1_000;
+
+/// How often what is held back is sent for, before other connections have their turn.
+pub(crate) const REFILLS: usize = 8;
+
+/// How many messages of the second database are taken out before others are written.
+pub(crate) const TAKEN: usize = 64;
+
+/// How many requests are looked at in a turn, where they may go to several places.
+pub(crate) const LOOKED_AT: usize = 64;
+
+/// From how many microseconds under the lock on a turn of submissions counts as slow.
+pub(crate) const SLOW: u64 = 200;
+
+/// From which weight on the jobs of a round are composed by more than one: about how many rows are looked at in the time
+/// that a thread takes to start.
+pub(crate) const HEAVY: usize = 4_000;
+
+/// After how many turns of the pump the journal begins anew.
+pub(crate) const SETTLES: u64 = 65_536;
+
+/// How many times as often as its patience is long the daemon looks whether that is at its end.
+pub(crate) const LOOKS: u64 = 8;
+
+/// For how many milliseconds a thread pauses where memory was refused for the end of a session.
+pub(crate) const END_PAUSE: u64 = 1;
+
+/// For how many milliseconds the daemon waits after a connection couldn't be accepted, as where no file descriptor is left.
+pub(crate) const ACCEPT_PAUSE: u64 = 100;
+
+/// For how many milliseconds nothing more is written after a notice: what happens meanwhile is counted in the next.
+pub(crate) const NOTICE_PAUSE: u64 = 1_000;
+
+/// How often it is looked meanwhile whether the daemon ends.
+pub(crate) const NOTICE_LOOKS: u64 = 20;
+
+/// How many lines of the log wait to be written at most. Those that come then are left out, and counted.
+pub(crate) const LOG_LINES: usize = 4_096;
+
+/// How many bytes the stack of a thread has.
+pub(crate) const STACK: usize = 1_048_576;
