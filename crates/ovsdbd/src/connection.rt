@@ -235,8 +235,7 @@ impl<'a, L: Ledger, M: Ledger> Connection<'a, L, M> {
                 self.read(tools);
             }
             if self.inbox.pending() > 0 {
-                self.submit(tools);
-                written = self.write(tools)?;
+                written = self.submit(tools)?;
             }
         }
         Ok(self.next(tools, written))
@@ -458,13 +457,38 @@ impl<'a, L: Ledger, M: Ledger> Connection<'a, L, M> {
         }
     }
 
-    /// Submits a turn of the requests: all to the first database, or each where it goes. Step: `submits`.
-    fn submit<R: Threads + Wait + Clock + Sync>(&mut self, tools: &mut Tools<'a, L, M, R>) {
+    /// Submits a turn of the requests, all to the only database or each where it goes, and writes what the session is given. Step:
+    /// `submits`; those of `write`.
+    fn submit<R: Threads + Wait + Clock + Sync>(
+        &mut self,
+        tools: &mut Tools<'a, L, M, R>,
+    ) -> io::Result<Written> {
         if tools.front.is_none() {
-            self.submit_first(tools, usize::MAX);
-        } else if self.submit_each(tools).is_err() {
+            return self.submit_alone(tools);
+        }
+        if self.submit_each(tools).is_err() {
             self.give_up();
         }
+        self.write(tools)
+    }
+
+    /// Submits a turn of the requests to the only database, and writes what the session is given. Then the other sessions are told,
+    /// so that a reply waits for none of them.
+    fn submit_alone<R: Threads + Wait + Clock + Sync>(
+        &mut self,
+        tools: &Tools<'a, L, M, R>,
+    ) -> io::Result<Written> {
+        let Some(seat) = &mut self.seat else {
+            return self.write(tools);
+        };
+        let (rt, daemon) = (tools.rt, tools.daemon);
+        let mut hub = daemon.hub.enter(rt);
+        let turn = daemon.submit_under(rt, &mut *hub, seat, &mut self.inbox, usize::MAX);
+        drop(hub);
+        let written = self.write(tools);
+        daemon.tell(rt, &turn);
+        self.note_turn(turn);
+        written
     }
 
     /// Ends the session as memory was refused for its requests.
