@@ -15,11 +15,13 @@ use std::hash::{DefaultHasher, Hasher};
 const PRIME: u64 = 1_099_511_628_211;
 
 /// Returns the digest of what is composed for the client of a monitor in this way: what is alike has the same, other
-/// seldom has. O(n) for n tables, and the atoms in the last member of each of their filters, with their bytes.
+/// seldom has. O(n) for n tables, and the atoms in the last member of the first filter that has one, with their bytes.
 pub fn digest_of<'a>(monitor: &'a Monitor, way: Way<'a>) -> u64
     ensures { result ≡ spec.digest (likeness_in monitor.now way.entry) }
 {
-    with_ago(of_tables(monitor.tables.as_slice(), way), way.ago())
+    let tables = monitor.tables.as_slice();
+    let counted = of_tables(tables, way);
+    with_ago(mixed(counted, of_first(tables, way)), way.ago())
 }
 
 /// Returns the number with another put to it.
@@ -69,23 +71,48 @@ fn with_place(sum: u64, place: Option<(TableId, u64)>) -> u64
     }
 }
 
-/// Returns the number with how many members the filter has, and the digest of the last: a filter of many costs no more than one
-/// of a few, and where one came it is the last, mostly.
+/// Returns the number with how many members the filter has.
 pub(crate) fn with_filter(sum: u64, filter: &Filter) -> u64
     ensures { result ≡ spec.after_filter sum filter.now }
 {
-    with_last(sum, filter.members())
+    with_count(sum, filter.members())
 }
 
-/// Returns the number with how many members there are, and the digest of the last.
-fn with_last(sum: u64, members: &[Member]) -> u64
+/// Returns the number with how many members there are.
+fn with_count(sum: u64, members: &[Member]) -> u64
     ensures { result ≡ spec.after_filter sum (map member_of members.now) }
 {
+    mixed(sum, members.len() as u64)
+}
+
+/// Returns the digest of the last member of the first filter that has one; 0 where none has. So many tables, and filters of many
+/// members, cost little more than one, and where a member came it is the last, mostly.
+fn of_first<'a>(tables: &'a [Watching], way: Way<'a>) -> u64
+    ensures { result ≡ spec.of_first (map (stand_in way.entry) tables.now) }
+{
+    for table in tables {
+        if let Some(last) = of_last(way.filter(&table.request)) {
+            return last;
+        }
+    }
+    0
+}
+
+/// Returns the digest of the last member of the filter, if it has one.
+pub(crate) fn of_last(filter: &Filter) -> Option<u64>
+    ensures { result ≡ spec.of_last filter.now }
+{
+    of_last_among(filter.members())
+}
+
+/// Returns the digest of the last of the members, if there is one.
+fn of_last_among(members: &[Member]) -> Option<u64>
+    ensures { result ≡ spec.of_last (map member_of members.now) }
+{
     let Some(member) = members.last() else {
-        return sum;
+        return None;
     };
-    let counted = mixed(sum, members.len() as u64);
-    mixed(counted, of_member(member))
+    Some(of_member(member))
 }
 
 /// Returns the digest of the atoms in the member.

@@ -5,7 +5,7 @@ ghost use Rattle.odb_sessions.specs.Composed.{asked_of};
 ghost use Rattle.odb_sessions.specs.Held.{monitor_of};
 ghost use Rattle.odb_sessions.specs.Watches.{asking_in, asking_of};
 
-use crate::digest::{mixed, with_filter};
+use crate::digest::{mixed, of_last, with_filter};
 use crate::monitor::{Monitor, Watching};
 use crate::session::Session;
 use odb_request::Request;
@@ -128,7 +128,9 @@ impl Watching {
 fn with_asked(sum: u64, tables: &[Watching]) -> u64 {
     let mut sum = sum;
     for table in tables {
-        sum = with_filter(mixed(sum, table.request.table().place() as u64), table.request.filter());
+        let filter = table.request.filter();
+        let named = mixed(sum, table.request.table().place() as u64);
+        sum = mixed(with_filter(named, filter), of_last(filter).unwrap_or(0));
     }
     sum
 }

@@ -1,5 +1,5 @@
--- By what number decisions are found: of where clients stand, and of the last atoms in their filters.
-use Rattle.std.specs.Prelude.{ℕ, ◌+◌, ◌*◌, ◌-◌, ◌^◌, ◌%◌, List, [], ◌∷◌, length, slice_get, Option, Some, None}
+-- By what number decisions are found: of where clients stand, of how many members their filters have, and of the last of one.
+use Rattle.std.specs.Prelude.{ℕ, ◌+◌, ◌*◌, ◌-◌, ◌^◌, ◌%◌, List, [], ◌∷◌, length, option_map, slice_get, Option, Some, None}
 use Rattle.std.specs.Hash.DefaultHasher as sip
 use Rattle.odb_cond.specs.Filter.{Filter, Member, always, when}
 use Rattle.odb_sessions.specs.Alike.{Likeness, Stand}
@@ -13,13 +13,12 @@ abbrev pub of_member : Member → ℕ
 of_member (always b) = 0
 of_member (when c) = sip.finish (after_value sip.initial c.value)
 
--- of a filter, how many members it has, and the last: a filter of many costs no more than one of a few
-abbrev pub after_last : ℕ → ℕ → Option Member → ℕ
-after_last sum count None = sum
-after_last sum count (Some m) = mixed (mixed sum count) (of_member m)
-
 abbrev pub after_filter : ℕ → Filter → ℕ
-after_filter sum f = after_last sum (length f) (slice_get f (length f - 1))
+after_filter sum f = mixed sum (length f)
+
+-- of the last member of a filter
+abbrev pub of_last : Filter → Option ℕ
+of_last f = option_map of_member (slice_get f (length f - 1))
 
 abbrev pub after_place : ℕ → Option (ℕ × ℕ) → ℕ
 after_place sum None = sum
@@ -32,9 +31,18 @@ abbrev pub after_stands : ℕ → List Stand → ℕ
 after_stands sum [] = sum
 after_stands sum (s ∷ ss) = after_stands (after_stand sum s) ss
 
+-- of the last member of the first filter that has one: many tables, and filters of many members, cost little more than one
+abbrev pub of_first_or : Option ℕ → ℕ → ℕ
+of_first_or None n = n
+of_first_or (Some m) n = m
+
+abbrev pub of_first : List Stand → ℕ
+of_first [] = 0
+of_first (s ∷ ss) = of_first_or (of_last s.request.filter) (of_first ss)
+
 abbrev pub after_ago : ℕ → Option ℕ → ℕ
 after_ago sum None = sum
 after_ago sum (Some n) = mixed sum n
 
 unfoldable pub digest : Likeness → ℕ
-digest l = after_ago (after_stands 0 l.stands) l.ago
+digest l = after_ago (mixed (after_stands 0 l.stands) (of_first l.stands)) l.ago
