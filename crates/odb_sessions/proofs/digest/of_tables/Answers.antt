@@ -12,7 +12,7 @@ loop-table-preserved c =
     let w = c.table-item.result in
     let low : i < length ws = search rules in
     let at : w ≡ get_or ws i w = search rules in
-    let put : c.with_table.result ≡ after_stand c.loop-table.sum (stand_in c.args.way w) = search rules in
+    let put : c.with_table-sum.result ≡ after_stand c.loop-table.sum (stand_in c.args.way w) = search rules in
     ap (λ h. after_stands h (map (stand_in c.args.way) (drop (i + 1) ws))) put ∙ ap (λ xs. after_stands c.loop-table.sum (map (stand_in c.args.way) xs)) (sym (front ws i w low at)) ∙ c.loop-table.invariant
 
 pub returns : goal.returns
