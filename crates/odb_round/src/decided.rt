@@ -51,12 +51,6 @@ impl<'a> Decision<'a> {
         let own = self.monitor;
         own.is_like(self.way, monitor, way)
     }
-
-    fn digest(&self) -> u64
-        ensures { result ≡ digest self.now.likeness }
-    {
-        digest_of(self.monitor, self.way)
-    }
 }
 
 /// Decisions that have one digest.
@@ -164,7 +158,7 @@ impl<'a> Decided<'a> {
         ensures ok { OnOk result (Puts self.old self.new decision.entry) }
         ensures err { OnErr result (IsSame self.old self.new) }
     {
-        let number = decision.digest();
+        let number = digest_of(decision.monitor, decision.way);
         self.newest = number;
         let Some(bucket) = self.buckets.get_mut(&number) else {
             return self.put_first(number, decision);

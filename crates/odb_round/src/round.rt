@@ -10,7 +10,7 @@ ghost use Rattle.odb_service.specs.Server.{printed, served_by};
 ghost use Rattle.odb_service.specs.Session as machine;
 ghost use Rattle.odb_service.specs.World.{World, revision_of};
 ghost use Rattle.odb_sessions.specs.Alike.{Likeness};
-ghost use Rattle.odb_sessions.specs.FirstTexts.{IsFirstText, IsOfNow};
+ghost use Rattle.odb_sessions.specs.FirstTexts.{IsOfNow};
 ghost use Rattle.odb_sessions.specs.Held.{all_seen, item_seen, seen};
 ghost use Rattle.odb_round.specs.Jobs.{AreByLikenesses, AreByMarks, AreEachOnce, AreMadeOf, AreOfJobs, IsByLikeness, IsOfJob, Keeps};
 ghost use Rattle.odb_round.specs.OfSchema.{AreSessionsOf};
@@ -31,17 +31,10 @@ use crate::jobs::{Jobs, Planned, PreparedRound};
 use crate::taking::{Coming, Taking, taking_from};
 use odb_locks::SessionId;
 use odb_queue::Finished;
-use odb_sessions::{FirstText, Item, Numbered, Out, Sessions};
+use odb_sessions::{Item, Numbered, Out, Sessions};
 use std::alloc::{AllocError, Global};
 use std::collections::VecDeque;
 use std::sync::Arc;
-
-/// A round that is composed, and the text of a first reply of it that is to be kept.
-#[derive(Drop)]
-struct Composed {
-    prepared: PreparedRound,
-    first: Option<FirstText>,
-}
 
 /// Returns what a taking of a session uses up, and what comes, if it is open. O(log n) for n sessions, and what
 /// `taking_from` costs.
@@ -155,24 +148,6 @@ pub fn plan_round<'a>(
     Ok(Jobs::new(sessions.alloc(), told, planner.into_jobs(), takings))
 }
 
-/// Plans the same, and composes it.
-fn compose_round(
-    sessions: &Sessions,
-    schema: &odb_schema::Schema,
-    listed: &[SessionId],
-) -> Result<Composed, AllocError>
-    requires { AreSessionsOf schema.now sessions.now.sessions }
-    ensures sessions { IfOk result (λ composed. sessions_in composed.prepared ≡ listed.now) }
-    ensures ready { IfOk result (λ composed. AreOf sessions.now composed.prepared) }
-    ensures first { IfOk result (λ composed. IfSome composed.first (IsFirstText sessions.now.db)) }
-{
-    let jobs = plan_round(sessions, schema, listed)?;
-    let bodies = jobs.compose()?;
-    let first = jobs.first_text(bodies.as_slice())?;
-    let prepared = jobs.finish(bodies.as_slice())?;
-    Ok(Composed { prepared, first })
-}
-
 /// Carries a taking out, and returns the message that comes, if one does. It can't be refused.
 fn take(sessions: &mut Sessions, planned: Planned) -> Option<Out>
     requires { (s : Schema) → IsReadyFor s (revision_in sessions.old) (finite.get sessions.old.sessions planned.session) (ready_of planned) }
@@ -242,7 +217,10 @@ pub fn give_round(
     ensures revision { revision_in sessions.new ≡ revision_in sessions.old }
     ensures err { OnErr result (sessions.new ≡ sessions.old) }
 {
-    let Composed { prepared, first } = compose_round(sessions, schema, listed)?;
+    let jobs = plan_round(sessions, schema, listed)?;
+    let bodies = jobs.compose()?;
+    let first = jobs.first_text(bodies.as_slice())?;
+    let prepared = jobs.finish(bodies.as_slice())?;
     sessions.keep(first);
     Ok(accept_round(sessions, prepared))
 }

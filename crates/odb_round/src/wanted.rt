@@ -157,18 +157,11 @@ impl<'a> Wanted<'a> {
         self.chains
     }
 
-    /// Returns the last commits.
-    fn recent(&self) -> &'a Recent
-        ensures { result.now ≡ self.now.recent }
-    {
-        self.recent
-    }
-
     /// Returns the number of the newest commit. O(1).
     pub(crate) fn number(&self) -> Uuid
         ensures { uuid_of result ≡ number_of self.now.recent.run self.now.recent.commits }
     {
-        self.recent().number()
+        self.recent.number()
     }
 
     /// Returns how many commits ago the one of this number was, if it is found. O(1).
@@ -176,7 +169,7 @@ impl<'a> Wanted<'a> {
         ensures found { result ≡ commits_ago self.now.recent.most self.now.recent.run self.now.recent.commits (uuid_of since) }
         ensures kept { IfSome result (λ ago. ago ≤ length self.now.recent.undos) }
     {
-        self.recent().find(since)
+        self.recent.find(since)
     }
 
     /// Returns the jobs, and what each is composed for.
@@ -289,18 +282,10 @@ impl<'a> Wanted<'a> {
         ensures { IfOk result (λ job. job ≡ job_in self.now.chains.db monitor.now way.entry) }
     {
         if way.is_first() {
-            return Ok(self.first_job(monitor));
+            let text = self.firsts.find(monitor);
+            return Ok(RoundJob::first(self.alloc, self.chains, monitor, text));
         }
         RoundJob::new(self.alloc, self.chains, monitor, way)
-    }
-
-    /// Returns the job of the first reply of a monitor, with its text where that is kept.
-    fn first_job(&self, monitor: &'a Monitor) -> RoundJob<'a>
-        requires { AreLive self.now.chains (marks_in monitor.now) }
-        ensures { result ≡ job_in self.now.chains.db monitor.now way.First }
-    {
-        let text = self.firsts.find(monitor);
-        RoundJob::first(self.alloc, self.chains, monitor, text)
     }
 
     /// Returns the place of the job for the client of a monitor: its first reply. The costs are those of `want`.
@@ -336,7 +321,7 @@ impl<'a> Wanted<'a> {
         ensures recent { self.new.recent ≡ self.old.recent }
         ensures basis { self.new.basis ≡ self.old.basis }
     {
-        let recent = self.recent();
+        let recent = self.recent;
         let place = self.want(monitor, Way::Since(recent, ago))?;
         let Some(place) = place else {
             unreachable!();

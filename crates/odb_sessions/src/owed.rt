@@ -109,17 +109,6 @@ fn changes_since(
 }
 
 impl Watching {
-    /// Returns it, under what is asked of it.
-    fn owed(&self) -> Owed<'_>
-        ensures { result ≡ self.now }
-    {
-        Owed {
-            request: &self.request,
-            told: other_filter(&self.told),
-            mark: &self.mark,
-        }
-    }
-
     /// Returns it, as if the request were this one. What `apart` costs.
     fn owed_as<'a>(&'a self, request: &'a Request) -> Owed<'a>
         ensures { result ≡ asked_as self.now request.now }
@@ -196,7 +185,12 @@ pub(crate) fn all_owed<'a>(
 {
     let mut owed = Vec::with_capacity(alloc, tables.len())?;
     for table in tables {
-        owed.push_reserved(table.owed());
+        let told = other_filter(&table.told);
+        owed.push_reserved(Owed {
+            request: &table.request,
+            told,
+            mark: &table.mark,
+        });
     }
     Ok(owed)
 }
