@@ -21,14 +21,15 @@ use std::sync::Arc;
 /// From how many bytes on the text of a first reply is kept: a shorter one is composed as fast as it is found.
 const LEAST_KEPT: usize = 4096;
 
-/// What is to be composed for the client of a monitor, and its text where that is kept. Contracts see the job of
-/// `odb_monitor` that it is.
+/// What is to be composed for the client of a monitor, with its text where that is kept, and with the differences that it is
+/// composed of where they lend nothing of it. Contracts see the job of `odb_monitor` that it is.
 #[derive(Drop)]
 pub struct RoundJob<'a> {
     chains: &'a Chains,
     monitor: &'a Monitor,
     way: Way<'a>,
     requests: Vec<Request>,
+    lacks: Option<odb_monitor::Job<'a>>,
     text: Option<&'a Arc<Vec<u8>>>,
 }
 
@@ -48,12 +49,13 @@ impl<'a> Model for RoundJob<'a> {
 
     ghost view = { λ j. job_in j.chains.now.db j.monitor.now j.way };
 
-    ghost invariant = { λ j. AreLive j.chains.now (marks_in j.monitor.now) × (j.requests.items ≡ asked_by j.monitor.now.tables (filters_by j.way)) × IfSome j.text (λ t. Some (bytes_of t.now) ≡ composition (job_in j.chains.now.db j.monitor.now j.way)) };
+    ghost invariant = { λ j. AreLive j.chains.now (marks_in j.monitor.now) × (j.requests.items ≡ asked_by j.monitor.now.tables (filters_by j.way)) × IfSome j.text (λ t. Some (bytes_of t.now) ≡ composition (job_in j.chains.now.db j.monitor.now j.way)) × IfSome j.lacks (λ k. k ≡ job_in j.chains.now.db j.monitor.now j.way) };
 }
 
 impl<'a> RoundJob<'a> {
-    /// Makes the job of what is composed for the client of this monitor in this way. O(1), and under other filters what
-    /// these are looked up in.
+    /// Makes the job of what is composed for the client of this monitor in this way. O(1), but under other filters what these
+    /// are looked up in, and of what the client lacks under those that it asks what `odb_chain::Chains::since` costs, for each
+    /// table.
     pub(crate) fn new(
         alloc: Global,
         chains: &'a Chains,
@@ -64,11 +66,13 @@ impl<'a> RoundJob<'a> {
         ensures { IfOk result (λ job. job ≡ job_in chains.now.db monitor.now way.entry) }
     {
         let requests = requests_of(alloc, monitor, way)?;
+        let lacks = lacking(alloc, chains, monitor, way)?;
         Ok(RoundJob {
             chains,
             monitor,
             way,
             requests,
+            lacks,
             text: None,
         })
     }
@@ -89,30 +93,37 @@ impl<'a> RoundJob<'a> {
             monitor,
             way: Way::First,
             requests: Vec::new(alloc),
+            lacks: None,
             text,
         }
     }
 
-    /// Returns whether something is sent: a reply always is. The costs are those of `odb_monitor::Job::has_updates`
-    /// and, for each table, of `odb_chain::Chains::since`.
+    /// Returns whether something is sent: a reply always is. The costs are those of `odb_monitor::Job::has_updates`, and under
+    /// other filters those of `differences`.
     pub fn has_updates(&self, alloc: Global) -> Result<bool, AllocError>
         ensures { IfOk result (λ has. has ≡ is_some (updates_of self.now)) }
     {
         if self.way.is_reply() {
             return Ok(true);
         }
+        if let Some(job) = &self.lacks {
+            return job.has_updates(alloc);
+        }
         let job = self.differences(alloc)?;
         job.has_updates(alloc)
     }
 
     /// Composes the text of the table updates, without the monitor's id; `None` where nothing is sent. One that is kept
-    /// is shared; else the costs are those of `odb_monitor::compose` and, for each table, of
-    /// `odb_chain::Chains::since`.
+    /// is shared; else the costs are those of `odb_monitor::compose`, and but for what a client lacks under the filters that it
+    /// asks those of `differences`.
     pub fn compose(&self, alloc: Global) -> Result<Option<Arc<Vec<u8>>>, AllocError>
         ensures { IfOk result (λ body. bytes_in body ≡ composition self.now) }
     {
         if let Some(text) = self.text {
             return Ok(Some(text.clone()?));
+        }
+        if let Some(job) = &self.lacks {
+            return compose_over(alloc, job);
         }
         let job = self.differences(alloc)?;
         compose_over(alloc, &job)
@@ -186,6 +197,29 @@ impl<'a> RoundJob<'a> {
             Way::Again(told, _) => monitor.again_job(alloc, chains, told, requests),
             Way::Since(recent, ago) => monitor.resumed_job(alloc, chains, recent, ago),
         }
+    }
+}
+
+/// Returns the job of what the client lacks, where that is under the filters that it asks: it is compared to tell whether
+/// something is sent, and then composed. What `odb_chain::Chains::since` costs, for each table.
+fn lacking<'a>(
+    alloc: Global,
+    chains: &'a Chains,
+    monitor: &'a Monitor,
+    way: Way<'a>,
+) -> Result<Option<odb_monitor::Job<'a>>, AllocError>
+    requires { AreLive chains.now (marks_in monitor.now) }
+    ensures { IfOk result (λ lacks. IfSome lacks (λ job. job ≡ job_in chains.now.db monitor.now way.entry)) }
+{
+    match way {
+        Way::First => Ok(None),
+        Way::Asked => {
+            let job = monitor.own_job(alloc, chains, false)?;
+            Ok(Some(job))
+        }
+        Way::Changed(_) => Ok(None),
+        Way::Again(_, _) => Ok(None),
+        Way::Since(_, _) => Ok(None),
     }
 }
 
