@@ -1,4 +1,4 @@
-//! The server as a machine over events. [P 10.3, 13.1, 14]
+//! The server as a machine over events. [P 10.3, 12.3, 13.1, 14]
 
 ghost use Rattle.std.specs.Prelude.{◌≡◌, ◌≤◌, ◌↔◌, ℕ, List, ◌∷◌, [], flat_map, map, length, Ok, OnOk, OnErr, IfNone, IfOk, IfErr, IfSome, IsErrOf};
 ghost use Rattle.std.specs.List.{All};

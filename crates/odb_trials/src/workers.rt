@@ -88,7 +88,7 @@ impl<'a, R: Clock> Gate for Meeting<'a, R> {
 }
 
 /// The ends of a session: where its requests go in, and where its messages come out.
-struct Ends<L: Ledger> {
+struct SessionEnds<L: Ledger> {
     seat: Seat<L>,
     mailbox: Mailbox,
 }
@@ -99,10 +99,10 @@ fn asks<L: Ledger, R: Threads + Wait + Clock + Sync>(
     alloc: Global,
     hub: &Hub<L>,
     text: &[u8],
-) -> Result<Ends<L>, AllocError> {
+) -> Result<SessionEnds<L>, AllocError> {
     let (mut seat, mailbox) = open(rt, alloc, hub)?;
     match submit(rt, alloc, hub, &mut seat, text) {
-        Ok(_) => Ok(Ends { seat, mailbox }),
+        Ok(_) => Ok(SessionEnds { seat, mailbox }),
         Err(refused) => {
             part(rt, hub, seat);
             Err(refused)
@@ -110,16 +110,16 @@ fn asks<L: Ledger, R: Threads + Wait + Clock + Sync>(
     }
 }
 
-/// Ends a session, if it was opened, and writes down what it was sent.
+/// SessionEnds a session, if it was opened, and writes down what it was sent.
 fn end<L: Ledger, R: Wait>(
     rt: &R,
     hub: &Hub<L>,
-    opened: Result<Ends<L>, AllocError>,
+    opened: Result<SessionEnds<L>, AllocError>,
     text: &mut Vec<u8>,
 ) -> Result<(), AllocError> {
     match opened {
         Ok(ends) => {
-            let Ends { seat, mut mailbox } = ends;
+            let SessionEnds { seat, mut mailbox } = ends;
             part(rt, hub, seat);
             take(&mut mailbox, text)
         }
