@@ -158,7 +158,7 @@ impl<L: Ledger> HubState<L> {
     /// Takes a message of a session in; `now` is the moment in milliseconds. Its seat is answered it. It is refused as
     /// `Core::submit` is, and hands the submission back then. It costs what that call costs, and what the causes do where they
     /// are noted.
-    pub fn submit(
+    fn submit(
         &mut self,
         seat: &mut Seat<L>,
         submission: Submission,

@@ -100,7 +100,7 @@ fn ask_so(requests: &[Request], tables: &[Watching]) -> bool
 /// The texts of the newest first replies, each of other requests.
 #[derive(Drop)]
 pub struct FirstTexts {
-    pub(crate) texts: Vec<FirstText>,
+    texts: Vec<FirstText>,
 }
 
 impl Model for FirstTexts {
@@ -144,8 +144,15 @@ impl FirstTexts {
         ensures { (db : model_db.Db) → IsFirstText db first → AreFirstTexts db self.old → AreFirstTexts db self.new }
     {
         if self.texts.len() >= MOST_KEPT {
-            self.texts.clear();
+            self.clear();
         }
         drop(self.texts.push(first));
+    }
+
+    /// Forgets all.
+    pub(crate) fn clear(&mut self)
+        ensures { self.new ≡ [] }
+    {
+        self.texts.clear();
     }
 }

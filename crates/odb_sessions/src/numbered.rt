@@ -111,6 +111,13 @@ impl Numbered {
         }
     }
 
+    /// Returns whether a session is open.
+    pub(crate) fn has(&self, number: SessionId) -> bool
+        ensures { result ≡ is_some (finite.get self.now number) }
+    {
+        self.get(number).is_some()
+    }
+
     /// Returns how many monitors a session has; none where it isn't open.
     pub(crate) fn monitors(&self, number: SessionId) -> usize {
         match self.get(number) {

@@ -87,7 +87,7 @@ impl Past {
         ensures handed_back { IfErr result (λ refused. refused.value ≡ change) }
         ensures now { IsNow self.new }
     {
-        self.firsts.texts.clear();
+        self.firsts.clear();
         self.chains.absorb(change)
     }
 

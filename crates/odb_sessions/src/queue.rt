@@ -1,5 +1,5 @@
 //! A session's queue. [P 10.1]
-ghost use Rattle.std.specs.Prelude.{◌≡◌, ◌++◌, [], ◌∷◌, flat_map, map, IfErr, IfNone, IfOk, OnErr, OnOk, option_map, option_to_list};
+ghost use Rattle.std.specs.Prelude.{◌≡◌, ◌++◌, true, [], ◌∷◌, flat_map, map, IfErr, IfNone, IfOk, OnErr, OnOk, option_map, option_to_list};
 ghost use Rattle.std.specs.Arc.{arc_value};
 ghost use Rattle.odb_service.specs.Session.{replies_in};
 ghost use Rattle.odb_sessions.specs.Asked.{ids_after};
@@ -52,6 +52,13 @@ impl Queue {
             items: VecDeque::new(alloc),
             replies: 0,
         }
+    }
+
+    /// Returns whether nothing is queued. O(1).
+    pub(crate) fn is_empty(&self) -> bool
+        ensures { result ≡ true → self.now ≡ [] }
+    {
+        self.items.is_empty()
     }
 
     /// Returns how many replies are queued. O(1).

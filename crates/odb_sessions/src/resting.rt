@@ -54,7 +54,7 @@ impl Session {
         requires { AreLive chains.now (marks_of self.now) }
         ensures { result ≡ true → IsQuiet chains.now.db (seen self.now) }
     {
-        if !self.queue.items.is_empty() {
+        if !self.queue.is_empty() {
             return false;
         }
         are_told(self.monitors.as_slice(), chains)

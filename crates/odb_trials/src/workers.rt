@@ -110,7 +110,7 @@ fn asks<L: Ledger, R: Threads + Wait + Clock + Sync>(
     }
 }
 
-/// SessionEnds a session, if it was opened, and writes down what it was sent.
+/// Ends a session, if it was opened, and writes down what it was sent.
 fn end<L: Ledger, R: Wait>(
     rt: &R,
     hub: &Hub<L>,

@@ -14,5 +14,5 @@ invariant_of-self c =
       either c.absorb.result c.absorb.ensures.ok c.absorb.ensures.err
           (λ is. room_absorbed k c.absorb.new.self c.args.change c.self.inside.made c.self.invariant.0 as_many is)
           (λ is. subst (λ (x : Chains). HasRoom x c.self.inside.made) (sym is) c.self.invariant.0),
-      subst (AreFirstTexts c.absorb.new.self.db) (sym c.clear.ensures.items) (no_firsts c.absorb.new.self.db),
+      subst (AreFirstTexts c.absorb.new.self.db) (sym c.clear.ensures) (no_firsts c.absorb.new.self.db),
     )

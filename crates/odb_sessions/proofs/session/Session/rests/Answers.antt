@@ -24,6 +24,7 @@ returns c = λ told.
     let db : Db = c.args.chains.now.db in
     let x : Kept = record { queue = c.self.inside.queue; monitors = c.self.inside.monitors.items; watch = option_map (λ w. w.number) c.self.inside.watch } in
     let slice : c.as_slice.result.now ≡ c.self.inside.monitors.items = search rules in
-    let none : c.self.inside.queue ≡ [] = search rules in
+    let empty : c.is_empty.result ≡ true = search rules in
+    let none : c.self.inside.queue ≡ [] = c.is_empty.ensures empty in
     subst (λ (y : Kept). IsQuiet db (seen y)) c.self.view_is
     (session_quiet db x none (subst (All (λ (m : Held). AreNow db m.tables)) slice (c.are_told.ensures told)))
