@@ -7,7 +7,7 @@ ghost use Rattle.odb_hub.specs.Batch as batch;
 ghost use Rattle.odb_service.specs.Run.{opened, submitted, ticked};
 
 use crate::bell::Bell;
-use crate::composing::round_by;
+use crate::composing::{round_by, round_of};
 use crate::failure::{TransactionFailure, add_causes};
 use crate::journal::{Happened, Journal};
 use crate::mailbox::Mailbox;
@@ -17,7 +17,7 @@ use crate::seat::Seat;
 use crate::submission::Submission;
 use crate::turn::Turn;
 use odb_core::{Core, EventRefusal, SessionId};
-use odb_par::{Gate, Open, Workers};
+use odb_par::{Gate, Workers};
 use std::alloc::{AllocError, Global};
 use std::marker::Model;
 use std::mem;
@@ -446,7 +446,7 @@ impl<L: Ledger> HubState<L> {
         if !ready {
             return Ok(0);
         }
-        let outs = round_by(rt, &mut self.core, &[session], self.workers, &Open)?;
+        let outs = round_of(rt, self.alloc, &mut self.core, session, self.workers)?;
         let count = outs.len();
         self.rings.hand_over(outs);
         self.journal = self.journal.with(Happened::RoundOf(session));

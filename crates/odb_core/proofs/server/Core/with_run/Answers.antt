@@ -8,8 +8,8 @@ use Rattle.odb_core.proofs.server.Core.with_run.Goals as goal
 pub invariant_of-result : goal.invariant_of-result
 invariant_of-result c =
     let s = c.args.schema in
-    let served : c.in-Ok-2.served ≡ s = search rules in
+    let served : c.in-Ok-new.served ≡ s = search rules in
     let made : c.in-Ok.sessions ≡ book_in (empty_world c.args.run c.args.most (length s.tables)) = search rules in
     let none : c.new-2.result ≡ [] = search rules in
     let free : c.new-3.result ≡ empty = search rules in
-    whole_new c.args.run c.args.most s c.in-Ok-2.served c.in-Ok.sessions c.new-2.result c.new-3.result served made none free
+    whole_new c.args.run c.args.most s c.in-Ok-new.served c.in-Ok.sessions c.new-2.result c.new-3.result served made none free
