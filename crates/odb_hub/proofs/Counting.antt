@@ -1,7 +1,13 @@
 -- Submits are counted.
-use Rattle.std.proofs.Common.{◌≡◌, ℕ, ◌+◌, List, [], ◌∷◌, ◌++◌, refl, ap, ◌∙◌, arith}
+use Rattle.std.proofs.Common.{◌≡◌, ℕ, ◌+◌, ◌-◌, length, List, [], ◌∷◌, ◌++◌, map, refl, sym, ap, ◌∙◌, arith}
+use mathlib.Core.List.{reverse-append}
+use Rattle.std.specs.Prelude.{IfOk, OnErr, OnOk, Result, Ok, Err}
 use Rattle.odb_service.specs.Run.{Event}
-use Rattle.odb_hub.specs.Counted.{Counted, IsAnswered, Seat, submits, submits_in}
+use Rattle.odb_hub.specs.Batch.{TakesAll, TakesUpTo}
+use Rattle.odb_hub.specs.Counted.{submits, submits_in}
+use Rattle.odb_hub.specs.Kept.{Kept, Takes, TakesRound}
+use Rattle.odb_hub.specs.Represented.Submission.{event_of, events_of}
+use Rattle.odb_hub.specs.declared.submission.Submission.{Submission}
 
 pub submits-append : (xs ys : List Event) → submits (xs ++ ys) ≡ submits xs + submits ys
 submits-append [] ys = omega arith
@@ -13,27 +19,42 @@ same_count total settled es all e count is none =
     let more : submits all ≡ submits es + (submits_in e + 0) = ap submits is ∙ submits-append es (e ∷ []) in
     omega (arith, count, more, none)
 
--- one that is
-pub one_submitted : (total more settled : ℕ) (es all : List Event) (e : Event) → total ≡ settled + submits es → all ≡ es ++ e ∷ [] → submits_in e ≡ 1 → more ≡ total + 1 → more ≡ settled + submits all
-one_submitted total more settled es all e count is one sum =
-    let grown : submits all ≡ submits es + (submits_in e + 0) = ap submits is ∙ submits-append es (e ∷ []) in
-    omega (arith, count, grown, one, sum)
+pub took_counted : (e : Event) (k n : Kept) (total settled : ℕ) → submits_in e ≡ 0 → total ≡ settled + submits k.events → Takes e k n [] → total ≡ settled + submits n.events
+took_counted e k n total settled none count takes = same_count total settled k.events n.events e count takes.1 none
 
--- ---- answers to a seat
+pub same_events : (k n : Kept) (total settled : ℕ) → total ≡ settled + submits k.events → n.events ≡ k.events → total ≡ settled + submits n.events
+same_events k n total settled count same = count ∙ ap (λ es. settled + submits es) (sym same)
 
-pub none_answered : (a : Counted) (s : Seat) → IsAnswered 0 a a s s
-none_answered a s =
-    let all : a.answered ≡ a.answered + 0 = omega arith in
-    let own : s.answered ≡ s.answered + 0 = omega arith in
-    (all, refl, λ j. let t : Seat = record { session = s.session; answered = own j } in t)
+-- a call that is one such event, or changes nothing
+pub result_counted : {A E : Type 0} (r : Result A E) (e : Event) (k n : Kept) (total settled : ℕ) → submits_in e ≡ 0 → total ≡ settled + submits k.events → OnOk r (Takes e k n []) → OnErr r (n ≡ k) → total ≡ settled + submits n.events
+result_counted (Ok x) e k n total settled none count takes same = took_counted e k n total settled none count takes
+result_counted (Err x) e k n total settled none count takes same = same_events k n total settled count (ap (λ (k : Kept). k.events) same)
 
-pub one_more_answered : (n : ℕ) (a b c : Counted) (s t u : Seat) → IsAnswered n a b s t → IsAnswered 1 b c t u → IsAnswered (n + 1) a c s u
-one_more_answered n a b c s t u before one =
-    let first = before.0 in
-    let next = one.0 in
-    let all : c.answered ≡ a.answered + (n + 1) = omega (arith, first, next) in
-    let own : s.answered + n + 1 ≡ s.answered + (n + 1) = omega arith in (
-      all,
-      one.1 ∙ before.1,
-      one.2 ∙ ap (λ (x : Seat). let y : Seat = record { session = x.session; answered = x.answered + 1 } in y) before.2 ∙ (λ j. let y : Seat = record { session = s.session; answered = own j } in y),
-    )
+pub round_counted : {E : Type 0} (r : Result ℕ E) (k n : Kept) (total settled : ℕ) → total ≡ settled + submits k.events → IfOk r (λ c. TakesRound c k n) → OnErr r ((n.base ≡ k.base) × (n.events ≡ k.events)) → total ≡ settled + submits n.events
+round_counted (Ok x) k n total settled count takes same = same_count total settled k.events n.events _ count takes.2.1 refl
+round_counted (Err x) k n total settled count takes same = same_events k n total settled count same.1
+
+all_taken : (es : List Event) (a b : Kept) → TakesAll es a b → submits b.events ≡ submits a.events + submits es
+all_taken [] a b same = let is : submits b.events ≡ submits a.events = ap (λ (k : Kept). submits k.events) same in omega (arith, is)
+all_taken (e ∷ es) a b took =
+    let next : Kept = took.0 in
+    let one : submits next.events ≡ submits a.events + (submits_in e + 0) = ap submits took.1.1 ∙ submits-append a.events (e ∷ []) in
+    let rest : submits b.events ≡ submits next.events + submits es = all_taken es next b took.3 in
+    omega (arith, one, rest)
+
+-- each submission of a batch is one
+in_batch : (s now : ℕ) (xs : List Submission) → submits (events_of s now xs) ≡ length xs
+in_batch s now [] = refl
+in_batch s now (x ∷ xs) =
+    let e : Event = event_of s now x in
+    let split : submits (events_of s now (x ∷ xs)) ≡ submits (events_of s now xs) + 1 = ap submits (reverse-append (e ∷ []) (map (event_of s now) xs)) ∙ submits-append (events_of s now xs) (e ∷ []) in
+    let ih = in_batch s now xs in
+    omega (arith, split, ih)
+
+pub batch_counted : (s now : ℕ) (xs ys : List Submission) (a b : Kept) → TakesUpTo (events_of s now xs) (events_of s now ys) a b → submits b.events ≡ submits a.events + (length xs - length ys)
+batch_counted s now xs ys a b took =
+    let whole : submits (events_of s now xs) ≡ submits took.0 + submits (events_of s now ys) = ap submits took.1 ∙ submits-append took.0 (events_of s now ys) in
+    let all = in_batch s now xs in
+    let left = in_batch s now ys in
+    let grown = all_taken took.0 a b took.2 in
+    omega (arith, whole, all, left, grown)

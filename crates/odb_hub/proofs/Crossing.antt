@@ -12,6 +12,7 @@ use Rattle.odb_hub.proofs.failure.TransactionFailure.TheSendSync as failure
 use Rattle.odb_hub.proofs.journal.Journal.TheSendSync as journal
 use Rattle.odb_hub.proofs.outbox.Outbox.TheSendSync as outbox
 use Rattle.odb_hub.proofs.rings.Rings.TheSendSync as rings
+use Rattle.odb_hub.specs.contracts.counted.Counted as Counted
 use Rattle.odb_hub.specs.contracts.failure.TransactionFailure as TransactionFailure
 use Rattle.odb_hub.specs.contracts.hub.Hub as Hub
 use Rattle.odb_hub.specs.contracts.journal.Journal as Journal
@@ -36,14 +37,17 @@ TransactionFailure-send = failure.the_send
 Workers-send : IsSend (Workers.the_field).row
 Workers-send = workers.the_send
 
+HubState-send : IsSend (HubState.the_field).row
+HubState-send = search (Core-send, Journal-send, Rings-send, TransactionFailure-send, Workers-send, sendable, heap.crosses) depth 40 fits 20000
+
 Book-send : (L : RattleType) (g : Ghosts L.Denot) → IsSend L → IsSend (Book.the_row L g)
 Book-send L g s = search (book.the_send, sendable)
 
 Share-send : (L : RattleType) (g : Ghosts L.Denot) → IsSend L → IsSend (Share.the_row L g)
 Share-send L g s = search (share.the_send, sendable)
 
-HubState-send : (L : RattleType) (g : Ghosts L.Denot) → IsSend L → IsSend (HubState.the_field L g).row
-HubState-send L g s = search (Core-send, Journal-send, Rings-send, TransactionFailure-send, Workers-send, Book-send, Share-send, sendable, heap.crosses) depth 40 fits 20000
+Counted-send : (L : RattleType) (g : Ghosts L.Denot) → IsSend L → IsSend (Counted.the_field L g).row
+Counted-send L g s = search (HubState-send, Book-send, Share-send, sendable, heap.crosses) depth 20
 
 pub Hub-sync : (L : RattleType) (g : Ghosts L.Denot) → IsSend L → IsSync (Hub.the_field L g).row
-Hub-sync L g s = search (HubState-send, sendable, heap.crosses) depth 20
+Hub-sync L g s = search (Counted-send, sendable, heap.crosses) depth 20

@@ -3,9 +3,11 @@ use Rattle.std.proofs.Common.{◌≡◌, ℕ, ◌+◌, ◌==◌, ◌≤◌, ◌|
 use Rattle.std.proofs.lemmas.List.{nil_from_length}
 use borrow.Author.Tests.{eqb-true}
 use Rattle.odb_atoms.specs.FinMap.{get}
+use Rattle.odb_hub.specs.Counted.{submits}
 use Rattle.odb_hub.specs.Kept.{IsKept, Kept, Takes}
-use Rattle.odb_hub.specs.Own.{FlushesOwn, GivesOwn, TakesIf, TakesOwnRound, TakesOwnRounds}
+use Rattle.odb_hub.specs.Own.{FlushesOwn, GivesOwn, GivesTo, TakesIf, TakesOwnRound, TakesOwnRounds}
 use Rattle.odb_hub.specs.Rings.{HandsOver, HasRoom, IsFlushedAt, Ring, Rings, Text, is_free_at, room_of, texts, texts_to}
+use Rattle.odb_hub.proofs.Counting.{same_count, same_events}
 use Rattle.odb_hub.proofs.HandingOver.{flushed_itself, nothing_more, served}
 use Rattle.odb_hub.proofs.Keeping.{Grows, grown, grown_kept, most_texts, round_kept}
 use Rattle.odb_service.specs.Run.{round}
@@ -98,3 +100,20 @@ flushed_nothing s k = (refl, refl, refl, flushed_itself (get k.rings s), λ t ap
 -- they were all
 pub gives_all : (s : ℕ) (old new : Kept) (counts : List ℕ) → TakesOwnRounds s counts old new → GivesOwn s old new
 gives_all s old new counts rounds = (counts, new, rounds, flushed_nothing s new)
+
+-- ---- submits
+
+one_counted : (listed : Bool) (s : ℕ) (old new : Kept) (outs : List (ℕ × Text)) (total settled : ℕ) → total ≡ settled + submits old.events → TakesIf listed (round (s ∷ [])) old new outs → total ≡ settled + submits new.events
+one_counted true s old new outs total settled count takes = same_count total settled old.events new.events (round (s ∷ [])) count takes.1 refl
+one_counted false s old new outs total settled count same = same_events old new total settled count same.2
+
+rounds_counted : (s : ℕ) (counts : List ℕ) (old new : Kept) (total settled : ℕ) → total ≡ settled + submits old.events → TakesOwnRounds s counts old new → total ≡ settled + submits new.events
+rounds_counted s [] old new total settled count same = same_events old new total settled count (ap (λ (k : Kept). k.events) same)
+rounds_counted s (n ∷ ns) old new total settled count t = one_counted t.2.0 s t.0 new t.2.1 total settled (rounds_counted s ns old t.0 total settled count t.1) t.2.2
+
+pub own_counted : (s : ℕ) (old new : Kept) (total settled : ℕ) → total ≡ settled + submits old.events → GivesOwn s old new → total ≡ settled + submits new.events
+own_counted s old new total settled count g = same_events g.1 new total settled (rounds_counted s g.0 old g.1 total settled count g.2) g.3.2
+
+pub next_counted : (o : Option ℕ) (old new : Kept) (total settled : ℕ) → total ≡ settled + submits old.events → GivesTo o old new → total ≡ settled + submits new.events
+next_counted (Some s) old new total settled count g = own_counted s old new total settled count g
+next_counted None old new total settled count g = subst (λ (k : Kept). total ≡ settled + submits k.events) (sym g) count

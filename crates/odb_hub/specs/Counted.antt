@@ -43,10 +43,6 @@ IsCounted c = c.answered ≡ c.settled + submits c.kept.events
 abbrev pub SameCount : Counted → Counted → Type 0
 SameCount old new = (new.answered ≡ old.answered) × (new.settled ≡ old.settled)
 
--- so many submits more were answered, all to this seat, and nothing was settled
-abbrev pub IsAnswered : ℕ → Counted → Counted → Seat → Seat → Type 0
-IsAnswered n old new seat after = (new.answered ≡ old.answered + n) × (new.settled ≡ old.settled) × (after ≡ record { session = seat.session; answered = seat.answered + n })
-
 -- the session is closed; or nothing changes, since none of that number is open
 abbrev pub Closes : ℕ → Kept → Kept → Type 0
 Closes s old new = (Takes (closed s) old new [] × (new.rings ≡ remove old.rings s)) ⊎ ((new ≡ old) × (serve (closed s) old.server ≡ Err gone))

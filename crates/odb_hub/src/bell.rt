@@ -53,6 +53,11 @@ impl Bell {
         self.calls.call(self.place, place);
     }
 
+    /// Returns whether the thread that serves the session was called since it last heard that.
+    pub fn is_called(&self) -> bool {
+        self.calls.is_called(self.place)
+    }
+
     /// Remembers the moment, in milliseconds, at which the session is given something.
     pub(crate) fn note(&self, moment: u64) {
         self.told.store(moment, Ordering::SeqCst);

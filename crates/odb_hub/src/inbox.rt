@@ -7,9 +7,8 @@ ghost use Rattle.odb_wire.specs.Stream.{messages};
 ghost use Rattle.odb_hub.specs.Represented.Inbox.{pending_in, pending_of};
 ghost use Rattle.odb_hub.specs.Inbox.{messages_of, requests_in};
 
-use crate::outcome::BatchOutcome;
+use crate::counted::{BatchOutcome, Counted};
 use crate::seat::Seat;
-use crate::state::HubState;
 use crate::submission::Submission;
 use crate::submitted::{BatchStep, SubmittedRequests};
 use odb_rpc::inserts;
@@ -172,7 +171,7 @@ impl Inbox {
     pub fn submit_run<L: Ledger, R: Threads + Clock + Sync>(
         &mut self,
         rt: &R,
-        hub: &mut HubState<L>,
+        hub: &mut Counted<L>,
         seat: &mut Seat<L>,
         now: u64,
         most: usize,
@@ -202,11 +201,11 @@ impl Inbox {
         Ok(outcome)
     }
 
-    /// Submits a turn of what is pending, from the first, as [`HubState::submit_turn`] does.
+    /// Submits a turn of what is pending, from the first, as [`Counted::submit_turn`] does.
     pub fn submit_turn<L: Ledger, R: Threads + Clock + Sync>(
         &mut self,
         rt: &R,
-        hub: &mut HubState<L>,
+        hub: &mut Counted<L>,
         seat: &mut Seat<L>,
         now: u64,
     ) -> BatchOutcome

@@ -56,7 +56,7 @@ impl Outbox {
 
     /// Returns what wakes the thread that takes messages out.
     pub fn bell(&self) -> &Bell {
-        &*self.mailbox.bell
+        self.mailbox.bell()
     }
 
     /// Returns whether something was taken out that isn't written yet.

@@ -118,7 +118,7 @@ fn is_whole(out: &Out, text: &[u8]) -> bool {
 }
 
 /// Writes down what the mailbox gives.
-pub(crate) fn take(mailbox: &mut Mailbox, text: &mut Vec<u8>) -> Result<(), AllocError> {
+fn take(mailbox: &mut Mailbox, text: &mut Vec<u8>) -> Result<(), AllocError> {
     for _ in 0..MOST {
         match mailbox.next() {
             Some(out) => note(text, &out)?,

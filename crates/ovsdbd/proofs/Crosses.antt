@@ -18,16 +18,19 @@ use Rattle.odb_front.specs.contracts.ids.Ids as Ids
 use Rattle.odb_hub.proofs.Crossing.{Hub-sync}
 use Rattle.odb_par.proofs.workers.Workers.TheSendSync as workers
 use Rattle.odb_par.specs.contracts.workers.Workers as Workers
+use Rattle.ovsdbd.proofs.daemon.Patience.TheSendSync as patience
 use Rattle.ovsdbd.proofs.desk.Desk.TheSendSync as desk
 use Rattle.ovsdbd.proofs.notices.Notices.TheSendSync as notices
 use Rattle.ovsdbd.proofs.pace.Pace.TheSendSync as pace
 use Rattle.ovsdbd.specs.contracts.daemon.Daemon as Daemon
 use Rattle.ovsdbd.specs.contracts.daemon.Daemons as Daemons
+use Rattle.ovsdbd.specs.contracts.daemon.Patience as Patience
 use Rattle.ovsdbd.specs.contracts.desk.Desk as Desk
 use Rattle.ovsdbd.specs.contracts.front.FrontEnd as FrontEnd
 use Rattle.ovsdbd.specs.contracts.notices.Notices as Notices
 use Rattle.ovsdbd.specs.contracts.pace.Pace as Pace
 use Rattle.ovsdbd.specs.contracts.second.Second as Second
+use Rattle.ovsdbd.specs.contracts.server_database.ServerBegun as ServerBegun
 
 pub Poll-send : IsSend Poll.the_row
 Poll-send = poll.the_send
@@ -37,6 +40,9 @@ Desk-sync = desk.the_sync
 
 pub Desk-send : IsSend Desk.the_row
 Desk-send = desk.the_send
+
+Patience-sync : IsSync Patience.the_row
+Patience-sync = patience.the_sync
 
 Notices-sync : IsSync Notices.the_row
 Notices-sync = notices.the_sync
@@ -65,11 +71,14 @@ Databases-sync = databases.the_sync
 IdText-sync : IsSync (IdText.the_field).row
 IdText-sync = id.the_sync
 
+ServerBegun-sync : IsSync ServerBegun.the_row
+ServerBegun-sync = search (Core-send, sendable, heap.crosses) depth 40
+
 FrontEnd-sync : IsSync FrontEnd.the_row
-FrontEnd-sync = search (Core-send, Databases-sync, Answers-sync, Ids-sync, sendable, heap.crosses) depth 40
+FrontEnd-sync = search (ServerBegun-sync, Databases-sync, Answers-sync, Ids-sync, sendable, heap.crosses) depth 40
 
 pub Daemon-sync : (L : RattleType) (g : Ghosts L.Denot) → IsSend L → IsSync (Daemon.the_field L g).row
-Daemon-sync L g s = search (Hub-sync, Desk-sync, Desk-send, Notices-sync, Notices-send, notices.the_field_sync, Pace-sync, Workers-sync, Instant-sync, sendable, heap.crosses) depth 40 fits 20000
+Daemon-sync L g s = search (Hub-sync, Desk-sync, Desk-send, Notices-sync, Notices-send, notices.the_field_sync, Patience-sync, Pace-sync, Workers-sync, Instant-sync, sendable, heap.crosses) depth 40 fits 20000
 
 Second-sync : (M : RattleType) (g : Ghosts M.Denot) → IsSend M → IsSync (Second.the_field M g).row
 Second-sync M g s = search (Daemon-sync, IdText-sync, sendable, heap.crosses) depth 40 fits 20000

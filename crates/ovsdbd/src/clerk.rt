@@ -2,16 +2,15 @@
 ghost use Rattle.std.specs.Prelude.{◌≡◌};
 ghost use Rattle.odb_waking.specs.Loop as loops;
 
-use crate::connection::{Connection, Next, RandomIdentifiers, Tools};
+use crate::connection::{Connection, Next, PAUSE, PIECE, RandomIdentifiers, Tools};
 use crate::daemon::{Daemon, Daemons, has_lasted};
 use crate::desk::Desk;
 use crate::front::FrontEnd;
 use crate::log::ConnectionEvent;
-use crate::server_database::close_session;
-use crate::tuning::{BATCH, END_PAUSE, EVENTS, LOOKS, PIECE, TURNS};
+use crate::server_database::ServerDatabase;
 use mio::net::TcpStream;
 use mio::{Events, Interest, Poll, Token};
-use odb_core::{Core, EventRefusal, SessionId};
+use odb_core::{EventRefusal, SessionId};
 use odb_hub::{Bell, Calls};
 use odb_waking::LoopPlace;
 use rand::make_rng;
@@ -24,6 +23,18 @@ use std::sync::{Arc, Wait};
 use std::thread::Threads;
 use std::time::{Clock, Duration, Instant};
 use std::{mem, thread};
+
+/// How many events are taken at once.
+const EVENTS: usize = 256;
+
+/// How many of those that ask something, and of the others, have a turn before it looks for events again.
+const TURNS: usize = 32;
+
+/// After how many microseconds of such turns it looks for events all the same.
+const BATCH: u64 = 1_000;
+
+/// How many times as often as its patience is long the daemon looks whether that is at its end.
+const LOOKS: u64 = 8;
 
 /// The connections of a thread, and those that have a turn next.
 pub(crate) struct Clerk<'a, L: Ledger, M: Ledger, R> {
@@ -142,16 +153,19 @@ impl<'a, L: Ledger, M: Ledger, R: Threads + Wait + Clock + RandomSource + Sync> 
 }
 
 /// Makes the thread's database `_Server`, where that is asked for.
-fn start_server<R: Wait>(rt: &R, front: Option<&FrontEnd>) -> Result<Option<Core>, AllocError> {
+fn start_server<R: Wait>(
+    rt: &R,
+    front: Option<&FrontEnd>,
+) -> Result<Option<ServerDatabase>, AllocError> {
     match front {
         Some(
             FrontEnd {
                 databases: _,
                 answers: _,
                 nothing: _,
-                server: Some(filled),
+                server: Some(begun),
             },
-        ) => Ok(Some(filled.lock(rt).try_copy()?)),
+        ) => Ok(Some(begun.start(rt)?)),
         _ => Ok(None),
     }
 }
@@ -357,7 +371,7 @@ impl<'a, L: Ledger, M: Ledger, R: Wait + Clock> Clerk<'a, L, M, R> {
         let Some(server) = &self.tools.server else {
             return None;
         };
-        let deadline = server.next_deadline()?;
+        let deadline = server.deadline()?;
         let left = deadline.saturating_sub(self.tools.daemon.now(self.tools.rt));
         Some(Duration::from_millis(left.max(1)))
     }
@@ -378,7 +392,7 @@ impl<'a, L: Ledger, M: Ledger, R: Wait + Clock> Clerk<'a, L, M, R> {
         let Some(server) = &mut self.tools.server else {
             return false;
         };
-        let Some(deadline) = server.next_deadline() else {
+        let Some(deadline) = server.deadline() else {
             return false;
         };
         let now = daemon.now(rt);
@@ -396,7 +410,7 @@ impl<'a, L: Ledger, M: Ledger, R: Wait + Clock> Clerk<'a, L, M, R> {
 
     /// Learns what the poll tells.
     fn notice(&mut self, events: &Events) {
-        if !self.tools.daemon.bears_all() {
+        if !self.tools.daemon.patience.is_endless() {
             self.tools.moment = self.tools.daemon.now(self.tools.rt);
         }
         let before = self.asking.len();
@@ -412,8 +426,8 @@ impl<'a, L: Ledger, M: Ledger, R: Wait + Clock> Clerk<'a, L, M, R> {
 
     /// Returns how often to look whether the daemon's patience is at its end; not at all where it has none.
     fn interval(&self) -> Option<Duration> {
-        let daemon = self.tools.daemon;
-        let shortest = match (daemon.probe, daemon.stall) {
+        let patience = &self.tools.daemon.patience;
+        let shortest = match (patience.probe, patience.stall) {
             (Some(probe), Some(stall)) => probe.min(stall),
             (Some(probe), None) => probe,
             (None, stall) => stall?,
@@ -440,7 +454,7 @@ impl<'a, L: Ledger, M: Ledger, R: Wait + Clock> Clerk<'a, L, M, R> {
         let Some(connection) = at(self.connections.as_mut_slice(), place) else {
             return;
         };
-        let expired = connection.has_expired(self.tools.daemon, self.tools.moment);
+        let expired = connection.has_expired(self.tools.daemon.patience, self.tools.moment);
         if let Some(reason) = expired {
             connection.cut_off(reason);
         }
@@ -548,10 +562,10 @@ fn leave_at_last<L: Ledger, M: Ledger, R: Wait + Clock>(
         return;
     };
     for _ in tools.rt.forever() {
-        if close_session(server, session) {
+        if server.close(session) {
             return;
         }
-        thread::sleep(tools.rt, Duration::from_millis(END_PAUSE));
+        thread::sleep(tools.rt, Duration::from_millis(PAUSE));
     }
     unreachable!()
 }

@@ -1,16 +1,14 @@
 //! A connection and its sessions, as the thread that serves it has them. [P 15.2, 15.4]
 
-use crate::daemon::{Daemon, SubmittedTurn};
+use crate::daemon::{Daemon, Patience, SubmittedTurn};
 use crate::front::FrontEnd;
 use crate::front_seat::{FrontSeat, RequestIds};
 use crate::log::{ConnectionEvent, Reason};
-use crate::probe::Probe;
 use crate::second::{NamingRequest, Second, SecondSeat};
-use crate::server_database::{ServerRequest, submit_to_server, take_owed};
-use crate::tuning::{END_PAUSE, LOOKED_AT, REFILLS, TAKEN};
+use crate::server_database::{ServerDatabase, ServerRequest};
 use mio::event::Event;
 use mio::net::TcpStream;
-use odb_core::{Core, EventRefusal, Out, SessionId};
+use odb_core::{EventRefusal, Out, SessionId};
 use odb_front::{Destination, IdText, Naming, destination_of, first_id, names_monitor};
 use odb_hub::{Bell, Calls, Identifiers, Inbox, Mailbox, Outbox, Seat};
 use odb_rpc::reply_id;
@@ -25,6 +23,21 @@ use std::thread::Threads;
 use std::time::{Clock, Duration};
 use std::{mem, thread};
 use uuid::Uuid;
+
+/// How many bytes are read at once.
+pub(crate) const PIECE: usize = 8_192;
+
+/// For how many milliseconds a thread pauses where memory was refused for the end of a session.
+pub(crate) const PAUSE: u64 = 1;
+
+/// How often what is held back is sent for, before other connections have their turn.
+const REFILLS: usize = 8;
+
+/// How many messages of the second database are taken out before others are written.
+const TAKEN: usize = 64;
+
+/// How many requests are looked at in a turn, where they may go to several places.
+const LOOKED_AT: usize = 64;
 
 /// Random identifiers (RFC 4122, 4.4).
 #[derive(Drop)]
@@ -52,7 +65,7 @@ pub(crate) struct Tools<'a, L: Ledger, M: Ledger, R> {
     pub(crate) piece: Vec<u8>,
     pub(crate) identifiers: RandomIdentifiers,
     /// The thread's database `_Server`, where that is asked for.
-    pub(crate) server: Option<Core>,
+    pub(crate) server: Option<ServerDatabase>,
     /// The milliseconds since the start, where the daemon's patience has an end.
     pub(crate) moment: u64,
 }
@@ -104,8 +117,12 @@ pub(crate) struct Connection<'a, L: Ledger, M: Ledger> {
     pub(crate) is_queued: bool,
     /// Whether its last submission was slow.
     pub(crate) is_slow: bool,
-    /// Whether the peer is there still.
-    probe: Probe,
+    /// When the peer sent something, and when it took something, in milliseconds since the start.
+    heard: u64,
+    took: u64,
+    /// Whether the peer was asked whether it is there, since it was heard, and whether that is still to be written.
+    was_asked: bool,
+    asks: bool,
 }
 
 impl<'a, L: Ledger, M: Ledger> Connection<'a, L, M> {
@@ -135,7 +152,10 @@ impl<'a, L: Ledger, M: Ledger> Connection<'a, L, M> {
             is_cut_off: false,
             is_queued: false,
             is_slow: false,
-            probe: Probe::new(moment),
+            heard: moment,
+            took: moment,
+            was_asked: false,
+            asks: false,
         }
     }
 
@@ -149,14 +169,14 @@ impl<'a, L: Ledger, M: Ledger> Connection<'a, L, M> {
         }
         if event.is_readable() || event.is_read_closed() {
             self.is_readable = true;
-            self.probe.hear(moment);
+            self.hear_peer(moment);
         }
         if event.is_read_closed() {
             self.is_closed = true;
         }
         if event.is_writable() {
             self.is_writable = true;
-            self.probe.note_taken(moment);
+            self.took = moment;
         }
     }
 
@@ -190,7 +210,7 @@ impl<'a, L: Ledger, M: Ledger> Connection<'a, L, M> {
     /// Returns whether memory was refused for too long for what one of its sessions is owed.
     fn is_given_up(&self) -> bool {
         let second = match &self.second {
-            Some(second) => second.mailbox.bell().is_given_up(),
+            Some(second) => second.bell().is_given_up(),
             None => false,
         };
         second || self.outbox.bell().is_given_up()
@@ -218,7 +238,7 @@ impl<'a, L: Ledger, M: Ledger> Connection<'a, L, M> {
             None => part_once(tools.rt, tools.daemon, &mut self.seat),
         };
         if !is_over {
-            thread::sleep(tools.rt, Duration::from_millis(END_PAUSE));
+            thread::sleep(tools.rt, Duration::from_millis(PAUSE));
         }
         is_over
     }
@@ -263,7 +283,7 @@ impl<'a, L: Ledger, M: Ledger> Connection<'a, L, M> {
     /// Returns whether a message of one of its sessions is held back.
     fn is_held_back(&self) -> bool {
         let second = match &self.second {
-            Some(second) => second.mailbox.bell().is_held_back(),
+            Some(second) => second.bell().is_held_back(),
             None => false,
         };
         second || self.outbox.bell().is_held_back()
@@ -286,10 +306,16 @@ impl<'a, L: Ledger, M: Ledger> Connection<'a, L, M> {
         self.inbox.pending() > 0 || self.inbox.is_open() && self.is_readable
     }
 
+    /// Notes that the peer sent something, or couldn't.
+    fn hear_peer(&mut self, moment: u64) {
+        self.heard = moment;
+        self.was_asked = false;
+    }
+
     /// Returns what comes next, after so much was written. Steps: `checks` where a request waits since it met Busy; those of
     /// `end`.
     fn next<R: Wait + Clock>(&mut self, tools: &Tools<'a, L, M, R>, written: Written) -> Next {
-        if self.has_read_all() || self.is_left_at_busy(tools) {
+        if self.has_read_all() || self.is_left_at_busy() {
             return self.end(tools, written);
         }
         if written == Written::Some || self.has_requests() && self.may_submit() {
@@ -305,8 +331,8 @@ impl<'a, L: Ledger, M: Ledger> Connection<'a, L, M> {
 
     /// Returns whether the peer ended its side while a request waits that met Busy, and nothing was given to the session
     /// since: then it is owed replies to transactions that wait, and to nothing else.
-    fn is_left_at_busy<R>(&self, tools: &Tools<'a, L, M, R>) -> bool {
-        self.is_closed && self.is_busy && !tools.calls.is_called(tools.place)
+    fn is_left_at_busy(&self) -> bool {
+        self.is_closed && self.is_busy && !self.outbox.bell().is_called()
     }
 
     /// Returns what comes next of a connection of which nothing more is submitted: what the session is given is written,
@@ -348,7 +374,7 @@ impl<'a, L: Ledger, M: Ledger> Connection<'a, L, M> {
                 },
                 Err(error) if error.kind() == ErrorKind::WouldBlock => {
                     self.is_writable = false;
-                    self.probe.note_taken(tools.moment);
+                    self.took = tools.moment;
                     return Ok(Written::Blocked);
                 }
                 Err(error) => return Err(error),
@@ -386,7 +412,8 @@ impl<'a, L: Ledger, M: Ledger> Connection<'a, L, M> {
     /// Has what is held back sent, and the peer asked where that is due, once all else is written. True says that there may
     /// be more to write.
     fn refill<R: Threads + Wait + Sync>(&mut self, tools: &Tools<'a, L, M, R>) -> io::Result<bool> {
-        if self.probe.take_question() {
+        if self.asks {
+            self.asks = false;
             return Ok(self.outbox.ask()?);
         }
         if self.move_front() || self.move_second()? {
@@ -418,7 +445,7 @@ impl<'a, L: Ledger, M: Ledger> Connection<'a, L, M> {
         match reader.read(tools.piece.as_mut_slice()) {
             Ok(read) if read > 0 => {
                 self.is_readable = read == tools.piece.len() || self.is_closed;
-                self.probe.hear(tools.moment);
+                self.hear_peer(tools.moment);
                 self.take_in(tools, read);
             }
             Ok(_) => self.inbox.stop(),
@@ -483,10 +510,10 @@ impl<'a, L: Ledger, M: Ledger> Connection<'a, L, M> {
         };
         let (rt, daemon) = (tools.rt, tools.daemon);
         let mut hub = daemon.hub.enter(rt);
-        let turn = daemon.submit_under(rt, &mut *hub, seat, &mut self.inbox, usize::MAX);
+        let held = daemon.submit_under(rt, &mut *hub, seat, &mut self.inbox, usize::MAX);
         drop(hub);
         let written = self.write(tools);
-        daemon.tell(rt, &turn);
+        let turn = daemon.tell(rt, held);
         self.note_turn(turn);
         written
     }
@@ -514,7 +541,7 @@ impl<'a, L: Ledger, M: Ledger> Connection<'a, L, M> {
     /// Notes what became of a turn.
     fn note_turn(&mut self, turn: SubmittedTurn) {
         self.is_slow = turn.is_slow;
-        match turn.outcome() {
+        match turn.outcome {
             Ok(()) => {}
             Err(EventRefusal::Busy) => self.is_busy = true,
             Err(_) => self.give_up(),
@@ -632,18 +659,18 @@ impl<'a, L: Ledger, M: Ledger> Connection<'a, L, M> {
         let (rt, daemon) = (tools.rt, tools.daemon);
         let mut hub = daemon.hub.enter(rt);
         let first = daemon.submit_under(rt, &mut *hub, seat, &mut self.inbox, 1);
-        let other = if first.outcome().is_ok() {
+        let other = if first.is_taken() {
             second.submit_under(rt, same)
         } else {
             None
         };
         drop(hub);
-        daemon.tell(rt, &first);
+        let turn = daemon.tell(rt, first);
         let is_told = match other {
             Some(other) => second.tell(rt, other, same),
             None => true,
         };
-        self.note_turn(first);
+        self.note_turn(turn);
         is_told
     }
 
@@ -831,7 +858,7 @@ impl<'a, L: Ledger, M: Ledger> Connection<'a, L, M> {
         let Some(server) = &mut tools.server else {
             return Ok(());
         };
-        let outs = submit_to_server(server, alloc, session, asked, now)?;
+        let outs = server.submit(alloc, session, asked, now)?;
         self.front(tools)?.take_in(noted, outs)
     }
 
@@ -873,7 +900,7 @@ impl<'a, L: Ledger, M: Ledger> Connection<'a, L, M> {
             return false;
         }
         self.is_busy = false;
-        let taken = match take_owed(server, tools.daemon.alloc, session) {
+        let taken = match server.take(tools.daemon.alloc, session) {
             Ok(outs) => front.take_all(outs),
             Err(refused) => Err(refused),
         };
@@ -886,16 +913,18 @@ impl<'a, L: Ledger, M: Ledger> Connection<'a, L, M> {
     /// Returns why the daemon's patience with the peer is at its end, if it is at this moment. Before that the peer is asked
     /// whether it is there, which is to be written. A peer that isn't read isn't silent, but where its request waits since it
     /// met Busy: then what arrives is noticed though it isn't read.
-    pub(crate) fn has_expired(&mut self, daemon: &Daemon<L>, moment: u64) -> Option<Reason> {
+    pub(crate) fn has_expired(&mut self, patience: Patience, moment: u64) -> Option<Reason> {
+        let Patience { probe, stall } = patience;
         if !self.may_read() && !self.is_busy || self.is_held_back() {
-            self.probe.hear(moment);
+            self.hear_peer(moment);
         }
-        let is_silent = match daemon.probe {
-            Some(patience) => self.probe.is_silent(moment, patience),
+        let silent = moment.saturating_sub(self.heard);
+        let is_silent = match probe {
+            Some(probe) => self.is_silent(silent, probe),
             None => false,
         };
-        let is_stalled = match daemon.stall {
-            Some(patience) => !self.is_writable && self.probe.is_stalled(moment, patience),
+        let is_stalled = match stall {
+            Some(stall) => !self.is_writable && moment.saturating_sub(self.took) >= stall,
             None => false,
         };
         if is_silent {
@@ -926,6 +955,15 @@ impl<'a, L: Ledger, M: Ledger> Connection<'a, L, M> {
         self.log(rt, daemon, ConnectionEvent::Closed(self.session, reason));
     }
 
+    /// Returns whether a peer counts as gone that said nothing for so long; it is asked after half of that time.
+    fn is_silent(&mut self, silent: u64, probe: u64) -> bool {
+        if !self.was_asked && silent >= probe {
+            self.was_asked = true;
+            self.asks = true;
+        }
+        silent >= probe.saturating_mul(2)
+    }
+
     /// Closes the connection, and ends its sessions if these are open.
     pub(crate) fn close<R: Wait + Clock>(self, rt: &R, daemon: &Daemon<L>) {
         self.log_close(rt, daemon);
@@ -946,7 +984,10 @@ impl<'a, L: Ledger, M: Ledger> Connection<'a, L, M> {
             is_cut_off: _,
             is_queued: _,
             is_slow: _,
-            probe: _,
+            heard: _,
+            took: _,
+            was_asked: _,
+            asks: _,
         } = self;
         drop(stream.shutdown(Shutdown::Both));
         match second {
@@ -984,7 +1025,7 @@ pub(crate) fn part_at_last<L: Ledger, R: Wait + Clock>(rt: &R, daemon: &Daemon<L
             Ok(()) => return,
             Err(back) => seat = back,
         }
-        thread::sleep(rt, Duration::from_millis(END_PAUSE));
+        thread::sleep(rt, Duration::from_millis(PAUSE));
     }
     unreachable!()
 }

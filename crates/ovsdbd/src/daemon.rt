@@ -8,10 +8,9 @@ use crate::log::{ConnectionEvent, LogLine, Said};
 use crate::notices::Notices;
 use crate::pace::{Pace, micros_of};
 use crate::second::Second;
-use crate::serve::Settings;
-use crate::tuning::{SETTLES, SLOW};
+use crate::serve::Terms;
 use odb_core::{Core, EventRefusal, MAX_SESSIONS, SessionId};
-use odb_hub::{BatchOutcome, Hub, HubState, Inbox, Seat};
+use odb_hub::{BatchOutcome, Counted, Hub, Inbox, Seat};
 use odb_par::{Open, Workers};
 use odb_waking::PumpPlace;
 use std::alloc::{AllocError, Global};
@@ -23,38 +22,74 @@ use std::sync::{Arc, Wait};
 use std::thread::Threads;
 use std::time::{Clock, Duration, Instant};
 
+/// After how many turns of the pump the journal begins anew.
+const SETTLES: u64 = 65_536;
+
+/// From how many microseconds under the lock on a turn of submissions counts as slow.
+const SLOW: u64 = 200;
+
 /// How many seats of a database may be given at once: one more than sessions may be open, so that it is the core that refuses
 /// one too many.
 const SEATS: u64 = MAX_SESSIONS as u64 + 1;
 
-/// A turn of submissions.
+/// What became of a turn of submissions.
 #[derive(Drop)]
 pub(crate) struct SubmittedTurn {
-    /// What came of it; an error says that memory was refused, and nothing was submitted.
-    submitted: Result<BatchOutcome, AllocError>,
-    /// How many were taken.
-    taken: u64,
+    /// Nothing, or why the turn stopped.
+    pub(crate) outcome: Result<(), EventRefusal>,
     /// Whether it had the lock for long.
     pub(crate) is_slow: bool,
 }
 
-impl SubmittedTurn {
-    /// Returns nothing, or why the turn stopped.
-    pub(crate) fn outcome(&self) -> Result<(), EventRefusal> {
-        let Ok(submitted) = &self.submitted else {
-            return Err(EventRefusal::Memory);
-        };
-        match &submitted.owes {
-            Ok(_) => Ok(()),
-            Err(why) => Err(*why),
+/// A turn of submissions of which the other sessions aren't told yet.
+#[derive(Drop)]
+pub(crate) struct HeldTurn {
+    submitted: Result<BatchOutcome, AllocError>,
+    /// How many were taken.
+    taken: u64,
+    is_slow: bool,
+}
+
+impl HeldTurn {
+    /// Returns whether nothing was refused.
+    pub(crate) fn is_taken(&self) -> bool {
+        match &self.submitted {
+            Ok(outcome) => outcome.owes.is_ok(),
+            Err(_) => false,
         }
+    }
+}
+
+/// A core for a schema, with empty tables, and the moment from which moments are counted.
+#[derive(Drop)]
+pub(crate) struct Begun {
+    pub(crate) alloc: Global,
+    pub(crate) core: Core,
+    pub(crate) start: Instant,
+}
+
+impl Begun {
+    ghost use Rattle.std.specs.Prelude.{◌≡◌};
+
+    /// Has it noted why transactions fail, if that is to be logged.
+    pub(crate) fn noting_failures(self, notes: bool) -> Begun
+        ensures { result.core ≡ self.core }
+    {
+        let Begun {
+            alloc,
+            mut core,
+            start,
+        } = self;
+        if notes {
+            core.note_failures();
+        }
+        Begun { alloc, core, start }
     }
 }
 
 /// What all databases that are served have in common.
 #[derive(Drop)]
 pub(crate) struct Common {
-    pub(crate) alloc: Global,
     /// The desks of the threads that serve connections.
     pub(crate) desks: Arc<Vec<Desk>>,
     pub(crate) notices: Arc<Notices>,
@@ -64,7 +99,6 @@ impl Common {
     /// Makes another that shares it.
     pub(crate) fn try_share(&self) -> Result<Common, AllocError> {
         Ok(Common {
-            alloc: self.alloc,
             desks: Arc::try_clone(&self.desks)?,
             notices: Arc::try_clone(&self.notices)?,
         })
@@ -79,6 +113,22 @@ pub(crate) struct Daemons<L: Ledger, M: Ledger> {
     pub(crate) front: Option<FrontEnd>,
 }
 
+/// How many milliseconds the daemon bears a peer; none: for ever.
+#[derive(Clone, Copy)]
+pub(crate) struct Patience {
+    /// For how long a peer may say nothing before it is asked whether it is there, and then before it counts as gone.
+    pub(crate) probe: Option<u64>,
+    /// For how long a peer may take nothing before it counts as gone.
+    pub(crate) stall: Option<u64>,
+}
+
+impl Patience {
+    /// Returns whether the daemon bears each peer for ever.
+    pub(crate) fn is_endless(&self) -> bool {
+        self.probe.is_none() && self.stall.is_none()
+    }
+}
+
 /// The server of a database, the clock, the desks of the threads that serve connections, and what the pump sleeps by.
 pub(crate) struct Daemon<L: Ledger> {
     pub(crate) alloc: Global,
@@ -87,9 +137,7 @@ pub(crate) struct Daemon<L: Ledger> {
     pub(crate) pace: Pace,
     pub(crate) desks: Arc<Vec<Desk>>,
     pub(crate) notices: Arc<Notices>,
-    /// How many milliseconds the daemon bears a peer that says nothing before it is asked, and one that takes nothing; none: for ever.
-    pub(crate) probe: Option<u64>,
-    pub(crate) stall: Option<u64>,
+    pub(crate) patience: Patience,
     /// The most bytes of a message.
     pub(crate) max_message: usize,
     workers: Workers,
@@ -103,33 +151,29 @@ impl<L: Ledger> Daemon<L> {
 
     /// Makes a daemon over a core without sessions.
     pub(crate) fn new(
-        core: Core,
+        begun: Begun,
         which: Which,
         blank: Blank,
         common: Common,
-        settings: &Settings<'_>,
+        terms: &Terms,
     ) -> Daemon<L>
-        requires core { IsNew core }
+        requires core { IsNew begun.core }
         requires ledger { (blank.name ≡ L.name) × (blank.parts ≡ L.parts) }
         requires parts { blank.parts ≡ 4098 }
     {
-        let Common {
-            alloc,
-            desks,
-            notices,
-        } = common;
+        let Begun { alloc, core, start } = begun;
+        let Common { desks, notices } = common;
         Daemon {
             alloc,
             which,
-            hub: Hub::new(alloc, core, blank, SEATS, settings.workers),
+            hub: Hub::new(alloc, core, blank, SEATS, terms.workers),
             pace: Pace::new(),
             desks,
             notices,
-            probe: settings.probe,
-            stall: settings.stall,
-            max_message: settings.max_message,
-            workers: settings.workers,
-            start: settings.start,
+            patience: terms.patience,
+            max_message: terms.max_message,
+            workers: terms.workers,
+            start,
             ended: AtomicU64::new(0),
         }
     }
@@ -148,11 +192,6 @@ impl<L: Ledger> Daemon<L> {
             Ok(elapsed) => micros_of(elapsed),
             Err(_) => 0,
         }
-    }
-
-    /// Returns whether the daemon bears each peer for ever.
-    pub(crate) fn bears_all(&self) -> bool {
-        self.probe.is_none() && self.stall.is_none()
     }
 
     /// Has it logged what happened to a client's connection now.
@@ -210,10 +249,9 @@ impl<L: Ledger> Daemon<L> {
         most: usize,
     ) -> SubmittedTurn {
         let mut hub = self.hub.enter(rt);
-        let turn = self.submit_under(rt, &mut *hub, seat, inbox, most);
+        let held = self.submit_under(rt, &mut *hub, seat, inbox, most);
         drop(hub);
-        self.tell(rt, &turn);
-        turn
+        self.tell(rt, held)
     }
 
     /// Submits a turn of the first `most` that are pending under the lock that the caller has, and gives their session what it is
@@ -221,16 +259,16 @@ impl<L: Ledger> Daemon<L> {
     pub(crate) fn submit_under<R: Threads + Clock + Sync>(
         &self,
         rt: &R,
-        hub: &mut HubState<L>,
+        hub: &mut Counted<L>,
         seat: &mut Seat<L>,
         inbox: &mut Inbox,
         most: usize,
-    ) -> SubmittedTurn {
+    ) -> HeldTurn {
         let before = inbox.pending();
         let now = self.now(rt);
         let begun = Instant::now(rt);
         let submitted = inbox.submit_run(rt, hub, seat, now, most);
-        SubmittedTurn {
+        HeldTurn {
             submitted,
             taken: before.saturating_sub(inbox.pending()) as u64,
             is_slow: has_lasted(rt, &begun, SLOW),
@@ -238,9 +276,21 @@ impl<L: Ledger> Daemon<L> {
     }
 
     /// Tells the other sessions of a turn of submissions.
-    pub(crate) fn tell<R: Threads + Wait + Clock + Sync>(&self, rt: &R, turn: &SubmittedTurn) {
-        let Ok(submitted) = &turn.submitted else {
-            return;
+    pub(crate) fn tell<R: Threads + Wait + Clock + Sync>(
+        &self,
+        rt: &R,
+        held: HeldTurn,
+    ) -> SubmittedTurn {
+        let HeldTurn {
+            submitted,
+            taken,
+            is_slow,
+        } = held;
+        let Ok(submitted) = submitted else {
+            return SubmittedTurn {
+                outcome: Err(EventRefusal::Memory),
+                is_slow,
+            };
         };
         self.log_failures(rt);
         if submitted.due_sooner {
@@ -248,7 +298,11 @@ impl<L: Ledger> Daemon<L> {
         }
         self.wake_called();
         if !is_quiet(&submitted.owes) {
-            self.tell_all(rt, submitted.few, turn.taken.max(1));
+            self.tell_all(rt, submitted.few, taken.max(1));
+        }
+        SubmittedTurn {
+            outcome: submitted.owes.map(|_| ()),
+            is_slow,
         }
     }
 
@@ -403,8 +457,7 @@ impl<L: Ledger> Drop for Daemon<L> {
             pace: _,
             desks: _,
             notices: _,
-            probe: _,
-            stall: _,
+            patience: _,
             max_message: _,
             workers: _,
             start: _,

@@ -2,8 +2,7 @@
 
 use crate::connection::RandomIdentifiers;
 use crate::fault::ProgramFault;
-use crate::server_database::{NAME, filled_core, printed_schema};
-use odb_core::Core;
+use crate::server_database::{NAME, ServerBegun, printed_schema};
 use odb_front::{Answers, Databases, Ids, PrintedSchema};
 use odb_schema::Schema;
 use odb_script::RunFault;
@@ -11,7 +10,6 @@ use rand::make_rng;
 use serde_json::{Value, json};
 use std::alloc::{AllocError, Global};
 use std::random::RandomSource;
-use std::sync::Mutex;
 use uuid::Uuid;
 
 /// The schemas of the databases that are served.
@@ -42,7 +40,7 @@ pub(crate) struct FrontEnd {
     pub(crate) answers: Answers,
     /// The ids of a connection that has named nothing.
     pub(crate) nothing: Ids,
-    pub(crate) server: Option<Mutex<Core>>,
+    pub(crate) server: Option<ServerBegun>,
 }
 
 impl FrontEnd {
@@ -90,12 +88,11 @@ fn server_of<R: RandomSource>(
     schemas: &[PrintedSchema],
     has_server: bool,
     identifiers: &mut RandomIdentifiers,
-) -> Result<Option<Mutex<Core>>, ProgramFault> {
+) -> Result<Option<ServerBegun>, ProgramFault> {
     if !has_server {
         return Ok(None);
     }
-    let core = filled_core(rt, alloc, schemas, identifiers)?;
-    Ok(Some(Mutex::new(core)))
+    Ok(Some(ServerBegun::new(rt, alloc, schemas, identifiers)?))
 }
 
 fn databases_of(

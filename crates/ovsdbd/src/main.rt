@@ -22,20 +22,17 @@ mod load;
 mod log;
 mod notices;
 mod pace;
-mod probe;
 mod second;
 mod serve;
 mod server_database;
-mod tuning;
 
+use crate::daemon::{Begun, Patience};
 use crate::fault::{ProgramFault, Which};
 use crate::front::{FrontEnd, Schemas};
-use crate::serve::{Beginning, Settings, begin, noting_failures, serve_all};
-use crate::tuning::HEAVY;
+use crate::serve::{Beginning, Memory, SecondBegun, StartOptions, Terms, begin, serve_all};
 use clap::builder::ValueParser;
 use clap::error::ErrorKind;
 use clap::{Arg, ArgAction, ArgMatches, Command, Error};
-use odb_core::Core;
 use odb_par::Workers;
 use odb_schema::{Schema, SchemaFault};
 use odb_script::{FailureLatch, RunFault, run_script};
@@ -54,6 +51,7 @@ use std::sync::Wait;
 use std::thread::Threads;
 use std::time::{Clock, Instant};
 use std::{env, fs, thread};
+use uuid::Uuid;
 
 fn main(rt: HostRuntime) -> io::Result<ExitCode> {
     let words: Vec<String> = env::args(&rt)?.collect(rt.alloc())?;
@@ -230,6 +228,10 @@ const LONGEST_MESSAGE: u64 = 1_073_741_824;
 
 /// How many threads may serve connections, and how many compose what clients are sent.
 const MOST_THREADS: u64 = 64;
+
+/// From which weight on the jobs of a round are composed by more than one: about how many rows are looked at in the time
+/// that a thread takes to start.
+const HEAVY: usize = 4_000;
 
 /// What the help ends with: an example, exit statuses, and the numbers of schema faults. [P 1.4, 15.1, 15.2]
 const AFTER_HELP: &str = "Example:
@@ -483,21 +485,23 @@ fn serve_schemas<
         + Eprint
         + Sync,
 >(rt: &R, alloc: Global, schemas: Schemas, words: &ArgMatches<'_>) -> Result<(), ProgramFault> {
+    let start = StartOptions {
+        address: word(words, "listen", ADDRESS),
+        file: words.get_str("load"),
+    };
     let names = names_to_log(alloc, &schemas, words)?;
     let front = front_of(rt, alloc, &schemas, words)?;
     let Schemas { first, second } = schemas;
-    let Ok(start) = Instant::now(rt) else {
+    let Ok(moment) = Instant::now(rt) else {
         return Err(ProgramFault::Run(RunFault::Read));
     };
-    let settings = settings_of(rt, words, start);
     let beginning = Beginning {
-        alloc,
-        first: begin_one(rt, alloc, first, &settings)?,
-        second: begin_second(rt, alloc, second, &settings)?,
+        first: begin_one(rt, alloc, first, words, moment)?,
+        second: begin_second(rt, alloc, second, words, moment)?,
         front,
         names,
     };
-    serve_all(rt, beginning, &settings)
+    serve_all(rt, beginning, start, terms(rt, words))
 }
 
 /// Begins the second database, if there is one.
@@ -505,32 +509,40 @@ fn begin_second<R: RandomSource>(
     rt: &R,
     alloc: Global,
     schema: Option<Schema>,
-    settings: &Settings<'_>,
-) -> Result<Option<Core>, ProgramFault>
-    ensures { IfOk result (λ second. IfSome second (λ core. IsNew core)) }
+    words: &ArgMatches<'_>,
+    moment: Instant,
+) -> Result<Option<SecondBegun>, ProgramFault>
+    ensures { IfOk result (λ second. IfSome second (λ second. IsNew second.begun.core)) }
 {
     let Some(schema) = schema else {
         return Ok(None);
     };
-    match begin_one(rt, alloc, schema, settings) {
-        Ok(core) => Ok(Some(core)),
+    let rng: Result<StdRng, io::Error> = make_rng(rt);
+    let mut rng = rng.map_err(|_| ProgramFault::Run(RunFault::Memory))?;
+    let id = Uuid::new_v4(&mut rng);
+    match begin_one(rt, alloc, schema, words, moment) {
+        Ok(begun) => Ok(Some(SecondBegun { begun, id })),
         Err(fault) => Err(fault),
     }
 }
 
-/// Begins a database.
+/// Begins a database at this moment.
 fn begin_one<R: RandomSource>(
     rt: &R,
     alloc: Global,
     schema: Schema,
-    settings: &Settings<'_>,
-) -> Result<Core, ProgramFault>
-    ensures { IfOk result (λ core. IsNew core) }
+    words: &ArgMatches<'_>,
+    moment: Instant,
+) -> Result<Begun, ProgramFault>
+    ensures { IfOk result (λ begun. IsNew begun.core) }
 {
     let hashing = RandomState::new(rt).map_err(|_| ProgramFault::Run(RunFault::Memory))?;
-    let run = run_word(rt)?;
-    match begin(alloc, schema, hashing, run, settings.kept) {
-        Ok(core) => Ok(noting_failures(core, settings.logs_errors)),
+    let memory = Memory {
+        run: run_word(rt)?,
+        kept: words.get_one("kept").unwrap_or(KEPT) as usize,
+    };
+    match begin(alloc, schema, hashing, memory, moment) {
+        Ok(begun) => Ok(begun.noting_failures(words.get_str("log").is_some())),
         Err(fault) => Err(ProgramFault::Run(fault)),
     }
 }
@@ -568,21 +580,18 @@ fn run_word<R: RandomSource>(rt: &R) -> Result<u64, ProgramFault> {
     Ok(rng.next_u64())
 }
 
-/// Returns how the words say to serve, from this moment on.
-fn settings_of<'a, R: Threads>(rt: &R, words: &ArgMatches<'a>, start: Instant) -> Settings<'a> {
-    Settings {
-        address: word(words, "listen", ADDRESS),
-        file: words.get_str("load"),
+/// Returns whom the daemon is to serve.
+fn terms<R: Threads>(rt: &R, words: &ArgMatches<'_>) -> Terms {
+    Terms {
         sessions: words.get_one("sessions"),
-        probe: milliseconds(words, "probe"),
-        stall: milliseconds(words, "stall"),
-        kept: words.get_one("kept").unwrap_or(KEPT) as usize,
+        patience: Patience {
+            probe: milliseconds(words, "probe"),
+            stall: milliseconds(words, "stall"),
+        },
         max_message: words.get_one("max-message").unwrap_or(MAX_MESSAGE as u64) as usize,
         has_log: words.contains_id("log"),
-        logs_errors: words.get_str("log").is_some(),
         threads: threads(rt, words, "threads"),
         workers: Workers::new(threads(rt, words, "workers"), HEAVY),
-        start,
     }
 }
 

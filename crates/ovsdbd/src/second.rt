@@ -1,20 +1,15 @@
 //! The second database that is served, and what a connection has there. [P 15.4]
 
-use crate::connection::{RandomIdentifiers, part_at_last, part_once};
-use crate::daemon::{Daemon, SubmittedTurn};
+use crate::connection::{PAUSE, RandomIdentifiers, part_at_last, part_once};
+use crate::daemon::{Daemon, HeldTurn, SubmittedTurn};
 use crate::front::identifier;
-use crate::tuning::END_PAUSE;
 use odb_core::{EventRefusal, Out, SessionId};
 use odb_front::{Destination, IdText, Ids, Naming, request_as};
-use odb_hub::{Inbox, Mailbox, Outbox, Seat};
+use odb_hub::{Bell, Inbox, Mailbox, Outbox, Seat};
 use odb_rpc::Printable;
 use odb_wire::Request;
-use rand::make_rng;
-use rand::rngs::StdRng;
 use serde_json::Value;
 use std::alloc::{AllocError, Global};
-use std::io;
-use std::random::RandomSource;
 use std::sync::ledger::Ledger;
 use std::sync::{Mutex, Wait};
 use std::thread::{self, Threads};
@@ -33,9 +28,9 @@ pub(crate) struct Second<M: Ledger> {
 
 impl<M: Ledger> Second<M> {
     /// Makes it, with an id.
-    pub(crate) fn new<R: RandomSource>(rt: &R, daemon: Daemon<M>) -> Result<Second<M>, AllocError> {
+    pub(crate) fn new(daemon: Daemon<M>, id: Uuid) -> Result<Second<M>, AllocError> {
         let alloc = daemon.alloc;
-        let value = identifier(alloc, random_id(rt)?)?;
+        let value = identifier(alloc, id)?;
         let text = value.as_str().unwrap_or("");
         Ok(Second {
             id: String::from_str(alloc, text)?,
@@ -71,13 +66,6 @@ impl<M: Ledger> Drop for Second<M> {
     }
 }
 
-/// Draws an identifier.
-fn random_id<R: RandomSource>(rt: &R) -> Result<Uuid, AllocError> {
-    let rng: Result<StdRng, io::Error> = make_rng(rt);
-    let mut rng = rng.map_err(|_| AllocError)?;
-    Ok(Uuid::new_v4(&mut rng))
-}
-
 fn text_of(alloc: Global, id: &Value) -> Result<IdText, AllocError> {
     match Printable::of(id) {
         Some(id) => IdText::new(alloc, id),
@@ -98,7 +86,7 @@ pub(crate) struct SecondSeat<'a, M: Ledger> {
     second: &'a Second<M>,
     session: SessionId,
     seat: Option<Seat<M>>,
-    pub(crate) mailbox: Mailbox,
+    mailbox: Mailbox,
     /// The next message, where another was in the midst as it came.
     next: Option<Out>,
     /// The request that named a monitor there and has no reply yet.
@@ -123,6 +111,11 @@ impl<'a, M: Ledger> SecondSeat<'a, M> {
         self.session
     }
 
+    /// Returns what wakes the thread that serves it.
+    pub(crate) fn bell(&self) -> &Bell {
+        self.mailbox.bell()
+    }
+
     /// Submits a turn of so many of the requests, the first. None: the session has ended.
     pub(crate) fn submit<R: Threads + Wait + Clock + Sync>(
         &mut self,
@@ -141,7 +134,7 @@ impl<'a, M: Ledger> SecondSeat<'a, M> {
         &mut self,
         rt: &R,
         inbox: &mut Inbox,
-    ) -> Option<SubmittedTurn> {
+    ) -> Option<HeldTurn> {
         let daemon = &self.second.daemon;
         match &mut self.seat {
             Some(seat) => {
@@ -157,11 +150,10 @@ impl<'a, M: Ledger> SecondSeat<'a, M> {
     pub(crate) fn tell<R: Threads + Wait + Clock + Sync>(
         &mut self,
         rt: &R,
-        turn: SubmittedTurn,
+        held: HeldTurn,
         inbox: &mut Inbox,
     ) -> bool {
-        self.second.daemon.tell(rt, &turn);
-        match turn.outcome() {
+        match self.second.daemon.tell(rt, held).outcome {
             Ok(()) => true,
             Err(EventRefusal::Memory) => self.submit_at_last(rt, inbox),
             Err(_) => false,
@@ -178,9 +170,9 @@ impl<'a, M: Ledger> SecondSeat<'a, M> {
             let Some(turn) = self.submit(rt, inbox, 1) else {
                 return false;
             };
-            match turn.outcome() {
+            match turn.outcome {
                 Ok(()) => return true,
-                Err(EventRefusal::Memory) => thread::sleep(rt, Duration::from_millis(END_PAUSE)),
+                Err(EventRefusal::Memory) => thread::sleep(rt, Duration::from_millis(PAUSE)),
                 Err(_) => return false,
             }
         }
@@ -190,7 +182,7 @@ impl<'a, M: Ledger> SecondSeat<'a, M> {
     /// Has what is held back sent, if there is some. True says that there may be more to write.
     pub(crate) fn refill<R: Threads + Wait + Sync>(&self, rt: &R) -> bool {
         match &self.seat {
-            Some(seat) if self.mailbox.bell().is_held_back() => {
+            Some(seat) if self.bell().is_held_back() => {
                 self.second.daemon.refill(rt, seat.session())
             }
             _ => false,

@@ -4,14 +4,13 @@ ghost use Rattle.std.specs.Prelude.{◌≡◌, IfOk, IfSome};
 ghost use Rattle.odb_hub.specs.Kept.{IsNew};
 
 use crate::clerk::serve_desk;
-use crate::daemon::{Common, Daemon, Daemons};
+use crate::daemon::{Begun, Common, Daemon, Daemons, Patience};
 use crate::desk::Desk;
 use crate::fault::{ProgramFault, Which};
 use crate::front::{FrontEnd, Schemas};
 use crate::load::load_file;
 use crate::notices::Notices;
 use crate::second::Second;
-use crate::tuning::{ACCEPT_PAUSE, STACK};
 use mio::{Poll, net};
 use odb_core::{Core, MAX_SESSIONS};
 use odb_par::Workers;
@@ -28,49 +27,57 @@ use std::sync::ledger::{Blank, Ledger};
 use std::sync::{Arc, Wait};
 use std::thread::{self, Builder, Scope, Threads};
 use std::time::{Clock, Duration, Instant};
+use uuid::Uuid;
 
 /// How many parts a ledger has: one more than seats may be given at once.
 const PARTS: u64 = MAX_SESSIONS as u64 + 2;
 
-/// What the words of the command line say of how to serve.
+/// The stack of a thread, in bytes.
+const STACK: usize = 1_048_576;
+
+/// For how many milliseconds the daemon waits after a connection couldn't be accepted, as where no file descriptor is left.
+const PAUSE: u64 = 100;
+
+/// Whom the daemon serves.
 #[derive(Clone, Copy)]
-pub(crate) struct Settings<'a> {
-    /// Where it listens.
-    pub(crate) address: &'a str,
-    /// The file of messages that it submits before.
-    pub(crate) file: Option<&'a str>,
+pub(crate) struct Terms {
     /// How many connections it serves before it ends; none: it goes on.
     pub(crate) sessions: Option<u64>,
-    /// For how many milliseconds a peer may say nothing before it is asked whether it is there, and then before it counts as gone;
-    /// none: for ever.
-    pub(crate) probe: Option<u64>,
-    /// For how many milliseconds a peer may take nothing before it counts as gone; none: for ever.
-    pub(crate) stall: Option<u64>,
-    /// Of how many of the last commits the contents can be found.
-    pub(crate) kept: usize,
+    pub(crate) patience: Patience,
     /// The most bytes of a message.
     pub(crate) max_message: usize,
-    /// Whether each connection that is opened or closed is logged, and whether each transaction that fails is.
+    /// Whether each connection that is opened or closed is logged.
     pub(crate) has_log: bool,
-    pub(crate) logs_errors: bool,
     /// How many threads serve connections.
     pub(crate) threads: usize,
     /// How many threads compose the jobs of a round.
     pub(crate) workers: Workers,
-    /// The moment from which moments are counted.
-    pub(crate) start: Instant,
+}
+
+/// What the daemon begins with.
+#[derive(Clone, Copy)]
+pub(crate) struct StartOptions<'a> {
+    /// Where it listens.
+    pub(crate) address: &'a str,
+    /// The file of messages that it submits before.
+    pub(crate) file: Option<&'a str>,
 }
 
 /// What the daemon is made of.
 #[derive(Drop)]
 pub(crate) struct Beginning {
-    pub(crate) alloc: Global,
-    /// The cores of its databases, with empty tables.
-    pub(crate) first: Core,
-    pub(crate) second: Option<Core>,
+    pub(crate) first: Begun,
+    pub(crate) second: Option<SecondBegun>,
     pub(crate) front: Option<FrontEnd>,
     /// The schemas by which it is told why transactions failed, where that is logged.
     pub(crate) names: Option<Schemas>,
+}
+
+/// What the second database is made of: its core, and the identifier under which it learns of locks.
+#[derive(Drop)]
+pub(crate) struct SecondBegun {
+    pub(crate) begun: Begun,
+    pub(crate) id: Uuid,
 }
 
 /// The ledgers of two databases, which aren't open yet.
@@ -80,35 +87,32 @@ struct Blanks {
     second: Blank,
 }
 
-/// Makes a core for the schema, with empty tables. The word of this run stands in its commits' identifiers, and of so many of the
-/// last the contents can be found.
+/// By what clients that come back are known to have held the content that a commit made.
+#[derive(Clone, Copy)]
+pub(crate) struct Memory {
+    /// The word of this run, which stands in its commits' identifiers.
+    pub(crate) run: u64,
+    /// Of how many of the last commits the contents can be found.
+    pub(crate) kept: usize,
+}
+
+/// Makes a core for the schema, with empty tables. Moments are counted from the start.
 pub(crate) fn begin(
     alloc: Global,
     schema: Schema,
     hashing: RandomState,
-    run: u64,
-    kept: usize,
-) -> Result<Core, RunFault>
-    ensures { IfOk result (λ core. IsNew core) }
+    memory: Memory,
+    start: Instant,
+) -> Result<Begun, RunFault>
+    ensures { IfOk result (λ begun. IsNew begun.core) }
 {
-    let Ok(core) = Core::with_run(alloc, schema, hashing, run, kept) else {
+    let Ok(core) = Core::with_run(alloc, schema, hashing, memory.run, memory.kept) else {
         return Err(RunFault::Memory);
     };
-    Ok(core)
+    Ok(Begun { alloc, core, start })
 }
 
-/// Has the core note why transactions fail, if that is to be logged.
-pub(crate) fn noting_failures(core: Core, notes: bool) -> Core
-    ensures { result ≡ core }
-{
-    let mut core = core;
-    if notes {
-        core.note_failures();
-    }
-    core
-}
-
-/// Loads the file, listens, prints the address, and serves all that connect. With `settings.sessions` it accepts so many
+/// Loads the file, listens, prints the address, and serves all that connect. With `terms.sessions` it accepts so many
 /// connections and returns when they have ended.
 pub(crate) fn serve_all<
     R: Files
@@ -120,15 +124,15 @@ pub(crate) fn serve_all<
         + Print
         + Eprint
         + Sync,
->(rt: &R, beginning: Beginning, settings: &Settings<'_>) -> Result<(), ProgramFault>
-    requires first { IsNew beginning.first }
-    requires second { IfSome beginning.second (λ core. IsNew core) }
+>(rt: &R, beginning: Beginning, start: StartOptions<'_>, terms: Terms) -> Result<(), ProgramFault>
+    requires first { IsNew beginning.first.core }
+    requires second { IfSome beginning.second (λ second. IsNew second.begun.core) }
 {
     let blanks = Blanks {
         first: Blank::new(PARTS),
         second: Blank::new(PARTS),
     };
-    serve_under::<Brand, Brand, R>(rt, beginning, blanks, settings)
+    serve_under::<Brand, Brand, R>(rt, beginning, blanks, start, terms)
 }
 
 /// Does what `serve_all` does, under the ledgers that the blanks name.
@@ -144,35 +148,40 @@ fn serve_under<
         + Print
         + Eprint
         + Sync,
->(rt: &R, beginning: Beginning, blanks: Blanks, settings: &Settings<'_>) -> Result<(), ProgramFault>
-    requires core { IsNew beginning.first }
-    requires second_core { IfSome beginning.second (λ core. IsNew core) }
-    requires first { (blanks.first.name ≡ L.name) × (blanks.first.parts ≡ L.parts) × (blanks.first.parts ≡ 4098) }
-    requires second { (blanks.second.name ≡ M.name) × (blanks.second.parts ≡ M.parts) × (blanks.second.parts ≡ 4098) }
-{
-    let Ok((desks, polls)) = open_desks(rt, beginning.alloc, settings.threads) else {
-        return Err(ProgramFault::Run(RunFault::Memory));
-    };
-    let daemons: Daemons<L, M> = make_daemons(rt, beginning, blanks, desks, settings)?;
-    let listener = begin_to_listen(rt, &daemons, settings)?;
-    serve_with(rt, &daemons, polls, &listener, settings.sessions).map_err(ProgramFault::Run)
-}
-
-/// Makes the daemons of the databases.
-fn make_daemons<L: Ledger, M: Ledger, R: RandomSource>(
+>(
     rt: &R,
     beginning: Beginning,
     blanks: Blanks,
+    start: StartOptions<'_>,
+    terms: Terms,
+) -> Result<(), ProgramFault>
+    requires core { IsNew beginning.first.core }
+    requires second_core { IfSome beginning.second (λ second. IsNew second.begun.core) }
+    requires first { (blanks.first.name ≡ L.name) × (blanks.first.parts ≡ L.parts) × (blanks.first.parts ≡ 4098) }
+    requires second { (blanks.second.name ≡ M.name) × (blanks.second.parts ≡ M.parts) × (blanks.second.parts ≡ 4098) }
+{
+    let Ok((desks, polls)) = open_desks(rt, beginning.first.alloc, terms.threads) else {
+        return Err(ProgramFault::Run(RunFault::Memory));
+    };
+    let sessions = terms.sessions;
+    let daemons: Daemons<L, M> = make_daemons(beginning, blanks, desks, &terms)?;
+    let listener = begin_to_listen(rt, &daemons, start)?;
+    serve_with(rt, &daemons, polls, &listener, sessions).map_err(ProgramFault::Run)
+}
+
+/// Makes the daemons of the databases.
+fn make_daemons<L: Ledger, M: Ledger>(
+    beginning: Beginning,
+    blanks: Blanks,
     desks: Vec<Desk>,
-    settings: &Settings<'_>,
+    terms: &Terms,
 ) -> Result<Daemons<L, M>, AllocError>
-    requires core { IsNew beginning.first }
-    requires second_core { IfSome beginning.second (λ core. IsNew core) }
+    requires core { IsNew beginning.first.core }
+    requires second_core { IfSome beginning.second (λ second. IsNew second.begun.core) }
     requires first { (blanks.first.name ≡ L.name) × (blanks.first.parts ≡ L.parts) × (blanks.first.parts ≡ 4098) }
     requires second { (blanks.second.name ≡ M.name) × (blanks.second.parts ≡ M.parts) × (blanks.second.parts ≡ 4098) }
 {
     let Beginning {
-        alloc,
         first,
         second,
         front,
@@ -182,10 +191,10 @@ fn make_daemons<L: Ledger, M: Ledger, R: RandomSource>(
         first: blank,
         second: other,
     } = blanks;
-    let common = common_of(alloc, desks, names, settings)?;
-    let second = second_of(rt, second, other, &common, settings)?;
+    let common = common_of(first.alloc, desks, names, terms)?;
+    let second = second_of(second, other, &common, terms)?;
     Ok(Daemons {
-        first: Daemon::new(first, Which::First, blank, common, settings),
+        first: Daemon::new(first, Which::First, blank, common, terms),
         second,
         front,
     })
@@ -195,39 +204,31 @@ fn common_of(
     alloc: Global,
     desks: Vec<Desk>,
     names: Option<Schemas>,
-    settings: &Settings<'_>,
+    terms: &Terms,
 ) -> Result<Common, AllocError> {
-    let notices = Notices::new(
-        alloc,
-        settings.max_message,
-        MAX_SESSIONS,
-        settings.has_log,
-        names,
-    );
+    let notices = Notices::new(alloc, terms.max_message, MAX_SESSIONS, terms.has_log, names);
     Ok(Common {
-        alloc,
         desks: Arc::new(alloc, desks)?,
         notices: Arc::new(alloc, notices)?,
     })
 }
 
 /// Makes the second database, if there is one.
-fn second_of<M: Ledger, R: RandomSource>(
-    rt: &R,
-    second: Option<Core>,
+fn second_of<M: Ledger>(
+    second: Option<SecondBegun>,
     blank: Blank,
     common: &Common,
-    settings: &Settings<'_>,
+    terms: &Terms,
 ) -> Result<Option<Second<M>>, AllocError>
-    requires core { IfSome second (λ core. IsNew core) }
+    requires core { IfSome second (λ second. IsNew second.begun.core) }
     requires ledger { (blank.name ≡ M.name) × (blank.parts ≡ M.parts) × (blank.parts ≡ 4098) }
 {
-    let Some(core) = second else {
+    let Some(SecondBegun { begun, id }) = second else {
         return Ok(None);
     };
     let common = common.try_share()?;
-    let daemon = Daemon::new(core, Which::Second, blank, common, settings);
-    Ok(Some(Second::new(rt, daemon)?))
+    let daemon = Daemon::new(begun, Which::Second, blank, common, terms);
+    Ok(Some(Second::new(daemon, id)?))
 }
 
 /// Loads the file, if there is one, then listens, and prints the address.
@@ -242,11 +243,11 @@ fn begin_to_listen<
         + RandomSource
         + Print
         + Sync,
->(rt: &R, daemons: &Daemons<L, M>, settings: &Settings<'_>) -> Result<TcpListener, ProgramFault> {
-    if let Some(file) = settings.file {
+>(rt: &R, daemons: &Daemons<L, M>, start: StartOptions<'_>) -> Result<TcpListener, ProgramFault> {
+    if let Some(file) = start.file {
         load_file(rt, daemons, file)?;
     }
-    let listener = TcpListener::bind(rt, settings.address).map_err(ProgramFault::NotListening)?;
+    let listener = TcpListener::bind(rt, start.address).map_err(ProgramFault::NotListening)?;
     let local = listener.local_addr().map_err(ProgramFault::NotListening)?;
     match println!(rt; "listening {local}") {
         Ok(()) => Ok(listener),
@@ -384,7 +385,7 @@ fn accept_all<L: Ledger, R: Threads + Wait + Clock>(
             }
             Err(error) => {
                 daemon.notices.note_unaccepted(rt, error);
-                thread::sleep(rt, Duration::from_millis(ACCEPT_PAUSE));
+                thread::sleep(rt, Duration::from_millis(PAUSE));
             }
         }
         if sessions == Some(accepted) {

@@ -1,5 +1,4 @@
-//! The database `_Server`, in which a server says what it serves (ovsdb-server(5)): each thread that serves connections has a core
-//! for it, where a connection has a session from its first request on that names it. [P 15.3]
+//! The database `_Server`, in which a server says what it serves (ovsdb-server(5)). [P 15.3]
 
 use crate::connection::RandomIdentifiers;
 use crate::fault::ProgramFault;
@@ -17,6 +16,7 @@ use std::collections::VecDeque;
 use std::hash::RandomState;
 use std::mem;
 use std::random::RandomSource;
+use std::sync::{Mutex, Wait};
 
 /// Its name.
 pub(crate) const NAME: &str = "_Server";
@@ -41,22 +41,44 @@ const FILLED: &[u8] = b"{\"error\":null,\"id\":0,\"result\":[{\"uuid\":";
 /// Of how many of its commits the contents can be found: of the one that fills it.
 const KEPT: usize = 1;
 
-/// Makes and fills it: with a row for each database of these schemas. Each thread that serves connections begins with a copy,
-/// which has the same rows, identifiers and versions as that of each other.
-pub(crate) fn filled_core<R: RandomSource>(
-    rt: &R,
-    alloc: Global,
-    schemas: &[PrintedSchema],
-    identifiers: &mut RandomIdentifiers,
-) -> Result<Core, ProgramFault> {
-    let schema = own_schema(alloc)?;
-    let hashing = RandomState::new(rt).map_err(|_| memory())?;
-    let run = identifiers.rng.next_u64();
-    let Ok(mut core) = Core::with_run(alloc, schema, hashing, run, KEPT) else {
-        return Err(memory());
-    };
-    fill(alloc, &mut core, schemas, identifiers)?;
-    Ok(core)
+/// `_Server` as it is filled, with which the threads that serve connections begin.
+pub(crate) struct ServerBegun {
+    core: Mutex<Core>,
+}
+
+impl ServerBegun {
+    /// Makes and fills it: with a row for each database of these schemas.
+    pub(crate) fn new<R: RandomSource>(
+        rt: &R,
+        alloc: Global,
+        schemas: &[PrintedSchema],
+        identifiers: &mut RandomIdentifiers,
+    ) -> Result<ServerBegun, ProgramFault> {
+        let schema = own_schema(alloc)?;
+        let hashing = RandomState::new(rt).map_err(|_| memory())?;
+        let run = identifiers.rng.next_u64();
+        let Ok(mut core) = Core::with_run(alloc, schema, hashing, run, KEPT) else {
+            return Err(memory());
+        };
+        fill(alloc, &mut core, schemas, identifiers)?;
+        Ok(ServerBegun {
+            core: Mutex::new(core),
+        })
+    }
+
+    /// Makes the database of a thread, which has the same rows, identifiers and versions as that of each other.
+    pub(crate) fn start<R: Wait>(&self, rt: &R) -> Result<ServerDatabase, AllocError> {
+        Ok(ServerDatabase {
+            core: self.core.lock(rt).try_copy()?,
+        })
+    }
+}
+
+// Written, and not derived, so that each end of a scope is one call to prove.
+impl Drop for ServerBegun {
+    fn drop(self) {
+        let ServerBegun { core: _ } = self;
+    }
 }
 
 /// Reads its schema, under the name that it has here. Only memory may be refused.
@@ -138,55 +160,86 @@ fn request_of(alloc: Global, message: &Value) -> Result<Request, AllocError> {
     }
 }
 
-/// Ends a session of a thread's `_Server`. False says that memory was refused.
-pub(crate) fn close_session(server: &mut Core, session: SessionId) -> bool {
-    match server.close(session) {
-        Ok(()) => true,
-        Err(EventRefusal::Gone) => true,
-        Err(_) => false,
+/// The database `_Server` of a thread that serves connections, of which each has a session from its first request on that
+/// names it.
+pub(crate) struct ServerDatabase {
+    core: Core,
+}
+
+impl ServerDatabase {
+    /// Opens a session.
+    pub(crate) fn open(&mut self) -> Result<SessionId, EventRefusal> {
+        self.core.open()
+    }
+
+    /// Ends a session. False says that memory was refused.
+    pub(crate) fn close(&mut self, session: SessionId) -> bool {
+        match self.core.close(session) {
+            Ok(()) => true,
+            Err(EventRefusal::Gone) => true,
+            Err(_) => false,
+        }
+    }
+
+    /// Takes a request of a session in, and then what the session is owed.
+    pub(crate) fn submit(
+        &mut self,
+        alloc: Global,
+        session: SessionId,
+        asked: ServerRequest,
+        now: u64,
+    ) -> Result<VecDeque<Out>, AllocError> {
+        let ServerRequest { submission, after } = asked;
+        let Submission { request, fresh } = submission;
+        if self
+            .core
+            .submit(session, request, fresh.as_slice(), now)
+            .is_err()
+        {
+            return Err(AllocError);
+        }
+        let outs = self.take(alloc, session)?;
+        match after {
+            Some(after) => refused_in(alloc, outs, after),
+            None => Ok(outs),
+        }
+    }
+
+    /// Takes all that a session is owed.
+    pub(crate) fn take(
+        &mut self,
+        alloc: Global,
+        session: SessionId,
+    ) -> Result<VecDeque<Out>, AllocError> {
+        let mut outs = VecDeque::new(alloc);
+        for _ in 0..u64::MAX {
+            let given = self.core.round(&[session])?;
+            if given.is_empty() {
+                break;
+            }
+            for out in given {
+                outs.push_back(out)?;
+            }
+        }
+        Ok(outs)
+    }
+
+    /// Returns the earliest moment, in milliseconds, at which a transaction that waits is due.
+    pub(crate) fn deadline(&self) -> Option<u64> {
+        self.core.next_deadline()
+    }
+
+    /// Tries the transactions that are due.
+    pub(crate) fn tick(&mut self, now: u64) -> Result<(), AllocError> {
+        self.core.tick(now)
     }
 }
 
-/// Has a thread's `_Server` take a request of a session in, and takes what the session is owed then.
-pub(crate) fn submit_to_server(
-    server: &mut Core,
-    alloc: Global,
-    session: SessionId,
-    asked: ServerRequest,
-    now: u64,
-) -> Result<VecDeque<Out>, AllocError> {
-    let ServerRequest { submission, after } = asked;
-    let Submission { request, fresh } = submission;
-    if server
-        .submit(session, request, fresh.as_slice(), now)
-        .is_err()
-    {
-        return Err(AllocError);
+// Written, and not derived, so that each end of a scope is one call to prove.
+impl Drop for ServerDatabase {
+    fn drop(self) {
+        let ServerDatabase { core: _ } = self;
     }
-    let outs = take_owed(server, alloc, session)?;
-    match after {
-        Some(after) => refused_in(alloc, outs, after),
-        None => Ok(outs),
-    }
-}
-
-/// Takes all that a session of a thread's `_Server` is owed.
-pub(crate) fn take_owed(
-    server: &mut Core,
-    alloc: Global,
-    session: SessionId,
-) -> Result<VecDeque<Out>, AllocError> {
-    let mut outs = VecDeque::new(alloc);
-    for _ in 0..u64::MAX {
-        let given = server.round(&[session])?;
-        if given.is_empty() {
-            break;
-        }
-        for out in given {
-            outs.push_back(out)?;
-        }
-    }
-    Ok(outs)
 }
 
 /// What is submitted to `_Server`: a request of which nothing is written, and how many operations come after the first that

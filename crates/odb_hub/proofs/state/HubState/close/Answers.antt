@@ -1,15 +1,14 @@
-use Rattle.std.proofs.Common.{rules, ◌≡◌, ℕ, [], ◌∷◌, ◌++◌, Ok, refl, sym, subst, ◌∙◌}
+use Rattle.std.proofs.Common.{rules, ◌≡◌, ℕ, [], ◌∷◌, ◌++◌, Ok, sym, subst, ◌∙◌}
 use Rattle.odb_atoms.specs.FinMap.{remove}
 use Rattle.odb_service.specs.Run.{Event, closed}
 use Rattle.odb_service.specs.Server.{serve}
 use Rattle.odb_hub.specs.Kept.{AreUnused, Kept, Takes}
 use Rattle.odb_hub.specs.Rings.{Rings}
-use Rattle.odb_hub.proofs.Counting.{same_count}
 use Rattle.odb_hub.proofs.Keeping.{closed_kept, counted_more, same_opened, unused_closed}
 use Rattle.odb_hub.proofs.state.HubState.close.Goals as goal
 
-pub invariant_of-self : goal.invariant_of-self
-invariant_of-self g c =
+pub invariant_of-self-2 : goal.invariant_of-self-2
+invariant_of-self-2 c =
     let i = c.self.inside in
     let s : ℕ = c.args.session in
     let e : Event = closed s in
@@ -24,6 +23,4 @@ invariant_of-self g c =
       closed_kept k n c.self.invariant.0 s takes gone,
       subst (AreUnused rings) (sym (same_opened e i.core c.close.new.self [] went)) (subst (λ (m : Rings). AreUnused m i.core.opened) (sym gone) (unused_closed i.rings s i.core.opened c.self.invariant.1)),
       c.saturating_add-self-inside.ensures ∙ counted_more i.since_base k.events n.events e c.self.invariant.2 events,
-      same_count i.book.total i.settled.value.total k.events n.events e c.self.invariant.3 events refl,
-      c.self.invariant.4,
     )

@@ -8,16 +8,14 @@ use Rattle.odb_hub.proofs.Keeping.{begins}
 use Rattle.odb_hub.proofs.state.HubState.new.Goals as goal
 
 pub invariant_of-result : goal.invariant_of-result
-invariant_of-result g c =
+invariant_of-result c =
     let core = c.args.core in
     let base : c.begin.result.base ≡ core.world = search rules in
     let events : c.begin.result.events ≡ [] = search rules in
     let none : c.new.result ≡ empty = search rules in
-    let zero : core.opened ≡ 0 = ap (λ (v : Server). v.opened) c.requires.core.2 in
+    let zero : core.opened ≡ 0 = ap (λ (v : Server). v.opened) c.requires.2 in
     let first : AreUnused empty 0 = λ q above. get-empty q in (
-      subst IsKept (λ j. let n : Kept = record { server = core; base = sym base j; events = sym events j; rings = sym none j } in n) (begins core c.requires.core),
+      subst IsKept (λ j. let n : Kept = record { server = core; base = sym base j; events = sym events j; rings = sym none j } in n) (begins core c.requires),
       subst (λ n. AreUnused c.new.result n) (sym zero) (subst (λ (m : Rings). AreUnused m 0) (sym none) first),
       ap counted (sym events),
-      search (rules, events),
-      search rules,
     )

@@ -1,14 +1,12 @@
-use Rattle.std.proofs.Common.{rules, ◌≡◌, ℕ, List, [], ◌∷◌, ◌++◌, true, false, length, map, Ok, refl, sym, ap, subst, ◌∙◌}
+use Rattle.std.proofs.Common.{rules, ◌≡◌, ℕ, List, [], ◌∷◌, ◌++◌, true, false, length, map, Ok, refl, sym, subst, ◌∙◌}
 use Rattle.std.proofs.lemmas.List.{length-map}
 use Rattle.odb_atoms.specs.FinMap.{get}
 use Rattle.odb_sessions.specs.Represented.Out.{sent_in}
 use Rattle.odb_service.specs.Run.{Event, round}
 use Rattle.odb_service.specs.Server.{serve}
-use Rattle.odb_hub.specs.Counted.{Counted}
 use Rattle.odb_hub.specs.Kept.{AreUnused, Kept, Takes}
 use Rattle.odb_hub.specs.Own.{FlushesOwn, TakesOwnRound}
 use Rattle.odb_hub.specs.Rings.{Rings, Text, is_free_at, texts_to}
-use Rattle.odb_hub.proofs.Counting.{same_count}
 use Rattle.odb_hub.proofs.Keeping.{counted_more, flushed_state, same_opened, unused_grown}
 use Rattle.odb_hub.proofs.OwnRounds.{own_grown, own_kept, own_rooms, own_round, own_waits}
 use Rattle.odb_hub.proofs.state.HubState.round_for.Goals as goal
@@ -40,8 +38,6 @@ invariant_of-self-2 g c =
       own_kept s (length outs) k n c.self.invariant.0 t,
       subst (AreUnused n.rings) (sym (same_opened e i.core c.round_of.new.core outs went)) (unused_grown i.rings c.hand_over.new.self i.core.opened (λ q. texts_to q t.1) (own_grown s (length outs) k n t) c.self.invariant.1),
       c.saturating_add-self-inside.ensures ∙ counted_more i.since_base k.events n.events e c.self.invariant.2 events,
-      same_count i.book.total i.settled.value.total k.events n.events e c.self.invariant.3 events refl,
-      c.self.invariant.4,
     )
 
 pub returns-clause-ok : goal.returns-clause-ok
@@ -61,7 +57,7 @@ returns-clause-ok g c =
     let t : TakesOwnRound s (length outs) k n = own_round s k n m outs c.ready_for.ensures.flushed c.ready_for.ensures.others free takes c.hand_over.ensures in
     let items : c.len-count.result ≡ length c.in_ok-outs.outs.items = search rules in
     let count : c.len-count.result ≡ length outs = items ∙ sym (length-map c.in_ok-outs.outs.items sent_in) in
-    subst (λ (old : Kept). TakesOwnRound s c.len-count.result old n) (ap (λ (x : Counted). x.kept) c.self.view_is) (subst (λ q. TakesOwnRound s q k n) (sym count) t)
+    subst (λ (old : Kept). TakesOwnRound s c.len-count.result old n) c.self.view_is (subst (λ q. TakesOwnRound s q k n) (sym count) t)
 
 pub returns-then-not-ready-clause-ok : goal.returns-then-not-ready-clause-ok
 returns-then-not-ready-clause-ok g c =
@@ -71,19 +67,17 @@ returns-then-not-ready-clause-ok g c =
     let n : Kept = record { server = i.core; base = i.journal.base; events = i.journal.events; rings = c.ready_for.new.self } in
     let flushed : FlushesOwn s k n = (refl, refl, refl, c.ready_for.ensures.flushed s, c.ready_for.ensures.others) in
     let holds : is_free_at (get n.rings s) ≡ false = search rules in
-    subst (λ (old : Kept). TakesOwnRound s 0 old n) (ap (λ (x : Counted). x.kept) c.self.view_is) (own_waits s k n flushed holds)
+    subst (λ (old : Kept). TakesOwnRound s 0 old n) c.self.view_is (own_waits s k n flushed holds)
 
 pub invariant_of-self : goal.invariant_of-self
 invariant_of-self g c =
     let i = c.self.inside in
     let k : Kept = record { server = i.core; base = i.journal.base; events = i.journal.events; rings = i.rings } in
-    let f = flushed_state k c.ready_for.new.self i.core i.since_base refl c.ready_for.ensures.flushed c.self.invariant.0 c.self.invariant.1 c.self.invariant.2 in
-    (f.0, f.1, f.2, c.self.invariant.3, c.self.invariant.4)
+    flushed_state k c.ready_for.new.self i.core i.since_base refl c.ready_for.ensures.flushed c.self.invariant.0 c.self.invariant.1 c.self.invariant.2
 
 pub invariant_of-self-in_err-outs : goal.invariant_of-self-in_err-outs
 invariant_of-self-in_err-outs g c =
     let i = c.self.inside in
     let k : Kept = record { server = i.core; base = i.journal.base; events = i.journal.events; rings = i.rings } in
     let same : c.round_of.new.core ≡ i.core = search rules in
-    let f = flushed_state k c.ready_for.new.self c.round_of.new.core i.since_base same c.ready_for.ensures.flushed c.self.invariant.0 c.self.invariant.1 c.self.invariant.2 in
-    (f.0, f.1, f.2, c.self.invariant.3, c.self.invariant.4)
+    flushed_state k c.ready_for.new.self c.round_of.new.core i.since_base same c.ready_for.ensures.flushed c.self.invariant.0 c.self.invariant.1 c.self.invariant.2

@@ -2,12 +2,11 @@ use Rattle.std.proofs.Common.{rules, ◌≡◌, [], ◌∷◌, ◌++◌, Ok, ref
 use Rattle.odb_service.specs.Run.{Event, ticked}
 use Rattle.odb_service.specs.Server.{serve}
 use Rattle.odb_hub.specs.Kept.{AreUnused, Kept, Takes}
-use Rattle.odb_hub.proofs.Counting.{same_count}
 use Rattle.odb_hub.proofs.Keeping.{counted_more, same_opened, ticked_kept}
 use Rattle.odb_hub.proofs.state.HubState.tick.Goals as goal
 
 pub invariant_of-self-2 : goal.invariant_of-self-2
-invariant_of-self-2 g c =
+invariant_of-self-2 c =
     let i = c.self.inside in
     let e : Event = ticked c.args.now in
     let k : Kept = record { server = i.core; base = i.journal.base; events = i.journal.events; rings = i.rings } in
@@ -19,6 +18,4 @@ invariant_of-self-2 g c =
       ticked_kept k n c.self.invariant.0 c.args.now takes refl,
       subst (AreUnused i.rings) (sym (same_opened e i.core c.tick.new.self [] went)) c.self.invariant.1,
       c.saturating_add-self-inside.ensures ∙ counted_more i.since_base k.events n.events e c.self.invariant.2 events,
-      same_count i.book.total i.settled.value.total k.events n.events e c.self.invariant.3 events refl,
-      c.self.invariant.4,
     )

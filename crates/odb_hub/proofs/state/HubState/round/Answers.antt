@@ -6,12 +6,10 @@ use Rattle.odb_sessions.specs.Represented.Out.{sent_in}
 use Rattle.odb_core.proofs.QuietRounds.{round_among}
 use Rattle.odb_service.specs.Run.{round}
 use Rattle.odb_service.specs.Server.{serve}
-use Rattle.odb_hub.specs.Counted.{Counted}
 use Rattle.odb_hub.specs.Kept.{AreUnused, Kept, Takes, TakesRound}
 use Rattle.odb_hub.specs.Rings.{Rings, Text, free_of}
-use Rattle.odb_hub.proofs.Counting.{same_count}
 use Rattle.odb_hub.proofs.Keeping.{counted_more, flushed_state, rooms, round_taken, same_opened, takes_round_kept, unused_round}
-use Rattle.odb_hub.proofs.state.HubState.give_each.Goals as goal
+use Rattle.odb_hub.proofs.state.HubState.round.Goals as goal
 
 pub hand_over-requires : goal.hand_over-requires
 hand_over-requires g c =
@@ -39,8 +37,6 @@ invariant_of-self-2 g c =
       takes_round_kept k n c.self.invariant.0 (length outs) t,
       subst (AreUnused n.rings) (sym (same_opened (round (free_of m)) i.core c.round_by.new.core outs went_free)) (unused_round k n i.core.opened (length outs) t c.self.invariant.1),
       c.saturating_add-self-inside.ensures ∙ counted_more i.since_base k.events n.events (round (free_of m)) c.self.invariant.2 events_free,
-      same_count i.book.total i.settled.value.total k.events n.events (round (free_of m)) c.self.invariant.3 events_free refl,
-      c.self.invariant.4,
     )
 
 pub returns-clause-ok : goal.returns-clause-ok
@@ -59,19 +55,17 @@ returns-clause-ok g c =
     let t : TakesRound (length outs) k n = round_taken k n m outs c.ready.ensures.flushed takes c.hand_over.ensures in
     let items : c.len-count.result ≡ length c.in_ok-outs.outs.items = search rules in
     let count : c.len-count.result ≡ length outs = items ∙ sym (length-map c.in_ok-outs.outs.items sent_in) in
-    subst (λ (old : Kept). TakesRound c.len-count.result old n) (ap (λ (x : Counted). x.kept) c.self.view_is) (subst (λ q. TakesRound q k n) (sym count) t)
+    subst (λ (old : Kept). TakesRound c.len-count.result old n) c.self.view_is (subst (λ q. TakesRound q k n) (sym count) t)
 
 pub invariant_of-self-in_err-outs : goal.invariant_of-self-in_err-outs
 invariant_of-self-in_err-outs g c =
     let i = c.self.inside in
     let k : Kept = record { server = i.core; base = i.journal.base; events = i.journal.events; rings = i.rings } in
     let same : c.round_by.new.core ≡ i.core = search rules in
-    let f = flushed_state k c.ready.new.self c.round_by.new.core i.since_base same c.ready.ensures.flushed c.self.invariant.0 c.self.invariant.1 c.self.invariant.2 in
-    (f.0, f.1, f.2, c.self.invariant.3, c.self.invariant.4)
+    flushed_state k c.ready.new.self c.round_by.new.core i.since_base same c.ready.ensures.flushed c.self.invariant.0 c.self.invariant.1 c.self.invariant.2
 
 pub invariant_of-self : goal.invariant_of-self
 invariant_of-self g c =
     let i = c.self.inside in
     let k : Kept = record { server = i.core; base = i.journal.base; events = i.journal.events; rings = i.rings } in
-    let f = flushed_state k c.ready.new.self i.core i.since_base refl c.ready.ensures.flushed c.self.invariant.0 c.self.invariant.1 c.self.invariant.2 in
-    (f.0, f.1, f.2, c.self.invariant.3, c.self.invariant.4)
+    flushed_state k c.ready.new.self i.core i.since_base refl c.ready.ensures.flushed c.self.invariant.0 c.self.invariant.1 c.self.invariant.2
