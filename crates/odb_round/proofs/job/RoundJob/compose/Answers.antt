@@ -16,6 +16,6 @@ returns-in-Some c =
 pub returns-in-Some-lacks : goal.returns-in-Some-lacks
 returns-in-Some-lacks c =
     let own : Job = job_in c.self.inside.chains.now.db c.self.inside.monitor.now c.self.inside.way in
-    let there : c.self.inside.lacks ≡ Some c.in-Some-lacks.job.now = search rules in
-    let is : c.in-Some-lacks.job.now ≡ own = kept_in c.self.inside.lacks c.in-Some-lacks.job.now (λ (j : Job). j ≡ own) there c.self.invariant.3 in
+    let there : c.self.inside.lacks ≡ Some c.in-Some-lacks.job = search rules in
+    let is : c.in-Some-lacks.job ≡ own = kept_in c.self.inside.lacks c.in-Some-lacks.job (λ (j : Job). j ≡ own) there c.self.invariant.3 in
     IfOk-weaker c.compose_over.result _ _ (λ body e. e ∙ ap composition (is ∙ c.self.view_is)) c.compose_over.ensures
