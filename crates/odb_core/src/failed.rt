@@ -1,7 +1,9 @@
 //! Transactions that failed, which can be asked for their causes. [P 15.2]
 
 ghost use Rattle.std.specs.Prelude.{◌≡◌};
+ghost use Rattle.odb_core.specs.Represented.Waiting.{waiting_as};
 
+use crate::submitted::Submitted;
 use crate::waiting::Waiting;
 use odb_locks::SessionId;
 use std::marker::Model;
@@ -9,7 +11,7 @@ use std::marker::Model;
 /// A transaction that failed, as it was submitted. Contracts see it as one that waits.
 #[derive(Drop)]
 pub struct Failed {
-    pub(crate) transaction: Waiting,
+    transaction: Waiting,
 }
 
 impl Model for Failed {
@@ -35,6 +37,13 @@ impl Failed {
     pub fn session(&self) -> SessionId
         ensures { result ≡ self.now.session }
     {
-        self.transaction.submitted().session
+        self.transaction.session()
+    }
+
+    /// Returns the transaction as it was submitted. O(1).
+    pub(crate) fn submitted(&self) -> &Submitted
+        ensures { waiting_as result.now self.now.deadline self.now.tried ≡ self.now }
+    {
+        self.transaction.submitted()
     }
 }

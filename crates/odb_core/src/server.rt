@@ -1,6 +1,6 @@
-//! The server as a machine over events. [P 10.3, 12.3, 13.1, 14]
+//! The server as a machine over events. [P 10.3, 13.1, 14]
 
-ghost use Rattle.std.specs.Prelude.{◌≡◌, ◌≤◌, ◌↔◌, ℕ, List, ◌∷◌, [], flat_map, map, length, Ok, OnOk, OnErr, IfNone, IfOk, IfErr, IfSome, IsErrOf};
+ghost use Rattle.std.specs.Prelude.{◌≡◌, ◌≤◌, ◌↔◌, ℕ, List, [], flat_map, map, length, Ok, OnOk, OnErr, IfOk, IfErr, IfSome, IsErrOf};
 ghost use Rattle.std.specs.List.{All};
 ghost use Rattle.odb_atoms.specs.FinMap.{len};
 ghost use Rattle.odb_atoms.specs.Represented.Atom.{uuid_of};
@@ -9,21 +9,16 @@ ghost use Rattle.odb_wire.specs.Shown.{request_data};
 ghost use Rattle.odb_service.specs.Run.{closed, max_sessions, once, opened, round, submitted, ticked};
 ghost use Rattle.odb_core.specs.Causes.{FailsFor};
 ghost use Rattle.odb_core.specs.Deadlines.{earliest};
-ghost use Rattle.odb_core.specs.Represented.Core.{empty_world};
-ghost use Rattle.odb_core.specs.Represented.Rounds.{book_in};
 ghost use Rattle.odb_core.specs.declared.refused.EventRefusal.TheVariants as refused;
 
 use crate::failed::Failed;
-use crate::failures::Failures;
 use crate::refused::EventRefusal;
-use crate::waiting_list::WaitingList;
+use crate::state::State;
 use odb_cause::Cause;
-use odb_locks::{Locks, SessionId};
-use odb_queue::ServedSchema;
-use odb_round::{Jobs, PreparedRound, accept_round, give_round, plan_round, take_finished};
+use odb_locks::SessionId;
+use odb_round::{Jobs, PreparedRound, plan_round};
 use odb_schema::Schema;
-use odb_sessions::{FirstText, Out, Sessions, ToldMarks};
-use odb_tables::{Db, Draft};
+use odb_sessions::{FirstText, Out, ToldMarks};
 use odb_wire::Request;
 use std::alloc::{AllocError, Global};
 use std::collections::BTreeSet;
@@ -40,45 +35,31 @@ pub const MAX_SESSIONS: usize = 4_096;
 /// The server of RFC 7047 as a machine over events: sessions open and close, submit requests, and are
 /// given messages by rounds. Contracts see it as the state of the service machine
 /// (`specs/World.antt`), and each call is that machine's step. A call that is refused changes nothing.
-/// The database is always sound, and each transaction that waits and rests on one table is stuck on it.
 ///
 /// In the costs below `n` sessions are open, and `w` transactions wait.
 pub struct Core {
-    pub(crate) alloc: Global,
-    pub(crate) served: ServedSchema,
-    /// How many sessions were opened.
-    pub(crate) opened: usize,
-    /// The moment, in milliseconds.
-    pub(crate) moment: u64,
-    pub(crate) waiting: WaitingList,
-    pub(crate) locks: Locks,
-    /// The database with its commits, and the open sessions.
-    pub(crate) sessions: Sessions,
-    pub(crate) failures: Failures,
+    alloc: Global,
+    state: State,
 }
 
 impl Model for Core {
     ghost use Rattle.odb_service.specs.Server.{Server, server_code};
-    ghost use Rattle.odb_core.specs.Represented.Core.{IsWhole};
+    ghost use Rattle.odb_core.specs.Represented.Core.{IsValid};
 
     ghost Value = { Server };
 
     ghost coded = { server_code };
 
-    ghost view = { λ c. record {
-      schema = c.served;
-      world = record { db = c.sessions.db; commits = c.sessions.commits; earlier = c.sessions.earlier; now = c.moment; waiting = c.waiting; locks = c.locks; sessions = c.sessions.sessions };
-      opened = c.opened;
-    } };
+    ghost view = { λ c. c.state };
 
-    ghost invariant = { λ c. IsWhole c.served c.sessions c.waiting c.locks c.moment c.opened };
+    ghost invariant = { λ c. IsValid c.state };
 }
 
 impl Core {
     ghost use Rattle.odb_service.specs.Server.{serve};
     ghost use Rattle.odb_service.specs.World.{revision_of};
     ghost use Rattle.odb_core.specs.Represented.Core.{IsQuietBut, new_server};
-    ghost use Rattle.odb_core.specs.Represented.Rounds.{AreRound, AreRoundOf};
+    ghost use Rattle.odb_core.specs.Represented.Rounds.{AreRound, AreRoundOf, book_in};
     ghost use Rattle.odb_sessions.specs.FirstTexts.{IsFirstText, IsOfNow};
     ghost use Rattle.odb_round.specs.Jobs.{AreByMarks, AreEachOnce, AreOfJobs};
     ghost use Rattle.odb_round.specs.Taken.{given_by, sessions_in};
@@ -113,24 +94,10 @@ impl Core {
         ensures ok { IfOk result (λ core. core ≡ new_server run most schema) }
         ensures err { IfErr result (λ back. (back.0 ≡ schema) × (back.1 ≡ hashing)) }
     {
-        let sessions = match no_sessions(alloc, &schema, hashing, run, most) {
-            Ok(sessions) => sessions,
-            Err(refused) => return Err((schema, hashing, refused)),
-        };
-        let served = match ServedSchema::new(alloc, schema) {
-            Ok(served) => served,
-            Err((schema, refused)) => return Err((schema, hashing, refused)),
-        };
-        Ok(Core {
-            alloc,
-            served,
-            opened: 0,
-            moment: 0,
-            waiting: WaitingList::new(alloc),
-            locks: Locks::new(alloc),
-            sessions,
-            failures: Failures::new(alloc),
-        })
+        match State::new(alloc, schema, hashing, run, most) {
+            Ok(state) => Ok(Core { alloc, state }),
+            Err((schema, refused)) => Err((schema, hashing, refused)),
+        }
     }
 
     /// Opens a session, and returns its number, which no session had before: they are numbered from 0
@@ -143,17 +110,17 @@ impl Core {
         ensures too_many { IsErrOf result refused.TooMany ↔ (max_sessions ≤ len self.old.world.sessions) }
         ensures err { OnErr result (self.new ≡ self.old) }
     {
-        if self.sessions.len() >= MAX_SESSIONS {
+        if self.state.sessions.len() >= MAX_SESSIONS {
             return Err(EventRefusal::TooMany);
         }
-        Ok(self.add_session()?)
+        Ok(self.state.open()?)
     }
 
     /// Returns the number of the next session that opens. O(1).
     pub fn next_session(&self) -> SessionId
         ensures { result ≡ self.now.opened }
     {
-        self.opened
+        self.state.opened
     }
 
     /// Ends a session: its claims are released, with the notices to those that own now, its transactions
@@ -164,10 +131,10 @@ impl Core {
         ensures why { IfErr result (λ why. IsReason why (serve (closed session) self.old)) }
         ensures err { OnErr result (self.new ≡ self.old) }
     {
-        if !self.sessions.has(session) {
+        if !self.state.sessions.has(session) {
             return Err(EventRefusal::Gone);
         }
-        self.end_session(session)?;
+        self.state.close(session)?;
         Ok(())
     }
 
@@ -193,12 +160,12 @@ impl Core {
         ensures err { OnErr result (self.new ≡ self.old) }
         ensures request_back { IfErr result (λ back. back.0 ≡ request) }
     {
-        match self.is_busy(session, &request) {
+        match self.state.is_busy(session, &request) {
             None => return Err((request, EventRefusal::Gone)),
             Some(true) => return Err((request, EventRefusal::Busy)),
             Some(false) => {}
         }
-        match self.receive(session, request, fresh, now) {
+        match self.state.receive(session, request, fresh, now) {
             Ok(()) => Ok(()),
             Err((request, _)) => Err((request, EventRefusal::Memory)),
         }
@@ -209,7 +176,7 @@ impl Core {
     pub fn note_failures(&mut self)
         ensures { self.new ≡ self.old }
     {
-        self.failures.begin();
+        self.state.note_failures();
     }
 
     /// Takes out the transactions that failed and were noted, in the order in which they ended. One for which memory was
@@ -217,7 +184,7 @@ impl Core {
     pub fn take_failed(&mut self) -> Vec<Failed>
         ensures { self.new ≡ self.old }
     {
-        self.failures.take()
+        self.state.take_failed()
     }
 
     /// Tries a transaction that failed once more, and returns why it fails on the core as it is, which a transaction that
@@ -226,8 +193,7 @@ impl Core {
     pub fn cause(&self, failed: &Failed) -> Result<Option<Cause>, AllocError>
         ensures { IfOk result (λ cause. IfSome cause (FailsFor self.now failed.now)) }
     {
-        let draft = Draft::new(self.alloc, self.sessions.db())?;
-        self.setting().cause(draft, failed.transaction.submitted())
+        self.state.cause(failed)
     }
 
     /// Advances the clock to `now` (milliseconds); it never goes back, so that an earlier `now`
@@ -237,19 +203,7 @@ impl Core {
         ensures ok { OnOk result (serve (ticked now) self.old ≡ Ok (self.new, [])) }
         ensures err { OnErr result (self.new ≡ self.old) }
     {
-        let before = self.moment();
-        let moment = before.max(now);
-        self.set_moment(moment);
-        if !self.has_due(moment) {
-            return Ok(());
-        }
-        match self.end_due() {
-            Ok(()) => Ok(()),
-            Err(refused) => {
-                self.set_moment(before);
-                Err(refused)
-            }
-        }
+        self.state.tick(now)
     }
 
     /// Gives each session of the list that is open its next message, if it has one: one message at
@@ -261,8 +215,7 @@ impl Core {
         ensures err { OnErr result (self.new ≡ self.old) }
     {
         let listed = once(self.alloc, ready)?;
-        let schema = self.served.schema();
-        give_round(&mut self.sessions, schema, listed.as_slice())
+        self.state.round(listed.as_slice())
     }
 
     /// Lends what clients were told, as it is kept: of each table of a monitor a mark, and the chains that keep what marks
@@ -270,7 +223,7 @@ impl Core {
     pub fn told(&self) -> ToldMarks<'_>
         ensures { IsToldOf (book_in self.now.world) result }
     {
-        self.sessions.told()
+        self.state.sessions.told()
     }
 
     /// Plans what `round` gives these sessions: the jobs that are to be composed for it, of which no two
@@ -289,8 +242,8 @@ impl Core {
         ensures marks { IfOk result (λ jobs. AreByMarks (book_in self.now.world) jobs.told jobs.jobs jobs.likenesses jobs.takings) }
     {
         let listed = once(self.alloc, ready)?;
-        let schema = self.served.schema();
-        plan_round(&self.sessions, schema, listed.as_slice())
+        let schema = self.state.served.schema();
+        plan_round(&self.state.sessions, schema, listed.as_slice())
     }
 
     /// Keeps the text of a first reply, if there is one, which [`Jobs::first_text`] found for this core as it is: until the
@@ -300,7 +253,7 @@ impl Core {
         requires { IfSome first (IsFirstText self.old.world.db) }
         ensures { self.new ≡ self.old }
     {
-        self.sessions.keep(first);
+        self.state.keep_first(first);
     }
 
     /// Carries out a round that was planned for this core as it is, and of which everything is composed: then it is a
@@ -311,17 +264,7 @@ impl Core {
             ≡ Ok (self.new, map sent_in result.items) }
         ensures texts { map sent_in result.items ≡ flat_map (given_by (book_in self.old.world)) prepared }
     {
-        accept_round(&mut self.sessions, prepared)
-    }
-
-    /// Gives a session its next message, where that is a text which was finished when it was queued, as most replies are: then
-    /// it is a `round` of this session alone. Else it gives nothing, and nothing has changed. It takes no memory. O(log n), and
-    /// where the session is owed nothing more O(1) for each table of its monitors.
-    pub fn take_finished(&mut self, session: SessionId) -> Option<Out>
-        ensures round { IfSome result (λ out. serve (round (session ∷ [])) self.old ≡ Ok (self.new, sent_in out ∷ [])) }
-        ensures none { IfNone result (self.new ≡ self.old) }
-    {
-        take_finished(&mut self.sessions, session)
+        self.state.accept(prepared)
     }
 
     /// Returns the sessions that may be owed something. A round gives nothing to any other, and changes nothing of it.
@@ -329,7 +272,7 @@ impl Core {
     pub fn owed(&self) -> &BTreeSet<SessionId>
         ensures { IsQuietBut result.now self.now }
     {
-        self.sessions.owed()
+        self.state.sessions.owed()
     }
 
     /// Returns the earliest moment, in milliseconds, at which a transaction that waits is due: a `tick` of an earlier
@@ -337,7 +280,7 @@ impl Core {
     pub fn next_deadline(&self) -> Option<u64>
         ensures { result ≡ earliest self.now.world.waiting }
     {
-        self.waiting.earliest()
+        self.state.waiting.earliest()
     }
 
     /// Makes an equal core: the same state, whose rows and waiting transactions are shared with this one.
@@ -347,29 +290,9 @@ impl Core {
     {
         Ok(Core {
             alloc: self.alloc,
-            served: self.served.try_copy()?,
-            opened: self.opened,
-            moment: self.moment,
-            waiting: self.waiting.try_copy()?,
-            locks: self.locks.try_copy(self.alloc)?,
-            sessions: self.sessions.try_copy()?,
-            failures: self.failures.without_failed(),
+            state: self.state.try_copy()?,
         })
     }
-}
-
-/// Makes sessions over empty tables of the schema, with no commit, of which none is open.
-fn no_sessions(
-    alloc: Global,
-    schema: &Schema,
-    hashing: RandomState,
-    run: u64,
-    most: usize,
-) -> Result<Sessions, AllocError>
-    ensures { IfOk result (λ sessions. sessions ≡ book_in (empty_world run most (length schema.now.tables))) }
-{
-    let db = Db::for_schema(alloc, schema, hashing)?;
-    Sessions::new(alloc, db, hashing, run, most)
 }
 
 /// Lists each session once, where it stands first. O(n log n).
@@ -389,15 +312,6 @@ fn once(alloc: Global, ready: &[SessionId]) -> Result<Vec<SessionId>, AllocError
 // Written, and not derived, so that each end of a scope is one call to prove.
 impl Drop for Core {
     fn drop(self) {
-        let Core {
-            alloc: _,
-            served: _,
-            opened: _,
-            moment: _,
-            waiting: _,
-            locks: _,
-            sessions: _,
-            failures: _,
-        } = self;
+        let Core { alloc: _, state: _ } = self;
     }
 }
