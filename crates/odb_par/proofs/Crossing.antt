@@ -77,11 +77,11 @@ Under-sync κ = search (Changes-sync, sendable, heap.crosses) depth 20
 Way-sync : (κ : NamedLft) → IsSync (Way.the_field κ).row
 Way-sync κ = search (Under-sync, Recent-sync, sendable, heap.crosses) depth 20
 
-Job-sync : (κ : NamedLft) → IsSync (Job.the_field κ).row
-Job-sync κ = search (Chains-sync, Monitor-sync, Way-sync, Request-sync, sendable, heap.crosses) depth 20
-
 Found-sync : (κ : NamedLft) → IsSync (Found.the_field κ).row
 Found-sync κ = found.the_sync κ
+
+Job-sync : (κ : NamedLft) → IsSync (Job.the_field κ).row
+Job-sync κ = search (Chains-sync, Monitor-sync, Way-sync, Request-sync, Found-sync, sendable, heap.crosses) depth 20
 
 pub Listing-sync : (κ : NamedLft) → IsSync (Listing.the_field κ).row
 Listing-sync κ = listing.the_sync κ
