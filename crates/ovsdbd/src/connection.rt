@@ -1,6 +1,6 @@
 //! A connection and its sessions, as the thread that serves it has them. [P 15.2, 15.4]
 
-use crate::daemon::{Daemon, Patience, SubmittedTurn};
+use crate::daemon::{Daemon, HeldTurn, Patience, SubmittedTurn};
 use crate::front::FrontEnd;
 use crate::front_seat::{FrontSeat, RequestIds};
 use crate::log::{ConnectionEvent, Reason};
@@ -505,17 +505,28 @@ impl<'a, L: Ledger, M: Ledger> Connection<'a, L, M> {
         &mut self,
         tools: &Tools<'a, L, M, R>,
     ) -> io::Result<Written> {
+        let held = self.submit_untold(tools);
+        let written = self.write(tools);
+        if let Some(held) = held {
+            let turn = tools.daemon.tell(tools.rt, held);
+            self.note_turn(turn);
+        }
+        written
+    }
+
+    /// Submits a turn of the requests to the only database, of which the other sessions aren't told yet. None: the session ended.
+    fn submit_untold<R: Threads + Wait + Clock + Sync>(
+        &mut self,
+        tools: &Tools<'a, L, M, R>,
+    ) -> Option<HeldTurn> {
         let Some(seat) = &mut self.seat else {
-            return self.write(tools);
+            return None;
         };
         let (rt, daemon) = (tools.rt, tools.daemon);
         let mut hub = daemon.hub.enter(rt);
         let held = daemon.submit_under(rt, &mut *hub, seat, &mut self.inbox, usize::MAX);
         drop(hub);
-        let written = self.write(tools);
-        let turn = daemon.tell(rt, held);
-        self.note_turn(turn);
-        written
+        Some(held)
     }
 
     /// Ends the session as memory was refused for its requests.
