@@ -9,122 +9,79 @@ use crate::way::Way;
 use odb_cond::{Filter, Member};
 use odb_schema::TableId;
 use odb_tables::feed_value;
-use std::hash::{DefaultHasher, Hasher};
-
-/// By what a digest is multiplied before the next number is added (the prime of FNV-1a, 64 bits).
-const PRIME: u64 = 1_099_511_628_211;
+use std::hash::{DefaultHasher, Hash, Hasher};
 
 /// Returns the digest of what is composed for the client of a monitor in this way: what is alike has the same, other
-/// seldom has. O(n) for n tables, and the atoms in the last member of the first filter that has one, with their bytes.
+/// seldom has. O(n) for n tables, and the members and atoms of their filters, with their bytes.
 pub fn digest_of<'a>(monitor: &'a Monitor, way: Way<'a>) -> u64
     ensures { result ≡ spec.digest (likeness_in monitor.now way.entry) }
 {
-    let tables = monitor.tables.as_slice();
-    let counted = of_tables(tables, way);
-    with_ago(mixed(counted, of_first(tables, way)), way.ago())
+    let mut state = DefaultHasher::new();
+    feed_tables(&mut state, monitor.tables.as_slice(), way);
+    feed_ago(&mut state, way.ago());
+    state.finish()
 }
 
-/// Returns the number with another put to it.
-pub(crate) fn mixed(sum: u64, number: u64) -> u64
-    ensures { result ≡ spec.mixed sum number }
-{
-    sum.wrapping_mul(PRIME).wrapping_add(number)
-}
-
-/// Returns the number with how many commits ago the client had what it asks, if that is found.
-fn with_ago(sum: u64, ago: Option<usize>) -> u64
-    ensures { result ≡ spec.after_ago sum ago }
+/// Feeds how many commits ago the client had what it asks, if that is found.
+fn feed_ago(state: &mut DefaultHasher, ago: Option<usize>)
+    ensures { state.new ≡ spec.after_ago state.old ago }
 {
     match ago {
-        Some(ago) => mixed(sum, ago as u64),
-        None => sum,
+        Some(ago) => ago.hash(state),
+        None => {}
     }
 }
 
-/// Returns the digest of how the client stands to each of these tables.
-fn of_tables<'a>(tables: &'a [Watching], way: Way<'a>) -> u64
-    ensures { result ≡ spec.after_stands 0 (map (stand_in way.entry) tables.now) }
+/// Feeds how the client stands to each of these tables.
+fn feed_tables<'a>(state: &mut DefaultHasher, tables: &'a [Watching], way: Way<'a>)
+    ensures { state.new ≡ spec.after_stands state.old (map (stand_in way.entry) tables.now) }
 {
-    let mut sum = 0;
     for table in tables {
-        sum = with_table(sum, table, way);
+        feed_table(state, table, way);
     }
-    sum
 }
 
-/// Returns the number with the table, at which change of it the client was told, and what it asks.
-fn with_table<'a>(sum: u64, table: &'a Watching, way: Way<'a>) -> u64
-    ensures { result ≡ spec.after_stand sum (stand_in way.entry table.now) }
+/// Feeds the table, at which change of it the client was told, and what it asks.
+fn feed_table<'a>(state: &mut DefaultHasher, table: &'a Watching, way: Way<'a>)
+    ensures { state.new ≡ spec.after_stand state.old (stand_in way.entry table.now) }
 {
-    let named = mixed(sum, table.request.table().place() as u64);
-    let placed = with_place(named, way.place(&table.mark));
-    with_filter(placed, way.filter(&table.request))
+    table.request.table().place().hash(state);
+    feed_place(state, way.place(&table.mark));
+    feed_filter(state, way.filter(&table.request));
 }
 
-/// Returns the number with the change at which the client was told, if it counts.
-fn with_place(sum: u64, place: Option<(TableId, u64)>) -> u64
-    ensures { result ≡ spec.after_place sum place }
+/// Feeds at which change the client was told, if it counts.
+fn feed_place(state: &mut DefaultHasher, place: Option<(TableId, u64)>)
+    ensures { state.new ≡ spec.after_place state.old place }
 {
     match place {
-        Some(place) => mixed(sum, place.1),
-        None => sum,
+        Some(place) => place.1.hash(state),
+        None => {}
     }
 }
 
-/// Returns the number with how many members the filter has.
-pub(crate) fn with_filter(sum: u64, filter: &Filter) -> u64
-    ensures { result ≡ spec.after_filter sum filter.now }
+/// Feeds the atoms in each member of the filter.
+pub(crate) fn feed_filter(state: &mut DefaultHasher, filter: &Filter)
+    ensures { state.new ≡ spec.after_filter state.old filter.now }
 {
-    with_count(sum, filter.members())
+    feed_members(state, filter.members());
 }
 
-/// Returns the number with how many members there are.
-fn with_count(sum: u64, members: &[Member]) -> u64
-    ensures { result ≡ spec.after_filter sum (map member_of members.now) }
+/// Feeds the atoms in each of the members.
+fn feed_members(state: &mut DefaultHasher, members: &[Member])
+    ensures { state.new ≡ spec.after_filter state.old (map member_of members.now) }
 {
-    mixed(sum, members.len() as u64)
-}
-
-/// Returns the digest of the last member of the first filter that has one; 0 where none has. So many tables, and filters of many
-/// members, cost little more than one, and where a member came it is the last, mostly.
-fn of_first<'a>(tables: &'a [Watching], way: Way<'a>) -> u64
-    ensures { result ≡ spec.of_first (map (stand_in way.entry) tables.now) }
-{
-    for table in tables {
-        if let Some(last) = of_last(way.filter(&table.request)) {
-            return last;
-        }
+    for member in members {
+        feed_member(state, member);
     }
-    0
 }
 
-/// Returns the digest of the last member of the filter, if it has one.
-pub(crate) fn of_last(filter: &Filter) -> Option<u64>
-    ensures { result ≡ spec.of_last filter.now }
-{
-    of_last_among(filter.members())
-}
-
-/// Returns the digest of the last of the members, if there is one.
-fn of_last_among(members: &[Member]) -> Option<u64>
-    ensures { result ≡ spec.of_last (map member_of members.now) }
-{
-    let Some(member) = members.last() else {
-        return None;
-    };
-    Some(of_member(member))
-}
-
-/// Returns the digest of the atoms in the member.
-fn of_member(member: &Member) -> u64
-    ensures { result ≡ spec.of_member (member_of member.now) }
+/// Feeds the atoms in the member.
+fn feed_member(state: &mut DefaultHasher, member: &Member)
+    ensures { state.new ≡ spec.after_member state.old (member_of member.now) }
 {
     match member {
-        Member::Always(_) => 0,
-        Member::When(clause) => {
-            let mut state = DefaultHasher::new();
-            feed_value(&mut state, clause.value());
-            state.finish()
-        }
+        Member::Always(_) => {}
+        Member::When(clause) => feed_value(state, clause.value()),
     }
 }

@@ -5,12 +5,13 @@ ghost use Rattle.odb_sessions.specs.Composed.{asked_of};
 ghost use Rattle.odb_sessions.specs.Held.{monitor_of};
 ghost use Rattle.odb_sessions.specs.Watches.{asking_in, asking_of};
 
-use crate::digest::{mixed, of_last, with_filter};
+use crate::digest::feed_filter;
 use crate::monitor::{Monitor, Watching};
 use crate::session::Session;
 use odb_request::Request;
 use std::alloc::{AllocError, Global};
 use std::collections::VecDeque;
+use std::hash::{DefaultHasher, Hash, Hasher};
 
 /// The number of what a session's monitors ask, and its digest: what is the same has the same, other seldom has.
 #[derive(Clone, Copy)]
@@ -80,14 +81,14 @@ impl Session {
         share_each(&mut self.monitors, requests);
     }
 
-    /// Returns the digest of what its monitors ask. O(n) for n tables, and the atoms in the last member of each of their filters,
-    /// with their bytes. No contract speaks of it.
+    /// Returns the digest of what its monitors ask. O(n) for n tables, and the members and atoms of their filters, with their
+    /// bytes. No contract speaks of it.
     pub(crate) fn digest(&self) -> u64 {
-        let mut sum = 0;
+        let mut state = DefaultHasher::new();
         for monitor in &self.monitors {
-            sum = with_asked(sum, monitor.tables.as_slice());
+            feed_asked(&mut state, monitor.tables.as_slice());
         }
-        sum
+        state.finish()
     }
 }
 
@@ -124,15 +125,12 @@ impl Watching {
     }
 }
 
-/// Returns the number with what is asked of these tables.
-fn with_asked(sum: u64, tables: &[Watching]) -> u64 {
-    let mut sum = sum;
+/// Feeds what is asked of these tables.
+fn feed_asked(state: &mut DefaultHasher, tables: &[Watching]) {
     for table in tables {
-        let filter = table.request.filter();
-        let named = mixed(sum, table.request.table().place() as u64);
-        sum = mixed(with_filter(named, filter), of_last(filter).unwrap_or(0));
+        table.request.table().place().hash(state);
+        feed_filter(state, table.request.filter());
     }
-    sum
 }
 
 /// Returns whether these monitors ask what the others do, one by one. `false` says nothing.

@@ -1,48 +1,35 @@
--- By what number decisions are found: of where clients stand, of how many members their filters have, and of the last of one.
-use Rattle.std.specs.Prelude.{ℕ, ◌+◌, ◌*◌, ◌-◌, ◌^◌, ◌%◌, List, [], ◌∷◌, length, option_map, slice_get, Option, Some, None}
+-- By what number decisions are found: what a hasher makes of where clients stand, and of the atoms in their filters.
+use Rattle.std.specs.Prelude.{ℕ, List, [], ◌∷◌, fold, Option, Some, None}
+use Rattle.std.specs.Hash.{u64, usize}
 use Rattle.std.specs.Hash.DefaultHasher as sip
+use Rattle.std.specs.declared.hash.DefaultHasher.{DefaultHasher}
 use Rattle.odb_cond.specs.Filter.{Filter, Member, always, when}
 use Rattle.odb_sessions.specs.Alike.{Likeness, Stand}
 use Rattle.odb_tables.specs.Represented.Digest.{after_value}
 
--- a number with another put to it
-unfoldable pub mixed : ℕ → ℕ → ℕ
-mixed sum number = (sum * 1099511628211 % 2 ^ 64 + number) % 2 ^ 64
+-- the hasher after the atoms in the member
+abbrev pub after_member : DefaultHasher → Member → DefaultHasher
+after_member h (always b) = h
+after_member h (when c) = after_value h c.value
 
-abbrev pub of_member : Member → ℕ
-of_member (always b) = 0
-of_member (when c) = sip.finish (after_value sip.initial c.value)
+abbrev pub after_filter : DefaultHasher → Filter → DefaultHasher
+after_filter h [] = h
+after_filter h (m ∷ ms) = after_filter (after_member h m) ms
 
-abbrev pub after_filter : ℕ → Filter → ℕ
-after_filter sum f = mixed sum (length f)
+abbrev pub after_place : DefaultHasher → Option (ℕ × ℕ) → DefaultHasher
+after_place h None = h
+after_place h (Some p) = fold sip.write h (u64 p.1)
 
--- of the last member of a filter
-abbrev pub of_last : Filter → Option ℕ
-of_last f = option_map of_member (slice_get f (length f - 1))
+abbrev pub after_stand : DefaultHasher → Stand → DefaultHasher
+after_stand h s = after_filter (after_place (fold sip.write h (usize s.request.place)) s.place) s.request.filter
 
-abbrev pub after_place : ℕ → Option (ℕ × ℕ) → ℕ
-after_place sum None = sum
-after_place sum (Some p) = mixed sum p.1
+abbrev pub after_stands : DefaultHasher → List Stand → DefaultHasher
+after_stands h [] = h
+after_stands h (s ∷ ss) = after_stands (after_stand h s) ss
 
-abbrev pub after_stand : ℕ → Stand → ℕ
-after_stand sum s = after_filter (after_place (mixed sum s.request.place) s.place) s.request.filter
-
-abbrev pub after_stands : ℕ → List Stand → ℕ
-after_stands sum [] = sum
-after_stands sum (s ∷ ss) = after_stands (after_stand sum s) ss
-
--- of the last member of the first filter that has one: many tables, and filters of many members, cost little more than one
-abbrev pub of_first_or : Option ℕ → ℕ → ℕ
-of_first_or None n = n
-of_first_or (Some m) n = m
-
-abbrev pub of_first : List Stand → ℕ
-of_first [] = 0
-of_first (s ∷ ss) = of_first_or (of_last s.request.filter) (of_first ss)
-
-abbrev pub after_ago : ℕ → Option ℕ → ℕ
-after_ago sum None = sum
-after_ago sum (Some n) = mixed sum n
+abbrev pub after_ago : DefaultHasher → Option ℕ → DefaultHasher
+after_ago h None = h
+after_ago h (Some n) = fold sip.write h (usize n)
 
 unfoldable pub digest : Likeness → ℕ
-digest l = after_ago (mixed (after_stands 0 l.stands) (of_first l.stands)) l.ago
+digest l = sip.finish (after_ago (after_stands sip.initial l.stands) l.ago)
