@@ -1,5 +1,6 @@
 -- What is shown of each row of a part, and that its lines are just that.
 use Rattle.std.proofs.Common.{◌≡◌, Bool, true, false, cond, not, ◌||◌, List, [], ◌∷◌, Option, Some, None, filter_map, option_and_then, option_map, is_some, IsPermutation, refl, sym, ap, ◌∙◌}
+use mathlib.Core.Bool.{true≢false}
 use Rattle.std.specs.FinMap.Entries.{find}
 use Rattle.std.specs.List.{cons_option, list_any}
 use Rattle.std.specs.List.Sorted.{IsSortedByKey}
@@ -16,7 +17,7 @@ use Rattle.odb_monitor.specs.Represented.Sides.{Pair, line_at, only_shown, passe
 use Rattle.odb_monitor.specs.View.{change, cut, is_empty, is_shown, selected}
 use Rattle.odb_monitor.specs.declared.told.Told.{Told}
 use Rattle.odb_monitor.specs.declared.told.Told.TheVariants.{Asked, Nothing, Under}
-use Rattle.odb_monitor.proofs.Covered.{never}
+use Rattle.odb_monitor.proofs.Covered.{all_changed, never, none_distinct}
 use Rattle.odb_tables.proofs.Ordered.{AreDistinct}
 use Rattle.odb_monitor.proofs.Kept.{distinct-kept, distinct-moved, find-kept, find-moved, kept_in_order}
 use Rattle.odb_monitor.proofs.Maps.{get-combine, get-empty, get-map_entries, key-itself}
@@ -94,3 +95,18 @@ some_line first q w t c es h = any_kept (line_at first w q) es ∙ ap not (alike
 -- the table as it was, by the list of its changes
 pub was_so : (rows : List (Uuid × Pair)) (c : Changes) → finite.from_entries rows ≡ c → (t : Table) → WasSo rows (table_then (Some c) t) t
 was_so rows c is t = λ u. get-combine before t c u refl ∙ ap (before (finite.get t u)) (ap (λ m. finite.get m u) (sym is) ∙ get-from_entries rows u)
+
+-- ---- a table that is as it was, under the filter that was told: nothing is shown of it
+
+none_of : {Y : Type 0} (ys : List (Uuid × Y)) → is_empty ys ≡ true → ys ≡ []
+none_of [] e = refl
+none_of (y ∷ ys) e = absurd (true≢false (sym e))
+
+as_it_was : (first : Bool) (q : Request) (t : Table) → (changes_shown first (part_of q Asked t None)).entries ≡ []
+as_it_was first q t =
+    let p = part_of q Asked t None in
+    none_of (changes_shown first p).entries (sym (alike_empty [] (changes_shown first p) (lines_found first q Asked t None [] (all_changed [] t t (none_distinct Pair) (λ u. refl) first q))))
+
+pub none_shown : {X : Type 0} (f : X → Changes) (first : Bool) (q : Request) (t : Table) (o : Option X) → is_some o ≡ false → (changes_shown first (part_of q Asked t (option_map f o))).entries ≡ []
+none_shown f first q t None e = as_it_was first q t
+none_shown f first q t (Some x) e = absurd (true≢false e)

@@ -1,5 +1,5 @@
 //! One table of a job: what the client was told of it, what is asked, and how they differ. [P 9.2]
-ghost use Rattle.std.specs.Prelude.{◌≡◌, ◌++◌, Bool, IfOk, IfSome, IsPermutation, OnOk, filter_map, is_some, map, not, option_map, option_to_list};
+ghost use Rattle.std.specs.Prelude.{◌≡◌, ◌++◌, [], Bool, IfOk, IfSome, IsPermutation, OnOk, filter_map, is_some, map, not, option_map, option_to_list, true};
 ghost use Rattle.std.specs.Arc.{arc_value};
 ghost use Rattle.std.specs.List.{list_any};
 ghost use Rattle.std.specs.List.Sorted.{IsSortedByKey};
@@ -120,6 +120,9 @@ impl<'a> Part<'a> {
         ensures tokens { OnOk result (out.new ≡ out.old ++ part_tokens (notation_of kind) first self.now) }
         ensures shown { IfOk result (λ shown. shown ≡ not (is_silent first self.now)) }
     {
+        if self.is_told() {
+            return Ok(false);
+        }
         let lines = self.lines(alloc, first)?;
         let shape = self.bare.request.shape();
         let layout = Layout::of(alloc, shape, kind, first);
@@ -129,10 +132,27 @@ impl<'a> Part<'a> {
         Ok(!lines.is_empty())
     }
 
+    /// Returns whether its client was told of its rows as they are now, under what is asked: nothing is shown then. O(1).
+    fn is_told(&self) -> bool
+        ensures { result ≡ true → (first : Bool) → (changes_shown first self.now).entries ≡ [] }
+    {
+        if self.bare.changes.is_some() {
+            return false;
+        }
+        match self.bare.told {
+            Told::Nothing => false,
+            Told::Asked => true,
+            Told::Under(_) => false,
+        }
+    }
+
     /// Returns whether some row is shown.
     pub(crate) fn has_lines(&self, alloc: Global, first: bool) -> Result<bool, AllocError>
         ensures { IfOk result (λ shown. shown ≡ not (is_silent first self.now)) }
     {
+        if self.is_told() {
+            return Ok(false);
+        }
         let comparison = Comparison::of(alloc, first, self.bare.told, self.bare.request);
         let sides = sides_of(
             alloc,
