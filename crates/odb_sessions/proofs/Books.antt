@@ -1,5 +1,5 @@
 -- Books of which one session changes.
-use Rattle.std.proofs.Common.{◌≡◌, ℕ, List, [], ◌∷◌, ◌++◌, true, false, is_some, Option, Some, None, refl, sym, ap, true≢false}
+use Rattle.std.proofs.Common.{◌≡◌, ℕ, List, [], ◌∷◌, ◌++◌, true, is_some, Option, Some, None, refl, sym, ap, true≢false}
 use Rattle.odb_sessions.specs.Newest.{without_last}
 use Rattle.odb_sessions.specs.Book.{Book, Sessions}
 use Rattle.odb_sessions.specs.Committed.{without_posts}
@@ -27,7 +27,3 @@ given_back ss new old m is gone = λ j. let b : Book = record { db = (is j).db; 
 pub there_is : {X : Type 0} (o : Option X) → is_some o ≡ true → (x : X) × (o ≡ Some x)
 there_is None is = absurd (true≢false (sym is))
 there_is (Some x) is = (x, refl)
-
-pub nothing_is : {X : Type 0} (o : Option X) → is_some o ≡ false → o ≡ None
-nothing_is None is = refl
-nothing_is (Some x) is = absurd (true≢false is)

@@ -18,7 +18,7 @@ use crate::copying::GivenMarks;
 use crate::item::Item;
 use crate::past::Past;
 use crate::session::Session;
-use crate::watch::Watch;
+use crate::watch::{Watch, share_each};
 use odb_chain::Mark;
 use odb_locks::SessionId;
 use odb_queue::{Finished, Post};
@@ -109,13 +109,6 @@ impl Numbered {
             Some(key) => self.sessions.get_mut(key),
             None => None,
         }
-    }
-
-    /// Returns whether a session is open.
-    pub(crate) fn has(&self, number: SessionId) -> bool
-        ensures { result ≡ is_some (finite.get self.now number) }
-    {
-        self.get(number).is_some()
     }
 
     /// Returns how many monitors a session has; none where it isn't open.
@@ -275,7 +268,7 @@ impl Numbered {
         let Some(of) = self.get_mut(session) else {
             return;
         };
-        of.share(&mut requests);
+        share_each(&mut of.monitors, &mut requests);
     }
 
     /// Returns what the monitors of the first session with this number ask; nothing where none has it. No contract speaks of it.
@@ -297,7 +290,7 @@ impl Numbered {
         let Some(of) = self.get_mut(session) else {
             return;
         };
-        of.set_watch(watch);
+        of.watch = Some(watch);
     }
 
     /// Returns a number for what a session's monitors ask, where it is open and they have none: that of a session whose monitors

@@ -15,7 +15,7 @@ ghost use Rattle.odb_sessions.specs.Named.{named_asked};
 ghost use Rattle.odb_sessions.specs.Posts.{newest, with_item, without_newest};
 ghost use Rattle.odb_sessions.specs.Represented.Queued.{queued_of};
 ghost use Rattle.odb_sessions.specs.Tied.{Frees, HasAll};
-ghost use Rattle.odb_sessions.specs.Watches.{KeepsWatch, with_watch};
+ghost use Rattle.odb_sessions.specs.Watches.{KeepsWatch};
 ghost use Rattle.odb_wire.specs.Shown.{request_data};
 
 use crate::applying::bring_first;
@@ -105,13 +105,6 @@ impl Session {
             return Err(AllocFailed { value: item });
         }
         self.queue.push(item)
-    }
-
-    /// Gives what its monitors ask this number.
-    pub(crate) fn set_watch(&mut self, watch: Watch)
-        ensures { self.new ≡ with_watch watch.number self.old }
-    {
-        self.watch = Some(watch);
     }
 
     /// Takes the newest item of the queue out, if there is one.

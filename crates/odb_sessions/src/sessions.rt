@@ -237,9 +237,9 @@ impl Sessions {
         ensures ok { OnOk result (self.new ≡ record (self.old) { sessions = posted self.old.sessions (session, started starting) }) }
         ensures err { OnErr result (self.new ≡ self.old) }
     {
-        if !self.sessions.has(session) {
+        let Some(_) = self.sessions.get(session) else {
             return Ok(());
-        }
+        };
         self.owed.insert(session)?;
         let start = starting.begin(self.alloc, &mut self.past)?;
         match self.sessions.hand(session, Item::Start(start)) {

@@ -73,14 +73,6 @@ impl Session {
         Ok(requests)
     }
 
-    /// Has each of these in the place of what its monitors ask of a table, one by one, where that is the same: so it is kept
-    /// once. O(n) for n tables, and a comparison of what is asked.
-    pub(crate) fn share(&mut self, requests: &mut VecDeque<Request>)
-        ensures { self.new ≡ self.old }
-    {
-        share_each(&mut self.monitors, requests);
-    }
-
     /// Returns the digest of what its monitors ask. O(n) for n tables, and the members and atoms of their filters, with their
     /// bytes. No contract speaks of it.
     pub(crate) fn digest(&self) -> u64 {
@@ -92,14 +84,15 @@ impl Session {
     }
 }
 
-/// Has each of these in the place of what the monitors ask of a table, where that is the same.
-fn share_each(monitors: &mut Vec<Monitor>, requests: &mut VecDeque<Request>)
+/// Has each of these in the place of what the monitors ask of a table, one by one, where that is the same: so it is kept once.
+/// O(n) for n tables, and a comparison of what is asked.
+pub(crate) fn share_each(monitors: &mut Vec<Monitor>, requests: &mut VecDeque<Request>)
     ensures monitors { monitors.new.items ≡ monitors.old.items }
     ensures few { vec_len monitors.new ≡ vec_len monitors.old }
     ensures capacity { vec_capacity monitors.new ≡ vec_capacity monitors.old }
 {
     for place in 0..monitors.len() {
-        monitors[place].share(requests);
+        share_all(&mut monitors[place].tables, requests);
     }
 }
 
@@ -149,13 +142,6 @@ fn ask_the_same(monitors: &[Monitor], others: &[Monitor]) -> bool
 }
 
 impl Monitor {
-    /// Has each of these in the place of what it asks of a table, where that is the same.
-    fn share(&mut self, requests: &mut VecDeque<Request>)
-        ensures { self.new ≡ self.old }
-    {
-        share_all(&mut self.tables, requests);
-    }
-
     /// Returns whether it asks what the other one does. `false` says nothing.
     fn asks_as(&self, other: &Monitor) -> bool
         ensures { OnTrue result (asking_of (monitor_of self.now) ≡ asking_of (monitor_of other.now)) }

@@ -1,4 +1,4 @@
-use Rattle.std.proofs.Common.{rules, ◌≡◌, true, false, is_some, [], ◌∷◌, Some, None, option_map, subst, sym, ap, ◌∙◌}
+use Rattle.std.proofs.Common.{rules, ◌≡◌, true, [], ◌∷◌, Some, None, option_map, subst, sym, ap, ◌∙◌}
 use Rattle.odb_atoms.specs.FinMap as finite
 use Rattle.odb_chain.specs.Chains.{Chains}
 use Rattle.odb_service.specs.World.{push}
@@ -15,21 +15,32 @@ use Rattle.odb_sessions.specs.Owed.{book_seen}
 use Rattle.odb_sessions.specs.Tied.{Frees, IsTied}
 use Rattle.odb_sessions.proofs.OwedSessions.{grown_rest, posted_rest, together}
 use Rattle.odb_sessions.specs.declared.item.Item.{Item}
-use Rattle.odb_sessions.proofs.Books.{nothing_is, there_is}
+use Rattle.odb_sessions.proofs.Books.{there_is}
 use Rattle.odb_sessions.proofs.Moved.{given_back, tied_handed}
 use Rattle.odb_sessions.proofs.Posts.{at_shut}
 use Rattle.odb_sessions.proofs.Seen.{handed_seen}
 use Rattle.odb_sessions.proofs.Ties.{get-seen}
 use Rattle.odb_sessions.proofs.sessions.Sessions.start.Goals as goal
 
-pub returns-then-not-has-clause-ok : goal.returns-then-not-has-clause-ok
-returns-then-not-has-clause-ok c =
+pub returns-in_default-clause-ok : goal.returns-in_default-clause-ok
+returns-in_default-clause-ok c =
     let m : Sessions = c.self.inside.sessions in
     let s = c.args.session in
-    let shut : is_some (finite.get m s) ≡ false = search rules in
-    let none : finite.get (all_seen m) s ≡ None = get-seen m s ∙ ap (option_map seen) (nothing_is (finite.get m s) shut) in
+    let shut : finite.get m s ≡ None = search rules in
+    let none : finite.get (all_seen m) s ≡ None = get-seen m s ∙ ap (option_map seen) shut in
     subst (λ (b : Book). b ≡ (let y : Book = record b { sessions = posted b.sessions (s, started c.args.starting) } in y)) c.self.view_is
     (λ i. book_with c.self.inside.past.db c.self.inside.recent (sym (at_shut (push (started c.args.starting ∷ [])) (all_seen m) s none) i))
+
+pub invariant_of-self-in_err-start : goal.invariant_of-self-in_err-start
+invariant_of-self-in_err-start c =
+    let m : Sessions = c.self.inside.sessions in
+    let b : Book = book_seen c.self.inside.past m in
+    let o = c.insert.new.self in
+    let grown : Updates nat_cmp c.self.inside.owed o c.args.session true = search rules in
+    together c.begin.new.past m o c.self.inside.interest b
+    (subst (λ (k : Chains). IsTied k m) (sym c.in_err-start.ensures.err) c.self.invariant.0)
+    (λ j. book_seen (c.in_err-start.ensures.err j) m)
+    (grown_rest c.self.inside.owed o c.self.inside.interest b c.args.session c.self.invariant.1 grown)
 
 pub invariant_of-self-in-Ok : goal.invariant_of-self-in-Ok
 invariant_of-self-in-Ok c =
