@@ -1,18 +1,20 @@
 //! Digests: numbers by which decisions are found. [P 10.1]
 ghost use Rattle.std.specs.Prelude.{◌≡◌, map};
 ghost use Rattle.odb_cond.specs.Represented.Filter.{member_of};
-ghost use Rattle.odb_sessions.specs.Represented.Alike.{likeness_in, stand_in};
+ghost use Rattle.odb_sessions.specs.Represented.Alike.{filter_in, likeness_in, stand_in};
 ghost use Rattle.odb_sessions.specs.Represented.Digest as spec;
 
 use crate::monitor::{Monitor, Watching};
 use crate::way::Way;
 use odb_cond::{Filter, Member};
+use odb_request::Request;
 use odb_schema::TableId;
 use odb_tables::feed_value;
 use std::hash::{DefaultHasher, Hash, Hasher};
 
 /// Returns the digest of what is composed for the client of a monitor in this way: what is alike has the same, other
-/// seldom has. O(n) for n tables, and the members and atoms of their filters, with their bytes.
+/// seldom has. O(n) for n tables; under filters in place of those that the monitor asks also O(n) for their members and atoms,
+/// with their bytes.
 pub fn digest_of<'a>(monitor: &'a Monitor, way: Way<'a>) -> u64
     ensures { result ≡ spec.digest (likeness_in monitor.now way.entry) }
 {
@@ -41,13 +43,22 @@ fn feed_tables<'a>(state: &mut DefaultHasher, tables: &'a [Watching], way: Way<'
     }
 }
 
-/// Feeds the table, at which change of it the client was told, and what it asks.
+/// Feeds the digest of what is asked of the table, and at which change of it the client was told.
 fn feed_table<'a>(state: &mut DefaultHasher, table: &'a Watching, way: Way<'a>)
     ensures { state.new ≡ spec.after_stand state.old (stand_in way.entry table.now) }
 {
-    table.request.table().place().hash(state);
+    digest_in(table, way).hash(state);
     feed_place(state, way.place(&table.mark));
-    feed_filter(state, way.filter(&table.request));
+}
+
+/// Returns the digest of what is asked of the table in this way: the one that is kept, where that is what its monitor asks.
+fn digest_in<'a>(table: &'a Watching, way: Way<'a>) -> u64
+    ensures { result ≡ spec.asked_digest table.now.request.place (filter_in way.entry table.now.request) }
+{
+    match way.under() {
+        Some(_) => asked_digest(table.request.table(), way.filter(&table.request)),
+        None => table.digest(),
+    }
 }
 
 /// Feeds at which change the client was told, if it counts.
@@ -60,8 +71,25 @@ fn feed_place(state: &mut DefaultHasher, place: Option<(TableId, u64)>)
     }
 }
 
+/// Returns the digest of what is asked. O(n) for the members and atoms of its filter, with their bytes.
+pub(crate) fn request_digest(request: &Request) -> u64
+    ensures { result ≡ spec.request_digest request.now }
+{
+    asked_digest(request.table(), request.filter())
+}
+
+/// Returns the digest of what is asked of the table under the filter.
+fn asked_digest(table: TableId, filter: &Filter) -> u64
+    ensures { result ≡ spec.asked_digest table filter.now }
+{
+    let mut asked = DefaultHasher::new();
+    table.place().hash(&mut asked);
+    feed_filter(&mut asked, filter);
+    asked.finish()
+}
+
 /// Feeds the atoms in each member of the filter.
-pub(crate) fn feed_filter(state: &mut DefaultHasher, filter: &Filter)
+fn feed_filter(state: &mut DefaultHasher, filter: &Filter)
     ensures { state.new ≡ spec.after_filter state.old filter.now }
 {
     feed_members(state, filter.members());

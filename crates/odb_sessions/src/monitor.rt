@@ -7,6 +7,7 @@ ghost use Rattle.odb_atoms.specs.Represented.Atom.{uuid_of};
 ghost use Rattle.odb_sessions.specs.Asked.{is_same};
 ghost use Rattle.odb_sessions.specs.Composed.{AreTheirs};
 ghost use Rattle.odb_sessions.specs.Held.{marks_in, monitor_of, table_marks, watch_of};
+ghost use Rattle.odb_sessions.specs.Represented.Digest.{request_digest};
 ghost use Rattle.odb_sessions.specs.Started.{AreOfTables};
 ghost use Rattle.odb_sessions.specs.Tied.{Adds, Frees, Gives, HasAll, counted_in};
 ghost use Rattle.std.specs.Bool.{OnTrue};
@@ -17,6 +18,7 @@ ghost use Rattle.odb_sessions.specs.Represented.Queued.{filters_of};
 ghost use Rattle.odb_sessions.specs.Owed.{filter_asked};
 
 use crate::copying::{GivenMarks, copy_tables, filter_again, lend_tables};
+use crate::digest::request_digest;
 use crate::id::Id;
 use crate::item::Changes;
 use crate::moving::{ask_all_under, bring_all, bring_all_under};
@@ -31,18 +33,20 @@ use std::sync::Arc;
 use uuid::Uuid;
 
 /// One table of a monitor. What the client was told of it is the content of the mark, under the filter told,
-/// or the request's where there is none.
+/// or the request's where there is none. The digest is of what is asked.
 pub(crate) struct Watching {
     pub(crate) request: Request,
     pub(crate) told: Option<Arc<Filter>>,
     pub(crate) mark: Mark,
+    pub(crate) digest: u64,
 }
 
 impl Model for Watching {
-    ghost use Rattle.std.specs.Prelude.{option_map};
+    ghost use Rattle.std.specs.Prelude.{option_map, ◌≡◌};
     ghost use Rattle.std.specs.Arc.{arc_value};
     ghost use Rattle.odb_sessions.specs.Held as model;
     ghost use Rattle.odb_sessions.specs.Represented.Codes.{watched_code};
+    ghost use Rattle.odb_sessions.specs.Represented.Digest.{request_digest};
     ghost use Rattle.odb_sessions.specs.Represented.Told.{told_under};
 
     ghost Value = { model.Watched };
@@ -50,9 +54,32 @@ impl Model for Watching {
     ghost coded = { watched_code };
 
     ghost view = { λ w. record { request = w.request; told = told_under w.request (option_map arc_value w.told); mark = w.mark } };
+
+    ghost invariant = { λ w. w.digest ≡ request_digest w.request };
 }
 
 impl Watching {
+    /// Watches what is asked, of which the client was told what the mark stands for. O(n) for the members and atoms of the
+    /// filter, with their bytes.
+    fn new(request: Request, mark: Mark) -> Watching
+        ensures { result ≡ record { request = request; told = request.filter; mark = mark } }
+    {
+        let digest = request_digest(&request);
+        Watching {
+            request,
+            told: None,
+            mark,
+            digest,
+        }
+    }
+
+    /// Returns the digest of what is asked of it. O(1).
+    pub(crate) fn digest(&self) -> u64
+        ensures { result ≡ request_digest self.now.request }
+    {
+        self.digest
+    }
+
     /// Returns the name of its table.
     pub(crate) fn name(&self) -> &str
         ensures { result.now ≡ self.now.request.shape.name }
@@ -77,6 +104,7 @@ impl Watching {
             request: _,
             told: _,
             mark,
+            digest: _,
         } = self;
         past.release(mark);
     }
@@ -107,6 +135,7 @@ impl Watching {
             request,
             told,
             mark: given.take(),
+            digest: self.digest,
         })
     }
 }
@@ -248,7 +277,8 @@ fn release_all(tables: Vec<Watching>, past: &mut Past)
     }
 }
 
-/// Watches each of these tables as it is now, with a mark each, or none.
+/// Watches each of these tables as it is now, with a mark each, or none. O(n) for n tables, and the members and atoms of their
+/// filters, with their bytes.
 pub(crate) fn watch_all(
     alloc: Global,
     chains: &mut Chains,
@@ -267,11 +297,7 @@ pub(crate) fn watch_all(
     let mut tables = Vec::with_capacity(alloc, requests.len())?;
     for request in requests {
         let mark = chains.mark_now(request.table());
-        tables.push_reserved(Watching {
-            request,
-            told: None,
-            mark,
-        });
+        tables.push_reserved(Watching::new(request, mark));
     }
     Ok(tables)
 }
@@ -295,6 +321,7 @@ impl Drop for Watching {
             request: _,
             told: _,
             mark: _,
+            digest: _,
         } = self;
     }
 }

@@ -11,6 +11,7 @@ ghost use Rattle.odb_sessions.specs.Represented.Told.{told_under};
 ghost use Rattle.odb_sessions.specs.Started.{AreApart};
 ghost use Rattle.odb_sessions.specs.Tied.{HasAll};
 
+use crate::digest::request_digest;
 use crate::item::Changes;
 use crate::monitor::Watching;
 use crate::past::Past;
@@ -43,12 +44,14 @@ impl Watching {
         self.bring(filter, past);
     }
 
-    /// Asks for the table under this filter; what the client was told stays.
+    /// Asks for the table under this filter; what the client was told stays. O(n) for the members and atoms of the filter, with
+    /// their bytes.
     fn ask(&mut self, filter: Arc<Filter>)
         ensures { self.new ≡ record { request = record (self.old.request) { filter = arc_value filter }; told = self.old.told; mark = self.old.mark } }
     {
         let old = self.request.replace_filter(filter);
         self.told = self.told.take().or(Some(old));
+        self.digest = request_digest(&self.request);
     }
 
     /// Does the same under the filter that is taken out for it, if there is one.

@@ -243,8 +243,7 @@ impl Numbered {
 
     /// Gives what a session's monitors ask a number, where it is open and they have none: that of a session whose monitors
     /// ask the same, with which it is kept once from then on, or else one that no session has. O(n) for n sessions, O(n) for
-    /// n tables and the members of their filters, and a comparison of what is asked for each session of which the digest is
-    /// the same.
+    /// n tables, and a comparison of what is asked for each session of which the digest is the same.
     pub(crate) fn recognise(&mut self, alloc: Global, session: SessionId)
         requires { AreAlike self.old }
         ensures seen { all_seen self.new ≡ all_seen self.old }

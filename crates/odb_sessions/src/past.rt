@@ -100,7 +100,8 @@ impl Past {
         self.chains.release(mark);
     }
 
-    /// Watches each of these tables as it is now, with a mark each, or none.
+    /// Watches each of these tables as it is now, with a mark each, or none. O(n) for n tables, and the members and atoms of
+    /// their filters, with their bytes.
     pub(crate) fn watch(
         &mut self,
         alloc: Global,

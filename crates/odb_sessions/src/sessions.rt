@@ -230,7 +230,7 @@ impl Sessions {
 
     /// Queues the first reply of a monitor for a session, if it is open; what the client will lack after it is
     /// kept from now on. Where memory is refused nothing changed; so it is after 2^64 - 2 tables were watched.
-    /// O(tables asked + log n) for n sessions.
+    /// O(tables asked + log n) for n sessions, and O(n) for the members and atoms of the filters, with their bytes.
     pub fn start(&mut self, session: SessionId, starting: Starting) -> Result<(), AllocError>
         requires tables { AreOfTables self.old.db starting.watch.requests }
         requires apart { AreApart starting.watch.requests }
@@ -451,8 +451,9 @@ impl Sessions {
 
     /// Carries a taking of a session out, if that is open: this many items of its queue are used up, and then the
     /// clients of this many of its monitors have what their tables are now. It returns the text that stands in
-    /// the last of the items, if one does. It can't be refused. O(log n) for n sessions, and for each table of
-    /// a monitor that is reached what `odb_chain::Chains::advance` costs.
+    /// the last of the items, if one does. It can't be refused. O(log n) for n sessions, for each table of a
+    /// monitor that is reached what `odb_chain::Chains::advance` costs, and for each filter that a monitor asks
+    /// from then on O(n) for its members and atoms, with their bytes.
     pub fn carry_out(
         &mut self,
         session: SessionId,

@@ -5,7 +5,6 @@ ghost use Rattle.odb_sessions.specs.Composed.{asked_of};
 ghost use Rattle.odb_sessions.specs.Held.{monitor_of};
 ghost use Rattle.odb_sessions.specs.Watches.{asking_in, asking_of};
 
-use crate::digest::feed_filter;
 use crate::monitor::{Monitor, Watching};
 use crate::session::Session;
 use odb_request::Request;
@@ -73,12 +72,11 @@ impl Session {
         Ok(requests)
     }
 
-    /// Returns the digest of what its monitors ask. O(n) for n tables, and the members and atoms of their filters, with their
-    /// bytes. No contract speaks of it.
+    /// Returns the digest of what its monitors ask. O(n) for n tables. No contract speaks of it.
     pub(crate) fn digest(&self) -> u64 {
         let mut state = DefaultHasher::new();
         for monitor in &self.monitors {
-            feed_asked(&mut state, monitor.tables.as_slice());
+            feed_digests(&mut state, monitor.tables.as_slice());
         }
         state.finish()
     }
@@ -112,17 +110,17 @@ impl Watching {
     fn share(&mut self, request: Request)
         ensures { self.new ≡ self.old }
     {
-        if self.asks(&request) {
-            self.request = request;
+        if !self.asks(&request) {
+            return;
         }
+        self.request = request;
     }
 }
 
-/// Feeds what is asked of these tables.
-fn feed_asked(state: &mut DefaultHasher, tables: &[Watching]) {
+/// Feeds the digests of what is asked of these tables.
+fn feed_digests(state: &mut DefaultHasher, tables: &[Watching]) {
     for table in tables {
-        table.request.table().place().hash(state);
-        feed_filter(state, table.request.filter());
+        table.digest().hash(state);
     }
 }
 

@@ -57,9 +57,10 @@ loop-request-preserved c =
     let one : Adds old.chains new (m ∷ []) = adds_one old.chains new t m (subst (λ n. t < n) (sym old.invariant.lives) low) old.invariant.adds.6 c.mark_now-mark.ensures.mark c.mark_now-mark.ensures.chains c.mark_now-mark.ensures.now in
     let more : counted_in new.live ≡ counted_in old.chains.live + 1 = one_more_counted old.chains new t (subst (λ n. t < n) (sym old.invariant.lives) low) c.mark_now-mark.ensures.chains in
     let w : Watched = record { request = q; told = q.filter; mark = m } in
-    let pushed : c.push_reserved.new.self.items ≡ old.tables.items ++ w ∷ [] = search rules in
-    let marks : table_marks c.push_reserved.new.self.items ≡ table_marks old.tables.items ++ m ∷ [] = search (rules, map-append) in
-    let requests : map (λ w. w.request) c.push_reserved.new.self.items ≡ map (λ w. w.request) old.tables.items ++ q ∷ [] = search (rules, map-append) in
+    let last : c.push_reserved.new.self.items ≡ old.tables.items ++ c.new.result ∷ [] = search rules in
+    let pushed : c.push_reserved.new.self.items ≡ old.tables.items ++ w ∷ [] = last ∙ ap (λ (x : Watched). old.tables.items ++ x ∷ []) c.new.ensures in
+    let marks : table_marks c.push_reserved.new.self.items ≡ table_marks old.tables.items ++ m ∷ [] = ap table_marks pushed ∙ map-append (λ (x : Watched). x.mark) old.tables.items (w ∷ []) in
+    let requests : map (λ (x : Watched). x.request) c.push_reserved.new.self.items ≡ map (λ (x : Watched). x.request) old.tables.items ++ q ∷ [] = ap (map (λ (x : Watched). x.request)) pushed ∙ map-append (λ (x : Watched). x.request) old.tables.items (w ∷ []) in
     record {
       inside = inside_left old.chains new old.request-iterator.rest.items q rest (m ∷ []) step one old.invariant.inside;
       few = few_left old.chains new old.request-iterator.rest.items q rest step more old.invariant.few;
