@@ -1,8 +1,10 @@
+mod Again
 mod Aheads
 mod Composed
 mod Decisions
 pub mod Finished
 mod FirstTexts
+mod JobTexts
 mod Known
 mod Leading
 mod Likenesses

@@ -4,9 +4,9 @@ ghost use Rattle.std.specs.List.{All};
 ghost use Rattle.odb_schema.specs.Schema.{Schema};
 ghost use Rattle.odb_round.specs.Represented.Decided.{IsLikenessOf, AreDecisionsOf, Differs, IsAmong, IsDecisionOf, IsSame, IsThere, Puts, bucket_at};
 ghost use Rattle.odb_sessions.specs.Represented.Alike.{likeness_in};
-ghost use Rattle.odb_sessions.specs.Represented.Digest.{digest};
+ghost use Rattle.odb_sessions.specs.Represented.Digest as spec;
 
-use odb_sessions::{Monitor, Way, digest_of};
+use odb_sessions::{Monitor, Way};
 use std::alloc::{AllocError, Global};
 use std::collections::BTreeMap;
 use std::marker::Model;
@@ -127,55 +127,56 @@ impl<'a> Decided<'a> {
     }
 
     /// Returns what was decided of what is composed for the client of this monitor in this way, where all requests are of one
-    /// schema. A comparison of monitors for each decision that has the digest of the newest; where none of them is alike, a
-    /// digest, O(log n) for n decisions, and a comparison for each that has this digest.
-    pub(crate) fn find(&self, monitor: &'a Monitor, way: Way<'a>) -> Option<Option<usize>>
-        ensures some { IfSome result (λ place. (s : Schema) → AreDecisionsOf s self.now → IsLikenessOf s (likeness_in monitor.now way.entry)
+    /// schema, if that has the digest of the newest decision. No digest is made: O(log n) for n decisions, and a comparison of
+    /// monitors for each that has it.
+    pub(crate) fn find_newest(&self, monitor: &'a Monitor, way: Way<'a>) -> Option<Option<usize>>
+        ensures { IfSome result (λ place. (s : Schema) → AreDecisionsOf s self.now → IsLikenessOf s (likeness_in monitor.now way.entry)
             → IsThere self.now (record { likeness = likeness_in monitor.now way.entry; place = place })) }
-        ensures none { is_some result ≡ false → All (Differs (likeness_in monitor.now way.entry)) (bucket_at self.now (digest (likeness_in monitor.now way.entry))) }
     {
-        if let Some(place) = self.find_at(self.newest, monitor, way) {
-            return Some(place);
-        }
-        self.find_at(digest_of(monitor, way), monitor, way)
+        self.find(self.newest, monitor, way)
     }
 
     /// Returns the same of the decisions that have this digest. O(log n) for n decisions, and a comparison of monitors for each
     /// that has it.
-    fn find_at(&self, number: u64, monitor: &'a Monitor, way: Way<'a>) -> Option<Option<usize>>
+    pub(crate) fn find(
+        &self,
+        digest: u64,
+        monitor: &'a Monitor,
+        way: Way<'a>,
+    ) -> Option<Option<usize>>
         ensures some { IfSome result (λ place. (s : Schema) → AreDecisionsOf s self.now → IsLikenessOf s (likeness_in monitor.now way.entry)
             → IsThere self.now (record { likeness = likeness_in monitor.now way.entry; place = place })) }
-        ensures none { is_some result ≡ false → All (Differs (likeness_in monitor.now way.entry)) (bucket_at self.now number) }
+        ensures none { is_some result ≡ false → All (Differs (likeness_in monitor.now way.entry)) (bucket_at self.now digest) }
     {
-        match self.buckets.get(&number) {
+        match self.buckets.get(&digest) {
             Some(bucket) => bucket.find(monitor, way),
             None => None,
         }
     }
 
-    /// Puts a decision in. O(log n) for n decisions.
-    pub(crate) fn put(&mut self, decision: Decision<'a>) -> Result<(), AllocError>
+    /// Puts a decision in, which has this digest. O(log n) for n decisions.
+    pub(crate) fn put(&mut self, digest: u64, decision: Decision<'a>) -> Result<(), AllocError>
+        requires digest { digest ≡ spec.digest decision.likeness }
         ensures ok { OnOk result (Puts self.old self.new decision.entry) }
         ensures err { OnErr result (IsSame self.old self.new) }
     {
-        let number = digest_of(decision.monitor, decision.way);
-        self.newest = number;
-        let Some(bucket) = self.buckets.get_mut(&number) else {
-            return self.put_first(number, decision);
+        self.newest = digest;
+        let Some(bucket) = self.buckets.get_mut(&digest) else {
+            return self.put_first(digest, decision);
         };
         bucket.push(decision)
     }
 
     /// Puts the first decision with this digest in.
-    fn put_first(&mut self, number: u64, decision: Decision<'a>) -> Result<(), AllocError>
-        requires number { number ≡ digest decision.likeness }
-        requires none { bucket_at self.old number ≡ [] }
+    fn put_first(&mut self, digest: u64, decision: Decision<'a>) -> Result<(), AllocError>
+        requires digest { digest ≡ spec.digest decision.likeness }
+        requires none { bucket_at self.old digest ≡ [] }
         ensures ok { OnOk result (Puts self.old self.new decision.entry) }
         ensures err { OnErr result (IsSame self.old self.new) }
     {
         let mut bucket = Bucket::new(self.alloc);
         bucket.push(decision)?;
-        drop(self.buckets.insert(number, bucket)?);
+        drop(self.buckets.insert(digest, bucket)?);
         Ok(())
     }
 }

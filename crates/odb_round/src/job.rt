@@ -1,5 +1,5 @@
 //! Jobs: what is to be composed for the client of a monitor. [P 9.2, 9.3, 9.5, 9.8]
-ghost use Rattle.std.specs.Prelude.{◌≡◌, IfOk, IfSome, Some, is_some};
+ghost use Rattle.std.specs.Prelude.{◌≡◌, IfOk, IfSome, Some, is_some, option_map};
 ghost use Rattle.odb_monitor.specs.Job.{updates_of};
 ghost use Rattle.odb_sessions.specs.Composed.{composition};
 ghost use Rattle.odb_sessions.specs.FirstTexts.{IsFirstText, IsOfNow};
@@ -21,7 +21,11 @@ use std::sync::Arc;
 /// From how many bytes on the text of a first reply is kept: a shorter one is composed as fast as it is found.
 const LEAST_KEPT: usize = 4096;
 
-/// What is to be composed for the client of a monitor, with its text where that is kept, and with the differences that it is
+/// Up to how many tests of a member of a filter what is told under other filters is composed as soon as it is planned: what is
+/// heavier may be shared out over several threads later.
+const MOST_AT_ONCE: usize = 4096;
+
+/// What is to be composed for the client of a monitor, with its text where that is known, and with the differences that it is
 /// composed of where they lend nothing of it. Contracts see the job of `odb_monitor` that it is.
 #[derive(Drop)]
 pub struct RoundJob<'a> {
@@ -30,7 +34,7 @@ pub struct RoundJob<'a> {
     way: Way<'a>,
     requests: Vec<Request>,
     lacks: Option<odb_monitor::Job<'a>>,
-    text: Option<&'a Arc<Vec<u8>>>,
+    text: Option<Arc<Vec<u8>>>,
 }
 
 impl<'a> Model for RoundJob<'a> {
@@ -49,7 +53,7 @@ impl<'a> Model for RoundJob<'a> {
 
     ghost view = { λ j. job_in j.chains.now.db j.monitor.now j.way };
 
-    ghost invariant = { λ j. AreLive j.chains.now (marks_in j.monitor.now) × (j.requests.items ≡ asked_by j.monitor.now.tables (filters_by j.way)) × IfSome j.text (λ t. Some (bytes_of t.now) ≡ composition (job_in j.chains.now.db j.monitor.now j.way)) × IfSome j.lacks (λ k. k ≡ job_in j.chains.now.db j.monitor.now j.way) };
+    ghost invariant = { λ j. AreLive j.chains.now (marks_in j.monitor.now) × (j.requests.items ≡ asked_by j.monitor.now.tables (filters_by j.way)) × IfSome j.text (λ t. Some (bytes_of t) ≡ composition (job_in j.chains.now.db j.monitor.now j.way)) × IfSome j.lacks (λ k. k ≡ job_in j.chains.now.db j.monitor.now j.way) };
 }
 
 impl<'a> RoundJob<'a> {
@@ -82,25 +86,52 @@ impl<'a> RoundJob<'a> {
         alloc: Global,
         chains: &'a Chains,
         monitor: &'a Monitor,
-        text: Option<&'a Arc<Vec<u8>>>,
-    ) -> RoundJob<'a>
+        text: Option<&Arc<Vec<u8>>>,
+    ) -> Result<RoundJob<'a>, AllocError>
         requires live { AreLive chains.now (marks_in monitor.now) }
         requires text { IfSome text (λ t. Some (bytes_of t.now) ≡ composition (job_in chains.now.db monitor.now way.First)) }
-        ensures { result ≡ job_in chains.now.db monitor.now way.First }
+        ensures { IfOk result (λ job. job ≡ job_in chains.now.db monitor.now way.First) }
     {
-        RoundJob {
+        let text = shared(text)?;
+        Ok(RoundJob {
             chains,
             monitor,
             way: Way::First,
             requests: Vec::new(alloc),
             lacks: None,
             text,
+        })
+    }
+
+    /// Tells whether something is sent, and composes at once what is told under other filters and is light, which is so compared
+    /// once. The costs are then those of `weight` and `compose`, else those of `has_updates`.
+    pub(crate) fn settle(&mut self, alloc: Global) -> Result<bool, AllocError>
+        ensures job { self.new ≡ self.old }
+        ensures sent { IfOk result (λ has. has ≡ is_some (updates_of self.old)) }
+    {
+        if !self.is_composed_at_once() {
+            return self.has_updates(alloc);
+        }
+        let text = self.compose(alloc)?;
+        let is_sent = text.is_some();
+        self.text = text;
+        Ok(is_sent)
+    }
+
+    /// Returns whether it is told under other filters and is light. The costs are those of `weight`. No contract speaks of it.
+    fn is_composed_at_once(&self) -> bool {
+        match self.way {
+            Way::First => false,
+            Way::Asked => false,
+            Way::Changed(_) => self.weight() <= MOST_AT_ONCE,
+            Way::Again(_, _) => self.weight() <= MOST_AT_ONCE,
+            Way::Since(_, _) => false,
         }
     }
 
     /// Returns whether something is sent: a reply always is. The costs are those of `odb_monitor::Job::has_updates`, and under
     /// other filters those of `differences`.
-    pub fn has_updates(&self, alloc: Global) -> Result<bool, AllocError>
+    fn has_updates(&self, alloc: Global) -> Result<bool, AllocError>
         ensures { IfOk result (λ has. has ≡ is_some (updates_of self.now)) }
     {
         if self.way.is_reply() {
@@ -113,13 +144,13 @@ impl<'a> RoundJob<'a> {
         job.has_updates(alloc)
     }
 
-    /// Composes the text of the table updates, without the monitor's id; `None` where nothing is sent. One that is kept
+    /// Composes the text of the table updates, without the monitor's id; `None` where nothing is sent. One that is known
     /// is shared; else the costs are those of `odb_monitor::compose`, and but for what a client lacks under the filters that it
     /// asks those of `differences`.
     pub fn compose(&self, alloc: Global) -> Result<Option<Arc<Vec<u8>>>, AllocError>
         ensures { IfOk result (λ body. bytes_in body ≡ composition self.now) }
     {
-        if let Some(text) = self.text {
+        if let Some(text) = &self.text {
             return Ok(Some(text.clone()?));
         }
         if let Some(job) = &self.lacks {
@@ -198,6 +229,16 @@ impl<'a> RoundJob<'a> {
             Way::Since(recent, ago) => monitor.resumed_job(alloc, chains, recent, ago),
         }
     }
+}
+
+/// Shares the text, where there is one. O(1).
+fn shared(text: Option<&Arc<Vec<u8>>>) -> Result<Option<Arc<Vec<u8>>>, AllocError>
+    ensures { IfOk result (λ own. bytes_in own ≡ option_map (λ t. bytes_of t.now) text.entry) }
+{
+    let Some(text) = text else {
+        return Ok(None);
+    };
+    Ok(Some(text.clone()?))
 }
 
 /// Returns the job of what the client lacks, where that is under the filters that it asks: it is compared to tell whether

@@ -12,6 +12,7 @@ ghost use Rattle.odb_round.specs.Jobs.{AreEachOnce, IsFor, Keeps, if_sent};
 ghost use Rattle.odb_round.specs.OfSchema.{AreOfSchema};
 ghost use Rattle.odb_round.specs.Represented.Decided.{IsFoundIn, IsSame, Puts};
 ghost use Rattle.odb_sessions.specs.Represented.Alike.{likeness_in};
+ghost use Rattle.odb_sessions.specs.Represented.Digest as spec;
 ghost use Rattle.odb_sessions.specs.Represented.Job.{job_in};
 ghost use Rattle.odb_round.specs.Represented.Served.{IsAtPlace, IsServed};
 ghost use Rattle.odb_sessions.specs.Tied.{AreLive};
@@ -25,7 +26,7 @@ use crate::job::RoundJob;
 use crate::shared::{SharedJob, SharedJobs};
 use odb_chain::Chains;
 use odb_recent::Recent;
-use odb_sessions::{FirstTexts, Monitor, WatchId, Way};
+use odb_sessions::{FirstTexts, Monitor, WatchId, Way, digest_of};
 use std::alloc::{AllocError, Global};
 use std::marker::Model;
 use uuid::Uuid;
@@ -49,6 +50,15 @@ impl<'a> Model for Asking<'a> {
     ghost view = { λ a. likeness_in a.monitor.now a.way };
 }
 
+impl<'a> Asking<'a> {
+    /// Decides that it is composed by the job at this place. O(1).
+    fn decided_at(&self, place: usize) -> Decision<'a>
+        ensures { result ≡ record { likeness = self.now; place = Some place } }
+    {
+        Decision::new(self.monitor, self.way, Some(place))
+    }
+}
+
 /// Jobs, and what each is composed for.
 #[derive(Drop)]
 pub(crate) struct ListedJobs<'a> {
@@ -68,18 +78,19 @@ impl<'a> ListedJobs<'a> {
         }
     }
 
-    /// Adds a job, which is decided, and returns its place.
+    /// Adds a job, which is decided, with the digest of what it is composed for, and returns its place.
     fn add(
         &mut self,
         decided: &mut Decided<'a>,
+        digest: u64,
         job: RoundJob<'a>,
-        monitor: &'a Monitor,
-        way: Way<'a>,
+        asking: Asking<'a>,
     ) -> Result<usize, AllocError>
+        requires digest { digest ≡ spec.digest asking }
         ensures place { IfOk result (λ place. place ≡ length self.old.jobs.items) }
         ensures jobs { OnOk result (self.new.jobs.items ≡ self.old.jobs.items ++ job.entry ∷ []) }
-        ensures askings { OnOk result (self.new.askings.items ≡ self.old.askings.items ++ likeness_in monitor.now way.entry ∷ []) }
-        ensures decided { OnOk result (Puts decided.old decided.new (record { likeness = likeness_in monitor.now way.entry; place = Some (length self.old.jobs.items) })) }
+        ensures askings { OnOk result (self.new.askings.items ≡ self.old.askings.items ++ asking.entry ∷ []) }
+        ensures decided { OnOk result (Puts decided.old decided.new (record { likeness = asking.entry; place = Some (length self.old.jobs.items) })) }
         ensures kept { OnErr result (self.new.jobs.items ≡ self.old.jobs.items) }
         ensures known { OnErr result (self.new.askings.items ≡ self.old.askings.items) }
         ensures undecided { OnErr result (IsSame decided.old decided.new) }
@@ -87,9 +98,9 @@ impl<'a> ListedJobs<'a> {
         let place = self.jobs.len();
         self.jobs.reserve(1)?;
         self.askings.reserve(1)?;
-        decided.put(Decision::new(monitor, way, Some(place)))?;
+        decided.put(digest, asking.decided_at(place))?;
         self.jobs.push_reserved(job);
-        self.askings.push_reserved(Asking { monitor, way });
+        self.askings.push_reserved(asking);
         Ok(place)
     }
 }
@@ -246,7 +257,8 @@ impl<'a> Wanted<'a> {
     }
 
     /// Returns the place of the job for the client of a monitor; `None` where nothing is sent. What was decided of what
-    /// is alike serves again: the costs are those of `Decided::find`, and else those of `RoundJob::has_updates` too.
+    /// is alike serves again: the costs are those of `Decided::find_newest`; where that finds nothing those of one digest
+    /// and of `Decided::find` too, and where that doesn't those of `RoundJob::settle`.
     pub(crate) fn want(
         &mut self,
         monitor: &'a Monitor,
@@ -263,16 +275,21 @@ impl<'a> Wanted<'a> {
         ensures recent { self.new.recent ≡ self.old.recent }
         ensures basis { self.new.basis ≡ self.old.basis }
     {
-        if let Some(place) = self.decided.find(monitor, way) {
+        if let Some(place) = self.decided.find_newest(monitor, way) {
             return Ok(place);
         }
-        let job = self.job(monitor, way)?;
-        let is_sent = job.has_updates(self.alloc)?;
+        let digest = digest_of(monitor, way);
+        if let Some(place) = self.decided.find(digest, monitor, way) {
+            return Ok(place);
+        }
+        let mut job = self.job(monitor, way)?;
+        let is_sent = job.settle(self.alloc)?;
         if !is_sent {
-            self.decided.put(Decision::new(monitor, way, None))?;
+            self.decided.put(digest, Decision::new(monitor, way, None))?;
             return Ok(None);
         }
-        let place = self.listed.add(&mut self.decided, job, monitor, way)?;
+        let asking = Asking { monitor, way };
+        let place = self.listed.add(&mut self.decided, digest, job, asking)?;
         Ok(Some(place))
     }
 
@@ -283,7 +300,7 @@ impl<'a> Wanted<'a> {
     {
         if way.is_first() {
             let text = self.firsts.find(monitor);
-            return Ok(RoundJob::first(self.alloc, self.chains, monitor, text));
+            return RoundJob::first(self.alloc, self.chains, monitor, text);
         }
         RoundJob::new(self.alloc, self.chains, monitor, way)
     }

@@ -10,7 +10,7 @@ use Rattle.odb_round.proofs.job.RoundJob.compose.Goals as goal
 pub returns-in-Some : goal.returns-in-Some
 returns-in-Some c =
     let there : c.self.inside.text ≡ Some c.in-Some.text = search rules in
-    let kept : Some (bytes_of c.in-Some.text.now) ≡ composition (job_in c.self.inside.chains.now.db c.self.inside.monitor.now c.self.inside.way) = kept_in c.self.inside.text c.in-Some.text _ there c.self.invariant.2 in
+    let kept : Some (bytes_of c.in-Some.text) ≡ composition (job_in c.self.inside.chains.now.db c.self.inside.monitor.now c.self.inside.way) = kept_in c.self.inside.text c.in-Some.text _ there c.self.invariant.2 in
     (λ i. Some (c.in_ok-clone.ensures.cases i).items) ∙ kept ∙ ap composition c.self.view_is
 
 pub returns-in-Some-lacks : goal.returns-in-Some-lacks

@@ -9,12 +9,12 @@ use Rattle.odb_round.specs.Jobs.{Decision}
 use Rattle.odb_round.specs.Represented.Decided.{IsLikenessOf, IsAmong, IsDecisionOf, bucket_at}
 use Rattle.odb_sessions.specs.Represented.Alike.{likeness_in}
 use Rattle.odb_sessions.proofs.Options.{if_some_weaker}
-use Rattle.odb_round.proofs.decided.Decided.find_at.Goals as goal
+use Rattle.odb_round.proofs.decided.Decided.find.Goals as goal
 
 pub returns-in-Some-clause-some : goal.returns-in-Some-clause-some
 returns-in-Some-clause-some c =
     let l : Likeness = likeness_in c.args.monitor.now c.args.way in
-    let n = c.args.number in
+    let n = c.args.digest in
     let there : tree.get nat_cmp c.args.self.now.buckets n ≡ Some c.in-Some.bucket.now = search rules in
     let is : bucket_at c.args.self.now n ≡ c.in-Some.bucket.now = ap (λ (o : Option (List Decision)). unwrap_or o []) there in
     let here : IfSome c.find.result (λ place. (s : Schema) → All (IsDecisionOf s) (bucket_at c.args.self.now n) → IsLikenessOf s l → IsAmong (bucket_at c.args.self.now n) (record { likeness = l; place = place })) =
