@@ -15,7 +15,6 @@ use Rattle.odb_core.specs.contracts.waiting.Waiting as Waiting
 use Rattle.odb_core.specs.contracts.waiting_list.WaitingList as WaitingList
 use Rattle.odb_core.specs.contracts.failed.Failed as Failed
 use Rattle.odb_core.specs.contracts.failures.Failures as Failures
-use Rattle.odb_core.specs.contracts.state.State as State
 use Rattle.odb_core.specs.contracts.server.Core as Core
 
 Submitted-send : IsSend (Submitted.the_field).row
@@ -51,8 +50,5 @@ Locks-send = locks.the_send
 ServedSchema-send : IsSend (ServedSchema.the_field).row
 ServedSchema-send = served.the_send
 
-State-send : IsSend (State.the_field).row
-State-send = search (Locks-send, book.Sessions-send, ServedSchema-send, WaitingList-send, Failures-send, sendable, heap.crosses) depth 20
-
 pub Core-send : IsSend (Core.the_field).row
-Core-send = search (State-send, sendable, heap.crosses) depth 20
+Core-send = search (Locks-send, book.Sessions-send, ServedSchema-send, WaitingList-send, Failures-send, sendable, heap.crosses) depth 20

@@ -16,6 +16,7 @@ pub mod ServerSteps
 pub mod SessionNumbers
 pub mod SessionsOfSchema
 pub mod WorldPosts
+pub mod ValidSteps
 pub mod QuietRounds
 pub mod Crossing
 pub mod WaitingCounts

@@ -1,5 +1,6 @@
 -- What a call on locks posts: the notices, and then the reply.
-use Rattle.std.proofs.Common.{◌≡◌, ℕ, Bool, false, List, [], ◌∷◌, ◌++◌, map, Result, Ok, Err, sym, ◌∙◌, ap, true≢false}
+use Rattle.std.proofs.Common.{◌≡◌, ℕ, Bool, true, false, List, [], ◌∷◌, ◌++◌, map, Result, Ok, Err, sym, ◌∙◌, ap, true≢false}
+use Rattle.std.specs.Prelude.{OnErr}
 use Rattle.std.specs.Result.{IfOk, is_err}
 use Rattle.odb_locks.specs.Locks.{Answered, Locks, Notice}
 use Rattle.odb_locks.specs.Represented.Locks.{answer_of}
@@ -33,6 +34,11 @@ answers_as ns n d r w ps m are is = told_as ns n d r w ∙ ap (λ m. record w { 
 pub given : {A E : Type 0} (r : Result A E) (P : A → Type 0) → is_err r ≡ false → IfOk r P → (x : A) × P x
 given (Ok x) P e p = (x, p)
 given (Err f) P e p = absurd (true≢false e)
+
+-- and what one left that was refused
+pub refused : {A E P : Type 0} (r : Result A E) → is_err r ≡ true → OnErr r P → P
+refused (Ok x) e p = absurd (true≢false (sym e))
+refused (Err f) e p = p
 
 abbrev Told : Type 0
 Told = List Notice × Bool

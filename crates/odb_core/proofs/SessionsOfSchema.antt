@@ -138,20 +138,20 @@ module _ (s : Schema) where
 
   -- ---- what only posts
 
-  posts : (n : ℕ) (is : List Item) (w : World) → AllByRecursion (IsItemOf s) is → Keeps w (post n is w)
+  pub posts : (n : ℕ) (is : List Item) (w : World) → AllByRecursion (IsItemOf s) is → Keeps w (post n is w)
   posts n is w all of = by (get w.sessions n) refl
     where
       by : (o : Option Session) → get w.sessions n ≡ o → AreSessionsOf s (post_to n is o w).sessions
       by None e = of
       by (Some x) e = let x_of : IsSessionOf s x = of n x e in put_of w.sessions n (push is x) (all_joined (IsItemOf s) x.queue is x_of.0 all, x_of.1) of
 
-  answers : (n : ℕ) (d m : Data) (w : World) → Keeps w (answer n d m w)
+  pub answers : (n : ℕ) (d m : Data) (w : World) → Keeps w (answer n d m w)
   answers n d m w = posts n (say (to d) m ∷ []) w (tt, tt)
 
   fails : (n : ℕ) (d : Data) (name : Failure) (w : World) → Keeps w (fail n d name w)
   fails n d name w = answers n d (failure (id_of d) name) w
 
-  notes : (ns : List Notice) (w : World) → Keeps w (post_notices ns w)
+  pub notes : (ns : List Notice) (w : World) → Keeps w (post_notices ns w)
   notes [] w of = of
   notes (n ∷ ns) w of = notes ns (post n.session (say no_request (notice_of n) ∷ []) w) (posts n.session (say no_request (notice_of n) ∷ []) w (tt, tt) of)
 
@@ -197,7 +197,7 @@ module _ (s : Schema) where
   syncs [] = tt
   syncs (k ∷ ks) = (tt, syncs ks)
 
-  ends : (n : ℕ) (d results : Data) (o : Option Db) (w : World) → Keeps w (end_transaction h n d results o w)
+  pub ends : (n : ℕ) (d results : Data) (o : Option Db) (w : World) → Keeps w (end_transaction h n d results o w)
   ends n d results None w = answers n d (reply (id_of d) results) w
   ends n d results (Some db) w =
       let ks : List Watch = asked_of h (get w.sessions n) in
@@ -219,10 +219,10 @@ module _ (s : Schema) where
         | Some t ↦ λ of. retries n (try_one h t w) (attempts t.1 w of)
       ]
 
-  retries_all : (w : World) → Keeps w (retry_all h w)
+  pub retries_all : (w : World) → Keeps w (retry_all h w)
   retries_all w = retries ((length w.waiting + 1) * (length w.waiting + 1)) w
 
-  dues : (ps : List Waiting) (w : World) → Keeps w (try_due h ps w)
+  pub dues : (ps : List Waiting) (w : World) → Keeps w (try_due h ps w)
   dues [] w = λ of. of
   dues (p ∷ ps) w =
       elim (is_due w.now p.deadline) as (λ b. Keeps w (try_due h ps (cond b (with_waiting h (λ ps o. ps ++ option_to_list o) w.waiting (attempt h p w)) (record w { waiting = w.waiting ++ p ∷ [] })))) [

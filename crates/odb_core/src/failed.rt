@@ -1,9 +1,7 @@
 //! Transactions that failed, which can be asked for their causes. [P 15.2]
 
 ghost use Rattle.std.specs.Prelude.{◌≡◌};
-ghost use Rattle.odb_core.specs.Represented.Waiting.{waiting_as};
 
-use crate::submitted::Submitted;
 use crate::waiting::Waiting;
 use odb_locks::SessionId;
 use std::marker::Model;
@@ -11,7 +9,7 @@ use std::marker::Model;
 /// A transaction that failed, as it was submitted. Contracts see it as one that waits.
 #[derive(Drop)]
 pub struct Failed {
-    transaction: Waiting,
+    pub(crate) transaction: Waiting,
 }
 
 impl Model for Failed {
@@ -37,13 +35,6 @@ impl Failed {
     pub fn session(&self) -> SessionId
         ensures { result ≡ self.now.session }
     {
-        self.transaction.session()
-    }
-
-    /// Returns the transaction as it was submitted. O(1).
-    pub(crate) fn submitted(&self) -> &Submitted
-        ensures { waiting_as result.now self.now.deadline self.now.tried ≡ self.now }
-    {
-        self.transaction.submitted()
+        self.transaction.submitted().session
     }
 }

@@ -13,6 +13,7 @@ ghost use Rattle.odb_request.specs.Represented.Change as requested;
 ghost use Rattle.odb_request.specs.Represented.Kind.{notation_of};
 ghost use Rattle.odb_request.specs.Represented.Shape.{table_name};
 ghost use Rattle.odb_request.specs.Requests.{read_changes, read_requests};
+ghost use Rattle.odb_round.specs.OfSchema.{AreOfSchema};
 ghost use Rattle.odb_rpc.specs.Represented.Failure.{failure_of};
 ghost use Rattle.odb_rpc.specs.Represented.Monitor.{monitor_called};
 ghost use Rattle.odb_rpc.specs.Represented.Printable.{printable_data};
@@ -30,7 +31,7 @@ ghost use Rattle.odb_core.specs.Represented.Monitors.{change_for, changed_by};
 ghost use Rattle.odb_core.specs.Represented.Monitors.{filters_as, filters_for, is_taken, requests_as};
 ghost use Rattle.odb_core.specs.Represented.Steps.{OnlySessions, by_service, in_world};
 
-use crate::state::State;
+use crate::server::Core;
 use odb_locks::SessionId;
 use odb_queue::{ServedSchema, failed};
 use odb_request as monitored;
@@ -43,7 +44,7 @@ use serde_json::Value;
 use std::alloc::{AllocError, Global};
 use std::sync::Arc;
 
-impl State {
+impl Core {
     /// Carries a call about monitors out.
     pub(crate) fn monitor(
         &mut self,
@@ -108,6 +109,7 @@ impl State {
         requires own { has_left_out (id_of (request_data request.now)) ≡ false }
         requires tables { AreOfTables self.old.world.db requests.items }
         requires apart { AreApart requests.items }
+        requires of { AreOfSchema self.old.schema requests.items }
         ensures ok { OnOk result (in_world (post session (start (request_data request.now) (record {
           id = printable_data asked.entry.id;
           notation = notation_of asked.entry.kind;

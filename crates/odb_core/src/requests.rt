@@ -29,10 +29,10 @@ ghost use Rattle.odb_core.specs.Represented.Requests.{asks_transaction};
 ghost use Rattle.odb_core.specs.Represented.Steps.{AreTried, OnlyLocksAndSessions, OnlySessions, by_service, in_world};
 ghost use Rattle.odb_service.specs.Service.{Service};
 ghost use Rattle.odb_service.specs.Session.{no_result};
-ghost use Rattle.odb_service.specs.World.{at_moment, cancel, close, handle, is_due, owed_replies, post, tick};
+ghost use Rattle.odb_service.specs.World.{at_moment, cancel, close, handle, is_due, owed_replies, post};
 ghost use Rattle.odb_service.specs.World.{fail, lock_error, locked, on_lock, post_notices, succeed};
 
-use crate::state::State;
+use crate::server::Core;
 use crate::submitted::Submitted;
 use odb_locks::{LockFault, Notice, SessionId};
 use odb_queue::{Post, answer_at_once, failed, notices, replied};
@@ -42,7 +42,7 @@ use serde_json::{Map, Value};
 use std::alloc::{AllocError, Global};
 use uuid::Uuid;
 
-impl State {
+impl Core {
     /// Takes a message of a session in, at a moment in milliseconds. Where memory is refused nothing
     /// changes, and the message comes back.
     pub(crate) fn receive(
@@ -52,18 +52,16 @@ impl State {
         fresh: &[Uuid],
         now: u64,
     ) -> Result<(), (Request, AllocError)>
-        requires tried { AreTried self.old }
         ensures ok { OnOk result (by_service (λ h w. handle h session (request_data request) (map uuid_of fresh.now)
             (call_at self.old.schema (request_data request)) (at_moment h now w)) self.old ≡ self.new) }
-        ensures tried { AreTried self.new }
         ensures err { OnErr result (self.new ≡ self.old) }
         ensures back { IfErr result (λ back. back.0 ≡ request) }
     {
-        let before = self.now;
-        self.now = self.now.max(now);
+        let before = self.moment;
+        self.moment = self.moment.max(now);
         let taken = self.handle(session, request, fresh);
         if taken.is_err() {
-            self.now = before;
+            self.moment = before;
         }
         taken
     }
@@ -91,10 +89,8 @@ impl State {
         request: Request,
         fresh: &[Uuid],
     ) -> Result<(), (Request, AllocError)>
-        requires tried { AreTried self.old }
         ensures ok { OnOk result (by_service (λ h. handle h session (request_data request) (map uuid_of fresh.now)
             (call_at self.old.schema (request_data request))) self.old ≡ self.new) }
-        ensures tried { AreTried self.new }
         ensures err { OnErr result (self.new ≡ self.old) }
         ensures back { IfErr result (λ back. back.0 ≡ request) }
     {
@@ -115,14 +111,12 @@ impl State {
         fresh: &[Uuid],
     ) -> Result<(), (Request, AllocError)>
         requires asks { asks_transaction (call_at self.old.schema (request_data request)) ≡ true }
-        requires tried { AreTried self.old }
         ensures ok { OnOk result (by_service (λ h. handle h session (request_data request) (map uuid_of fresh.now)
             (call_at self.old.schema (request_data request))) self.old ≡ self.new) }
-        ensures tried { AreTried self.new }
         ensures err { OnErr result (self.new ≡ self.old) }
         ensures back { IfErr result (λ back. back.0 ≡ request) }
     {
-        let asked = Submitted::new(self.alloc, session, request, fresh, self.now)?;
+        let asked = Submitted::new(self.alloc, session, request, fresh, self.moment)?;
         match self.transact(asked) {
             Ok(()) => Ok(()),
             Err((asked, refused)) => Err((asked.into_request(), refused)),
@@ -136,7 +130,6 @@ impl State {
             (call_at self.old.schema (request_data request.now))) self.old ≡ self.new) }
         ensures transaction { IfOk result (λ done. done ≡ false → asks_transaction (call_at self.old.schema (request_data request.now)) ≡ true) }
         ensures untouched { IfOk result (λ done. done ≡ false → self.new ≡ self.old) }
-        ensures tried { AreTried self.old → AreTried self.new }
         ensures err { OnErr result (self.new ≡ self.old) }
     {
         match Call::read(request, self.served.schema()) {
@@ -157,7 +150,6 @@ impl State {
             (call_at self.old.schema (request_data request.now))) self.old ≡ self.new) }
         ensures transaction { IfOk result (λ done. done ≡ false → asks_transaction (call_at self.old.schema (request_data request.now)) ≡ true) }
         ensures untouched { IfOk result (λ done. done ≡ false → self.new ≡ self.old) }
-        ensures tried { AreTried self.old → AreTried self.new }
         ensures err { OnErr result (self.new ≡ self.old) }
     {
         match call {
@@ -195,7 +187,6 @@ impl State {
     /// of this id ends. O(waiting transactions).
     fn cancel(&mut self, session: SessionId, id: Printable<'_>) -> Result<(), AllocError>
         ensures ok { OnOk result (by_service (λ h. cancel h session (printable_data id.entry)) self.old ≡ self.new) }
-        ensures tried { AreTried self.old → AreTried self.new }
         ensures err { OnErr result (self.new ≡ self.old) }
     {
         let text = id.to_vec(self.alloc)?;
@@ -214,7 +205,7 @@ impl State {
         ensures { result ≡ position (is_named session id.now) self.entry.now.world.waiting }
     {
         self.waiting
-            .as_slice()
+            .all()
             .iter()
             .position(|waiting| waiting.has_id_and_session(session, id))
     }
@@ -318,9 +309,8 @@ impl State {
 
     /// Closes a session (RFC 7047, section 4.1.8): its claims, its transactions that wait and its
     /// queue go. O(its claims + waiting transactions).
-    pub(crate) fn close(&mut self, session: SessionId) -> Result<(), AllocError>
+    pub(crate) fn end_session(&mut self, session: SessionId) -> Result<(), AllocError>
         ensures ok { OnOk result (by_service (λ h. close h session) self.old ≡ self.new) }
-        ensures tried { AreTried self.old → AreTried self.new }
         ensures err { OnErr result (self.new ≡ self.old) }
     {
         let lock_notices = self.locks.preview_drop(session)?;
@@ -332,49 +322,27 @@ impl State {
         Ok(())
     }
 
-    /// Advances the clock to `now` (milliseconds), and tries the transactions whose deadline has
-    /// come.
-    pub(crate) fn tick(&mut self, now: u64) -> Result<(), AllocError>
-        requires tried { AreTried self.old }
-        ensures ok { OnOk result (by_service (λ h. tick h now) self.old ≡ self.new) }
-        ensures tried { AreTried self.new }
-        ensures err { OnErr result (self.new ≡ self.old) }
-    {
-        let before = self.moment();
-        let moment = before.max(now);
-        self.set_moment(moment);
-        if !self.has_due(moment) {
-            return Ok(());
-        }
-        match self.end_due() {
-            Ok(()) => Ok(()),
-            Err(refused) => {
-                self.set_moment(before);
-                Err(refused)
-            }
-        }
-    }
-
     /// Returns the moment now.
-    fn moment(&self) -> u64
-        ensures { result ≡ self.entry.now.world.now }
+    pub(crate) fn moment(&self) -> u64
+        ensures now { result ≡ self.entry.now.world.now }
+        ensures tried { AreTried self.entry.now }
     {
-        self.now
+        self.moment
     }
 
     /// Sets the moment.
-    fn set_moment(&mut self, now: u64)
+    pub(crate) fn set_moment(&mut self, now: u64)
         ensures { self.new ≡ in_world (λ w. record w { now = now }) self.old }
     {
-        self.now = now;
+        self.moment = now;
     }
 
     /// Returns whether the deadline of a transaction has come by this moment. O(waiting transactions).
-    fn has_due(&self, moment: u64) -> bool
+    pub(crate) fn has_due(&self, moment: u64) -> bool
         ensures { result ≡ list_any (λ p. is_due moment p.deadline) self.entry.now.world.waiting }
     {
         self.waiting
-            .as_slice()
+            .all()
             .iter()
             .any(|waiting| waiting.is_due(moment))
     }

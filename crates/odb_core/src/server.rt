@@ -1,6 +1,6 @@
-//! The server as a machine over events. [P 10.3, 13.1, 14]
+//! The server as a machine over events. [P 10.3, 12.3, 13.1, 14]
 
-ghost use Rattle.std.specs.Prelude.{◌≡◌, ◌≤◌, ◌↔◌, ℕ, List, [], flat_map, map, length, Ok, OnOk, OnErr, IfOk, IfErr, IfSome, IsErrOf};
+ghost use Rattle.std.specs.Prelude.{◌≡◌, ◌≤◌, ◌↔◌, ℕ, List, ◌∷◌, [], flat_map, map, length, Ok, OnOk, OnErr, IfNone, IfOk, IfErr, IfSome, IsErrOf};
 ghost use Rattle.std.specs.List.{All};
 ghost use Rattle.odb_atoms.specs.FinMap.{len};
 ghost use Rattle.odb_atoms.specs.Represented.Atom.{uuid_of};
@@ -9,16 +9,21 @@ ghost use Rattle.odb_wire.specs.Shown.{request_data};
 ghost use Rattle.odb_service.specs.Run.{closed, max_sessions, once, opened, round, submitted, ticked};
 ghost use Rattle.odb_core.specs.Causes.{FailsFor};
 ghost use Rattle.odb_core.specs.Deadlines.{earliest};
+ghost use Rattle.odb_core.specs.Represented.Core.{empty_world};
+ghost use Rattle.odb_core.specs.Represented.Rounds.{book_in};
 ghost use Rattle.odb_core.specs.declared.refused.EventRefusal.TheVariants as refused;
 
 use crate::failed::Failed;
+use crate::failures::Failures;
 use crate::refused::EventRefusal;
-use crate::state::State;
+use crate::waiting_list::WaitingList;
 use odb_cause::Cause;
-use odb_locks::SessionId;
-use odb_round::{Jobs, PreparedRound, plan_round};
+use odb_locks::{Locks, SessionId};
+use odb_queue::ServedSchema;
+use odb_round::{Jobs, PreparedRound, accept_round, give_round, plan_round, take_finished};
 use odb_schema::Schema;
-use odb_sessions::{FirstText, Out, ToldMarks};
+use odb_sessions::{FirstText, Out, Sessions, ToldMarks};
+use odb_tables::{Db, Draft};
 use odb_wire::Request;
 use std::alloc::{AllocError, Global};
 use std::collections::BTreeSet;
@@ -35,31 +40,45 @@ pub const MAX_SESSIONS: usize = 4_096;
 /// The server of RFC 7047 as a machine over events: sessions open and close, submit requests, and are
 /// given messages by rounds. Contracts see it as the state of the service machine
 /// (`specs/World.antt`), and each call is that machine's step. A call that is refused changes nothing.
+/// The database is always sound, and each transaction that waits and rests on one table is stuck on it.
 ///
 /// In the costs below `n` sessions are open, and `w` transactions wait.
 pub struct Core {
-    alloc: Global,
-    state: State,
+    pub(crate) alloc: Global,
+    pub(crate) served: ServedSchema,
+    /// How many sessions were opened.
+    pub(crate) opened: usize,
+    /// The moment, in milliseconds.
+    pub(crate) moment: u64,
+    pub(crate) waiting: WaitingList,
+    pub(crate) locks: Locks,
+    /// The database with its commits, and the open sessions.
+    pub(crate) sessions: Sessions,
+    pub(crate) failures: Failures,
 }
 
 impl Model for Core {
     ghost use Rattle.odb_service.specs.Server.{Server, server_code};
-    ghost use Rattle.odb_core.specs.Represented.Core.{IsValid};
+    ghost use Rattle.odb_core.specs.Represented.Core.{IsWhole};
 
     ghost Value = { Server };
 
     ghost coded = { server_code };
 
-    ghost view = { λ c. c.state };
+    ghost view = { λ c. record {
+      schema = c.served;
+      world = record { db = c.sessions.db; commits = c.sessions.commits; earlier = c.sessions.earlier; now = c.moment; waiting = c.waiting; locks = c.locks; sessions = c.sessions.sessions };
+      opened = c.opened;
+    } };
 
-    ghost invariant = { λ c. IsValid c.state };
+    ghost invariant = { λ c. IsWhole c.served c.sessions c.waiting c.locks c.moment c.opened };
 }
 
 impl Core {
     ghost use Rattle.odb_service.specs.Server.{serve};
     ghost use Rattle.odb_service.specs.World.{revision_of};
     ghost use Rattle.odb_core.specs.Represented.Core.{IsQuietBut, new_server};
-    ghost use Rattle.odb_core.specs.Represented.Rounds.{AreRound, AreRoundOf, book_in};
+    ghost use Rattle.odb_core.specs.Represented.Rounds.{AreRound, AreRoundOf};
     ghost use Rattle.odb_sessions.specs.FirstTexts.{IsFirstText, IsOfNow};
     ghost use Rattle.odb_round.specs.Jobs.{AreByMarks, AreEachOnce, AreOfJobs};
     ghost use Rattle.odb_round.specs.Taken.{given_by, sessions_in};
@@ -94,10 +113,24 @@ impl Core {
         ensures ok { IfOk result (λ core. core ≡ new_server run most schema) }
         ensures err { IfErr result (λ back. (back.0 ≡ schema) × (back.1 ≡ hashing)) }
     {
-        match State::new(alloc, schema, hashing, run, most) {
-            Ok(state) => Ok(Core { alloc, state }),
-            Err((schema, refused)) => Err((schema, hashing, refused)),
-        }
+        let sessions = match no_sessions(alloc, &schema, hashing, run, most) {
+            Ok(sessions) => sessions,
+            Err(refused) => return Err((schema, hashing, refused)),
+        };
+        let served = match ServedSchema::new(alloc, schema) {
+            Ok(served) => served,
+            Err((schema, refused)) => return Err((schema, hashing, refused)),
+        };
+        Ok(Core {
+            alloc,
+            served,
+            opened: 0,
+            moment: 0,
+            waiting: WaitingList::new(alloc),
+            locks: Locks::new(alloc),
+            sessions,
+            failures: Failures::new(alloc),
+        })
     }
 
     /// Opens a session, and returns its number, which no session had before: they are numbered from 0
@@ -110,17 +143,17 @@ impl Core {
         ensures too_many { IsErrOf result refused.TooMany ↔ (max_sessions ≤ len self.old.world.sessions) }
         ensures err { OnErr result (self.new ≡ self.old) }
     {
-        if self.state.sessions.len() >= MAX_SESSIONS {
+        if self.sessions.len() >= MAX_SESSIONS {
             return Err(EventRefusal::TooMany);
         }
-        Ok(self.state.open()?)
+        Ok(self.add_session()?)
     }
 
     /// Returns the number of the next session that opens. O(1).
     pub fn next_session(&self) -> SessionId
         ensures { result ≡ self.now.opened }
     {
-        self.state.opened
+        self.opened
     }
 
     /// Ends a session: its claims are released, with the notices to those that own now, its transactions
@@ -131,10 +164,10 @@ impl Core {
         ensures why { IfErr result (λ why. IsReason why (serve (closed session) self.old)) }
         ensures err { OnErr result (self.new ≡ self.old) }
     {
-        if !self.state.sessions.has(session) {
+        if !self.sessions.has(session) {
             return Err(EventRefusal::Gone);
         }
-        self.state.close(session)?;
+        self.end_session(session)?;
         Ok(())
     }
 
@@ -160,12 +193,12 @@ impl Core {
         ensures err { OnErr result (self.new ≡ self.old) }
         ensures request_back { IfErr result (λ back. back.0 ≡ request) }
     {
-        match self.state.is_busy(session, &request) {
+        match self.is_busy(session, &request) {
             None => return Err((request, EventRefusal::Gone)),
             Some(true) => return Err((request, EventRefusal::Busy)),
             Some(false) => {}
         }
-        match self.state.receive(session, request, fresh, now) {
+        match self.receive(session, request, fresh, now) {
             Ok(()) => Ok(()),
             Err((request, _)) => Err((request, EventRefusal::Memory)),
         }
@@ -176,7 +209,7 @@ impl Core {
     pub fn note_failures(&mut self)
         ensures { self.new ≡ self.old }
     {
-        self.state.note_failures();
+        self.failures.begin();
     }
 
     /// Takes out the transactions that failed and were noted, in the order in which they ended. One for which memory was
@@ -184,7 +217,7 @@ impl Core {
     pub fn take_failed(&mut self) -> Vec<Failed>
         ensures { self.new ≡ self.old }
     {
-        self.state.take_failed()
+        self.failures.take()
     }
 
     /// Tries a transaction that failed once more, and returns why it fails on the core as it is, which a transaction that
@@ -193,7 +226,8 @@ impl Core {
     pub fn cause(&self, failed: &Failed) -> Result<Option<Cause>, AllocError>
         ensures { IfOk result (λ cause. IfSome cause (FailsFor self.now failed.now)) }
     {
-        self.state.cause(failed)
+        let draft = Draft::new(self.alloc, self.sessions.db())?;
+        self.setting().cause(draft, failed.transaction.submitted())
     }
 
     /// Advances the clock to `now` (milliseconds); it never goes back, so that an earlier `now`
@@ -203,7 +237,19 @@ impl Core {
         ensures ok { OnOk result (serve (ticked now) self.old ≡ Ok (self.new, [])) }
         ensures err { OnErr result (self.new ≡ self.old) }
     {
-        self.state.tick(now)
+        let before = self.moment();
+        let moment = before.max(now);
+        self.set_moment(moment);
+        if !self.has_due(moment) {
+            return Ok(());
+        }
+        match self.end_due() {
+            Ok(()) => Ok(()),
+            Err(refused) => {
+                self.set_moment(before);
+                Err(refused)
+            }
+        }
     }
 
     /// Gives each session of the list that is open its next message, if it has one: one message at
@@ -215,7 +261,8 @@ impl Core {
         ensures err { OnErr result (self.new ≡ self.old) }
     {
         let listed = once(self.alloc, ready)?;
-        self.state.round(listed.as_slice())
+        let schema = self.served.schema();
+        give_round(&mut self.sessions, schema, listed.as_slice())
     }
 
     /// Lends what clients were told, as it is kept: of each table of a monitor a mark, and the chains that keep what marks
@@ -223,7 +270,7 @@ impl Core {
     pub fn told(&self) -> ToldMarks<'_>
         ensures { IsToldOf (book_in self.now.world) result }
     {
-        self.state.sessions.told()
+        self.sessions.told()
     }
 
     /// Plans what `round` gives these sessions: the jobs that are to be composed for it, of which no two
@@ -242,8 +289,8 @@ impl Core {
         ensures marks { IfOk result (λ jobs. AreByMarks (book_in self.now.world) jobs.told jobs.jobs jobs.likenesses jobs.takings) }
     {
         let listed = once(self.alloc, ready)?;
-        let schema = self.state.served.schema();
-        plan_round(&self.state.sessions, schema, listed.as_slice())
+        let schema = self.served.schema();
+        plan_round(&self.sessions, schema, listed.as_slice())
     }
 
     /// Keeps the text of a first reply, if there is one, which [`Jobs::first_text`] found for this core as it is: until the
@@ -253,7 +300,7 @@ impl Core {
         requires { IfSome first (IsFirstText self.old.world.db) }
         ensures { self.new ≡ self.old }
     {
-        self.state.keep_first(first);
+        self.sessions.keep(first);
     }
 
     /// Carries out a round that was planned for this core as it is, and of which everything is composed: then it is a
@@ -264,7 +311,17 @@ impl Core {
             ≡ Ok (self.new, map sent_in result.items) }
         ensures texts { map sent_in result.items ≡ flat_map (given_by (book_in self.old.world)) prepared }
     {
-        self.state.accept(prepared)
+        accept_round(&mut self.sessions, prepared)
+    }
+
+    /// Gives a session its next message, where that is a text which was finished when it was queued, as most replies are: then
+    /// it is a `round` of this session alone. Else it gives nothing, and nothing has changed. It takes no memory. O(log n), and
+    /// where the session is owed nothing more O(1) for each table of its monitors.
+    pub fn take_finished(&mut self, session: SessionId) -> Option<Out>
+        ensures round { IfSome result (λ out. serve (round (session ∷ [])) self.old ≡ Ok (self.new, sent_in out ∷ [])) }
+        ensures none { IfNone result (self.new ≡ self.old) }
+    {
+        take_finished(&mut self.sessions, session)
     }
 
     /// Returns the sessions that may be owed something. A round gives nothing to any other, and changes nothing of it.
@@ -272,7 +329,7 @@ impl Core {
     pub fn owed(&self) -> &BTreeSet<SessionId>
         ensures { IsQuietBut result.now self.now }
     {
-        self.state.sessions.owed()
+        self.sessions.owed()
     }
 
     /// Returns the earliest moment, in milliseconds, at which a transaction that waits is due: a `tick` of an earlier
@@ -280,7 +337,7 @@ impl Core {
     pub fn next_deadline(&self) -> Option<u64>
         ensures { result ≡ earliest self.now.world.waiting }
     {
-        self.state.waiting.earliest()
+        self.waiting.earliest()
     }
 
     /// Makes an equal core: the same state, whose rows and waiting transactions are shared with this one.
@@ -290,9 +347,29 @@ impl Core {
     {
         Ok(Core {
             alloc: self.alloc,
-            state: self.state.try_copy()?,
+            served: self.served.try_copy()?,
+            opened: self.opened,
+            moment: self.moment,
+            waiting: self.waiting.try_copy()?,
+            locks: self.locks.try_copy(self.alloc)?,
+            sessions: self.sessions.try_copy()?,
+            failures: self.failures.without_failed(),
         })
     }
+}
+
+/// Makes sessions over empty tables of the schema, with no commit, of which none is open.
+fn no_sessions(
+    alloc: Global,
+    schema: &Schema,
+    hashing: RandomState,
+    run: u64,
+    most: usize,
+) -> Result<Sessions, AllocError>
+    ensures { IfOk result (λ sessions. sessions ≡ book_in (empty_world run most (length schema.now.tables))) }
+{
+    let db = Db::for_schema(alloc, schema, hashing)?;
+    Sessions::new(alloc, db, hashing, run, most)
 }
 
 /// Lists each session once, where it stands first. O(n log n).
@@ -312,6 +389,15 @@ fn once(alloc: Global, ready: &[SessionId]) -> Result<Vec<SessionId>, AllocError
 // Written, and not derived, so that each end of a scope is one call to prove.
 impl Drop for Core {
     fn drop(self) {
-        let Core { alloc: _, state: _ } = self;
+        let Core {
+            alloc: _,
+            served: _,
+            opened: _,
+            moment: _,
+            waiting: _,
+            locks: _,
+            sessions: _,
+            failures: _,
+        } = self;
     }
 }

@@ -1,114 +1,36 @@
-//! The state of the service: what it does with requests, moments and sessions that close. [P 6.3, 12.1, 12.2, 12.3, 14]
+//! What the server does with transactions, and with those that wait. [P 6.3, 12.1, 12.2, 12.3, 14]
 
-ghost use Rattle.std.specs.Prelude.{◌≡◌, ◌↔◌, IsOk, ◌+◌, ◌++◌, ◌==◌, [], ◌∷◌, flat_map, length, map, nat_lt, IfErr, IfOk, IfSome, None, Option, Some, OnErr, OnOk};
+ghost use Rattle.std.specs.Prelude.{◌≡◌, ◌↔◌, IsOk, ◌++◌, [], ◌∷◌, map, nat_lt, IfErr, IfOk, None, Some, OnErr, OnOk};
 ghost use Rattle.std.specs.List.{list_any};
 ghost use Rattle.odb_atoms.specs.FinMap as finite;
 ghost use Rattle.odb_tables.specs.Change.{all_changed_by};
-ghost use Rattle.odb_sessions.specs.FirstTexts.{IsFirstText};
-ghost use Rattle.odb_round.specs.OfSchema.{AreSessionsOf};
-ghost use Rattle.odb_round.specs.Planned.{AreOnce};
-ghost use Rattle.odb_sessions.specs.Represented.Out.{sent_in};
-ghost use Rattle.odb_round.specs.Taken.{AreOf, given_by, sessions_in};
-ghost use Rattle.odb_core.specs.Represented.Core.{empty_world};
-ghost use Rattle.odb_core.specs.Represented.Rounds.{book_in};
 ghost use Rattle.odb_core.specs.Represented.Upcoming.{after_due, after_ended, IsPlanOf};
 ghost use Rattle.odb_core.specs.Represented.Waiting.{outcome_in, waiting_as};
-ghost use Rattle.odb_core.specs.Causes.{FailsFor};
 ghost use Rattle.odb_core.specs.Stuck.{AreStuck};
 ghost use Rattle.odb_commit.specs.Transaction as transaction;
 ghost use Rattle.odb_sessions.specs.Represented.Ended.{ending_of};
 
-use crate::failed::Failed;
-use crate::failures::Failures;
+use crate::server::Core;
 use crate::setting::TransactionSetting;
 use crate::submitted::Submitted;
 use crate::upcoming::Plan;
-use crate::waiting_list::WaitingList;
-use odb_cause::Cause;
 use odb_commit::Outcome;
-use odb_locks::{Locks, SessionId};
+use odb_locks::SessionId;
 use odb_ops::OperationResult;
-use odb_queue::{Finished, Post, ServedSchema, replied_as};
-use odb_round::{PreparedRound, accept_round, give_round};
-use odb_schema::Schema;
-use odb_sessions::{FirstText, Out, Sessions};
-use odb_tables::{ChangeSet, Db, Draft};
-use std::alloc::{AllocError, Global};
-use std::hash::RandomState;
-use std::marker::Model;
+use odb_queue::{Finished, Post, replied_as};
+use odb_tables::{ChangeSet, Draft};
+use std::alloc::AllocError;
 
-/// The schema, how many sessions were opened, the moment, the transactions that wait in order of arrival, the
-/// locks, and the database with its commits and the open sessions. Contracts see it as the server. The database
-/// is always sound, and each transaction that rests on one table is stuck on it.
-pub(crate) struct State {
-    pub(crate) alloc: Global,
-    pub(crate) served: ServedSchema,
-    pub(crate) opened: usize,
-    pub(crate) now: u64,
-    pub(crate) waiting: WaitingList,
-    pub(crate) locks: Locks,
-    pub(crate) sessions: Sessions,
-    pub(crate) failures: Failures,
-}
-
-impl Model for State {
-    ghost use Rattle.odb_service.specs.Server.{Server, server_code};
-    ghost use Rattle.odb_core.specs.Stuck.{IsKept};
-
-    ghost Value = { Server };
-
-    ghost coded = { server_code };
-
-    ghost view = { λ s. record {
-      schema = s.served;
-      world = record { db = s.sessions.db; commits = s.sessions.commits; earlier = s.sessions.earlier; now = s.now; waiting = s.waiting; locks = s.locks; sessions = s.sessions.sessions };
-      opened = s.opened;
-    } };
-
-    ghost invariant = { λ s. IsKept s.served s.sessions.db s.waiting };
-}
-
-impl State {
+impl Core {
     ghost use Rattle.odb_service.specs.World.{post, retry_all};
     ghost use Rattle.odb_queue.specs.Represented.Item.{item_of};
     ghost use Rattle.odb_queue.specs.Represented.Post.{post_of};
-    ghost use Rattle.odb_core.specs.Represented.Core.{AreUnused, new_server, with_session};
-    ghost use Rattle.odb_core.specs.Represented.Rounds.{IsRoundOf};
+    ghost use Rattle.odb_core.specs.Represented.Core.{IsValid, with_session};
     ghost use Rattle.odb_core.specs.Represented.Steps.{AreTried, OnlySessions, by_service, in_world, let_wait};
     ghost use Rattle.odb_core.specs.Represented.Waiting.{IsDone, IsOutcome, ends, runs};
 
-    /// Makes empty tables that keep what the schema asks for, at moment 0, with no commit and no session, in a run with
-    /// this word, of which so many contents can be found. Where memory is refused it hands the schema back.
-    pub(crate) fn new(
-        alloc: Global,
-        schema: Schema,
-        hashing: RandomState,
-        run: u64,
-        most: usize,
-    ) -> Result<State, (Schema, AllocError)>
-        ensures ok { IfOk result (λ state. state ≡ new_server run most schema) }
-        ensures err { IfErr result (λ back. back.0 ≡ schema) }
-    {
-        let sessions = match no_sessions(alloc, &schema, hashing, run, most) {
-            Ok(sessions) => sessions,
-            Err(refused) => return Err((schema, refused)),
-        };
-        let served = ServedSchema::new(alloc, schema)?;
-        Ok(State {
-            alloc,
-            served,
-            opened: 0,
-            now: 0,
-            waiting: WaitingList::new(alloc),
-            locks: Locks::new(alloc),
-            sessions,
-            failures: Failures::new(alloc),
-        })
-    }
-
     /// Opens a session, and returns its number. It is refused where no number is left, too.
-    pub(crate) fn open(&mut self) -> Result<SessionId, AllocError>
-        requires { AreUnused self.old.world.sessions self.old.opened }
+    pub(crate) fn add_session(&mut self) -> Result<SessionId, AllocError>
         ensures number { IfOk result (λ session. session ≡ self.old.opened) }
         ensures ok { OnOk result (self.new ≡ with_session self.old) }
         ensures err { OnErr result (self.new ≡ self.old) }
@@ -132,7 +54,7 @@ impl State {
             alloc: self.alloc,
             schema: self.served.schema(),
             locks: &self.locks,
-            now: self.now,
+            now: self.moment,
         }
     }
 
@@ -143,28 +65,6 @@ impl State {
         let draft = Draft::new(self.alloc, self.sessions.db())?;
         self.setting()
             .outcome(draft, asked, self.sessions.commits())
-    }
-
-    /// Returns why a transaction that failed fails on the state as it is.
-    pub(crate) fn cause(&self, failed: &Failed) -> Result<Option<Cause>, AllocError>
-        ensures { IfOk result (λ cause. IfSome cause (FailsFor self.entry.now failed.now)) }
-    {
-        let draft = Draft::new(self.alloc, self.sessions.db())?;
-        self.setting().cause(draft, failed.submitted())
-    }
-
-    /// Has transactions that fail noted from now on.
-    pub(crate) fn note_failures(&mut self)
-        ensures { self.new ≡ self.old }
-    {
-        self.failures.begin();
-    }
-
-    /// Takes out the transactions that were noted.
-    pub(crate) fn take_failed(&mut self) -> Vec<Failed>
-        ensures { self.new ≡ self.old }
-    {
-        self.failures.take()
     }
 
     /// Queues the reply of a transaction that changes nothing.
@@ -224,7 +124,6 @@ impl State {
     pub(crate) fn transact(&mut self, asked: Submitted) -> Result<(), (Submitted, AllocError)>
         requires tried { AreTried self.old }
         ensures ok { OnOk result (by_service (runs asked) self.old ≡ self.new) }
-        ensures tried { AreTried self.new }
         ensures err { OnErr result (self.new ≡ self.old) }
         ensures back { IfErr result (λ back. back.0 ≡ asked) }
     {
@@ -271,14 +170,13 @@ impl State {
         requires tried { AreTried self.old }
         requires outcome { IsDone self.old asked.now results change }
         ensures ok { OnOk result (by_service (runs asked.now) self.old ≡ self.new) }
-        ensures tried { AreTried self.new }
         ensures err { OnErr result (self.new ≡ self.old) }
     {
         if !changes_rows(&change) {
             self.reply(asked, results)?;
             return Ok(());
         }
-        if self.waiting.as_slice().is_empty() {
+        if self.waiting.all().is_empty() {
             self.commit(asked, results, change)?;
             return Ok(());
         }
@@ -296,7 +194,6 @@ impl State {
         requires tried { AreTried self.old }
         requires outcome { IsDone self.old asked.now results change }
         ensures ok { OnOk result (by_service retry_all (by_service (ends asked.now results (Some (all_changed_by self.old.world.db change))) self.old) ≡ self.new) }
-        ensures tried { AreTried self.new }
         ensures err { OnErr result (self.new ≡ self.old) }
     {
         let plan = self.plan_commit(asked, results, change)?;
@@ -308,7 +205,6 @@ impl State {
     pub(crate) fn end_due(&mut self) -> Result<(), AllocError>
         requires tried { AreTried self.old }
         ensures ok { OnOk result (by_service after_due self.old ≡ self.new) }
-        ensures tried { AreTried self.new }
         ensures err { OnErr result (self.new ≡ self.old) }
     {
         let plan = self.plan_due()?;
@@ -319,6 +215,7 @@ impl State {
     fn carry_out_plan(&mut self, plan: Plan) -> Result<(), AllocError>
         requires plan { IsPlanOf self.old plan }
         requires stuck { AreStuck self.old.schema self.old.world.db self.old.world.waiting → AreStuck self.old.schema (all_changed_by self.old.world.db plan.change) plan.left }
+        requires valid { IsValid self.old → IsValid (after_ended self.old (map ending_of plan.ended.items) plan.left) }
         ensures ok { OnOk result (self.new ≡ after_ended self.old (map ending_of plan.ended.items) plan.left) }
         ensures err { OnErr result (self.new ≡ self.old) }
     {
@@ -347,68 +244,6 @@ impl State {
     {
         self.waiting.wait(asked, deadline, self.sessions.commits())
     }
-
-    /// Gives each listed session that is open its next message, if it has one, in the order of the list. Where
-    /// memory is refused nothing was taken.
-    pub(crate) fn round(&mut self, listed: &[SessionId]) -> Result<Vec<Out>, AllocError>
-        requires once { AreOnce listed.now }
-        requires of { AreSessionsOf self.old.schema self.old.world.sessions }
-        ensures ok { IfOk result (λ outs. IsRoundOf listed.now self.old self.new (map sent_in outs.items)) }
-        ensures rest { OnlySessions self.old self.new }
-        ensures err { OnErr result (self.new ≡ self.old) }
-    {
-        let schema = self.served.schema();
-        give_round(&mut self.sessions, schema, listed)
-    }
-
-    /// Keeps the text of a first reply, if there is one.
-    pub(crate) fn keep_first(&mut self, first: Option<FirstText>)
-        requires { IfSome first (IsFirstText self.old.world.db) }
-        ensures { self.new ≡ self.old }
-    {
-        self.sessions.keep(first);
-    }
-
-    /// Carries out a round that was planned for this state, and of which everything is composed. It can't be refused.
-    pub(crate) fn accept(&mut self, prepared: PreparedRound) -> Vec<Out>
-        requires once { AreOnce (sessions_in prepared) }
-        requires ready { AreOf (book_in self.old.world) prepared }
-        ensures ok { IsRoundOf (sessions_in prepared) self.old self.new (map sent_in result.items) }
-        ensures texts { map sent_in result.items ≡ flat_map (given_by (book_in self.old.world)) prepared }
-        ensures rest { OnlySessions self.old self.new }
-    {
-        accept_round(&mut self.sessions, prepared)
-    }
-
-    /// Makes an equal state. O(rows + waiting transactions + claims + bytes queued + bytes of the schema).
-    pub(crate) fn try_copy(&self) -> Result<State, AllocError>
-        ensures { IfOk result (λ copy. copy ≡ self.entry.now) }
-    {
-        Ok(State {
-            alloc: self.alloc,
-            served: self.served.try_copy()?,
-            opened: self.opened,
-            now: self.now,
-            waiting: self.waiting.try_copy()?,
-            locks: self.locks.try_copy(self.alloc)?,
-            sessions: self.sessions.try_copy()?,
-            failures: self.failures.without_failed(),
-        })
-    }
-}
-
-/// Makes sessions over empty tables of the schema, with no commit, of which none is open.
-fn no_sessions(
-    alloc: Global,
-    schema: &Schema,
-    hashing: RandomState,
-    run: u64,
-    most: usize,
-) -> Result<Sessions, AllocError>
-    ensures { IfOk result (λ sessions. sessions ≡ book_in (empty_world run most (length schema.now.tables))) }
-{
-    let db = Db::for_schema(alloc, schema, hashing)?;
-    Sessions::new(alloc, db, hashing, run, most)
 }
 
 /// Hands the transaction back where memory was refused.
@@ -433,20 +268,4 @@ pub(crate) fn changes_rows(change: &ChangeSet) -> bool
     ensures { result ≡ list_any (λ c. nat_lt 0 (finite.len c)) change.now }
 {
     change.tables().iter().any(|table| !table.is_empty())
-}
-
-// Written, and not derived, so that each end of a scope is one call to prove.
-impl Drop for State {
-    fn drop(self) {
-        let State {
-            alloc: _,
-            served: _,
-            opened: _,
-            now: _,
-            waiting: _,
-            locks: _,
-            sessions: _,
-            failures: _,
-        } = self;
-    }
 }

@@ -16,8 +16,9 @@ ghost use Rattle.odb_core.specs.Represented.Waiting.{IsDone, IsOutcome, ends, le
 
 use crate::failed::Failed;
 use crate::marks::{is_marked, unmark};
+use crate::server::Core;
 use crate::setting::TransactionSetting;
-use crate::state::{State, changes_rows};
+use crate::state::changes_rows;
 use crate::submitted::Submitted;
 use crate::waiting::{Tried, Waiting};
 use crate::waiting_list::WaitingList;
@@ -78,7 +79,7 @@ impl<'a> Model for Upcoming<'a> {
     ghost invariant = { λ u. Agrees u.is_spoilt u.setting.schema.now u.sessions.now u.pending u.commits (map ending_of u.ended.items) u.marks.items u.waiting };
 }
 
-impl State {
+impl Core {
     /// Finds out what becomes of those that wait where the change is the next commit: each that wasn't tried since the
     /// newest commit is tried, the earliest first, until there is none; but for those of which it is certain that they
     /// would wait again. What these tries cost, O(waiting) once more for each that changes the database, and O(rows

@@ -61,7 +61,7 @@ impl WaitingList {
     }
 
     /// Returns all of them. O(1).
-    pub(crate) fn as_slice(&self) -> &[Waiting]
+    pub(crate) fn all(&self) -> &[Waiting]
         ensures { result.now ≡ self.now }
     {
         self.items.as_slice()

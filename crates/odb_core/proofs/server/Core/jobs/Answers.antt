@@ -13,20 +13,14 @@ use Rattle.odb_core.proofs.CoreInvariant.{if_both}
 use Rattle.odb_core.proofs.server.Core.jobs.Goals as goal
 
 pub plan_round-requires : goal.plan_round-requires
-plan_round-requires c =
-    let r = c.self-inside.inside.0.1.0 in
-    let w : World = record { db = r.sessions.db; commits = r.sessions.commits; earlier = r.sessions.earlier; now = r.now; waiting = r.waiting; locks = r.locks; sessions = r.sessions.sessions } in
-    let v : Server = record { schema = r.served; world = w; opened = r.opened } in
-    let is : c.self.inside.state ≡ v = sym (ap (λ i. i.state) c.self-inside.view_is) in
-    let of : AreSessionsOf r.served r.sessions.sessions = subst (λ (u : Server). AreSessionsOf u.schema u.world.sessions) is c.self.invariant.2 in
-    subst (λ (s : Schema). AreSessionsOf s r.sessions.sessions) (sym c.schema-schema.ensures) of
+plan_round-requires c = subst (λ (s : Schema). AreSessionsOf s c.self.inside.sessions.sessions) (sym c.schema-schema.ensures) c.self.invariant.1.2
 
 pub returns-clause-round : goal.returns-clause-round
 returns-clause-round c =
-    let r = c.self-inside.inside.0.1.0 in
-    let w : World = record { db = r.sessions.db; commits = r.sessions.commits; earlier = r.sessions.earlier; now = r.now; waiting = r.waiting; locks = r.locks; sessions = r.sessions.sessions } in
+    let r = c.self.inside in
+    let w : World = record { db = r.sessions.db; commits = r.sessions.commits; earlier = r.sessions.earlier; now = r.moment; waiting = r.waiting; locks = r.locks; sessions = r.sessions.sessions } in
     let v : Server = record { schema = r.served; world = w; opened = r.opened } in
-    let is : v ≡ c.args.self.now = ap (λ i. i.state) c.self-inside.view_is ∙ c.self.view_is in
+    let is : v ≡ c.args.self.now = c.self.view_is in
     let book : r.sessions ≡ book_in c.args.self.now.world = ap (λ (u : Server). book_in u.world) is in
     let slice : c.as_slice.result.now ≡ c.in_ok-listed.listed.items = search rules in
     if_both c.plan_round.result c.plan_round.ensures.sessions c.plan_round.ensures.ready
@@ -34,36 +28,36 @@ returns-clause-round c =
 
 pub returns-clause-jobs : goal.returns-clause-jobs
 returns-clause-jobs c =
-    let r = c.self-inside.inside.0.1.0 in
-    let w : World = record { db = r.sessions.db; commits = r.sessions.commits; earlier = r.sessions.earlier; now = r.now; waiting = r.waiting; locks = r.locks; sessions = r.sessions.sessions } in
+    let r = c.self.inside in
+    let w : World = record { db = r.sessions.db; commits = r.sessions.commits; earlier = r.sessions.earlier; now = r.moment; waiting = r.waiting; locks = r.locks; sessions = r.sessions.sessions } in
     let v : Server = record { schema = r.served; world = w; opened = r.opened } in
-    let is : v ≡ c.args.self.now = ap (λ i. i.state) c.self-inside.view_is ∙ c.self.view_is in
+    let is : v ≡ c.args.self.now = c.self.view_is in
     let book : r.sessions ≡ book_in c.args.self.now.world = ap (λ (u : Server). book_in u.world) is in
     IfOk-weaker c.plan_round.result _ _ (λ jobs made. λ h. subst (λ (b : Book). AreMadeOf h b jobs.jobs jobs.takings) book (made h)) c.plan_round.ensures.jobs
 
 pub returns-clause-once : goal.returns-clause-once
 returns-clause-once c =
-    let r = c.self-inside.inside.0.1.0 in
-    let w : World = record { db = r.sessions.db; commits = r.sessions.commits; earlier = r.sessions.earlier; now = r.now; waiting = r.waiting; locks = r.locks; sessions = r.sessions.sessions } in
+    let r = c.self.inside in
+    let w : World = record { db = r.sessions.db; commits = r.sessions.commits; earlier = r.sessions.earlier; now = r.moment; waiting = r.waiting; locks = r.locks; sessions = r.sessions.sessions } in
     let v : Server = record { schema = r.served; world = w; opened = r.opened } in
-    let is : v ≡ c.args.self.now = ap (λ i. i.state) c.self-inside.view_is ∙ c.self.view_is in
+    let is : v ≡ c.args.self.now = c.self.view_is in
     let book : r.sessions ≡ book_in c.args.self.now.world = ap (λ (u : Server). book_in u.world) is in
     IfOk-weaker c.plan_round.result _ _ (λ jobs once. subst (λ (b : Book). AreEachOnce jobs.told.chains (revision_in b) jobs.jobs jobs.likenesses) book once) c.plan_round.ensures.once
 
 pub returns-clause-told : goal.returns-clause-told
 returns-clause-told c =
-    let r = c.self-inside.inside.0.1.0 in
-    let w : World = record { db = r.sessions.db; commits = r.sessions.commits; earlier = r.sessions.earlier; now = r.now; waiting = r.waiting; locks = r.locks; sessions = r.sessions.sessions } in
+    let r = c.self.inside in
+    let w : World = record { db = r.sessions.db; commits = r.sessions.commits; earlier = r.sessions.earlier; now = r.moment; waiting = r.waiting; locks = r.locks; sessions = r.sessions.sessions } in
     let v : Server = record { schema = r.served; world = w; opened = r.opened } in
-    let is : v ≡ c.args.self.now = ap (λ i. i.state) c.self-inside.view_is ∙ c.self.view_is in
+    let is : v ≡ c.args.self.now = c.self.view_is in
     let book : r.sessions ≡ book_in c.args.self.now.world = ap (λ (u : Server). book_in u.world) is in
     IfOk-weaker c.plan_round.result _ _ (λ jobs told. subst (λ (b : Book). IsToldOf b jobs.told) book told) c.plan_round.ensures.told
 
 pub returns-clause-marks : goal.returns-clause-marks
 returns-clause-marks c =
-    let r = c.self-inside.inside.0.1.0 in
-    let w : World = record { db = r.sessions.db; commits = r.sessions.commits; earlier = r.sessions.earlier; now = r.now; waiting = r.waiting; locks = r.locks; sessions = r.sessions.sessions } in
+    let r = c.self.inside in
+    let w : World = record { db = r.sessions.db; commits = r.sessions.commits; earlier = r.sessions.earlier; now = r.moment; waiting = r.waiting; locks = r.locks; sessions = r.sessions.sessions } in
     let v : Server = record { schema = r.served; world = w; opened = r.opened } in
-    let is : v ≡ c.args.self.now = ap (λ i. i.state) c.self-inside.view_is ∙ c.self.view_is in
+    let is : v ≡ c.args.self.now = c.self.view_is in
     let book : r.sessions ≡ book_in c.args.self.now.world = ap (λ (u : Server). book_in u.world) is in
     IfOk-weaker c.plan_round.result _ _ (λ jobs marks. λ h. subst (λ (b : Book). AreByLikenesses h (revision_in b) jobs.told.sessions jobs.jobs jobs.likenesses jobs.takings) book (marks h)) c.plan_round.ensures.marks

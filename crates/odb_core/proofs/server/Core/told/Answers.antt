@@ -8,9 +8,9 @@ use Rattle.odb_core.proofs.server.Core.told.Goals as goal
 
 pub returns : goal.returns
 returns c =
-    let r = c.self-inside.inside.0.1.0 in
-    let w : World = record { db = r.sessions.db; commits = r.sessions.commits; earlier = r.sessions.earlier; now = r.now; waiting = r.waiting; locks = r.locks; sessions = r.sessions.sessions } in
+    let r = c.self.inside in
+    let w : World = record { db = r.sessions.db; commits = r.sessions.commits; earlier = r.sessions.earlier; now = r.moment; waiting = r.waiting; locks = r.locks; sessions = r.sessions.sessions } in
     let v : Server = record { schema = r.served; world = w; opened = r.opened } in
-    let is : v ≡ c.args.self.now = ap (λ i. i.state) c.self-inside.view_is ∙ c.self.view_is in
+    let is : v ≡ c.args.self.now = c.self.view_is in
     let book : r.sessions ≡ book_in c.args.self.now.world = ap (λ (u : Server). book_in u.world) is in
     subst (λ (b : Book). IsToldOf b c.told.result) book c.told.ensures.of
