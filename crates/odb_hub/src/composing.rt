@@ -1,5 +1,5 @@
 //! Rounds of a core whose jobs several threads compose. [P 10.3]
-ghost use Rattle.std.specs.Prelude.{◌≡◌, IfOk, IfSome, map, Ok, OnErr};
+ghost use Rattle.std.specs.Prelude.{◌≡◌, ◌∷◌, [], IfOk, IfSome, map, Ok, OnErr};
 ghost use Rattle.odb_core.specs.Represented.Rounds.{AreRoundOf};
 ghost use Rattle.odb_service.specs.Run.{round};
 ghost use Rattle.odb_service.specs.Server.{serve};
@@ -9,8 +9,8 @@ ghost use Rattle.odb_sessions.specs.Represented.Composed.{bytes_in};
 ghost use Rattle.odb_sessions.specs.Represented.Out.{sent_in};
 
 use odb_core::{Core, FirstText, Jobs, Out, PreparedRound, SessionId};
-use odb_par::{Gate, Workers, compose_all};
-use std::alloc::AllocError;
+use odb_par::{Gate, Open, Workers, compose_all};
+use std::alloc::{AllocError, Global};
 use std::sync::Arc;
 use std::thread::Threads;
 
@@ -38,6 +38,29 @@ pub(crate) fn round_by<R: Threads + Sync, G: Gate + Sync>(
     let ComposedRound { prepared, first } = prepare(rt, core, ready, workers, gate)?;
     core.keep(first);
     Ok(core.accept(prepared))
+}
+
+/// Gives one session its next message, if it has one, as `round_by` does; a text that was finished when it was queued goes
+/// out without a plan. It costs what `Core::take_finished` does, and else what `round_by` does.
+pub(crate) fn round_of<R: Threads + Sync>(
+    rt: &R,
+    alloc: Global,
+    core: &mut Core,
+    session: SessionId,
+    workers: Workers,
+) -> Result<Vec<Out>, AllocError>
+    ensures ok { IfOk result (λ outs. serve (round (session ∷ [])) core.old
+        ≡ Ok (core.new, map sent_in outs.items)) }
+    ensures err { OnErr result (core.new ≡ core.old) }
+{
+    let mut outs = Vec::with_capacity(alloc, 1)?;
+    match core.take_finished(session) {
+        Some(out) => {
+            outs.push_reserved(out);
+            Ok(outs)
+        }
+        None => round_by(rt, core, &[session], workers, &Open),
+    }
 }
 
 /// Plans a round of these sessions, and has it composed. Nothing is taken.

@@ -6,7 +6,7 @@ ghost use Rattle.odb_core.specs.declared.refused.EventRefusal.TheVariants as ref
 ghost use Rattle.odb_service.specs.Run.{closed, opened, round, submitted, ticked};
 
 use crate::bell::Bell;
-use crate::composing::round_by;
+use crate::composing::{round_by, round_of};
 use crate::failure::{TransactionFailure, add_causes};
 use crate::journal::{Happened, Journal};
 use crate::mailbox::Mailbox;
@@ -14,7 +14,7 @@ use crate::rings::Rings;
 use crate::submission::Submission;
 use crate::turn::Turn;
 use odb_core::{Core, EventRefusal, SessionId};
-use odb_par::{Gate, Open, Workers};
+use odb_par::{Gate, Workers};
 use std::alloc::{AllocError, Global};
 use std::marker::Model;
 use std::mem;
@@ -294,7 +294,7 @@ impl HubState {
         if !ready {
             return Ok(0);
         }
-        let outs = round_by(rt, &mut self.core, &[session], self.workers, &Open)?;
+        let outs = round_of(rt, self.alloc, &mut self.core, session, self.workers)?;
         let count = outs.len();
         self.rings.hand_over(outs);
         self.journal = self.journal.with(Happened::RoundOf(session));

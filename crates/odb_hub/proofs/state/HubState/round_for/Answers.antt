@@ -16,9 +16,9 @@ hand_over-requires g c =
     let s : ℕ = c.args.session in
     let m : Rings = c.ready_for.new.self in
     let outs : List (ℕ × Text) = map sent_in c.in_ok-outs.outs.items in
-    let went : serve (round (s ∷ [])) c.self.inside.core ≡ Ok (c.round_by.new.core, outs) = search rules in
+    let went : serve (round (s ∷ [])) c.self.inside.core ≡ Ok (c.round_of.new.core, outs) = search rules in
     let free : is_free_at (get m s) ≡ true = search rules in
-    own_rooms m s c.self.inside.core c.round_by.new.core outs free went
+    own_rooms m s c.self.inside.core c.round_of.new.core outs free went
 
 pub invariant_of-self-2 : goal.invariant_of-self-2
 invariant_of-self-2 g c =
@@ -28,15 +28,15 @@ invariant_of-self-2 g c =
     let m : Rings = c.ready_for.new.self in
     let outs : List (ℕ × Text) = map sent_in c.in_ok-outs.outs.items in
     let k : Kept = record { server = i.core; base = i.journal.base; events = i.journal.events; rings = i.rings } in
-    let n : Kept = record { server = c.round_by.new.core; base = c.with-self-inside.result.base; events = c.with-self-inside.result.events; rings = c.hand_over.new.self } in
-    let went : serve e i.core ≡ Ok (c.round_by.new.core, outs) = search rules in
+    let n : Kept = record { server = c.round_of.new.core; base = c.with-self-inside.result.base; events = c.with-self-inside.result.events; rings = c.hand_over.new.self } in
+    let went : serve e i.core ≡ Ok (c.round_of.new.core, outs) = search rules in
     let free : is_free_at (get m s) ≡ true = search rules in
     let events : n.events ≡ k.events ++ e ∷ [] = search rules in
     let base : n.base ≡ k.base = search rules in
     let takes : Takes e k n outs = (went, events, base) in
     let t : TakesOwnRound s (length outs) k n = own_round s k n m outs c.ready_for.ensures.flushed c.ready_for.ensures.others free takes c.hand_over.ensures in (
       own_kept s (length outs) k n c.self.invariant.0 t,
-      subst (AreUnused n.rings) (sym (same_opened e i.core c.round_by.new.core outs went)) (unused_grown i.rings c.hand_over.new.self i.core.opened (λ q. texts_to q t.1) (own_grown s (length outs) k n t) c.self.invariant.1),
+      subst (AreUnused n.rings) (sym (same_opened e i.core c.round_of.new.core outs went)) (unused_grown i.rings c.hand_over.new.self i.core.opened (λ q. texts_to q t.1) (own_grown s (length outs) k n t) c.self.invariant.1),
       c.saturating_add-self-inside.ensures ∙ counted_more i.since_base k.events n.events e c.self.invariant.2 events,
     )
 
@@ -48,8 +48,8 @@ returns-clause-ok g c =
     let m : Rings = c.ready_for.new.self in
     let outs : List (ℕ × Text) = map sent_in c.in_ok-outs.outs.items in
     let k : Kept = record { server = i.core; base = i.journal.base; events = i.journal.events; rings = i.rings } in
-    let n : Kept = record { server = c.round_by.new.core; base = c.with-self-inside.result.base; events = c.with-self-inside.result.events; rings = c.hand_over.new.self } in
-    let went : serve e i.core ≡ Ok (c.round_by.new.core, outs) = search rules in
+    let n : Kept = record { server = c.round_of.new.core; base = c.with-self-inside.result.base; events = c.with-self-inside.result.events; rings = c.hand_over.new.self } in
+    let went : serve e i.core ≡ Ok (c.round_of.new.core, outs) = search rules in
     let free : is_free_at (get m s) ≡ true = search rules in
     let events : n.events ≡ k.events ++ e ∷ [] = search rules in
     let base : n.base ≡ k.base = search rules in
@@ -79,5 +79,5 @@ pub invariant_of-self-in_err-outs : goal.invariant_of-self-in_err-outs
 invariant_of-self-in_err-outs g c =
     let i = c.self.inside in
     let k : Kept = record { server = i.core; base = i.journal.base; events = i.journal.events; rings = i.rings } in
-    let same : c.round_by.new.core ≡ i.core = search rules in
-    flushed_state k c.ready_for.new.self c.round_by.new.core i.since_base same c.ready_for.ensures.flushed c.self.invariant.0 c.self.invariant.1 c.self.invariant.2
+    let same : c.round_of.new.core ≡ i.core = search rules in
+    flushed_state k c.ready_for.new.self c.round_of.new.core i.since_base same c.ready_for.ensures.flushed c.self.invariant.0 c.self.invariant.1 c.self.invariant.2
