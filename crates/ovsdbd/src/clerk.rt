@@ -2,12 +2,13 @@
 ghost use Rattle.std.specs.Prelude.{◌≡◌};
 ghost use Rattle.odb_waking.specs.Loop as loops;
 
-use crate::connection::{Connection, Next, PAUSE, PIECE, RandomIdentifiers, Tools};
+use crate::connection::{Connection, Next, RandomIdentifiers, Tools};
 use crate::daemon::{Daemon, Daemons, has_lasted};
 use crate::desk::Desk;
 use crate::front::FrontEnd;
 use crate::log::ConnectionEvent;
 use crate::server_database::ServerDatabase;
+use crate::tuning::{BATCH, EVENTS, LOOKS, PIECE, RETRY_PAUSE, TURNS};
 use mio::net::TcpStream;
 use mio::{Events, Interest, Poll, Token};
 use odb_core::{EventRefusal, SessionId};
@@ -23,18 +24,6 @@ use std::sync::{Arc, Wait};
 use std::thread::Threads;
 use std::time::{Clock, Duration, Instant};
 use std::{mem, thread};
-
-/// How many events are taken at once.
-const EVENTS: usize = 256;
-
-/// How many of those that ask something, and of the others, have a turn before it looks for events again.
-const TURNS: usize = 32;
-
-/// After how many microseconds of such turns it looks for events all the same.
-const BATCH: u64 = 1_000;
-
-/// How many times as often as its patience is long the daemon looks whether that is at its end.
-const LOOKS: u64 = 8;
 
 /// The connections of a thread, and those that have a turn next.
 pub(crate) struct Clerk<'a, L: Ledger, M: Ledger, R> {
@@ -371,7 +360,7 @@ impl<'a, L: Ledger, M: Ledger, R: Wait + Clock> Clerk<'a, L, M, R> {
         let Some(server) = &self.tools.server else {
             return None;
         };
-        let deadline = server.deadline()?;
+        let deadline = server.core.next_deadline()?;
         let left = deadline.saturating_sub(self.tools.daemon.now(self.tools.rt));
         Some(Duration::from_millis(left.max(1)))
     }
@@ -392,11 +381,11 @@ impl<'a, L: Ledger, M: Ledger, R: Wait + Clock> Clerk<'a, L, M, R> {
         let Some(server) = &mut self.tools.server else {
             return false;
         };
-        let Some(deadline) = server.deadline() else {
+        let Some(deadline) = server.core.next_deadline() else {
             return false;
         };
         let now = daemon.now(rt);
-        deadline <= now && server.tick(now).is_ok()
+        deadline <= now && server.core.tick(now).is_ok()
     }
 
     fn hear_server(&mut self, place: usize) {
@@ -565,7 +554,7 @@ fn leave_at_last<L: Ledger, M: Ledger, R: Wait + Clock>(
         if server.close(session) {
             return;
         }
-        thread::sleep(tools.rt, Duration::from_millis(PAUSE));
+        thread::sleep(tools.rt, Duration::from_millis(RETRY_PAUSE));
     }
     unreachable!()
 }

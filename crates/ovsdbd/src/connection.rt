@@ -1,11 +1,12 @@
 //! A connection and its sessions, as the thread that serves it has them. [P 15.2, 15.4]
 
-use crate::daemon::{Daemon, HeldTurn, Patience, SubmittedTurn};
+use crate::daemon::{Daemon, Patience, SubmittedTurn};
 use crate::front::FrontEnd;
 use crate::front_seat::{FrontSeat, RequestIds};
 use crate::log::{ConnectionEvent, Reason};
 use crate::second::{NamingRequest, Second, SecondSeat};
 use crate::server_database::{ServerDatabase, ServerRequest};
+use crate::tuning::{LOOKED_AT, REFILLS, RETRY_PAUSE, TAKEN};
 use mio::event::Event;
 use mio::net::TcpStream;
 use odb_core::{EventRefusal, Out, SessionId};
@@ -23,21 +24,6 @@ use std::thread::Threads;
 use std::time::{Clock, Duration};
 use std::{mem, thread};
 use uuid::Uuid;
-
-/// How many bytes are read at once.
-pub(crate) const PIECE: usize = 8_192;
-
-/// For how many milliseconds a thread pauses where memory was refused for the end of a session.
-pub(crate) const PAUSE: u64 = 1;
-
-/// How often what is held back is sent for, before other connections have their turn.
-const REFILLS: usize = 8;
-
-/// How many messages of the second database are taken out before others are written.
-const TAKEN: usize = 64;
-
-/// How many requests are looked at in a turn, where they may go to several places.
-const LOOKED_AT: usize = 64;
 
 /// Random identifiers (RFC 4122, 4.4).
 #[derive(Drop)]
@@ -105,6 +91,9 @@ pub(crate) struct Connection<'a, L: Ledger, M: Ledger> {
     /// What it has beside, from its first request on that concerns more than the first database.
     front: Option<Box<FrontSeat>>,
     second: Option<Box<SecondSeat<'a, M>>>,
+    /// The turn in the first database of which the others aren't told yet, and that in the second: none but while it submits.
+    untold: Option<SubmittedTurn>,
+    untold_second: Option<SubmittedTurn>,
     is_readable: bool,
     is_writable: bool,
     /// Whether the peer sends no more than what there is to read.
@@ -145,6 +134,8 @@ impl<'a, L: Ledger, M: Ledger> Connection<'a, L, M> {
             outbox: Outbox::new(alloc, mailbox),
             front: None,
             second: None,
+            untold: None,
+            untold_second: None,
             is_readable: true,
             is_writable: true,
             is_closed: false,
@@ -210,7 +201,7 @@ impl<'a, L: Ledger, M: Ledger> Connection<'a, L, M> {
     /// Returns whether memory was refused for too long for what one of its sessions is owed.
     fn is_given_up(&self) -> bool {
         let second = match &self.second {
-            Some(second) => second.bell().is_given_up(),
+            Some(second) => second.mailbox.bell().is_given_up(),
             None => false,
         };
         second || self.outbox.bell().is_given_up()
@@ -238,7 +229,7 @@ impl<'a, L: Ledger, M: Ledger> Connection<'a, L, M> {
             None => part_once(tools.rt, tools.daemon, &mut self.seat),
         };
         if !is_over {
-            thread::sleep(tools.rt, Duration::from_millis(PAUSE));
+            thread::sleep(tools.rt, Duration::from_millis(RETRY_PAUSE));
         }
         is_over
     }
@@ -283,7 +274,7 @@ impl<'a, L: Ledger, M: Ledger> Connection<'a, L, M> {
     /// Returns whether a message of one of its sessions is held back.
     fn is_held_back(&self) -> bool {
         let second = match &self.second {
-            Some(second) => second.bell().is_held_back(),
+            Some(second) => second.mailbox.bell().is_held_back(),
             None => false,
         };
         second || self.outbox.bell().is_held_back()
@@ -484,49 +475,33 @@ impl<'a, L: Ledger, M: Ledger> Connection<'a, L, M> {
         }
     }
 
-    /// Submits a turn of the requests, all to the only database or each where it goes, and writes what the session is given. Step:
-    /// `submits`; those of `write`.
+    /// Submits a turn of the requests, all to the only database or each where it goes, and writes what the session is given. Then the
+    /// other sessions are told, so that a reply waits for none of them. Step: `submits`; those of `write`.
     fn submit<R: Threads + Wait + Clock + Sync>(
         &mut self,
         tools: &mut Tools<'a, L, M, R>,
     ) -> io::Result<Written> {
         if tools.front.is_none() {
-            return self.submit_alone(tools);
-        }
-        if self.submit_each(tools).is_err() {
+            self.submit_first(tools, usize::MAX);
+        } else if self.submit_each(tools).is_err() {
             self.give_up();
         }
-        self.write(tools)
-    }
-
-    /// Submits a turn of the requests to the only database, and writes what the session is given. Then the other sessions are told,
-    /// so that a reply waits for none of them.
-    fn submit_alone<R: Threads + Wait + Clock + Sync>(
-        &mut self,
-        tools: &Tools<'a, L, M, R>,
-    ) -> io::Result<Written> {
-        let held = self.submit_untold(tools);
         let written = self.write(tools);
-        if let Some(held) = held {
-            let turn = tools.daemon.tell(tools.rt, held);
-            self.note_turn(turn);
-        }
+        self.tell_others(tools);
         written
     }
 
-    /// Submits a turn of the requests to the only database, of which the other sessions aren't told yet. None: the session ended.
-    fn submit_untold<R: Threads + Wait + Clock + Sync>(
-        &mut self,
-        tools: &Tools<'a, L, M, R>,
-    ) -> Option<HeldTurn> {
-        let Some(seat) = &mut self.seat else {
-            return None;
+    /// Tells the other sessions of each database of what was submitted there.
+    fn tell_others<R: Threads + Wait + Clock + Sync>(&mut self, tools: &Tools<'a, L, M, R>) {
+        if let Some(turn) = self.untold.take() {
+            tools.daemon.tell(tools.rt, turn);
+        }
+        let Some(second) = tools.second else {
+            return;
         };
-        let (rt, daemon) = (tools.rt, tools.daemon);
-        let mut hub = daemon.hub.enter(rt);
-        let held = daemon.submit_under(rt, &mut *hub, seat, &mut self.inbox, usize::MAX);
-        drop(hub);
-        Some(held)
+        if let Some(turn) = self.untold_second.take() {
+            second.daemon.tell(tools.rt, turn);
+        }
     }
 
     /// Ends the session as memory was refused for its requests.
@@ -535,7 +510,7 @@ impl<'a, L: Ledger, M: Ledger> Connection<'a, L, M> {
         self.inbox.stop();
     }
 
-    /// Submits a turn of so many of the requests, the first, to the first database, and the other sessions are told.
+    /// Submits a turn of so many of the requests, the first, to the first database.
     fn submit_first<R: Threads + Wait + Clock + Sync>(
         &mut self,
         tools: &Tools<'a, L, M, R>,
@@ -544,22 +519,24 @@ impl<'a, L: Ledger, M: Ledger> Connection<'a, L, M> {
         let Some(seat) = &mut self.seat else {
             return;
         };
-        let daemon = tools.daemon;
-        let turn = daemon.submit_turn(tools.rt, seat, &mut self.inbox, most);
-        self.note_turn(turn);
+        let turn = tools
+            .daemon
+            .submit_turn(tools.rt, seat, &mut self.inbox, most);
+        self.note_turn(&turn);
+        self.untold = Some(turn);
     }
 
     /// Notes what became of a turn.
-    fn note_turn(&mut self, turn: SubmittedTurn) {
+    fn note_turn(&mut self, turn: &SubmittedTurn) {
         self.is_slow = turn.is_slow;
-        match turn.outcome {
-            Ok(()) => {}
-            Err(EventRefusal::Busy) => self.is_busy = true,
-            Err(_) => self.give_up(),
+        match turn.refusal() {
+            None => {}
+            Some(EventRefusal::Busy) => self.is_busy = true,
+            Some(_) => self.give_up(),
         }
     }
 
-    /// Submits a turn of so many of the requests, the first, to the second database, and the other sessions are told.
+    /// Submits a turn of so many of the requests, the first, to the second database.
     fn submit_second<R: Threads + Wait + Clock + Sync>(
         &mut self,
         tools: &Tools<'a, L, M, R>,
@@ -567,15 +544,15 @@ impl<'a, L: Ledger, M: Ledger> Connection<'a, L, M> {
     ) -> Result<(), AllocError> {
         self.open_second(tools)?;
         let asked = self.asked(tools.daemon.alloc, most)?;
-        let before = self.inbox.pending();
         let Some(second) = &mut self.second else {
             return Ok(());
         };
         let Some(turn) = second.submit(tools.rt, &mut self.inbox, most) else {
             return Ok(());
         };
-        let taken = before.saturating_sub(self.inbox.pending());
-        self.note_turn(turn);
+        let taken = turn.taken;
+        self.note_turn(&turn);
+        self.untold_second = Some(turn);
         self.front(tools)?.ask_second(asked, taken)
     }
 
@@ -669,23 +646,22 @@ impl<'a, L: Ledger, M: Ledger> Connection<'a, L, M> {
         };
         let (rt, daemon) = (tools.rt, tools.daemon);
         let mut hub = daemon.hub.enter(rt);
-        let first = daemon.submit_under(rt, &mut *hub, seat, &mut self.inbox, 1);
-        let other = if first.is_taken() {
-            second.submit_under(rt, same)
-        } else {
-            None
-        };
+        let turn = daemon.submit_under(rt, &mut *hub, seat, &mut self.inbox, 1);
+        let is_taken = turn.refusal().is_none();
+        if is_taken {
+            self.untold_second = second.submit(rt, same, 1);
+        }
         drop(hub);
-        let turn = daemon.tell(rt, first);
-        let is_told = match other {
-            Some(other) => second.tell(rt, other, same),
-            None => true,
-        };
-        self.note_turn(turn);
-        is_told
+        if is_taken && same.pending() > 0 {
+            self.untold_second = second.submit_at_last(rt, same);
+        }
+        self.note_turn(&turn);
+        self.untold = Some(turn);
+        !is_taken || same.pending() == 0
     }
 
-    /// Deals with the requests in their order, up to those of a database that is served, of which it submits a turn.
+    /// Deals with the requests in their order, up to those of a database that is served, of which it submits a turn, or to one that is
+    /// of both.
     fn submit_each<R: Threads + Wait + Clock + Sync>(
         &mut self,
         tools: &mut Tools<'a, L, M, R>,
@@ -695,11 +671,11 @@ impl<'a, L: Ledger, M: Ledger> Connection<'a, L, M> {
                 None => return Ok(()),
                 Some(Destination::First) => return self.submit_run(tools, Destination::First),
                 Some(Destination::Second) => return self.submit_run(tools, Destination::Second),
-                Some(Destination::Both) => self.submit_lock(tools)?,
+                Some(Destination::Both) => return self.submit_lock(tools),
                 Some(Destination::Front) => self.answer(tools)?,
                 Some(Destination::Server) => self.ask_server(tools)?,
             }
-            if self.is_busy || self.is_cut_off {
+            if self.is_busy {
                 return Ok(());
             }
         }
@@ -884,7 +860,7 @@ impl<'a, L: Ledger, M: Ledger> Connection<'a, L, M> {
         let Some(server) = &mut tools.server else {
             return Err(AllocError);
         };
-        let Ok(session) = server.open() else {
+        let Ok(session) = server.core.open() else {
             return Err(AllocError);
         };
         self.front(tools)?.session = Some(session);
@@ -988,6 +964,8 @@ impl<'a, L: Ledger, M: Ledger> Connection<'a, L, M> {
             outbox: _,
             front: _,
             second,
+            untold: _,
+            untold_second: _,
             is_readable: _,
             is_writable: _,
             is_closed: _,
@@ -1036,7 +1014,7 @@ pub(crate) fn part_at_last<L: Ledger, R: Wait + Clock>(rt: &R, daemon: &Daemon<L
             Ok(()) => return,
             Err(back) => seat = back,
         }
-        thread::sleep(rt, Duration::from_millis(PAUSE));
+        thread::sleep(rt, Duration::from_millis(RETRY_PAUSE));
     }
     unreachable!()
 }

@@ -9,6 +9,7 @@ use crate::notices::Notices;
 use crate::pace::{Pace, micros_of};
 use crate::second::Second;
 use crate::serve::Terms;
+use crate::tuning::{SETTLES, SLOW};
 use odb_core::{Core, EventRefusal, MAX_SESSIONS, SessionId};
 use odb_hub::{BatchOutcome, Counted, Hub, Inbox, Seat};
 use odb_par::{Open, Workers};
@@ -22,40 +23,29 @@ use std::sync::{Arc, Wait};
 use std::thread::Threads;
 use std::time::{Clock, Duration, Instant};
 
-/// After how many turns of the pump the journal begins anew.
-const SETTLES: u64 = 65_536;
-
-/// From how many microseconds under the lock on a turn of submissions counts as slow.
-const SLOW: u64 = 200;
-
 /// How many seats of a database may be given at once: one more than sessions may be open, so that it is the core that refuses
 /// one too many.
 const SEATS: u64 = MAX_SESSIONS as u64 + 1;
 
-/// What became of a turn of submissions.
+/// A turn of submissions, of which the other sessions aren't told yet.
 #[derive(Drop)]
 pub(crate) struct SubmittedTurn {
-    /// Nothing, or why the turn stopped.
-    pub(crate) outcome: Result<(), EventRefusal>,
+    submitted: Result<BatchOutcome, AllocError>,
+    /// How many were taken.
+    pub(crate) taken: usize,
     /// Whether it had the lock for long.
     pub(crate) is_slow: bool,
 }
 
-/// A turn of submissions of which the other sessions aren't told yet.
-#[derive(Drop)]
-pub(crate) struct HeldTurn {
-    submitted: Result<BatchOutcome, AllocError>,
-    /// How many were taken.
-    taken: u64,
-    is_slow: bool,
-}
-
-impl HeldTurn {
-    /// Returns whether nothing was refused.
-    pub(crate) fn is_taken(&self) -> bool {
-        match &self.submitted {
-            Ok(outcome) => outcome.owes.is_ok(),
-            Err(_) => false,
+impl SubmittedTurn {
+    /// Returns why the turn stopped, if something was refused.
+    pub(crate) fn refusal(&self) -> Option<EventRefusal> {
+        let Ok(outcome) = &self.submitted else {
+            return Some(EventRefusal::Memory);
+        };
+        match &outcome.owes {
+            Ok(_) => None,
+            Err(why) => Some(*why),
         }
     }
 }
@@ -240,7 +230,8 @@ impl<L: Ledger> Daemon<L> {
         }
     }
 
-    /// Submits a turn of the first `most` that are pending, gives their session what it is owed, and tells the other sessions.
+    /// Submits a turn of the first `most` that are pending, and gives their session what it is owed. The other sessions are to be
+    /// told by `tell`, once its thread has written that.
     pub(crate) fn submit_turn<R: Threads + Wait + Clock + Sync>(
         &self,
         rt: &R,
@@ -249,13 +240,12 @@ impl<L: Ledger> Daemon<L> {
         most: usize,
     ) -> SubmittedTurn {
         let mut hub = self.hub.enter(rt);
-        let held = self.submit_under(rt, &mut *hub, seat, inbox, most);
+        let turn = self.submit_under(rt, &mut *hub, seat, inbox, most);
         drop(hub);
-        self.tell(rt, held)
+        turn
     }
 
-    /// Submits a turn of the first `most` that are pending under the lock that the caller has, and gives their session what it is
-    /// owed. The other sessions are to be told by `tell`, once the lock is free.
+    /// Does what `submit_turn` does, under the lock that the caller has, which is free before `tell`.
     pub(crate) fn submit_under<R: Threads + Clock + Sync>(
         &self,
         rt: &R,
@@ -263,34 +253,27 @@ impl<L: Ledger> Daemon<L> {
         seat: &mut Seat<L>,
         inbox: &mut Inbox,
         most: usize,
-    ) -> HeldTurn {
+    ) -> SubmittedTurn {
         let before = inbox.pending();
         let now = self.now(rt);
         let begun = Instant::now(rt);
         let submitted = inbox.submit_run(rt, hub, seat, now, most);
-        HeldTurn {
+        SubmittedTurn {
             submitted,
-            taken: before.saturating_sub(inbox.pending()) as u64,
+            taken: before.saturating_sub(inbox.pending()),
             is_slow: has_lasted(rt, &begun, SLOW),
         }
     }
 
     /// Tells the other sessions of a turn of submissions.
-    pub(crate) fn tell<R: Threads + Wait + Clock + Sync>(
-        &self,
-        rt: &R,
-        held: HeldTurn,
-    ) -> SubmittedTurn {
-        let HeldTurn {
+    pub(crate) fn tell<R: Threads + Wait + Clock + Sync>(&self, rt: &R, turn: SubmittedTurn) {
+        let SubmittedTurn {
             submitted,
             taken,
-            is_slow,
-        } = held;
+            is_slow: _,
+        } = turn;
         let Ok(submitted) = submitted else {
-            return SubmittedTurn {
-                outcome: Err(EventRefusal::Memory),
-                is_slow,
-            };
+            return;
         };
         self.log_failures(rt);
         if submitted.due_sooner {
@@ -298,11 +281,7 @@ impl<L: Ledger> Daemon<L> {
         }
         self.wake_called();
         if !is_quiet(&submitted.owes) {
-            self.tell_all(rt, submitted.few, taken.max(1));
-        }
-        SubmittedTurn {
-            outcome: submitted.owes.map(|_| ()),
-            is_slow,
+            self.tell_all(rt, submitted.few, taken.max(1) as u64);
         }
     }
 

@@ -5,6 +5,7 @@ use crate::daemon::{Daemon, Daemons};
 use crate::fault::{LoadFault, ProgramFault};
 use crate::front::FrontEnd;
 use crate::second::Second;
+use crate::tuning::FILE_PIECE;
 use odb_front::{Destination, destination_of};
 use odb_hub::{Bell, Calls, Outbox, Seat, Submission, submission_of};
 use odb_script::RunFault;
@@ -20,9 +21,6 @@ use std::sync::ledger::Ledger;
 use std::sync::{Arc, Wait};
 use std::thread::Threads;
 use std::time::Clock;
-
-/// How many bytes are read at once.
-const PIECE: usize = 65_536;
 
 /// A message that makes one whole where the file ended between two, and none where it ended in the midst of one: it has as many
 /// braces and quotes of either kind.
@@ -205,7 +203,7 @@ impl<'a, L: Ledger, M: Ledger, R: Threads + Wait + Clock + Sync> Loader<'a, L, M
     /// Submits all messages of the file.
     fn load_all<F: Read>(&mut self, file: &mut F) -> Result<(), ProgramFault> {
         let mut piece = Vec::new(self.first.daemon.alloc);
-        piece.resize(PIECE, 0u8)?;
+        piece.resize(FILE_PIECE, 0u8)?;
         for _ in 0..u64::MAX {
             match read_some(file, piece.as_mut_slice()).map_err(ProgramFault::LoadUnread)? {
                 [] => return self.end(),

@@ -3,6 +3,7 @@
 use crate::cause_text::CauseText;
 use crate::fault::Which;
 use crate::front::Schemas;
+use crate::tuning::LOG_LINES;
 use odb_core::SessionId;
 use odb_hub::TransactionFailure;
 use odb_schema::Schema;
@@ -11,9 +12,6 @@ use std::io::Eprint;
 use std::mem;
 use std::net::SocketAddr;
 use thiserror::Error as ErrorText;
-
-/// How many lines wait to be written at most. Those that come then are left out, and counted.
-const MOST: usize = 4_096;
 
 /// Why a connection was closed.
 #[derive(Clone, Copy, Debug, ErrorText)]
@@ -166,7 +164,7 @@ impl LogBuffer {
 
     /// Adds a line; it is left out where too many wait, or memory is refused.
     pub(crate) fn add(&mut self, line: LogLine) {
-        if self.lines.len() >= MOST || self.lines.push(line).is_err() {
+        if self.lines.len() >= LOG_LINES || self.lines.push(line).is_err() {
             self.left_out = self.left_out.saturating_add(1);
         }
     }

@@ -25,11 +25,13 @@ mod pace;
 mod second;
 mod serve;
 mod server_database;
+mod tuning;
 
 use crate::daemon::{Begun, Patience};
 use crate::fault::{ProgramFault, Which};
 use crate::front::{FrontEnd, Schemas};
 use crate::serve::{Beginning, Memory, SecondBegun, StartOptions, Terms, begin, serve_all};
+use crate::tuning::HEAVY;
 use clap::builder::ValueParser;
 use clap::error::ErrorKind;
 use clap::{Arg, ArgAction, ArgMatches, Command, Error};
@@ -228,10 +230,6 @@ const LONGEST_MESSAGE: u64 = 1_073_741_824;
 
 /// How many threads may serve connections, and how many compose what clients are sent.
 const MOST_THREADS: u64 = 64;
-
-/// From which weight on the jobs of a round are composed by more than one: about how many rows are looked at in the time
-/// that a thread takes to start.
-const HEAVY: usize = 4_000;
 
 /// What the help ends with: an example, exit statuses, and the numbers of schema faults. [P 1.4, 15.1, 15.2]
 const AFTER_HELP: &str = "Example:

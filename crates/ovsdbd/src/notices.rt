@@ -2,6 +2,7 @@
 
 use crate::front::Schemas;
 use crate::log::{LogBuffer, LogLine};
+use crate::tuning::{NOTICE_LOOKS, NOTICE_PAUSE};
 use std::alloc::Global;
 use std::io::{self, Eprint};
 use std::mem;
@@ -10,12 +11,6 @@ use std::sync::atomic::{AtomicU64, Ordering};
 use std::sync::{Mutex, Wait};
 use std::thread::{self, Parker};
 use std::time::{Clock, Duration};
-
-/// For how many milliseconds nothing more is written after a line: what happens meanwhile is counted in the next.
-const PAUSE: u64 = 1_000;
-
-/// How often it is looked meanwhile whether the daemon ends.
-const LOOKS: u64 = 20;
 
 /// Clients whose connections were closed for one reason since the last line about it: how many, and the first of them.
 #[derive(Drop)]
@@ -167,11 +162,11 @@ impl Notices {
 
     /// Pauses after a notice, and goes on with the log.
     fn pause<R: Eprint + Wait + Clock>(&self, rt: &R) {
-        for _ in 0..LOOKS {
+        for _ in 0..NOTICE_LOOKS {
             if self.is_ended() {
                 return;
             }
-            thread::sleep(rt, Duration::from_millis(PAUSE / LOOKS));
+            thread::sleep(rt, Duration::from_millis(NOTICE_PAUSE / NOTICE_LOOKS));
             self.write_log(rt);
         }
     }

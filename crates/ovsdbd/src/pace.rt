@@ -2,33 +2,12 @@
 ghost use Rattle.std.specs.Prelude.{◌≡◌};
 ghost use Rattle.odb_waking.specs.Pump.{begins, gives, rests};
 
+use crate::tuning::{BRIEF, EACH, LONG, REFUSED, REST, SHORT, SOON};
 use odb_hub::Round;
 use odb_waking::{Alarm, CALLED, PumpPlace};
 use std::sync::Wait;
 use std::sync::atomic::{AtomicU64, Ordering};
 use std::time::Duration;
-
-/// How many times as long as its round took the pump rests at most, where much comes.
-const REST: u64 = 3;
-
-/// For how many microseconds it rests at least. A round that took less is brief.
-const BRIEF: u64 = 100;
-
-/// Up to how many microseconds a round takes that another thread runs where little comes.
-const SHORT: u64 = 1_000;
-
-/// For how many microseconds it rests at most before it looks whether much comes.
-const SOON: u64 = 500;
-
-/// How many milliseconds of what a round took count at most.
-const LONG: u64 = 33;
-
-/// How many microseconds of it count at most for each message that it gave, also where the processor was taken away in the
-/// midst of it.
-const EACH: u64 = 33;
-
-/// For how many milliseconds the pump rests after a round for which memory was refused.
-const REFUSED: u64 = 3;
 
 /// What the pump sleeps by, and how long it rests. One that sleeps begins at once when it is told that something may be owed.
 /// While it is awake it rests after rounds, so that it holds the lock and wakes writers for a part of the time, and replies have

@@ -1,11 +1,12 @@
 //! The second database that is served, and what a connection has there. [P 15.4]
 
-use crate::connection::{PAUSE, RandomIdentifiers, part_at_last, part_once};
-use crate::daemon::{Daemon, HeldTurn, SubmittedTurn};
+use crate::connection::{RandomIdentifiers, part_at_last, part_once};
+use crate::daemon::{Daemon, SubmittedTurn};
 use crate::front::identifier;
+use crate::tuning::RETRY_PAUSE;
 use odb_core::{EventRefusal, Out, SessionId};
 use odb_front::{Destination, IdText, Ids, Naming, request_as};
-use odb_hub::{Bell, Inbox, Mailbox, Outbox, Seat};
+use odb_hub::{Inbox, Mailbox, Outbox, Seat};
 use odb_rpc::Printable;
 use odb_wire::Request;
 use serde_json::Value;
@@ -86,7 +87,7 @@ pub(crate) struct SecondSeat<'a, M: Ledger> {
     second: &'a Second<M>,
     session: SessionId,
     seat: Option<Seat<M>>,
-    mailbox: Mailbox,
+    pub(crate) mailbox: Mailbox,
     /// The next message, where another was in the midst as it came.
     next: Option<Out>,
     /// The request that named a monitor there and has no reply yet.
@@ -111,11 +112,6 @@ impl<'a, M: Ledger> SecondSeat<'a, M> {
         self.session
     }
 
-    /// Returns what wakes the thread that serves it.
-    pub(crate) fn bell(&self) -> &Bell {
-        self.mailbox.bell()
-    }
-
     /// Submits a turn of so many of the requests, the first. None: the session has ended.
     pub(crate) fn submit<R: Threads + Wait + Clock + Sync>(
         &mut self,
@@ -129,51 +125,21 @@ impl<'a, M: Ledger> SecondSeat<'a, M> {
         }
     }
 
-    /// Submits a request alone, of which nobody is told yet. None: the session has ended.
-    pub(crate) fn submit_under<R: Threads + Wait + Clock + Sync>(
+    /// Submits a request alone. Where memory is refused, and so nobody is to be told, it tries again. None: it was refused for another
+    /// reason, or the session has ended.
+    pub(crate) fn submit_at_last<R: Threads + Wait + Clock + Sync>(
         &mut self,
         rt: &R,
         inbox: &mut Inbox,
-    ) -> Option<HeldTurn> {
-        let daemon = &self.second.daemon;
-        match &mut self.seat {
-            Some(seat) => {
-                let mut hub = daemon.hub.enter(rt);
-                Some(daemon.submit_under(rt, &mut *hub, seat, inbox, 1))
-            }
-            None => None,
-        }
-    }
-
-    /// Tells the other sessions of such a turn. Where memory was refused for it it is tried again. False says that it was refused for
-    /// another reason.
-    pub(crate) fn tell<R: Threads + Wait + Clock + Sync>(
-        &mut self,
-        rt: &R,
-        held: HeldTurn,
-        inbox: &mut Inbox,
-    ) -> bool {
-        match self.second.daemon.tell(rt, held).outcome {
-            Ok(()) => true,
-            Err(EventRefusal::Memory) => self.submit_at_last(rt, inbox),
-            Err(_) => false,
-        }
-    }
-
-    /// Submits a request alone; where memory is refused it tries again. False says that it was refused for another reason.
-    fn submit_at_last<R: Threads + Wait + Clock + Sync>(
-        &mut self,
-        rt: &R,
-        inbox: &mut Inbox,
-    ) -> bool {
+    ) -> Option<SubmittedTurn> {
         for _ in rt.forever() {
             let Some(turn) = self.submit(rt, inbox, 1) else {
-                return false;
+                return None;
             };
-            match turn.outcome {
-                Ok(()) => return true,
-                Err(EventRefusal::Memory) => thread::sleep(rt, Duration::from_millis(PAUSE)),
-                Err(_) => return false,
+            match turn.refusal() {
+                None => return Some(turn),
+                Some(EventRefusal::Memory) => thread::sleep(rt, Duration::from_millis(RETRY_PAUSE)),
+                Some(_) => return None,
             }
         }
         unreachable!()
@@ -182,7 +148,7 @@ impl<'a, M: Ledger> SecondSeat<'a, M> {
     /// Has what is held back sent, if there is some. True says that there may be more to write.
     pub(crate) fn refill<R: Threads + Wait + Sync>(&self, rt: &R) -> bool {
         match &self.seat {
-            Some(seat) if self.bell().is_held_back() => {
+            Some(seat) if self.mailbox.bell().is_held_back() => {
                 self.second.daemon.refill(rt, seat.session())
             }
             _ => false,

@@ -11,6 +11,7 @@ use crate::front::{FrontEnd, Schemas};
 use crate::load::load_file;
 use crate::notices::Notices;
 use crate::second::Second;
+use crate::tuning::{ACCEPT_PAUSE, STACK};
 use mio::{Poll, net};
 use odb_core::{Core, MAX_SESSIONS};
 use odb_par::Workers;
@@ -31,12 +32,6 @@ use uuid::Uuid;
 
 /// How many parts a ledger has: one more than seats may be given at once.
 const PARTS: u64 = MAX_SESSIONS as u64 + 2;
-
-/// The stack of a thread, in bytes.
-const STACK: usize = 1_048_576;
-
-/// For how many milliseconds the daemon waits after a connection couldn't be accepted, as where no file descriptor is left.
-const PAUSE: u64 = 100;
 
 /// Whom the daemon serves.
 #[derive(Clone, Copy)]
@@ -385,7 +380,7 @@ fn accept_all<L: Ledger, R: Threads + Wait + Clock>(
             }
             Err(error) => {
                 daemon.notices.note_unaccepted(rt, error);
-                thread::sleep(rt, Duration::from_millis(PAUSE));
+                thread::sleep(rt, Duration::from_millis(ACCEPT_PAUSE));
             }
         }
         if sessions == Some(accepted) {

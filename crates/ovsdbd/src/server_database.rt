@@ -163,15 +163,10 @@ fn request_of(alloc: Global, message: &Value) -> Result<Request, AllocError> {
 /// The database `_Server` of a thread that serves connections, of which each has a session from its first request on that
 /// names it.
 pub(crate) struct ServerDatabase {
-    core: Core,
+    pub(crate) core: Core,
 }
 
 impl ServerDatabase {
-    /// Opens a session.
-    pub(crate) fn open(&mut self) -> Result<SessionId, EventRefusal> {
-        self.core.open()
-    }
-
     /// Ends a session. False says that memory was refused.
     pub(crate) fn close(&mut self, session: SessionId) -> bool {
         match self.core.close(session) {
@@ -222,16 +217,6 @@ impl ServerDatabase {
             }
         }
         Ok(outs)
-    }
-
-    /// Returns the earliest moment, in milliseconds, at which a transaction that waits is due.
-    pub(crate) fn deadline(&self) -> Option<u64> {
-        self.core.next_deadline()
-    }
-
-    /// Tries the transactions that are due.
-    pub(crate) fn tick(&mut self, now: u64) -> Result<(), AllocError> {
-        self.core.tick(now)
     }
 }
 
