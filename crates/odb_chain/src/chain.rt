@@ -75,6 +75,7 @@ impl Chain {
     }
 
     /// Returns how many changes the table had.
+    #[inline(always)]
     pub(crate) fn version(&self) -> u64
         ensures { result ≡ self.now.version }
     {

@@ -71,6 +71,7 @@ impl Chains {
     }
 
     /// Returns whether the table had no change since the mark was made. O(1).
+    #[inline(always)]
     pub fn is_now(&self, mark: &Mark) -> bool
         requires { IsLive self.now mark.now }
         ensures place { result ≡ nat_eq mark.now.place (version self.now mark.now.table) }

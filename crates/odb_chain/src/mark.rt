@@ -28,6 +28,7 @@ impl Model for Mark {
 
 impl Mark {
     /// Returns the table whose content it stands for. O(1).
+    #[inline(always)]
     pub fn table(&self) -> TableId
         ensures { result ≡ self.now.table }
     {
@@ -36,6 +37,7 @@ impl Mark {
 
     /// Returns how many changes the table had when the mark was made, which tells it apart from marks for other
     /// contents of this table. O(1).
+    #[inline(always)]
     pub fn place(&self) -> u64
         ensures { result ≡ self.now.place }
     {

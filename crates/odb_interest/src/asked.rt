@@ -37,6 +37,7 @@ impl Asked {
     }
 
     /// Returns the table. O(1).
+    #[inline(always)]
     pub fn table(&self) -> TableId
         ensures { result ≡ self.now.0 }
     {
@@ -51,6 +52,7 @@ impl Asked {
     }
 
     /// Returns whether it is this filter of this table: the same members in the same order. O(members).
+    #[inline(always)]
     pub fn is(&self, table: TableId, filter: &Filter) -> bool
         ensures { Decides result (self.now ≡ (table, filter.now)) }
     {

@@ -47,6 +47,7 @@ impl Request {
     }
 
     /// Returns all but the filter, for whoever keeps it too. O(1).
+    #[inline(always)]
     pub fn shape(&self) -> &Arc<Shape>
         ensures { arc_value result.now ≡ asked_by self.now }
     {
@@ -54,6 +55,7 @@ impl Request {
     }
 
     /// Returns the filter (ovsdb-server(7), 4.1.12, `where`), for whoever keeps it too. O(1).
+    #[inline(always)]
     pub fn filter(&self) -> &Arc<Filter>
         ensures { arc_value result.now ≡ self.now.filter }
     {
@@ -61,6 +63,7 @@ impl Request {
     }
 
     /// Returns the table's place in the schema. O(1).
+    #[inline(always)]
     pub fn table(&self) -> TableId
         ensures { result ≡ self.now.place }
     {
@@ -68,6 +71,7 @@ impl Request {
     }
 
     /// Returns the columns, by ascending name, as they stand in the schema. O(1).
+    #[inline(always)]
     pub fn columns(&self) -> &[Selector]
         ensures { map selector_of result.now ≡ map (λ c. c.source) self.now.shape.columns }
     {
@@ -75,6 +79,7 @@ impl Request {
     }
 
     /// Returns the kinds of change that are sent (RFC 7047, section 4.1.5, `<monitor-select>`). O(1).
+    #[inline(always)]
     pub fn select(&self) -> Select
         ensures { select_of result ≡ self.now.select }
     {

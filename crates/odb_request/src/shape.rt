@@ -66,6 +66,7 @@ impl Shape {
     }
 
     /// Returns the table's place in the schema. O(1).
+    #[inline(always)]
     pub fn table(&self) -> TableId
         ensures { result ≡ self.now.place }
     {
@@ -82,6 +83,7 @@ impl Shape {
     }
 
     /// Returns the columns, by ascending name, as they stand in the schema. O(1).
+    #[inline(always)]
     pub fn columns(&self) -> &[Selector]
         ensures { map selector_of result.now ≡ map (λ c. c.source) self.now.shape.columns }
     {
@@ -89,6 +91,7 @@ impl Shape {
     }
 
     /// Returns the kinds of change that are sent (RFC 7047, section 4.1.5, `<monitor-select>`). O(1).
+    #[inline(always)]
     pub fn select(&self) -> Select
         ensures { select_of result ≡ self.now.select }
     {

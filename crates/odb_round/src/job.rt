@@ -40,6 +40,7 @@ pub struct RoundJob<'a> {
 impl<'a> Model for RoundJob<'a> {
     ghost use Rattle.std.specs.Prelude.{◌≡◌, IfSome, Some};
     ghost use Rattle.odb_monitor.specs.Job as model;
+    ghost use Rattle.odb_monitor.specs.Job.{updates_of};
     ghost use Rattle.odb_monitor.specs.Represented.Part.{job_code};
     ghost use Rattle.odb_sessions.specs.Held.{marks_in};
     ghost use Rattle.odb_sessions.specs.Composed.{composition};
@@ -53,13 +54,12 @@ impl<'a> Model for RoundJob<'a> {
 
     ghost view = { λ j. job_in j.chains.now.db j.monitor.now j.way };
 
-    ghost invariant = { λ j. AreLive j.chains.now (marks_in j.monitor.now) × (j.requests.items ≡ asked_by j.monitor.now.tables (filters_by j.way)) × IfSome j.text (λ t. Some (bytes_of t) ≡ composition (job_in j.chains.now.db j.monitor.now j.way)) × IfSome j.lacks (λ k. k ≡ job_in j.chains.now.db j.monitor.now j.way) };
+    ghost invariant = { λ j. AreLive j.chains.now (marks_in j.monitor.now) × (j.requests.items ≡ asked_by j.monitor.now.tables (filters_by j.way)) × IfSome j.text (λ t. Some (bytes_of t) ≡ composition (job_in j.chains.now.db j.monitor.now j.way)) × IfSome j.lacks (λ k. updates_of k ≡ updates_of (job_in j.chains.now.db j.monitor.now j.way)) };
 }
 
 impl<'a> RoundJob<'a> {
     /// Makes the job of what is composed for the client of this monitor in this way. O(1), but under other filters what these
-    /// are looked up in, and of what the client lacks under those that it asks what `odb_chain::Chains::since` costs, for each
-    /// table.
+    /// are looked up in, and of what the client lacks under those that it asks what `Monitor::lacking_job` costs.
     pub(crate) fn new(
         alloc: Global,
         chains: &'a Chains,
@@ -241,8 +241,8 @@ fn shared(text: Option<&Arc<Vec<u8>>>) -> Result<Option<Arc<Vec<u8>>>, AllocErro
     Ok(Some(text.clone()?))
 }
 
-/// Returns the job of what the client lacks, where that is under the filters that it asks: it is compared to tell whether
-/// something is sent, and then composed. What `odb_chain::Chains::since` costs, for each table.
+/// Returns a job by which as much is sent as by that of what the client lacks, where that is under the filters that it asks: it is
+/// compared to tell whether something is sent, and then composed. The costs are those of `Monitor::lacking_job`.
 fn lacking<'a>(
     alloc: Global,
     chains: &'a Chains,
@@ -250,12 +250,12 @@ fn lacking<'a>(
     way: Way<'a>,
 ) -> Result<Option<odb_monitor::Job<'a>>, AllocError>
     requires { AreLive chains.now (marks_in monitor.now) }
-    ensures { IfOk result (λ lacks. IfSome lacks (λ job. job ≡ job_in chains.now.db monitor.now way.entry)) }
+    ensures { IfOk result (λ lacks. IfSome lacks (λ job. updates_of job ≡ updates_of (job_in chains.now.db monitor.now way.entry))) }
 {
     match way {
         Way::First => Ok(None),
         Way::Asked => {
-            let job = monitor.own_job(alloc, chains, false)?;
+            let job = monitor.lacking_job(alloc, chains)?;
             Ok(Some(job))
         }
         Way::Changed(_) => Ok(None),

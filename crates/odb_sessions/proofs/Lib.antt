@@ -34,6 +34,7 @@ pub mod Releases
 pub mod Replays
 mod Room
 mod Seen
+mod Silent
 mod Stands
 mod Steps
 mod StillQuiet

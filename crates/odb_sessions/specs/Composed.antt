@@ -45,6 +45,11 @@ part_to db w = record {
 abbrev pub AreNow : Db → List Watched → Type 0
 AreNow db ws = map (λ (w : Watched). (part_to db w).told) ws ≡ map (λ (w : Watched). (part_to db w).asked) ws
 
+-- none, where the client has what the table is now under what is asked; or what leads it there
+abbrev pub IsLacking : Db → Watched → Option Part → Type 0
+IsLacking db w None = (part_to db w).told ≡ (part_to db w).asked
+IsLacking db w (Some p) = p ≡ part_to db w
+
 -- of a table of which the client was told nothing
 abbrev pub first_part : Db → Request → Part
 first_part db q = record { request = q; told = empty; asked = selected q (table_at db q.place) }

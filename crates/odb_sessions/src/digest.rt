@@ -12,43 +12,65 @@ use odb_schema::TableId;
 use odb_tables::feed_value;
 use std::hash::{DefaultHasher, Hash, Hasher};
 
+/// By what a digest is multiplied before the next word is added: an odd number near 2^64 over the golden ratio (Knuth, The Art of
+/// Computer Programming, 6.4).
+const MULTIPLIER: u64 = 0x9e37_79b9_7f4a_7c15;
+
 /// Returns the digest of what is composed for the client of a monitor in this way: what is alike has the same, other
 /// seldom has. O(n) for n tables; under filters in place of those that the monitor asks also O(n) for their members and atoms,
 /// with their bytes.
 pub fn digest_of<'a>(monitor: &'a Monitor, way: Way<'a>) -> u64
     ensures { result ≡ spec.digest (likeness_in monitor.now way.entry) }
 {
-    let mut state = DefaultHasher::new();
-    feed_tables(&mut state, monitor.tables.as_slice(), way);
-    feed_ago(&mut state, way.ago());
-    state.finish()
+    let stands = with_tables(0, monitor.tables.as_slice(), way);
+    with_ago(stands, way.ago())
 }
 
-/// Feeds how many commits ago the client had what it asks, if that is found.
-fn feed_ago(state: &mut DefaultHasher, ago: Option<usize>)
-    ensures { state.new ≡ spec.after_ago state.old ago }
+/// Returns a digest that follows from this one and the word. O(1).
+#[inline(always)]
+fn mixed(digest: u64, word: u64) -> u64
+    ensures { result ≡ spec.mixed digest word }
+{
+    digest.wrapping_mul(MULTIPLIER).wrapping_add(word)
+}
+
+/// Mixes in how many commits ago the client had what it asks, if that is found.
+fn with_ago(digest: u64, ago: Option<usize>) -> u64
+    ensures { result ≡ spec.after_ago digest ago }
 {
     match ago {
-        Some(ago) => ago.hash(state),
-        None => {}
+        Some(ago) => mixed(digest, ago as u64),
+        None => digest,
     }
 }
 
-/// Feeds how the client stands to each of these tables.
-fn feed_tables<'a>(state: &mut DefaultHasher, tables: &'a [Watching], way: Way<'a>)
-    ensures { state.new ≡ spec.after_stands state.old (map (stand_in way.entry) tables.now) }
+/// Mixes in how the client stands to each of these tables.
+fn with_tables<'a>(first: u64, tables: &'a [Watching], way: Way<'a>) -> u64
+    ensures { result ≡ spec.after_stands first (map (stand_in way.entry) tables.now) }
 {
+    let mut digest = first;
     for table in tables {
-        feed_table(state, table, way);
+        digest = with_table(digest, table, way);
     }
+    digest
 }
 
-/// Feeds the digest of what is asked of the table, and at which change of it the client was told.
-fn feed_table<'a>(state: &mut DefaultHasher, table: &'a Watching, way: Way<'a>)
-    ensures { state.new ≡ spec.after_stand state.old (stand_in way.entry table.now) }
+/// Mixes in the digest of what is asked of the table, and at which change of it the client was told.
+fn with_table<'a>(digest: u64, table: &'a Watching, way: Way<'a>) -> u64
+    ensures { result ≡ spec.after_stand digest (stand_in way.entry table.now) }
 {
-    digest_in(table, way).hash(state);
-    feed_place(state, way.place(&table.mark));
+    let asked = mixed(digest, digest_in(table, way));
+    with_place(asked, way.place(&table.mark))
+}
+
+/// Mixes in at which change the client was told, if it counts.
+fn with_place(digest: u64, place: Option<(TableId, u64)>) -> u64
+    ensures { result ≡ spec.after_place digest place }
+{
+    match place {
+        Some(place) => mixed(digest, place.1),
+        None => digest,
+    }
 }
 
 /// Returns the digest of what is asked of the table in this way: the one that is kept, where that is what its monitor asks.
@@ -58,16 +80,6 @@ fn digest_in<'a>(table: &'a Watching, way: Way<'a>) -> u64
     match way.under() {
         Some(_) => asked_digest(table.request.table(), way.filter(&table.request)),
         None => table.digest(),
-    }
-}
-
-/// Feeds at which change the client was told, if it counts.
-fn feed_place(state: &mut DefaultHasher, place: Option<(TableId, u64)>)
-    ensures { state.new ≡ spec.after_place state.old place }
-{
-    match place {
-        Some(place) => place.1.hash(state),
-        None => {}
     }
 }
 

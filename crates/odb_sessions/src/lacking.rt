@@ -4,8 +4,9 @@ ghost use Rattle.std.specs.List.{All};
 ghost use Rattle.serde_json.specs.Data.{Data};
 ghost use Rattle.serde_json.specs.Written.{compact_text};
 ghost use Rattle.odb_atoms.specs.Represented.Atom.{uuid_of};
+ghost use Rattle.odb_monitor.specs.Job.{updates_of};
 ghost use Rattle.odb_rpc.specs.Represented.Shared.{after_updates};
-ghost use Rattle.odb_sessions.specs.Composed.{AreNow, IsKnown, all_asked_as, asked_of, later_job, notified_text, own_job, part_to, resumed_job};
+ghost use Rattle.odb_sessions.specs.Composed.{AreNow, IsKnown, all_asked_as, asked_of, later_job, notified_text, owed_job, own_job, part_to, resumed_job};
 ghost use Rattle.odb_sessions.specs.Filtered.{all_parts_again};
 ghost use Rattle.odb_sessions.specs.Held.{marks_in};
 ghost use Rattle.odb_sessions.specs.Represented.Alike.{stand_in};
@@ -17,7 +18,7 @@ ghost use Rattle.odb_sessions.specs.declared.way.Way.TheVariants as way;
 
 use crate::composing::{Envelope, parts_of};
 use crate::monitor::{Monitor, Watching};
-use crate::owed::{all_owed, all_owed_as, parts_again, parts_since};
+use crate::owed::{all_owed, all_owed_as, parts_again, parts_lacking, parts_since};
 use crate::under::{Under, requests_under};
 use crate::way::Way;
 use odb_chain::Chains;
@@ -82,6 +83,22 @@ impl Monitor {
         let owed = all_owed(alloc, tables)?;
         let parts = parts_of(alloc, chains, owed.as_slice(), first)?;
         Ok(odb_monitor::Job::new(self.kind, first, parts))
+    }
+
+    /// Returns a job of what its client lacks, of those tables alone of which it may lack something: as much is sent as by the
+    /// job of all. O(n) for n tables, and what `odb_chain::Chains::since` costs for each of these. An error says that memory was
+    /// refused.
+    pub fn lacking_job<'a>(
+        &'a self,
+        alloc: Global,
+        chains: &'a Chains,
+    ) -> Result<odb_monitor::Job<'a>, AllocError>
+        requires { AreLive chains.now (marks_in self.now) }
+        ensures { IfOk result (λ job. updates_of job ≡ updates_of (owed_job chains.now.db self.now)) }
+    {
+        let tables = self.tables.as_slice();
+        let parts = parts_lacking(alloc, chains, tables)?;
+        Ok(odb_monitor::Job::new(self.kind, false, parts))
     }
 
     /// Returns the job of what its client lacks, as if these were its requests. The costs are those of `own_job`. An error says
@@ -247,6 +264,7 @@ fn all_stand_as(tables: &[Watching], others: &[Watching]) -> bool
 impl Watching {
     /// Returns whether the client stands to it as to the other, where the same is asked of both: it was told of both at the
     /// same change of the table, under what is asked. `false` says nothing. O(1).
+    #[inline(always)]
     fn stands_as(&self, other: &Watching) -> bool
         ensures { result ≡ true → self.now.request ≡ other.now.request → stand_in way.Asked self.now ≡ stand_in way.Asked other.now }
     {
@@ -267,10 +285,7 @@ fn are_now(tables: &[Watching], chains: &Chains) -> bool
     ensures { result ≡ true → AreNow chains.now.db tables.now }
 {
     for table in tables {
-        if table.told.is_some() {
-            return false;
-        }
-        if !chains.is_now(&table.mark) {
+        if !table.is_told(chains) {
             return false;
         }
     }

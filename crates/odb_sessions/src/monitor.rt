@@ -74,6 +74,7 @@ impl Watching {
     }
 
     /// Returns the digest of what is asked of it. O(1).
+    #[inline(always)]
     pub(crate) fn digest(&self) -> u64
         ensures { result ≡ request_digest self.now.request }
     {
@@ -117,6 +118,7 @@ impl Watching {
     }
 
     /// Returns whether this is what is asked of its table.
+    #[inline(always)]
     pub(crate) fn is_asked(&self, asked: &Asked) -> bool
         ensures { OnTrue result (asked.now ≡ filter_asked self.now) }
     {

@@ -1,11 +1,13 @@
 //! Tables of monitors of which something may be owed. [P 9.2, 9.3]
-ghost use Rattle.std.specs.Prelude.{IfOk, length, map, option_map, take, ◌≡◌};
+ghost use Rattle.std.specs.Prelude.{IfOk, OnOk, length, map, option_map, option_to_list, take, true, ◌++◌, ◌≡◌};
 ghost use Rattle.std.specs.Arc.{arc_value};
 ghost use Rattle.odb_chain.specs.Chains.{IsLive};
 ghost use Rattle.odb_monitor.specs.Represented.Sides.{table_then, told_in};
 ghost use Rattle.odb_monitor.specs.View.{selected};
 ghost use Rattle.odb_request.specs.Request as model_request;
-ghost use Rattle.odb_sessions.specs.Composed.{IsKnown, all_asked_as, asked_as, asked_of, part_in, part_since};
+ghost use Rattle.odb_monitor.specs.Job.{updates_of};
+ghost use Rattle.odb_request.specs.Request.{Notation};
+ghost use Rattle.odb_sessions.specs.Composed.{IsKnown, IsLacking, all_asked_as, asked_as, asked_of, later_job, part_in, part_since, part_to};
 ghost use Rattle.odb_sessions.specs.Represented.Told.{told_under};
 ghost use Rattle.odb_tables.specs.Database as model_table;
 ghost use Rattle.odb_tables.specs.Database.{table_at};
@@ -70,6 +72,7 @@ impl<'a> Owed<'a> {
 }
 
 /// Returns what the client was told, by the filter.
+#[inline(always)]
 fn told_by(filter: Option<&Filter>) -> Told<'_>
     ensures { (q : model_request.Request) (t : model_table.Table)
         → told_in result q t ≡ selected (record q { filter = told_under q (option_map (λ f. f.now) filter.entry) }) t }
@@ -109,6 +112,48 @@ fn changes_since(
 }
 
 impl Watching {
+    /// Returns whether the client was told of the table as it is now, under what is asked. `false` says nothing. O(1).
+    #[inline(always)]
+    pub(crate) fn is_told(&self, chains: &Chains) -> bool
+        requires { IsKnown chains.now self.now }
+        ensures { result ≡ true → (part_to chains.now.db self.now).told ≡ (part_to chains.now.db self.now).asked }
+    {
+        if self.told.is_some() {
+            return false;
+        }
+        chains.is_now(&self.mark)
+    }
+
+    /// Returns it, under what is asked. O(1).
+    fn owed(&self) -> Owed<'_>
+        ensures { result ≡ self.now }
+    {
+        let told = other_filter(&self.told);
+        Owed {
+            request: &self.request,
+            told,
+            mark: &self.mark,
+        }
+    }
+
+    /// Returns the part of a job that leads the client to what the table is now; none where it was told of that under what is
+    /// asked. O(1) then, and else what `odb_chain::Chains::since` costs.
+    fn lacking_part<'a>(
+        &'a self,
+        alloc: Global,
+        chains: &'a Chains,
+    ) -> Result<Option<Part<'a>>, AllocError>
+        requires { IsKnown chains.now self.now }
+        ensures { IfOk result (λ part. IsLacking chains.now.db self.now part) }
+    {
+        if self.is_told(chains) {
+            return Ok(None);
+        }
+        let table = self.owed();
+        let part = table.part(alloc, chains, false)?;
+        Ok(Some(part))
+    }
+
     /// Returns it, as if the request were this one. What `apart` costs.
     fn owed_as<'a>(&'a self, request: &'a Request) -> Owed<'a>
         ensures { result ≡ asked_as self.now request.now }
@@ -121,6 +166,7 @@ impl Watching {
     }
 
     /// Returns the filter under which the client was told.
+    #[inline(always)]
     pub(crate) fn told_filter(&self) -> &Filter
         ensures { result.now ≡ self.now.told }
     {
@@ -185,14 +231,40 @@ pub(crate) fn all_owed<'a>(
 {
     let mut owed = Vec::with_capacity(alloc, tables.len())?;
     for table in tables {
-        let told = other_filter(&table.told);
-        owed.push_reserved(Owed {
-            request: &table.request,
-            told,
-            mark: &table.mark,
-        });
+        owed.push_reserved(table.owed());
     }
     Ok(owed)
+}
+
+/// Returns the parts of those tables alone of which the client may lack something: as much is sent of them as of all. O(n) for
+/// n tables, and what `odb_chain::Chains::since` costs for each of these.
+pub(crate) fn parts_lacking<'a>(
+    alloc: Global,
+    chains: &'a Chains,
+    tables: &'a [Watching],
+) -> Result<Vec<Part<'a>>, AllocError>
+    requires { All (IsKnown chains.now) tables.now }
+    ensures { IfOk result (λ parts. (n : Notation) → updates_of (later_job n parts.items) ≡ updates_of (later_job n (map (part_to chains.now.db) tables.now))) }
+{
+    let mut parts = Vec::new(alloc);
+    for table in tables {
+        let part = table.lacking_part(alloc, chains)?;
+        add_part(&mut parts, part)?;
+    }
+    Ok(parts)
+}
+
+/// Adds the part, if there is one.
+fn add_part<'a>(parts: &mut Vec<Part<'a>>, part: Option<Part<'a>>) -> Result<(), AllocError>
+    ensures { OnOk result (parts.new.items ≡ parts.old.items ++ option_to_list part.entry) }
+{
+    let Some(part) = part else {
+        return Ok(());
+    };
+    if parts.push(part).is_err() {
+        return Err(AllocError);
+    }
+    Ok(())
 }
 
 /// Returns the tables of a monitor, as if these were its requests. O(n) for n tables, and the members of their filters.

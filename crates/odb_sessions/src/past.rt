@@ -123,6 +123,7 @@ impl Past {
     }
 
     /// Lets a mark stand for what its table is now. O(1) where it does, and else what `odb_chain::Chains::advance` costs.
+    #[inline(always)]
     pub(crate) fn advance(&mut self, mark: &mut Mark)
         requires has { HasAll self.old (mark.old ∷ []) }
         requires now { IsNow self.old }

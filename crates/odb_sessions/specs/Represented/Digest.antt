@@ -1,6 +1,6 @@
--- By what number decisions are found: what a hasher makes of what clients ask of tables, with all atoms in their filters, and of where they stand.
-use Rattle.std.specs.Prelude.{ℕ, List, [], ◌∷◌, fold, Option, Some, None}
-use Rattle.std.specs.Hash.{u64, usize}
+-- By what number decisions are found: what a hasher makes of what clients ask of each table, with all atoms in its filter, mixed with where they stand.
+use Rattle.std.specs.Prelude.{ℕ, ◌+◌, ◌*◌, ◌%◌, ◌^◌, List, [], ◌∷◌, fold, Option, Some, None}
+use Rattle.std.specs.Hash.{usize}
 use Rattle.std.specs.Hash.DefaultHasher as sip
 use Rattle.std.specs.declared.hash.DefaultHasher.{DefaultHasher}
 use Rattle.odb_cond.specs.Filter.{Filter, Member, always, when}
@@ -24,20 +24,28 @@ asked_digest t f = sip.finish (after_filter (fold sip.write sip.initial (usize t
 abbrev pub request_digest : Request → ℕ
 request_digest q = asked_digest q.place q.filter
 
-abbrev pub after_place : DefaultHasher → Option (ℕ × ℕ) → DefaultHasher
-after_place h None = h
-after_place h (Some p) = fold sip.write h (u64 p.1)
+-- an odd number, near 2^64 over the golden ratio
+abbrev pub multiplier : ℕ
+multiplier = 0x9e3779b97f4a7c15
 
-abbrev pub after_stand : DefaultHasher → Stand → DefaultHasher
-after_stand h s = after_place (fold sip.write h (u64 (request_digest s.request))) s.place
+-- a number of 64 bits that follows from both
+abbrev pub mixed : ℕ → ℕ → ℕ
+mixed n word = ((n * multiplier) % 2 ^ 64 + word) % 2 ^ 64
 
-abbrev pub after_stands : DefaultHasher → List Stand → DefaultHasher
-after_stands h [] = h
-after_stands h (s ∷ ss) = after_stands (after_stand h s) ss
+abbrev pub after_place : ℕ → Option (ℕ × ℕ) → ℕ
+after_place n None = n
+after_place n (Some p) = mixed n p.1
 
-abbrev pub after_ago : DefaultHasher → Option ℕ → DefaultHasher
-after_ago h None = h
-after_ago h (Some n) = fold sip.write h (usize n)
+abbrev pub after_stand : ℕ → Stand → ℕ
+after_stand n s = after_place (mixed n (request_digest s.request)) s.place
+
+abbrev pub after_stands : ℕ → List Stand → ℕ
+after_stands n [] = n
+after_stands n (s ∷ ss) = after_stands (after_stand n s) ss
+
+abbrev pub after_ago : ℕ → Option ℕ → ℕ
+after_ago n None = n
+after_ago n (Some k) = mixed n k
 
 unfoldable pub digest : Likeness → ℕ
-digest l = sip.finish (after_ago (after_stands sip.initial l.stands) l.ago)
+digest l = after_ago (after_stands 0 l.stands) l.ago

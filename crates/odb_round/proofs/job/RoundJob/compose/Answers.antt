@@ -1,6 +1,7 @@
-use Rattle.std.proofs.Common.{rules, ◌≡◌, Some, ap, ◌∙◌}
+use Rattle.std.proofs.Common.{rules, ◌≡◌, Some, option_map, ap, ◌∙◌}
 use Rattle.std.proofs.lemmas.Result.{IfOk-weaker}
-use Rattle.odb_monitor.specs.Job.{Job}
+use Rattle.serde_json.specs.Written.{compact_text}
+use Rattle.odb_monitor.specs.Job.{Job, updates_of}
 use Rattle.odb_sessions.specs.Composed.{composition}
 use Rattle.odb_sessions.specs.Represented.Composed.{bytes_of}
 use Rattle.odb_sessions.specs.Represented.Job.{job_in}
@@ -17,5 +18,5 @@ pub returns-in-Some-lacks : goal.returns-in-Some-lacks
 returns-in-Some-lacks c =
     let own : Job = job_in c.self.inside.chains.now.db c.self.inside.monitor.now c.self.inside.way in
     let there : c.self.inside.lacks ≡ Some c.in-Some-lacks.job = search rules in
-    let is : c.in-Some-lacks.job ≡ own = kept_in c.self.inside.lacks c.in-Some-lacks.job (λ (j : Job). j ≡ own) there c.self.invariant.3 in
-    IfOk-weaker c.compose_over.result _ _ (λ body e. e ∙ ap composition (is ∙ c.self.view_is)) c.compose_over.ensures
+    let is : updates_of c.in-Some-lacks.job ≡ updates_of own = kept_in c.self.inside.lacks c.in-Some-lacks.job (λ (j : Job). updates_of j ≡ updates_of own) there c.self.invariant.3 in
+    IfOk-weaker c.compose_over.result _ _ (λ body e. e ∙ ap (option_map compact_text) is ∙ ap composition c.self.view_is) c.compose_over.ensures
