@@ -1,11 +1,13 @@
 -- Submits are counted.
 use Rattle.std.proofs.Common.{◌≡◌, ℕ, ◌+◌, ◌-◌, length, List, [], ◌∷◌, ◌++◌, map, refl, sym, ap, ◌∙◌, arith}
 use mathlib.Core.List.{reverse-append}
-use Rattle.std.specs.Prelude.{IfOk, OnErr, OnOk, Result, Ok, Err}
-use Rattle.odb_service.specs.Run.{Event}
+use Rattle.std.specs.Prelude.{IfOk, OnErr, OnOk, Option, Result, Ok, Err, take}
+use Rattle.odb_service.specs.Run.{Event, round}
 use Rattle.odb_hub.specs.Batch.{TakesAll, TakesUpTo}
 use Rattle.odb_hub.specs.Counted.{submits, submits_in}
-use Rattle.odb_hub.specs.Kept.{Kept, Takes, TakesRound}
+use Rattle.odb_hub.specs.Kept.{Kept, Takes}
+use Rattle.odb_hub.specs.GroupRounds.{TakesRound}
+use Rattle.odb_hub.specs.Rings.{ready_among}
 use Rattle.odb_hub.specs.Represented.Submission.{event_of, events_of}
 use Rattle.odb_hub.specs.declared.submission.Submission.{Submission}
 
@@ -30,9 +32,12 @@ pub result_counted : {A E : Type 0} (r : Result A E) (e : Event) (k n : Kept) (t
 result_counted (Ok x) e k n total settled none count takes same = took_counted e k n total settled none count takes
 result_counted (Err x) e k n total settled none count takes same = same_events k n total settled count (ap (λ (k : Kept). k.events) same)
 
-pub round_counted : {E : Type 0} (r : Result ℕ E) (k n : Kept) (total settled : ℕ) → total ≡ settled + submits k.events → IfOk r (λ c. TakesRound c k n) → OnErr r ((n.base ≡ k.base) × (n.events ≡ k.events)) → total ≡ settled + submits n.events
-round_counted (Ok x) k n total settled count takes same = same_count total settled k.events n.events _ count takes.2.1 refl
-round_counted (Err x) k n total settled count takes same = same_events k n total settled count same.1
+-- a round that may be refused
+pub round_counted : {A E : Type 0} (given : A → ℕ) (next : A → Option ℕ) (r : Result A E) (from most : ℕ) (k n : Kept) (total settled : ℕ) → total ≡ settled + submits k.events
+    → IfOk r (λ group. TakesRound from most (given group) (next group) k n) → OnErr r ((n.base ≡ k.base) × (n.events ≡ k.events)) → total ≡ settled + submits n.events
+round_counted given next (Ok x) from most k n total settled count takes same =
+    same_count total settled k.events n.events (round (take most (ready_among takes.0 from takes.1))) count takes.5.1 refl
+round_counted given next (Err x) from most k n total settled count takes same = same_events k n total settled count same.1
 
 all_taken : (es : List Event) (a b : Kept) → TakesAll es a b → submits b.events ≡ submits a.events + submits es
 all_taken [] a b same = let is : submits b.events ≡ submits a.events = ap (λ (k : Kept). submits k.events) same in omega (arith, is)

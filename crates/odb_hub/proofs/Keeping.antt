@@ -8,10 +8,9 @@ use borrow.Author.Tests.{eq-eqb}
 use Rattle.serde_json.specs.Data.{Data}
 use Rattle.odb_atoms.specs.FinMap.{empty, get, insert, remove}
 use Rattle.odb_atoms.specs.Uuid.{Uuid}
-use Rattle.odb_hub.specs.Kept.{AreOpen, AreSent, AreTold, AreUnused, EndsWith, IsKept, IsNew, counted, Kept, Takes, TakesRound, is_in, text_of}
-use Rattle.odb_hub.specs.Rings.{HandsOver, HasRoom, IsFlushedAt, IsServed, Ring, Rings, Text, free_of, is_free_at, room_of, texts, texts_to}
-use Rattle.odb_hub.proofs.Free.{listed, rising}
-use Rattle.odb_hub.proofs.HandingOver.{flushed_texts, served, still_texts}
+use Rattle.odb_hub.specs.Kept.{AreOpen, AreSent, AreTold, AreUnused, EndsWith, IsKept, IsNew, counted, Kept, Takes, is_in, text_of}
+use Rattle.odb_hub.specs.Rings.{IsFlushedAt, IsServed, Ring, Rings, Text, texts, texts_to}
+use Rattle.odb_hub.proofs.HandingOver.{flushed_texts, still_texts}
 use Rattle.odb_hub.proofs.Stepping.{IsTold, sent_on, history_begins, history_on, ends_nothing, open_closed, open_opened, open_round, open_submitted, open_ticked, ok_is, served_with, step_of, told_on}
 use Rattle.odb_hub.proofs.Takings.{most_given, texts_printed}
 use Rattle.odb_core.specs.Represented.Core.{new_server}
@@ -129,9 +128,6 @@ module _ (old new : Kept) (kept : IsKept old) where
       told : Tellings (round ss) old.rings new.rings outs
       told s r is = by s r (get old.rings s) (get new.rings s) (grows s) is
 
-  pub takes_round_kept : (count : ℕ) → TakesRound count old new → IsKept new
-  takes_round_kept count t = round_kept t.0 t.1 t.2 (λ s. grown (is_in s t.0) (texts_to s t.1) (get old.rings s) (get new.rings s) (t.5 s))
-
 -- ---- a round
 
 -- a round gives a session one message at most, and none where it isn't listed
@@ -145,25 +141,6 @@ most_texts ss s t outs is q =
     let most : length (sent_to q r.1) ≤ cond (is_in q ss) 1 0 = subst (λ (p : Step). length (sent_to q p.1) ≤ cond (is_in q ss) 1 0) took (most_given (served_by s.schema) q ss s.world) in
     let long : length (texts_to q outs) ≡ length (sent_to q r.1) = ap (λ os. length (texts_to q os)) (sym same) ∙ ap length (texts_printed q r.1) ∙ length-map (sent_to q r.1) text_of in
     subst (λ n. n ≤ cond (is_in q ss) 1 0) (sym long) most
-
-pub rooms : (m : Rings) (s t : Server) (outs : List (ℕ × Text)) → serve (round (free_of m)) s ≡ Ok (t, outs) → (q : ℕ) → HasRoom (get m q) (texts_to q outs)
-rooms m s t outs is q = subst (λ n. length (texts_to q outs) ≤ n) (ap (λ b. cond b 1 0) (listed m q) ∙ room (get m q)) (most_texts (free_of m) s t outs is q)
-  where
-    room : (o : Option Ring) → cond (is_free_at o) 1 0 ≡ room_of o
-    room None = refl
-    room (Some r) = refl
-
--- the rings were flushed, and the round of those for which nothing is held back was handed over
-pub round_taken : (old new : Kept) (mid : Rings) (outs : List (ℕ × Text)) → ((s : ℕ) → IsFlushedAt (get old.rings s) (get mid s)) → Takes (round (free_of mid)) old new outs
-    → ((s : ℕ) → HandsOver (get mid s) (texts_to s outs) (get new.rings s)) → TakesRound (length outs) old new
-round_taken old new mid outs flushed takes over = (
-  free_of mid,
-  outs,
-  takes,
-  refl,
-  rising mid,
-  λ s. served (is_in s (free_of mid)) (texts_to s outs) (get old.rings s) (get mid s) (get new.rings s) (flushed s) (listed mid s) (rooms mid old.server new.server outs takes.0 s) (over s),
-)
 
 -- ---- the beginning, and a new base
 
@@ -204,9 +181,6 @@ none_there (Some x) e = absurd (true≢false e)
 
 pub unused_grown : (m k : Rings) (n : ℕ) (outs : ℕ → List Text) → ((s : ℕ) → Grows (outs s) (get m s) (get k s)) → AreUnused m n → AreUnused k n
 unused_grown m k n outs grows unused q above = subst (λ (o : Option Ring). Grows (outs q) o (get k q)) (unused q above) (grows q)
-
-pub unused_round : (old new : Kept) (n : ℕ) (count : ℕ) → TakesRound count old new → AreUnused old.rings n → AreUnused new.rings n
-unused_round old new n count t unused = unused_grown old.rings new.rings n (λ s. texts_to s t.1) (λ s. grown (is_in s t.0) (texts_to s t.1) (get old.rings s) (get new.rings s) (t.5 s)) unused
 
 pub unused_flushed : (m k : Rings) (n : ℕ) → ((s : ℕ) → IsFlushedAt (get m s) (get k s)) → AreUnused m n → AreUnused k n
 unused_flushed m k n flushed unused q above = subst (λ (o : Option Ring). IsFlushedAt o (get k q)) (unused q above) (flushed q)

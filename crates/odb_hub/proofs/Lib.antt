@@ -8,6 +8,7 @@ pub mod HandingOver
 pub mod Inboxes
 pub mod Keeping
 pub mod OwnRounds
+pub mod GroupRounds
 pub mod Putting
 pub mod RingsIn
 pub mod Rooms

@@ -24,7 +24,7 @@ none_for s t v w outs went apart =
     let zero : length (texts_to t outs) ≡ 0 = omega (arith, most) in
     nil_from_length (texts_to t outs) zero
 
-has_room : (o : Option Ring) → is_free_at o ≡ true → 1 ≤ room_of o
+pub has_room : (o : Option Ring) → is_free_at o ≡ true → 1 ≤ room_of o
 has_room None e = absurd (true≢false (sym e))
 has_room (Some r) e = subst (λ b. 1 ≤ (let n : ℕ = cond b 1 0 in n)) (sym e) (omega arith)
 

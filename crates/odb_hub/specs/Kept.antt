@@ -4,14 +4,14 @@ use Rattle.std.specs.Coded.{Coded, code_by, coded×}
 use Rattle.serde_json.specs.Written.{compact_text}
 use Rattle.odb_atoms.specs.FinMap.{get}
 use Rattle.odb_service.specs.History.{IsHistory}
-use Rattle.odb_service.specs.Run.{Event, round}
+use Rattle.odb_service.specs.Run.{Event}
 use Rattle.odb_service.specs.Server.{Server, serve, served_by, server_code}
 use Rattle.odb_service.specs.Session.{Out, Session, take}
 use Rattle.odb_service.specs.World.{World, revision_of}
 use Rattle.odb_service.specs.WorldCode.{world_code}
 use Rattle.odb_core.specs.Represented.Core.{new_server}
 use Rattle.odb_hub.specs.EventCode.{events_code}
-use Rattle.odb_hub.specs.Rings.{IsServed, Ring, Rings, Text, rings_code, texts, texts_to}
+use Rattle.odb_hub.specs.Rings.{Ring, Rings, Text, rings_code, texts}
 use Rattle.std.specs.List.{list_any}
 use Rattle.std.specs.List.Sorted.{IsStrictlySortedBy}
 use Rattle.std.specs.Ordering.{nat_cmp}
@@ -77,9 +77,3 @@ counted es = min (length es) (2 ^ 64 - 1)
 
 abbrev pub is_in : ℕ → List ℕ → Bool
 is_in s ss = list_any (λ t. t == s) ss
-
--- a round that lists every session with a ring but those for which a message is held back still, and what it makes of the rings
-abbrev pub TakesRound : ℕ → Kept → Kept → Type 0
-TakesRound count old new =
-    (listed : List ℕ) × (outs : List (ℕ × Text)) × Takes (round listed) old new outs × (count ≡ length outs) × Rising listed
-    × ((s : ℕ) → IsServed (is_in s listed) (texts_to s outs) (get old.rings s) (get new.rings s))

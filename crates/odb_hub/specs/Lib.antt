@@ -5,6 +5,7 @@ pub mod Inbox
 pub mod Kept
 pub mod Outbox
 pub mod Own
+pub mod GroupRounds
 pub mod Probe
 pub mod Represented
 pub mod Rings

@@ -1,5 +1,6 @@
 -- What the rings of sessions were sent, and what is held back.
-use Rattle.std.specs.Prelude.{◌≡◌, ◌⊎◌, ℕ, ◌==◌, ◌≤◌, length, Bool, true, false, List, [], ◌∷◌, ◌++◌, Option, Some, None, is_some, not, filter, map, option_to_list, refl, if◌then◌else◌}
+use Rattle.std.specs.Prelude.{◌≡◌, ◌⊎◌, ℕ, ◌==◌, ◌≤◌, nat_le, length, Bool, true, false, List, [], ◌∷◌, ◌++◌, Option, Some, None, is_some, not, filter, map, option_to_list, refl, if◌then◌else◌}
+use Rattle.std.specs.BTreeSet.{BTreeSet, contains}
 use Rattle.std.specs.Coded.{Coded, code_by, coded×, coded_ℕ, coded_list, coded_option}
 use Rattle.std.specs.Ordering.{nat_cmp}
 use denote.RawPtr.{Ptr, coded_ptr}
@@ -92,6 +93,10 @@ is_free_at (Some r) = is_free r
 -- the sessions for which nothing is held back, ascending
 abbrev pub free_of : Rings → List ℕ
 free_of m = map (λ e. e.0) (filter (λ e. is_free e.1) (entries_of m))
+
+-- those of these sessions for which nothing is held back, from a number on, ascending
+abbrev pub ready_among : BTreeSet ℕ → ℕ → Rings → List ℕ
+ready_among owed from m = filter (λ s. nat_le from s) (filter (contains nat_cmp owed) (free_of m))
 
 -- what is sent to a session, in order
 abbrev pub texts_to : ℕ → List (ℕ × Text) → List Text

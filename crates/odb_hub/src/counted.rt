@@ -38,6 +38,8 @@ pub struct BatchOutcome {
 pub struct Round {
     /// How many messages were given.
     pub given: usize,
+    /// The first session that may be owed something and was left out, as `most` were before it.
+    pub next: Option<SessionId>,
     /// Whether another one, at once, is likely to give something.
     pub more: bool,
     /// Whether a session may be owed something.
@@ -80,7 +82,8 @@ impl<L: Ledger> Counted<L> {
     ghost use Rattle.odb_core.specs.Represented.Reason.{IsReason};
     ghost use Rattle.odb_hub.specs.Batch.{IsSome, IsTurn, Submits, is_sooner};
     ghost use Rattle.odb_hub.specs.Counted.{Closes, IsCounted, SameCount, submits};
-    ghost use Rattle.odb_hub.specs.Kept.{IsNew, IsQuiet, Takes, TakesRound, counted};
+    ghost use Rattle.odb_hub.specs.Kept.{IsNew, IsQuiet, Takes, counted};
+    ghost use Rattle.odb_hub.specs.GroupRounds.{TakesRound};
     ghost use Rattle.odb_hub.specs.Own.{GivesOwn, GivesTo, IsGiven};
     ghost use Rattle.odb_hub.specs.Represented.Mailbox.{name_of, taken};
     ghost use Rattle.odb_hub.specs.Represented.Submission.{events_of};
@@ -212,15 +215,16 @@ impl<L: Ledger> Counted<L> {
         self.state.tick(now)
     }
 
-    /// Gives each session its next message, as [`HubState::round`] does. It returns how many there were, and what is owed
+    /// Gives some sessions their next message, as [`HubState::round`] does. It returns how many there were, and what is owed
     /// and due then.
     pub fn round<R: Threads + Clock + Sync, G: Gate + Sync>(
         &mut self,
         rt: &R,
-        workers: Workers,
+        from: SessionId,
+        most: usize,
         gate: &G,
     ) -> Result<Round, AllocError>
-        ensures ok { IfOk result (λ round. TakesRound round.given self.old.kept self.new.kept) }
+        ensures ok { IfOk result (λ round. TakesRound from most round.given round.next self.old.kept self.new.kept) }
         ensures quiet { IfOk result (λ round. round.owes ≡ false → IsQuiet self.new.kept.server) }
         ensures deadline { IfOk result (λ round. round.deadline ≡ earliest self.new.kept.server.world.waiting) }
         ensures count { SameCount self.old self.new }
@@ -229,9 +233,10 @@ impl<L: Ledger> Counted<L> {
         ensures flushed { OnErr result ((s : ℕ) → IsFlushedAt (get self.old.kept.rings s) (get self.new.kept.rings s)) }
     {
         let turn = Turn::begin(rt);
-        let given = self.state.round(rt, workers, gate)?;
+        let group = self.state.round(rt, from, most, gate)?;
         Ok(Round {
-            given,
+            given: group.given,
+            next: group.next,
             more: self.state.has_more(),
             owes: self.state.owes(),
             took: turn.took(rt),

@@ -34,5 +34,5 @@ pub use inbox::{Identifiers, Inbox, submission_of};
 pub use mailbox::Mailbox;
 pub use outbox::Outbox;
 pub use seat::Seat;
-pub use state::HubState;
+pub use state::{GroupRound, HubState};
 pub use submission::Submission;

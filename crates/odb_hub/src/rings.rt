@@ -1,7 +1,5 @@
 //! The rings of all sessions.
-ghost use Rattle.std.specs.Prelude.{◌≡◌, ◌==◌, ℕ, false, [], ◌∷◌, Some, None, OnErr, IfOk, filter, map};
-ghost use Rattle.std.specs.BTreeSet.{contains};
-ghost use Rattle.std.specs.Ordering.{nat_cmp};
+ghost use Rattle.std.specs.Prelude.{◌≡◌, ◌==◌, ◌&&◌, ℕ, false, [], ◌∷◌, Some, None, OnErr, IfOk, map, nat_le, slice_get, take};
 ghost use Rattle.odb_sessions.specs.Represented.Out.{sent_in, text_of_out};
 
 use crate::bell::Bell;
@@ -12,6 +10,13 @@ use std::alloc::{AllocError, Global};
 use std::collections::{BTreeMap, BTreeSet};
 use std::marker::Model;
 use std::mem;
+
+/// The sessions that a round lists, and the first that it leaves out.
+#[derive(Drop)]
+pub(crate) struct ReadySessions {
+    pub(crate) listed: Vec<SessionId>,
+    pub(crate) next: Option<SessionId>,
+}
 
 /// The rings of the open sessions by their numbers, and the sessions for which a message may be held back.
 pub(crate) struct Rings {
@@ -38,7 +43,7 @@ impl Model for Rings {
 impl Rings {
     ghost use Rattle.odb_atoms.specs.FinMap.{empty, get, insert, remove};
     ghost use Rattle.odb_hub.specs.Represented.Mailbox.{name_of, taken};
-    ghost use Rattle.odb_hub.specs.Rings.{AreShort, HandsOver, IsFlushedAt, HasRoom, IsPutAt, fresh_ring, free_of, is_free_at, texts_to};
+    ghost use Rattle.odb_hub.specs.Rings.{AreShort, HandsOver, IsFlushedAt, HasRoom, IsPutAt, fresh_ring, is_free_at, ready_among, texts_to};
 
     /// Makes rings, of which no session has one.
     pub(crate) fn new(alloc: Global) -> Rings
@@ -112,14 +117,21 @@ impl Rings {
         drop(self.rings.remove(&session));
     }
 
-    /// Sends what is held back where there is room now, and returns those of `owed` for which nothing is held back then,
-    /// ascending. O(k log n) where k sessions are in `owed` or have a message held back.
-    pub(crate) fn ready(&mut self, owed: &BTreeSet<SessionId>) -> Result<Vec<SessionId>, AllocError>
+    /// Sends what is held back where there is room now, and lists the first `most` of those of `owed`, from this number on, for
+    /// which nothing is held back then, ascending. O(k) where k sessions are in `owed` or have a message held back, and O(log n)
+    /// for each of the latter and of those that are looked at up to the first that is left out.
+    pub(crate) fn ready(
+        &mut self,
+        owed: &BTreeSet<SessionId>,
+        from: SessionId,
+        most: usize,
+    ) -> Result<ReadySessions, AllocError>
         ensures flushed { (s : ℕ) → IsFlushedAt (get self.old s) (get self.new s) }
-        ensures ready { IfOk result (λ ready. ready.items ≡ filter (contains nat_cmp owed.now) (free_of self.new)) }
+        ensures listed { IfOk result (λ ready. ready.listed.items ≡ take most (ready_among owed.now from self.new)) }
+        ensures next { IfOk result (λ ready. ready.next ≡ slice_get (ready_among owed.now from self.new) most) }
     {
         self.flush(owed.len())?;
-        self.free_among(owed)
+        self.free_among(owed, from, most)
     }
 
     /// Sends what is held back where there is room now, and makes room to note `more` sessions.
@@ -187,17 +199,36 @@ impl Rings {
         self.holding.len()
     }
 
-    /// Returns those of `owed` for which nothing is held back, ascending.
-    fn free_among(&self, owed: &BTreeSet<SessionId>) -> Result<Vec<SessionId>, AllocError>
-        ensures { IfOk result (λ free. free.items ≡ filter (contains nat_cmp owed.now) (free_of self.now)) }
+    /// Lists the first `most` of those of `owed`, from this number on, for which nothing is held back, ascending.
+    fn free_among(
+        &self,
+        owed: &BTreeSet<SessionId>,
+        from: SessionId,
+        most: usize,
+    ) -> Result<ReadySessions, AllocError>
+        ensures listed { IfOk result (λ ready. ready.listed.items ≡ take most (ready_among owed.now from self.now)) }
+        ensures next { IfOk result (λ ready. ready.next ≡ slice_get (ready_among owed.now from self.now) most) }
     {
-        let mut free = Vec::with_capacity(self.alloc, owed.len())?;
+        let mut listed = Vec::with_capacity(self.alloc, owed.len().min(most))?;
         for session in owed.iter() {
-            if self.is_free(*session) {
-                free.push(*session)?;
+            if self.is_free_from(from, *session) {
+                if listed.len() >= most {
+                    return Ok(ReadySessions {
+                        listed,
+                        next: Some(*session),
+                    });
+                }
+                listed.push(*session)?;
             }
         }
-        Ok(free)
+        Ok(ReadySessions { listed, next: None })
+    }
+
+    /// Returns whether the session has this number or one above, a ring, and nothing held back for it. O(log n).
+    fn is_free_from(&self, from: SessionId, session: SessionId) -> bool
+        ensures { result ≡ (nat_le from session && is_free_at (get self.now session)) }
+    {
+        from <= session && self.is_free(session)
     }
 
     /// Returns whether the session has a ring, and nothing is held back for it. O(log n).

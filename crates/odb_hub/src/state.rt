@@ -22,6 +22,15 @@ use std::snapshot::Snapshot;
 use std::thread::Threads;
 use std::time::Clock;
 
+/// What a round of some sessions did.
+#[derive(Clone, Copy)]
+pub struct GroupRound {
+    /// How many messages were given.
+    pub given: usize,
+    /// The first session that may be owed something and was left out, as `most` were before it.
+    pub next: Option<SessionId>,
+}
+
 /// How many submissions one turn takes at most.
 const MOST: usize = 64;
 
@@ -64,7 +73,8 @@ impl HubState {
     ghost use Rattle.odb_service.specs.Server.{serve};
     ghost use Rattle.odb_core.specs.Represented.Reason.{IsReason};
     ghost use Rattle.odb_hub.specs.Batch.{IsSome, IsTurn, RefusesFirst, TakesUpTo};
-    ghost use Rattle.odb_hub.specs.Kept.{IsKept, IsNew, IsQuiet, Takes, TakesRound, counted};
+    ghost use Rattle.odb_hub.specs.Kept.{IsKept, IsNew, IsQuiet, Takes, counted};
+    ghost use Rattle.odb_hub.specs.GroupRounds.{TakesRound};
     ghost use Rattle.odb_hub.specs.Own.{FlushesOwn, GivesOwn, GivesTo, IsGiven, IsOwedNothing, TakesOwnRound};
     ghost use Rattle.odb_hub.specs.Represented.Submission.{events_of};
     ghost use Rattle.odb_hub.specs.Represented.Mailbox.{name_of, taken};
@@ -252,30 +262,36 @@ impl HubState {
         Ok(())
     }
 
-    /// Gives each open session its next message, if it has one and none is held back for it. What is held back is sent
-    /// first, where its ring has room now; then each message goes into its session's ring, or is held back where that
-    /// is full. The workers compose what is to be composed. It returns how many messages there were. An error says that
-    /// memory was refused: then what was held back may have been sent, and nothing else changed. O(k log n) where k sessions
-    /// may be owed something or have a message held back, and what is composed, and a thread for each worker but one.
+    /// Gives each of some sessions its next message, if it has one: the first `most`, from this number on, of those that may be
+    /// owed something and for which nothing is held back. What is held back is sent first, where its ring has room now; then each
+    /// message goes into its session's ring, or is held back where that is full. The workers compose what is to be composed. An
+    /// error says that memory was refused: then what was held back may have been sent, and nothing else changed. O(k) where k
+    /// sessions may be owed something or have a message held back, O(log n) for each that is listed or had one held back, and what
+    /// is composed, and a thread for each worker but one.
     pub fn round<R: Threads + Sync, G: Gate + Sync>(
         &mut self,
         rt: &R,
-        workers: Workers,
+        from: SessionId,
+        most: usize,
         gate: &G,
-    ) -> Result<usize, AllocError>
-        ensures ok { IfOk result (λ count. TakesRound count self.old self.new) }
+    ) -> Result<GroupRound, AllocError>
+        ensures ok { IfOk result (λ group. TakesRound from most group.given group.next self.old self.new) }
         ensures err { OnErr result (self.new.server ≡ self.old.server) }
         ensures journal { OnErr result ((self.new.base ≡ self.old.base) × (self.new.events ≡ self.old.events)) }
         ensures flushed { OnErr result ((s : ℕ) → IsFlushedAt (get self.old.rings s) (get self.new.rings s)) }
     {
-        let listed = self.rings.ready(self.core.owed())?;
-        let event = Happened::Round(Snapshot::of(&self.rings));
-        let outs = round_by(rt, &mut self.core, listed.as_slice(), workers, gate)?;
-        let count = outs.len();
+        let ready = self.rings.ready(self.core.owed(), from, most)?;
+        let event = Happened::Round(Snapshot::of(&ready.listed));
+        let listed = ready.listed.as_slice();
+        let outs = round_by(rt, &mut self.core, listed, self.workers, gate)?;
+        let given = outs.len();
         self.rings.hand_over(outs);
         self.journal = self.journal.with(event);
         self.since_base = self.since_base.saturating_add(1);
-        Ok(count)
+        Ok(GroupRound {
+            given,
+            next: ready.next,
+        })
     }
 
     /// Gives this session alone its next message, if it has one and none is held back for it. What is held back is sent

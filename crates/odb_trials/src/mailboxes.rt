@@ -134,7 +134,7 @@ fn run_rounds<L: Ledger, R: Threads + Wait + Clock + Sync>(
     hub: &Hub<L>,
 ) -> Result<(), AllocError> {
     for _ in 0..MOST {
-        let round = hub.enter(rt).round(rt, Workers::new(1, 0), &Open)?;
+        let round = hub.enter(rt).round(rt, 0, usize::MAX, &Open)?;
         if round.given == 0 {
             break;
         }

@@ -109,7 +109,7 @@ fn sent<R: Threads + Sync, G: Gate + Sync>(
     for text in REQUESTS {
         mailboxes.push(asks(alloc, &mut state, text)?)?;
     }
-    state.round(rt, workers, gate)?;
+    state.round(rt, 0, usize::MAX, gate)?;
     let mut text = Vec::new(alloc);
     for mailbox in &mut mailboxes {
         let Some(out) = mailbox.next() else {

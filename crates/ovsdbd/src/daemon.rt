@@ -9,10 +9,10 @@ use crate::notices::Notices;
 use crate::pace::{Pace, micros_of};
 use crate::second::Second;
 use crate::serve::Terms;
-use crate::tuning::{SETTLES, SLOW};
+use crate::tuning::{BRIEF, FIRST_GROUP, SETTLES, SHORT, SLOW};
 use odb_core::{Core, EventRefusal, MAX_SESSIONS, SessionId};
-use odb_hub::{BatchOutcome, Counted, Hub, Inbox, Seat};
-use odb_par::{Open, Workers};
+use odb_hub::{BatchOutcome, Counted, Hub, Inbox, Round, Seat};
+use odb_par::Open;
 use odb_waking::PumpPlace;
 use std::alloc::{AllocError, Global};
 use std::io;
@@ -130,7 +130,6 @@ pub(crate) struct Daemon<L: Ledger> {
     pub(crate) patience: Patience,
     /// The most bytes of a message.
     pub(crate) max_message: usize,
-    workers: Workers,
     start: Instant,
     ended: AtomicU64,
 }
@@ -162,7 +161,6 @@ impl<L: Ledger> Daemon<L> {
             notices,
             patience: terms.patience,
             max_message: terms.max_message,
-            workers: terms.workers,
             start,
             ended: AtomicU64::new(0),
         }
@@ -313,10 +311,8 @@ impl<L: Ledger> Daemon<L> {
     fn tell_all<R: Threads + Wait + Clock + Sync>(&self, rt: &R, few: bool, requests: u64) {
         let is_lone = requests == 1;
         if few || self.pace.lets_others(is_lone, self.micros(rt)) {
-            let round = self.hub.enter(rt).round(rt, self.workers, &Open);
+            let round = self.give(rt, is_lone);
             if let Ok(round) = round {
-                self.wake_called();
-                self.pace.note(round, self.micros(rt));
                 if !round.owes && (few || is_lone) {
                     return;
                 }
@@ -348,15 +344,13 @@ impl<L: Ledger> Daemon<L> {
         requires { place.old ≡ begins }
         ensures { place.new ≡ begins }
     {
+        let is_lone = self.pace.alarm.told() == 1;
         self.pace.alarm.begin(place);
         let now = self.now(rt);
         drop(self.hub.enter(rt).tick(now));
         self.log_failures(rt);
-        let round = self.hub.enter(rt).round(rt, self.workers, &Open);
-        self.wake_called();
-        match round {
+        match self.give(rt, is_lone) {
             Ok(round) => {
-                self.pace.note(round, self.micros(rt));
                 let left = self.left(rt, round.deadline);
                 self.pace.pause(rt, round, left, place);
             }
@@ -365,6 +359,53 @@ impl<L: Ledger> Daemon<L> {
                 self.pace.pause_after_refusal(rt, place);
             }
         }
+    }
+
+    /// Gives each session its next message, and wakes the threads that serve them: after a lone request group by group, else all in
+    /// one round, since in a stream each is told of several requests at once.
+    fn give<R: Threads + Wait + Clock + Sync>(
+        &self,
+        rt: &R,
+        is_lone: bool,
+    ) -> Result<Round, AllocError> {
+        let round = if is_lone {
+            self.give_groups(rt)
+        } else {
+            self.give_group(rt, 0, usize::MAX)
+        };
+        if let Ok(round) = &round {
+            self.pace.note(*round, self.micros(rt));
+        }
+        round
+    }
+
+    /// Gives each session its next message, group by group: what one group was given is written while the next is composed, and
+    /// others have the lock in between.
+    fn give_groups<R: Threads + Wait + Clock + Sync>(&self, rt: &R) -> Result<Round, AllocError> {
+        let mut most = FIRST_GROUP;
+        let mut group = self.give_group(rt, 0, most)?;
+        let mut all = group;
+        for _ in rt.forever() {
+            let Some(next) = group.next else {
+                break;
+            };
+            most = next_group(most, group.took);
+            group = self.give_group(rt, next, most)?;
+            all = together(&all, &group);
+        }
+        Ok(all)
+    }
+
+    /// Gives so many sessions, from this number on, their next message, and wakes the threads that serve them.
+    fn give_group<R: Threads + Wait + Clock + Sync>(
+        &self,
+        rt: &R,
+        from: SessionId,
+        most: usize,
+    ) -> Result<Round, AllocError> {
+        let round = self.hub.enter(rt).round(rt, from, most, &Open);
+        self.wake_called();
+        round
     }
 
     /// Gives each session alone what it is owed, as memory was refused for all together, so that the others go on where it
@@ -410,6 +451,31 @@ pub(crate) fn has_lasted<R: Clock>(rt: &R, begun: &io::Result<Instant>, micros: 
     }
 }
 
+/// Returns what a round and the one after it did together.
+fn together(round: &Round, next: &Round) -> Round {
+    Round {
+        given: round.given.saturating_add(next.given),
+        next: next.next,
+        more: next.more,
+        owes: next.owes,
+        took: round.took.saturating_add(next.took),
+        deadline: next.deadline,
+    }
+}
+
+/// Returns how many sessions the group has that comes after one of so many, which took so long: as many, twice as many where that
+/// was brief, and all others where it was long, since what several are owed alike is composed once a group.
+fn next_group(most: usize, took: Duration) -> usize {
+    let micros = micros_of(took);
+    if micros < BRIEF {
+        most.saturating_mul(2)
+    } else if micros < SHORT {
+        most
+    } else {
+        usize::MAX
+    }
+}
+
 /// Returns whether nothing was refused, and no session is owed anything.
 fn is_quiet(owes: &Result<bool, EventRefusal>) -> bool {
     matches!(owes, Ok(false))
@@ -438,7 +504,6 @@ impl<L: Ledger> Drop for Daemon<L> {
             notices: _,
             patience: _,
             max_message: _,
-            workers: _,
             start: _,
             ended: _,
         } = self;

@@ -35,6 +35,9 @@ pub(crate) const LOOKS: u64 = 8;
 /// that a thread takes to start.
 pub(crate) const HEAVY: usize = 4_000;
 
+/// How many sessions are in the first group, where they are given their messages group by group.
+pub(crate) const FIRST_GROUP: usize = 16;
+
 /// After how many turns of the pump the journal begins anew, which else grows.
 pub(crate) const SETTLES: u64 = 65_536;
 

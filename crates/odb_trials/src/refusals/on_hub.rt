@@ -161,11 +161,10 @@ impl<'a, L: Ledger, R: Threads + Wait + Clock + Sync> TrialHub<'a, L, R> {
 
     /// Gives each session its next message. One worker composes them, so that memory is asked for in the same order each time.
     fn round(&self) -> Result<Round, AllocError> {
-        let one = Workers::new(1, 0);
-        let round = self.hub.enter(self.rt).round(self.rt, one, &Open);
+        let round = self.hub.enter(self.rt).round(self.rt, 0, usize::MAX, &Open);
         match round {
             Ok(round) => Ok(round),
-            Err(_) => self.hub.enter(self.rt).round(self.rt, one, &Open),
+            Err(_) => self.hub.enter(self.rt).round(self.rt, 0, usize::MAX, &Open),
         }
     }
 

@@ -1,61 +1,72 @@
-use Rattle.std.proofs.Common.{rules, ◌≡◌, ℕ, List, [], ◌∷◌, ◌++◌, filter, length, map, Ok, refl, sym, ap, subst, ◌∙◌}
-use Rattle.std.specs.BTreeSet.{contains}
-use Rattle.std.specs.Ordering.{nat_cmp}
+use Rattle.std.proofs.Common.{rules, ◌≡◌, ℕ, List, [], ◌∷◌, ◌++◌, length, map, Option, Ok, refl, sym, ap, subst, ◌∙◌}
+use Rattle.std.specs.Prelude.{slice_get, take}
+use Rattle.std.specs.BTreeSet.{BTreeSet}
 use Rattle.std.proofs.lemmas.List.{length-map}
 use Rattle.odb_sessions.specs.Represented.Out.{sent_in}
-use Rattle.odb_core.proofs.QuietRounds.{round_among}
-use Rattle.odb_service.specs.Run.{round}
+use Rattle.odb_service.specs.Run.{Event, round}
 use Rattle.odb_service.specs.Server.{serve}
-use Rattle.odb_hub.specs.Kept.{AreUnused, Kept, Takes, TakesRound}
-use Rattle.odb_hub.specs.Rings.{Rings, Text, free_of}
-use Rattle.odb_hub.proofs.Keeping.{counted_more, flushed_state, rooms, round_taken, same_opened, takes_round_kept, unused_round}
+use Rattle.odb_hub.specs.Kept.{AreUnused, Kept, Takes}
+use Rattle.odb_hub.specs.GroupRounds.{TakesRound}
+use Rattle.odb_hub.specs.Rings.{Rings, Text, ready_among}
+use Rattle.odb_hub.proofs.Keeping.{counted_more, flushed_state, same_opened}
+use Rattle.odb_hub.proofs.GroupRounds.{group_kept, group_rooms, group_unused}
 use Rattle.odb_hub.proofs.state.HubState.round.Goals as goal
 
 pub hand_over-requires : goal.hand_over-requires
 hand_over-requires g c =
     let core = c.self.inside.core in
     let m : Rings = c.ready.new.self in
+    let owed : BTreeSet ℕ = c.owed.result.now in
     let outs : List (ℕ × Text) = map sent_in c.in_ok-outs.outs.items in
-    let listed : c.as_slice.result.now ≡ filter (contains nat_cmp c.owed.result.now) (free_of m) = search rules in
-    let went : serve (round c.as_slice.result.now) core ≡ Ok (c.round_by.new.core, outs) = search rules in
-    rooms m core c.round_by.new.core outs (round_among c.owed.result.now core c.owed.ensures (free_of m) ∙ ap (λ ss. serve (round ss) core) (sym listed) ∙ went)
+    let listed : c.as_slice-listed.result.now ≡ take c.args.most (ready_among owed c.args.from m) = search rules in
+    let went : serve (round c.as_slice-listed.result.now) core ≡ Ok (c.round_by.new.core, outs) = search rules in
+    group_rooms m owed c.args.from c.args.most core c.round_by.new.core outs (ap (λ ss. serve (round ss) core) (sym listed) ∙ went)
 
 pub invariant_of-self-2 : goal.invariant_of-self-2
 invariant_of-self-2 g c =
     let i = c.self.inside in
     let m : Rings = c.ready.new.self in
+    let owed : BTreeSet ℕ = c.owed.result.now in
     let outs : List (ℕ × Text) = map sent_in c.in_ok-outs.outs.items in
+    let all : List ℕ = ready_among owed c.args.from m in
+    let e : Event = round (take c.args.most all) in
     let k : Kept = record { server = i.core; base = i.journal.base; events = i.journal.events; rings = i.rings } in
     let n : Kept = record { server = c.round_by.new.core; base = c.with-self-inside.result.base; events = c.with-self-inside.result.events; rings = c.hand_over.new.self } in
-    let listed : c.as_slice.result.now ≡ filter (contains nat_cmp c.owed.result.now) (free_of m) = search rules in
-    let went : serve (round c.as_slice.result.now) i.core ≡ Ok (c.round_by.new.core, outs) = search rules in
-    let went_free : serve (round (free_of m)) i.core ≡ Ok (c.round_by.new.core, outs) = round_among c.owed.result.now i.core c.owed.ensures (free_of m) ∙ ap (λ ss. serve (round ss) i.core) (sym listed) ∙ went in
-    let events_free : n.events ≡ k.events ++ round (free_of m) ∷ [] = search rules in
+    let listed : c.as_slice-listed.result.now ≡ take c.args.most all = search rules in
+    let noted : n.events ≡ k.events ++ round c.as_slice-listed.result.now ∷ [] = search rules in
+    let went : serve (round c.as_slice-listed.result.now) i.core ≡ Ok (c.round_by.new.core, outs) = search rules in
+    let went_so : serve e i.core ≡ Ok (c.round_by.new.core, outs) = ap (λ ss. serve (round ss) i.core) (sym listed) ∙ went in
+    let events : n.events ≡ k.events ++ e ∷ [] = noted ∙ ap (λ ss. k.events ++ round ss ∷ []) listed in
     let base : n.base ≡ k.base = search rules in
-    let takes : Takes (round (free_of m)) k n outs = (went_free, events_free, base) in
-    let t : TakesRound (length outs) k n = round_taken k n m outs c.ready.ensures.flushed takes c.hand_over.ensures in (
-      takes_round_kept k n c.self.invariant.0 (length outs) t,
-      subst (AreUnused n.rings) (sym (same_opened (round (free_of m)) i.core c.round_by.new.core outs went_free)) (unused_round k n i.core.opened (length outs) t c.self.invariant.1),
-      c.saturating_add-self-inside.ensures ∙ counted_more i.since_base k.events n.events (round (free_of m)) c.self.invariant.2 events_free,
+    let takes : Takes e k n outs = (went_so, events, base) in
+    let t : TakesRound c.args.from c.args.most (length outs) (slice_get all c.args.most) k n = (owed, m, outs, c.owed.ensures, c.ready.ensures.flushed, takes, refl, refl, c.hand_over.ensures) in (
+      group_kept c.args.from c.args.most (length outs) (slice_get all c.args.most) k n t c.self.invariant.0,
+      subst (AreUnused n.rings) (sym (same_opened e i.core c.round_by.new.core outs went_so)) (group_unused c.args.from c.args.most (length outs) (slice_get all c.args.most) k n t i.core.opened c.self.invariant.1),
+      c.saturating_add-self-inside.ensures ∙ counted_more i.since_base k.events n.events e c.self.invariant.2 events,
     )
 
 pub returns-clause-ok : goal.returns-clause-ok
 returns-clause-ok g c =
     let i = c.self.inside in
     let m : Rings = c.ready.new.self in
+    let owed : BTreeSet ℕ = c.owed.result.now in
     let outs : List (ℕ × Text) = map sent_in c.in_ok-outs.outs.items in
+    let all : List ℕ = ready_among owed c.args.from m in
+    let e : Event = round (take c.args.most all) in
     let k : Kept = record { server = i.core; base = i.journal.base; events = i.journal.events; rings = i.rings } in
     let n : Kept = record { server = c.round_by.new.core; base = c.with-self-inside.result.base; events = c.with-self-inside.result.events; rings = c.hand_over.new.self } in
-    let listed : c.as_slice.result.now ≡ filter (contains nat_cmp c.owed.result.now) (free_of m) = search rules in
-    let went : serve (round c.as_slice.result.now) i.core ≡ Ok (c.round_by.new.core, outs) = search rules in
-    let went_free : serve (round (free_of m)) i.core ≡ Ok (c.round_by.new.core, outs) = round_among c.owed.result.now i.core c.owed.ensures (free_of m) ∙ ap (λ ss. serve (round ss) i.core) (sym listed) ∙ went in
-    let events_free : n.events ≡ k.events ++ round (free_of m) ∷ [] = search rules in
+    let listed : c.as_slice-listed.result.now ≡ take c.args.most all = search rules in
+    let noted : n.events ≡ k.events ++ round c.as_slice-listed.result.now ∷ [] = search rules in
+    let went : serve (round c.as_slice-listed.result.now) i.core ≡ Ok (c.round_by.new.core, outs) = search rules in
+    let went_so : serve e i.core ≡ Ok (c.round_by.new.core, outs) = ap (λ ss. serve (round ss) i.core) (sym listed) ∙ went in
+    let events : n.events ≡ k.events ++ e ∷ [] = noted ∙ ap (λ ss. k.events ++ round ss ∷ []) listed in
     let base : n.base ≡ k.base = search rules in
-    let takes : Takes (round (free_of m)) k n outs = (went_free, events_free, base) in
-    let t : TakesRound (length outs) k n = round_taken k n m outs c.ready.ensures.flushed takes c.hand_over.ensures in
-    let items : c.len-count.result ≡ length c.in_ok-outs.outs.items = search rules in
-    let count : c.len-count.result ≡ length outs = items ∙ sym (length-map c.in_ok-outs.outs.items sent_in) in
-    subst (λ (old : Kept). TakesRound c.len-count.result old n) c.self.view_is (subst (λ q. TakesRound q k n) (sym count) t)
+    let takes : Takes e k n outs = (went_so, events, base) in
+    let items : c.len-given.result ≡ length c.in_ok-outs.outs.items = search rules in
+    let given : c.len-given.result ≡ length outs = items ∙ sym (length-map c.in_ok-outs.outs.items sent_in) in
+    let next : c.in_ok-ready.ready.next ≡ slice_get all c.args.most = search rules in
+    let t : TakesRound c.args.from c.args.most c.len-given.result c.in_ok-ready.ready.next k n = (owed, m, outs, c.owed.ensures, c.ready.ensures.flushed, takes, given, next, c.hand_over.ensures) in
+    subst (λ (old : Kept). TakesRound c.args.from c.args.most c.len-given.result c.in_ok-ready.ready.next old n) c.self.view_is t
 
 pub invariant_of-self-in_err-outs : goal.invariant_of-self-in_err-outs
 invariant_of-self-in_err-outs g c =
