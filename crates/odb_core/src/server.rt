@@ -1,8 +1,8 @@
 //! The server as a machine over events. [P 10.3, 12.3, 13.1, 14]
 
-ghost use Rattle.std.specs.Prelude.{◌≡◌, ◌≤◌, ◌↔◌, ℕ, List, ◌∷◌, [], flat_map, map, length, Ok, OnOk, OnErr, IfNone, IfOk, IfErr, IfSome, IsErrOf};
+ghost use Rattle.std.specs.Prelude.{◌≡◌, ◌≤◌, ◌↔◌, ℕ, List, ◌∷◌, [], flat_map, is_some, map, length, Ok, OnOk, OnErr, IfNone, IfOk, IfErr, IfSome, IsErrOf};
 ghost use Rattle.std.specs.List.{All};
-ghost use Rattle.odb_atoms.specs.FinMap.{len};
+ghost use Rattle.odb_atoms.specs.FinMap.{get, len};
 ghost use Rattle.odb_atoms.specs.Represented.Atom.{uuid_of};
 ghost use Rattle.odb_rpc.specs.Message.{inserts_of};
 ghost use Rattle.odb_wire.specs.Shown.{request_data};
@@ -81,7 +81,7 @@ impl Core {
     ghost use Rattle.odb_core.specs.Represented.Rounds.{AreRound, AreRoundOf};
     ghost use Rattle.odb_sessions.specs.FirstTexts.{IsFirstText, IsOfNow};
     ghost use Rattle.odb_round.specs.Jobs.{AreByMarks, AreEachOnce, AreOfJobs};
-    ghost use Rattle.odb_round.specs.Taken.{given_by, sessions_in};
+    ghost use Rattle.odb_round.specs.Taken.{given_by, is_finished, sessions_in};
     ghost use Rattle.odb_sessions.specs.Told.{IsToldOf};
     ghost use Rattle.odb_sessions.specs.Represented.Out.{sent_in};
     ghost use Rattle.odb_core.specs.Represented.Reason.{IsReason};
@@ -319,6 +319,7 @@ impl Core {
     /// where the session is owed nothing more O(1) for each table of its monitors.
     pub fn take_finished(&mut self, session: SessionId) -> Option<Out>
         ensures round { IfSome result (λ out. serve (round (session ∷ [])) self.old ≡ Ok (self.new, sent_in out ∷ [])) }
+        ensures finished { is_some result ≡ is_finished (get self.old.world.sessions session) }
         ensures none { IfNone result (self.new ≡ self.old) }
     {
         take_finished(&mut self.sessions, session)

@@ -1,6 +1,6 @@
 //! Rounds: each listed session is given its next message, if it has one. All are planned, and composed, before one is
 //! carried out, which takes no memory. [P 10.3]
-ghost use Rattle.std.specs.Prelude.{◌≡◌, ◌≤◌, ◌∷◌, [], List, flat_map, map, length, option_map, vec_capacity, IfNone, IfOk, IfSome, OnErr, OnOk};
+ghost use Rattle.std.specs.Prelude.{◌≡◌, ◌≤◌, ◌∷◌, [], List, flat_map, is_some, map, length, option_map, vec_capacity, IfNone, IfOk, IfSome, OnErr, OnOk};
 ghost use Rattle.std.specs.List.{All};
 ghost use Rattle.odb_atoms.specs.FinMap as finite;
 ghost use Rattle.odb_monitor.specs.Job as model_job;
@@ -231,6 +231,7 @@ pub fn give_round(
 pub fn take_finished(sessions: &mut Sessions, session: SessionId) -> Option<Out>
     ensures round { IfSome result (λ out. (schema : Schema) (w : World) → revision_of w ≡ revision_in sessions.old → w.sessions ≡ sessions.old.sessions
         → (let r = take_each (served_by schema) (session ∷ []) w in (r.0 ≡ record w { sessions = sessions.new.sessions }) × (map printed r.1 ≡ sent_in out ∷ []))) }
+    ensures finished { is_some result ≡ is_finished (finite.get sessions.old.sessions session) }
     ensures revision { revision_in sessions.new ≡ revision_in sessions.old }
     ensures none { IfNone result (sessions.new ≡ sessions.old) }
 {

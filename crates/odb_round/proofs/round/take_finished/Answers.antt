@@ -32,8 +32,8 @@ returns-clause-round c = if_given _ c.take.result (λ out given s w revision ses
 pub returns-clause-revision : goal.returns-clause-revision
 returns-clause-revision c = ap revision_in (c.take.ensures.book no_schema)
 
-pub returns-clause-none : goal.returns-clause-none
-returns-clause-none c =
+pub returns-clause-finished : goal.returns-clause-finished
+returns-clause-finished c =
     let b : Book = c.args.sessions.now in
     let n = c.args.session in
     let is : is_finished (get b.sessions n) ≡ true = search rules in
@@ -41,4 +41,10 @@ returns-clause-none c =
     let some : is_some c.take.result ≡ true =
     sym (given_as sent_in c.take.result) ∙ ap is_some (c.take.ensures.out no_schema) ∙ given_as (λ t. let q : ℕ × List ℕ = (n, t) in q) text ∙ finished_given no_schema (revision_in b) (get b.sessions n) is
     in
-    surely_given _ c.take.result some
+    some ∙ sym is
+
+pub returns-clause-none : goal.returns-clause-none
+returns-clause-none c =
+    let b : Book = c.args.sessions.now in
+    let is : is_finished (get b.sessions c.args.session) ≡ true = search rules in
+    surely_given _ c.take.result (returns-clause-finished c ∙ is)

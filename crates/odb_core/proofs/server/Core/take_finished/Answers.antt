@@ -1,4 +1,6 @@
 use Rattle.std.proofs.Common.{[], ◌∷◌, refl, subst, sym, ap, ◌∙◌}
+use Rattle.odb_atoms.specs.FinMap.{get}
+use Rattle.odb_round.specs.Taken.{is_finished}
 use Rattle.odb_round.proofs.Finished.{given_or_not, given_weaker, not_given_weaker}
 use Rattle.odb_service.specs.Run.{round}
 use Rattle.odb_service.specs.Server.{Server, serve}
@@ -37,6 +39,9 @@ returns-clause-round c =
     (ap (placed v) t.0 ∙ (λ j. server_of i.served (record { db = (sym c.take_finished.ensures.revision j).db; commits = (sym c.take_finished.ensures.revision j).commits; earlier = (sym c.take_finished.ensures.revision j).earlier; sessions = k.sessions }) i.waiting i.locks i.moment i.opened), t.1)
     in
     ap (serve (round listed)) (sym c.self.view_is) ∙ rounds v listed listed u (sent_in out ∷ []) refl given)
+
+pub returns-clause-finished : goal.returns-clause-finished
+returns-clause-finished c = c.take_finished.ensures.finished ∙ ap (λ (v : Server). is_finished (get v.world.sessions c.args.session)) c.self.view_is
 
 pub returns-clause-none : goal.returns-clause-none
 returns-clause-none c =
