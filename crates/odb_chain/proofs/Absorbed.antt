@@ -12,7 +12,7 @@ use Rattle.odb_tables.specs.Change.{Changes, after, all_changed_by, changed_by}
 use Rattle.odb_tables.specs.Database.{Db, Table, table_at}
 use Rattle.odb_chain.specs.Chains.{absorbed, next}
 use Rattle.odb_chain.specs.Kept.{Rows, content_at}
-use Rattle.odb_chain.specs.Represented.Chain.{AreChainsOf, AreRising, Chain, IsCopyOf, IsKeptOf, IsReadyFor, IsStepped, StandsAsBefore, chain_at, change_at, here, is_moved, live_of, moved_at, nothing_kept, places, shown}
+use Rattle.odb_chain.specs.Represented.Chain.{AreChainsOf, AreRising, Chain, IsKeptOf, IsReadyFor, IsStepped, StandsAsBefore, chain_at, change_at, here, is_moved, live_of, moved_at, places, shown}
 use Rattle.odb_chain.specs.Represented.Places.{IsPast, is_place}
 use Rattle.odb_chain.proofs.Contents.{changed_content, len-empty, moved_past, nothing_named}
 use Rattle.odb_chain.proofs.Shown.{all_live}
@@ -210,25 +210,3 @@ module _ (db : Db) (old mid : List Chain) (h : AreChainsOf db old) (long : lengt
         (λ t. ap (λ (x : Table). live_of x (chain_at new t)) (table_changed db ds t as_many) ∙ same_live (table_at db t) (change_at ds t) (chain_at old t) (chain_at mid t) (chain_at new t) (h.1 t) (stands t) (ready t) (step_at t)) in
         let numbers = next_versions old new ds (as_long ∙ long) (as_many ∙ sym h.0) (λ t. next_version (table_at db t) (change_at ds t) (chain_at old t) (chain_at mid t) (chain_at new t) (h.1 t) (stands t) (ready t) (step_at t)) in
         λ i. record { db = all_changed_by db ds; versions = numbers i; live = lives i }
-
--- ---- copies
-
-pub copy_itself : (c : Chain) → IsCopyOf c c
-copy_itself c = (refl, refl, refl, refl)
-
-pub copies_more : (xs ys : List Chain) (x y : Chain) → length ys ≡ length xs → ((t : ℕ) → IsCopyOf (chain_at xs t) (chain_at ys t)) → IsCopyOf x y → (t : ℕ) → IsCopyOf (chain_at (xs ++ x ∷ []) t) (chain_at (ys ++ y ∷ []) t)
-copies_more [] [] x y e f h zero = h
-copies_more [] [] x y e f h (suc t) = copy_itself nothing_kept
-copies_more [] (b ∷ ys) x y e f h t = absurd (omega (arith, e))
-copies_more (a ∷ xs) [] x y e f h t = absurd (omega (arith, e))
-copies_more (a ∷ xs) (b ∷ ys) x y e f h zero = f 0
-copies_more (a ∷ xs) (b ∷ ys) x y e f h (suc t) = copies_more xs ys x y (omega (arith, e)) (λ q. f (suc q)) h t
-
-pub copy_stands : (t : Table) (old new : Chain) → IsCopyOf old new → StandsAsBefore t old new
-copy_stands t old new f = (
-  f.0,
-  f.1,
-  f.2,
-  λ p there. ap (content_at p t) f.3,
-  λ h u. subst (λ (rows : Rows). IsPast new.version (finite.get t u) (finite.get rows u)) (sym f.3) (subst (λ v. IsPast v (finite.get t u) (finite.get old.rows u)) (sym f.0) (h u)),
-)

@@ -16,9 +16,9 @@ use Rattle.odb_atoms.proofs.FinMaps.{get-insert, same_key, same_map}
 use Rattle.odb_tables.specs.Change.{Changes, before}
 use Rattle.odb_tables.specs.Database.{Table}
 use Rattle.odb_tables.specs.Represented.Key.{keys_equivalent}
-use Rattle.odb_tables.specs.Represented.Keyed.{keyed, shown}
+use Rattle.odb_tables.specs.Represented.Keyed.{keyed}
 use Rattle.odb_tables.specs.Represented.TableChange.{AreDistinct}
-use Rattle.odb_tables.proofs.KeyedMaps.{get-from_entries, get-keyed, keys-shown}
+use Rattle.odb_tables.proofs.KeyedMaps.{get-from_entries, get-keyed}
 use Rattle.odb_tables.proofs.Leading.{Entry}
 use Rattle.odb_chain.proofs.Histories.{label_pushed, or_left, or_right}
 use Rattle.odb_chain.specs.Represented.Places.{has_label}
@@ -199,6 +199,3 @@ given_ok (Err f) e p = absurd (true≢false e)
 pub on_any_err : {A E P : Type 0} (r : Result A E) → P → OnErr r P
 on_any_err (Ok a) p = tt
 on_any_err (Err f) p = p
-
-pub distinct-kept : (es : List (Uuid × History)) → IsDistinct (eq_by_cmp uuid_cmp) (keys_of es) → IsDistinct (eq_by_cmp uuid_cmp) (keys_of (map (shown (λ h. h)) es))
-distinct-kept es h = subst (IsDistinct (eq_by_cmp uuid_cmp)) (keys-shown (λ h. h) es) h

@@ -4,7 +4,7 @@ ghost use Rattle.std.specs.List.{position};
 ghost use Rattle.odb_atoms.specs.FinMap as finite;
 ghost use Rattle.odb_atoms.specs.Uuid as model_uuid;
 ghost use Rattle.odb_chain.specs.Kept.{content_at};
-ghost use Rattle.odb_chain.specs.Represented.Chain.{AreRising, HasForgotten, IsChainOf, IsCopyOf, IsForgotten, IsOf, IsReadyFor, StandsAsBefore, earliest, fewer, here, is_roomy, nothing_kept, places};
+ghost use Rattle.odb_chain.specs.Represented.Chain.{AreRising, HasForgotten, IsChainOf, IsForgotten, IsOf, IsReadyFor, StandsAsBefore, earliest, fewer, here, is_roomy, nothing_kept, places};
 ghost use Rattle.odb_chain.specs.Represented.Places.{has_label, is_kept, is_place};
 ghost use Rattle.odb_tables.specs.Change.{change};
 ghost use Rattle.odb_tables.specs.Database as model_tables;
@@ -58,20 +58,6 @@ impl Chain {
             fresh: 0,
             kept: Kept::new(alloc, hashing),
         }
-    }
-
-    /// Makes the same once more. O(old rows).
-    pub(crate) fn try_copy(&self, hashing: RandomState) -> Result<Chain, AllocError>
-        ensures { IfOk result (λ copy. IsCopyOf self.now copy) }
-    {
-        let live = self.live.clone()?;
-        let kept = self.kept.try_copy(hashing)?;
-        Ok(Chain {
-            version: self.version,
-            live,
-            fresh: self.fresh,
-            kept,
-        })
     }
 
     /// Returns how many changes the table had.

@@ -3,8 +3,7 @@ ghost use Rattle.std.specs.Prelude.{◌≡◌, ℕ, map, ◌+◌, ◌-◌, ◌^�
 ghost use Rattle.odb_atoms.specs.FinMap as finite;
 ghost use Rattle.odb_chain.specs.Chains as model;
 ghost use Rattle.odb_chain.specs.Chains.{IsLive, IsNow, absorbed, chains_of, count, live_at, mark_of, marked, released, version};
-ghost use Rattle.odb_chain.specs.Marks.{AreAllMarks};
-ghost use Rattle.odb_chain.specs.Represented.Chain.{IsCopyOf, IsReadyFor, IsStepped, StandsAsBefore, chain_at, change_at, is_moved, is_roomy, moved_at};
+ghost use Rattle.odb_chain.specs.Represented.Chain.{IsReadyFor, IsStepped, StandsAsBefore, chain_at, change_at, is_moved, is_roomy, moved_at};
 ghost use Rattle.odb_chain.specs.Segments.{contents_held, segments_held};
 ghost use Rattle.odb_tables.specs.Change.{change};
 ghost use Rattle.odb_tables.specs.Database as model_tables;
@@ -13,7 +12,7 @@ ghost use Rattle.odb_tables.specs.Installing.{IsChangeOf};
 
 use crate::chain::Chain;
 use crate::content::Content;
-use crate::mark::{Mark, all_again};
+use crate::mark::Mark;
 use odb_schema::TableId;
 use odb_tables::{ChangeSet, Db, Rows, Table, TableChange};
 use std::alloc::{AllocError, AllocFailed, Global};
@@ -25,7 +24,6 @@ use std::mem;
 /// changed since; marks between which a table didn't change share one.
 pub struct Chains {
     alloc: Global,
-    hashing: RandomState,
     db: Db,
     chains: Vec<Chain>,
 }
@@ -54,12 +52,7 @@ impl Chains {
         for _ in 0..db.len() {
             chains.push(Chain::new(alloc, hashing))?;
         }
-        Ok(Chains {
-            alloc,
-            hashing,
-            db,
-            chains,
-        })
+        Ok(Chains { alloc, db, chains })
     }
 
     /// Returns the database as it is now. There are as many lists of live marks as it has tables. O(1).
@@ -189,32 +182,6 @@ impl Chains {
         self.db.rows(mark.table)
     }
 
-    /// Copies the chains and their marks. The marks given are all that are counted, each once, and their copies come in the
-    /// same order. Rows are shared with the copy. O(rows), O(old rows) and O(marks).
-    pub fn try_copy(&self, marks: &[&Mark]) -> Result<(Chains, Vec<Mark>), AllocError>
-        requires { AreAllMarks self.now (map (λ m. m.now) marks.now) }
-        ensures chains { IfOk result (λ copied. copied.0 ≡ self.now) }
-        ensures marks { IfOk result (λ copied. copied.1.items ≡ map (λ m. m.now) marks.now) }
-    {
-        let copies = all_again(self.alloc, marks)?;
-        let chains = self.copy()?;
-        Ok((chains, copies))
-    }
-
-    /// Copies the chains, which count the same marks.
-    fn copy(&self) -> Result<Chains, AllocError>
-        ensures { IfOk result (λ copy. copy ≡ self.now) }
-    {
-        let db = self.db.try_copy(self.alloc)?;
-        let chains = copies(self.alloc, self.chains.as_slice(), self.hashing)?;
-        Ok(Chains {
-            alloc: self.alloc,
-            hashing: self.hashing,
-            db,
-            chains,
-        })
-    }
-
     /// Returns the table of a mark, which the database has.
     fn table_of(&self, mark: &Mark) -> TableId
         requires { IsLive self.now mark.now }
@@ -235,17 +202,6 @@ fn table_in(tables: &[Table], table: TableId) -> &Table
     ensures { result.now ≡ table_at tables.now table }
 {
     &tables[table.place()]
-}
-
-fn copies(alloc: Global, chains: &[Chain], hashing: RandomState) -> Result<Vec<Chain>, AllocError>
-    ensures same_length { IfOk result (λ copies. length copies.items ≡ length chains.now) }
-    ensures same { IfOk result (λ copies. (t : ℕ) → IsCopyOf (chain_at chains.now t) (chain_at copies.items t)) }
-{
-    let mut copies = Vec::with_capacity(alloc, chains.len())?;
-    for chain in chains {
-        copies.push(chain.try_copy(hashing)?)?;
-    }
-    Ok(copies)
 }
 
 /// Makes each chain ready for the change of its table. Where memory is refused, all marks stand for what
@@ -300,7 +256,6 @@ impl Drop for Chains {
     fn drop(self) {
         let Chains {
             alloc: _,
-            hashing: _,
             db: _,
             chains: _,
         } = self;

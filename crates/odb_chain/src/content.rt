@@ -27,11 +27,4 @@ impl Content {
     {
         Content {}
     }
-
-    /// Makes the same.
-    pub(crate) fn copy(&self) -> Content
-        ensures { result.table ≡ self.now.table }
-    {
-        Content {}
-    }
 }

@@ -33,19 +33,6 @@ impl Model for Old {
     ghost view = { λ o. (o.place, row_of o.row) };
 }
 
-impl Old {
-    /// Makes the same once more, with the row shared.
-    fn try_copy(&self) -> Result<Old, AllocError>
-        ensures { IfOk result (λ copy. copy ≡ self.now) }
-    {
-        let row = share(self.row.as_ref())?;
-        Ok(Old {
-            place: self.place,
-            row,
-        })
-    }
-}
-
 /// What a row was, the earliest first, each up to its place. The first lies here itself, so that one old row, which is what
 /// most rows have, takes no memory. Once there are as many as the limit it is looked whether each is needed, at O(log n)
 /// each for n places; the limit is then twice those that are left. So a push costs O(log n) for this on the average.
@@ -82,23 +69,6 @@ impl History {
             more: Vec::new(alloc),
             limit: 4,
         }
-    }
-
-    /// Makes the same once more, with the rows shared. O(old rows).
-    pub(crate) fn try_copy(&self, alloc: Global) -> Result<History, AllocError>
-        ensures { IfOk result (λ history. history ≡ self.now) }
-    {
-        let mut more = Vec::with_capacity(alloc, self.more.len())?;
-        for old in &self.more {
-            more.push(old.try_copy()?)?;
-        }
-        let first = self.first.try_copy()?;
-        Ok(History {
-            first,
-            more,
-            latest: self.latest,
-            limit: self.limit,
-        })
     }
 
     /// Returns whether it is kept what the row was at the place. O(1).

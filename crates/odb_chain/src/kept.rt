@@ -88,22 +88,6 @@ impl Kept {
         history.push(old, live)
     }
 
-    /// Makes the same once more, with the rows shared. O(old rows).
-    pub(crate) fn try_copy(&self, hashing: RandomState) -> Result<Kept, AllocError>
-        ensures { IfOk result (λ copy. copy ≡ self.now) }
-    {
-        let mut rows = IndexMap::with_capacity_and_hasher(self.alloc, self.rows.len(), hashing)?;
-        for (key, history) in self.rows.iter() {
-            put(&mut rows, *key, history.try_copy(self.alloc)?)?;
-        }
-        let log = self.log.try_copy(self.alloc)?;
-        Ok(Kept {
-            alloc: self.alloc,
-            rows,
-            log,
-        })
-    }
-
     /// Keeps what the rows that the change names were before it, up to the newest place. Where memory is refused,
     /// what is kept says the same as before of the table that changes. O(rows changed).
     pub(crate) fn record_all(

@@ -74,18 +74,6 @@ impl Log {
         }
     }
 
-    /// Makes the same once more. O(notes).
-    pub(crate) fn try_copy(&self, alloc: Global) -> Result<Log, AllocError>
-        ensures { IfOk result (λ copy. copy ≡ self.now) }
-    {
-        Ok(Log {
-            noted: copies(alloc, after(self.noted.as_slice(), self.done))?,
-            done: 0,
-            latest: self.latest,
-            limit: self.limit,
-        })
-    }
-
     /// Notes that something of the row is kept up to the place. O(1).
     pub(crate) fn note(&mut self, place: u64, key: Key) -> Result<(), AllocError>
         ensures ok { OnOk result (is_noted place key self.new ≡ true) }
@@ -182,20 +170,6 @@ fn eightfold(number: usize) -> usize
     } else {
         usize::MAX
     }
-}
-
-/// Makes the same notes once more.
-fn copies(alloc: Global, noted: &[Noted]) -> Result<Vec<Noted>, AllocError>
-    ensures { IfOk result (λ copies. copies.items ≡ noted.now) }
-{
-    let mut made = Vec::with_capacity(alloc, noted.len())?;
-    for note in noted {
-        made.push(Noted {
-            place: note.place,
-            key: note.key,
-        })?;
-    }
-    Ok(made)
 }
 
 /// Returns the notes from this one on.

@@ -1,9 +1,8 @@
 //! Marks: contents of tables that are kept.
-ghost use Rattle.std.specs.Prelude.{◌≡◌, map, IfOk};
+ghost use Rattle.std.specs.Prelude.{◌≡◌};
 
 use crate::content::Content;
 use odb_schema::TableId;
-use std::alloc::{AllocError, Global};
 use std::marker::Model;
 
 /// A content of a table that is kept until the mark is released. A mark can't be copied, since it is counted;
@@ -43,26 +42,4 @@ impl Mark {
     {
         self.place
     }
-
-    /// Makes the same mark for a copy of the chains.
-    fn again(&self) -> Mark
-        ensures { result ≡ self.now }
-    {
-        Mark {
-            table: self.table,
-            place: self.place,
-            content: self.content.copy(),
-        }
-    }
-}
-
-/// Makes the same marks for a copy of the chains, in their order.
-pub(crate) fn all_again(alloc: Global, marks: &[&Mark]) -> Result<Vec<Mark>, AllocError>
-    ensures { IfOk result (λ copies. copies.items ≡ map (λ m. m.now) marks.now) }
-{
-    let mut copies = Vec::with_capacity(alloc, marks.len())?;
-    for mark in marks {
-        copies.push_reserved(mark.again());
-    }
-    Ok(copies)
 }

@@ -24,15 +24,6 @@ impl Failures {
         }
     }
 
-    /// Makes what has none yet, and notes them where this does.
-    pub(crate) fn without_failed(&self) -> Failures {
-        Failures {
-            alloc: self.alloc,
-            noted: Vec::new(self.alloc),
-            notes: self.notes,
-        }
-    }
-
     /// Notes what fails from now on.
     pub(crate) fn begin(&mut self) {
         self.notes = true;

@@ -340,23 +340,6 @@ impl Core {
     {
         self.waiting.earliest()
     }
-
-    /// Makes an equal core: the same state, whose rows and waiting transactions are shared with this one.
-    /// O(rows + w + claims + bytes queued + bytes of the schema).
-    pub fn try_copy(&self) -> Result<Core, AllocError>
-        ensures { IfOk result (λ copy. copy ≡ self.now) }
-    {
-        Ok(Core {
-            alloc: self.alloc,
-            served: self.served.try_copy()?,
-            opened: self.opened,
-            moment: self.moment,
-            waiting: self.waiting.try_copy()?,
-            locks: self.locks.try_copy(self.alloc)?,
-            sessions: self.sessions.try_copy()?,
-            failures: self.failures.without_failed(),
-        })
-    }
 }
 
 /// Makes sessions over empty tables of the schema, with no commit, of which none is open.

@@ -179,37 +179,6 @@ impl Interest {
         self.index.find(change, &mut found)?;
         ascending(self.alloc, &found)
     }
-
-    /// Makes an index by which each session asks the same. A look-up for each member of each filter; the filters
-    /// are shared.
-    pub fn try_copy(&self) -> Result<Interest, AllocError>
-        ensures { IfOk result (λ copy. IsSame self.now copy) }
-    {
-        let mut copy = Interest::new(self.alloc);
-        add_lists(&mut copy, &self.lists)?;
-        Ok(copy)
-    }
-
-    /// Adds these filters to what the session asks.
-    fn add_each(&mut self, session: SessionId, filters: &[Asked]) -> Result<(), AllocError>
-        ensures { OnOk result (Asks self.old self.new session (asked_at self.old session ++ filters.now)) }
-    {
-        for asked in filters {
-            self.add(session, asked.table(), asked.filter())?;
-        }
-        Ok(())
-    }
-}
-
-/// Adds what each session asks by the lists, where none asks anything yet.
-fn add_lists(copy: &mut Interest, lists: &Lists) -> Result<(), AllocError>
-    requires { (s : ℕ) → asked_at copy.old s ≡ [] }
-    ensures { OnOk result (IsSame lists.now copy.new) }
-{
-    for (session, filters) in &lists.lists {
-        copy.add_each(*session, filters.as_slice())?;
-    }
-    Ok(())
 }
 
 /// Enters a filter that the session asks; where memory is refused, some of its keys alone.

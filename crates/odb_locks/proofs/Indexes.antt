@@ -1,5 +1,5 @@
 -- What the index says after a change of one session's names.
-use Rattle.std.specs.Prelude.{◌≡◌, ℕ, Bool, true, false, cond, ◌&&◌, ◌||◌, ◌==◌, List, [], ◌∷◌, string_bytes, Some, None, IsSome}
+use Rattle.std.specs.Prelude.{◌≡◌, ℕ, Bool, true, false, cond, ◌&&◌, ◌==◌, List, [], string_bytes, Some, None, IsSome}
 use mathlib.Core.Path.{refl, sym, ap, subst, ◌∙◌}
 use Rattle.std.specs.declared.string.String.{String}
 use Rattle.std.specs.declared.alloc.Global.{Global}
@@ -9,9 +9,8 @@ use Rattle.std.specs.BTreeSet as sorted
 use Rattle.std.specs.BTreeSet.{BTreeSet, contains_text}
 use Rattle.std.specs.Cmp.{Equal-is, both_ways, nat_cmp_total, tied_itself, unsigned_Decides}
 use Rattle.std.specs.FinMap.{nat_cmp-IsAntisymmetric}
-use Rattle.std.specs.Map.{lookup}
 use Rattle.std.specs.Cmp.Lexicographic.{slice_cmp}
-use Rattle.std.specs.List.{AllZip, list_any}
+use Rattle.std.specs.List.{list_any}
 use Rattle.std.specs.Ordering.{is_eq, nat_cmp}
 use Rattle.std.specs.Str.{bytes_eq}
 use Rattle.std.specs.String.{string_cmp}
@@ -59,25 +58,3 @@ insert_first s name key m m' n x y bytes none same empty outer h t q =
     ∙ ap (λ o. cond (bytes_eq (string_bytes key) q) true (names_have o q)) (none ∙ ap (λ (k : NamesBySession). tree.get nat_cmp k s) (sym same)))
     t q
     ∙ (λ i. cond ((s == t) && bytes_eq (bytes i) q) true (names_have (tree.get nat_cmp (same i) t) q))
-
--- ---- copies
-
-contains-clone : (xs ys : List (String Global)) → AllZip (λ x y. string_bytes y ≡ string_bytes x) xs ys → (q : List ℕ) → list_any (λ k. is_eq (slice_cmp nat_cmp q (string_bytes k))) ys ≡ list_any (λ k. is_eq (slice_cmp nat_cmp q (string_bytes k))) xs
-contains-clone [] [] h q = refl
-contains-clone [] (y ∷ ys) h q = absurd h
-contains-clone (x ∷ xs) [] h q = absurd h
-contains-clone (x ∷ xs) (y ∷ ys) h q = λ i. is_eq (slice_cmp nat_cmp q (h.0 i)) || contains-clone xs ys h.1 q i
-
-lookup-clone : (es fs : List (ℕ × Names)) → AllZip (λ e f. (f.0 ≡ e.0) × AllZip (λ x y. string_bytes y ≡ string_bytes x) e.1.keys f.1.keys) es fs → (t : ℕ) (q : List ℕ) → names_have (lookup (λ s. is_eq (nat_cmp t s)) fs) q ≡ names_have (lookup (λ s. is_eq (nat_cmp t s)) es) q
-lookup-clone [] [] h t q = refl
-lookup-clone [] (f ∷ fs) h t q = absurd h
-lookup-clone (e ∷ es) [] h t q = absurd h
-lookup-clone (e ∷ es) (f ∷ fs) h t q =
-    ap (λ s. names_have (cond (is_eq (nat_cmp t s)) (Some f.1) (lookup (λ s. is_eq (nat_cmp t s)) fs)) q) h.0.0 ∙ at (lookup-clone es fs h.1 t q) (is_eq (nat_cmp t e.0))
-  where
-    at : names_have (lookup (λ s. is_eq (nat_cmp t s)) fs) q ≡ names_have (lookup (λ s. is_eq (nat_cmp t s)) es) q → (b : Bool) → names_have (cond b (Some f.1) (lookup (λ s. is_eq (nat_cmp t s)) fs)) q ≡ names_have (cond b (Some e.1) (lookup (λ s. is_eq (nat_cmp t s)) es)) q
-    at rest true = contains-clone e.1.keys f.1.keys h.0.1 q
-    at rest false = rest
-
-pub names-clone : (m n : NamesBySession) → AllZip (λ e f. (f.0 ≡ e.0) × AllZip (λ x y. string_bytes y ≡ string_bytes x) e.1.keys f.1.keys) m.entries n.entries → (t : ℕ) (q : List ℕ) → names_have (tree.get nat_cmp n t) q ≡ names_have (tree.get nat_cmp m t) q
-names-clone m n h t q = lookup-clone m.entries n.entries h t q

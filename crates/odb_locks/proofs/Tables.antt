@@ -9,7 +9,7 @@ use Rattle.std.specs.BTreeMap.{BTreeMap, IsOrdered, UpdatesBy, get_by_text, is_a
 use Rattle.std.specs.Cmp.Lexicographic.{slice_cmp, nat_list_cmp_total}
 use Rattle.std.specs.FinMap.{IsAntisymmetric, nat_cmp-IsAntisymmetric, slice_cmp-IsAntisymmetric}
 use Rattle.std.specs.FinMap.Entries.{below_all, find, is_sorted, same_entries}
-use Rattle.std.specs.List.{AllByRecursion, AllZip}
+use Rattle.std.specs.List.{AllByRecursion}
 use Rattle.std.specs.List.Sorted.{IsStrictlySortedBy}
 use Rattle.std.specs.Map.{keys_of, lookup}
 use Rattle.std.specs.Ordering.{eq_by_cmp, is_eq, is_lt, nat_cmp, ordering_reverse}
@@ -160,17 +160,6 @@ freed bs l m n n' s x y is e writes new free h =
     ∙ remove-insert l bs y
     ∙ sym (put_if_free l bs y free)
     ∙ ap (put_lock l bs) (new ∙ ap (without s) (lock_of-found bs l m (Some x) is e))
-
--- ---- copies
-
-named-clone : (es fs : List (String Global × Lock)) → AllZip (λ e f. (string_bytes f.0 ≡ string_bytes e.0) × (f.1 ≡ e.1)) es fs → map named fs ≡ map named es
-named-clone [] [] h = refl
-named-clone [] (f ∷ fs) h = absurd h
-named-clone (e ∷ es) [] h = absurd h
-named-clone (e ∷ es) (f ∷ fs) h = λ i. let p : List ℕ × Lock = (h.0.0 i, h.0.1 i) in p ∷ named-clone es fs h.1 i
-
-pub locks_in-clone : (m n : BTreeMap (String Global) Lock) → AllZip (λ e f. (string_bytes f.0 ≡ string_bytes e.0) × (f.1 ≡ e.1)) m.entries n.entries → locks_in n ≡ locks_in m
-locks_in-clone m n h = ap (finite.from_entries {R = by_bytes}) (named-clone m.entries n.entries h)
 
 -- ---- its length
 

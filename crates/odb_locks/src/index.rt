@@ -1,6 +1,6 @@
 //! The names that each session claims or was robbed of.
 
-ghost use Rattle.std.specs.Prelude.{◌≡◌, ℕ, List, true, false, IfOk, OnOk, OnErr};
+ghost use Rattle.std.specs.Prelude.{◌≡◌, ℕ, List, true, false, OnOk, OnErr};
 ghost use Rattle.std.specs.Option.{option_copied};
 
 use std::alloc::{AllocError, Global};
@@ -63,14 +63,5 @@ impl Index {
         ensures { Forgets self.old self.new session }
     {
         self.names.remove(&session);
-    }
-
-    /// Makes an equal index.
-    pub fn try_copy(&self) -> Result<Index, AllocError>
-        ensures { IfOk result (λ copy. IsUnchanged self.now copy) }
-    {
-        Ok(Index {
-            names: self.names.clone()?,
-        })
     }
 }

@@ -138,17 +138,6 @@ impl Lock {
     }
 }
 
-impl Clone for Lock {
-    ghost is_clone = { λ lock copy. copy ≡ lock };
-
-    fn clone(&self) -> Result<Lock, AllocError> {
-        Ok(Lock {
-            claims: self.claims.clone()?,
-            robbed: self.robbed.clone()?,
-        })
-    }
-}
-
 // Written, and not derived, so that each end of a scope is one call to prove.
 impl Drop for Lock {
     fn drop(self) {

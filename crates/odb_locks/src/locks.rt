@@ -280,17 +280,6 @@ impl Locks {
             None => Ok(Vec::new(alloc)),
         }
     }
-
-    /// Makes equal locks. O(the bytes copied).
-    pub fn try_copy(&self, alloc: Global) -> Result<Locks, AllocError>
-        ensures { IfOk result (λ copy. copy ≡ self.now) }
-    {
-        Ok(Locks {
-            alloc,
-            table: self.table.try_copy()?,
-            index: self.index.try_copy()?,
-        })
-    }
 }
 
 // Written, and not derived, so that each end of a scope is one call to prove.

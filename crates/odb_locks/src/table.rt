@@ -172,13 +172,4 @@ impl Table {
             self.release(name.as_str(), session);
         }
     }
-
-    /// Makes an equal table.
-    pub fn try_copy(&self) -> Result<Table, AllocError>
-        ensures { IfOk result (λ copy. copy ≡ self.now) }
-    {
-        Ok(Table {
-            locks: self.locks.clone()?,
-        })
-    }
 }

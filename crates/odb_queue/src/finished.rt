@@ -5,7 +5,6 @@ ghost use Rattle.serde_json.specs.Written.{compact_text};
 ghost use Rattle.odb_service.specs.Session.{is_answer};
 
 use crate::meaning::MessageMeaning;
-use std::alloc::AllocError;
 
 /// A finished text, whether it is a reply, and what it means.
 #[derive(Drop)]
@@ -15,21 +14,4 @@ pub struct Finished {
     pub meaning: MessageMeaning,
     ghost printed: { text.items ≡ compact_text meaning.message },
     ghost counted: { is_reply ≡ is_answer meaning.answers },
-}
-
-impl Clone for Finished {
-    ghost use Rattle.std.specs.Prelude.{◌≡◌};
-    ghost use Rattle.odb_queue.specs.Represented.Item.{item_of};
-
-    ghost is_clone = { λ x y. item_of y ≡ item_of x };
-
-    /// Copies the text with its meaning. O(bytes).
-    fn clone(&self) -> Result<Finished, AllocError> {
-        let text = self.text.clone()?;
-        Ok(Finished {
-            text,
-            is_reply: self.is_reply,
-            meaning: self.meaning.copy(),
-        })
-    }
 }

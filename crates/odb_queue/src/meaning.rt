@@ -65,11 +65,4 @@ impl MessageMeaning {
     {
         MessageMeaning {}
     }
-
-    /// Makes the same.
-    pub fn copy(&self) -> MessageMeaning
-        ensures { (result.answers ≡ self.now.answers) × (result.message ≡ self.now.message) }
-    {
-        MessageMeaning {}
-    }
 }

@@ -68,16 +68,6 @@ impl ServedSchema {
     {
         self.text.as_slice()
     }
-
-    /// Makes an equal one, which shares the schema. O(bytes of the schema).
-    pub fn try_copy(&self) -> Result<ServedSchema, AllocError>
-        ensures { IfOk result (λ copy. copy ≡ self.now) }
-    {
-        Ok(ServedSchema {
-            schema: self.schema.clone()?,
-            text: self.text.clone()?,
-        })
-    }
 }
 
 // Written, and not derived, so that each end of a scope is one call to prove.

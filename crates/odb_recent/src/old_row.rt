@@ -55,14 +55,6 @@ impl OldRow {
     {
         share(self.row.as_ref())
     }
-
-    /// Copies it, with the row shared. O(1).
-    pub(crate) fn try_copy(&self) -> Result<OldRow, AllocError>
-        ensures { IfOk result (λ copy. copy ≡ self.now) }
-    {
-        let row = self.share()?;
-        Ok(OldRow { key: self.key, row })
-    }
 }
 
 /// Shares a row, if there is one.

@@ -58,18 +58,4 @@ impl OldRows {
     {
         self.rows.as_slice()
     }
-
-    /// Copies them, with the rows shared. O(the rows).
-    pub(crate) fn try_copy(&self, alloc: Global) -> Result<OldRows, AllocError>
-        ensures { IfOk result (λ copy. copy ≡ self.now) }
-    {
-        let mut rows = Vec::with_capacity(alloc, self.rows.len())?;
-        for row in &self.rows {
-            rows.push(row.try_copy()?)?;
-        }
-        Ok(OldRows {
-            table: self.table,
-            rows,
-        })
-    }
 }

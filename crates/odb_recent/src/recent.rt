@@ -163,20 +163,6 @@ impl Recent {
         }
         Ok(rows)
     }
-
-    /// Copies it, with the rows shared. O(the rows that are kept).
-    pub fn try_copy(&self) -> Result<Recent, AllocError>
-        ensures { IfOk result (λ copy. copy ≡ self.now) }
-    {
-        Ok(Recent {
-            alloc: self.alloc,
-            hashing: self.hashing,
-            run: self.run,
-            commits: self.commits,
-            most: self.most,
-            undos: copies(self.alloc, &self.undos, self.most.saturating_sub(1))?,
-        })
-    }
 }
 
 /// Puts what a commit replaced before the others, of which as many stay as there is room for.
@@ -201,18 +187,6 @@ fn rows_at(undos: &VecDeque<Undo>, place: usize, table: TableId) -> &[OldRow]
         Some(undo) => undo.rows_of(table),
         None => &[],
     }
-}
-
-/// Copies what commits replaced, with room for that many of them.
-fn copies(alloc: Global, undos: &VecDeque<Undo>, room: usize) -> Result<VecDeque<Undo>, AllocError>
-    ensures items { IfOk result (λ copies. copies.items ≡ undos.now.items) }
-    ensures room { IfOk result (λ copies. room ≤ deque_capacity copies) }
-{
-    let mut copies = VecDeque::with_capacity(alloc, room)?;
-    for undo in undos.iter() {
-        copies.push_back(undo.try_copy(alloc)?)?;
-    }
-    Ok(copies)
 }
 
 // Written, and not derived, so that each end of a scope is one call to prove.

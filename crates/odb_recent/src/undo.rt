@@ -60,17 +60,6 @@ impl Undo {
         }
         &[]
     }
-
-    /// Copies it, with the rows shared. O(the rows).
-    pub(crate) fn try_copy(&self, alloc: Global) -> Result<Undo, AllocError>
-        ensures { IfOk result (λ copy. copy ≡ self.now) }
-    {
-        let mut tables = Vec::with_capacity(alloc, self.tables.len())?;
-        for rows in &self.tables {
-            tables.push(rows.try_copy(alloc)?)?;
-        }
-        Ok(Undo { tables })
-    }
 }
 
 /// Adds what the change of a table replaces, if it changes a row.

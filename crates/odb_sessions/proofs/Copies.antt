@@ -1,5 +1,5 @@
--- Copies of queues and of filters.
-use Rattle.std.proofs.Common.{◌≡◌, ℕ, List, [], ◌∷◌, ◌++◌, map, refl, ap}
+-- Copies of filters.
+use Rattle.std.proofs.Common.{◌≡◌, ℕ, List, [], ◌∷◌, map, refl}
 use Rattle.std.specs.Arc.{arc_value}
 use Rattle.std.specs.List.{AllZip}
 use Rattle.odb_cond.specs.Filter.{Filter}
@@ -7,14 +7,6 @@ use Rattle.odb_request.specs.Represented.Change.{change_of}
 use Rattle.odb_request.specs.Represented.Shape.{table_name}
 use Rattle.odb_request.specs.declared.change.Change.{Change}
 use Rattle.odb_schema.specs.Schema.{Schema}
-use Rattle.odb_sessions.specs.Held.{Queued}
-use Rattle.odb_sessions.specs.Represented.Queued.{queued_of}
-use Rattle.odb_sessions.specs.declared.item.Item.{Item}
-
--- one item more, with which the rest began
-pub one_again : (ys : List Item) (y : Item) (q : Queued) (rest : List Queued) → queued_of y ≡ q → map queued_of (ys ++ y ∷ []) ++ rest ≡ map queued_of ys ++ q ∷ rest
-one_again [] y q rest same = λ i. same i ∷ rest
-one_again (x ∷ ys) y q rest same = ap (λ qs. queued_of x ∷ qs) (one_again ys y q rest same)
 
 pub changes_again : (s : Schema) (xs ys : List Change) → AllZip (λ x y. (y.table ≡ x.table) × (arc_value y.filter ≡ arc_value x.filter)) xs ys → map (change_of s) ys ≡ map (change_of s) xs
 changes_again s [] [] h = refl

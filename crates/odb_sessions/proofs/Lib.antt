@@ -11,7 +11,6 @@ pub mod Crossing
 mod Earlier
 mod Endings
 mod Firsts
-mod Gives
 mod InTurn
 mod Interests
 mod KeptTexts

@@ -1,4 +1,4 @@
--- The sessions of a slab in the order of their numbers: they are the entries of the map that they stand for, and put into nothing one after the other they make it.
+-- The sessions of a slab in the order of their numbers: they are the entries of the map that they stand for.
 use Rattle.std.proofs.Common.{◌≡◌, ℕ, suc, Bool, true, false, cond, ◌&&◌, T, List, [], ◌∷◌, ◌++◌, flat_map, length, IsSome, Option, Some, None, option_and_then, refl, sym, ap, subst, ◌∙◌, true≢false}
 use Rattle.std.proofs.lemmas.Option.{none-some}
 use Rattle.std.specs.declared.cmp.Ordering.TheVariants.{Less}
@@ -8,16 +8,15 @@ use Rattle.std.specs.FinMap.Entries.{below_all, find, is_sorted, same_entries}
 use Rattle.std.specs.List.{AllByRecursion}
 use Rattle.std.specs.List.Sorted.{IsStrictlySortedBy}
 use Rattle.std.specs.Map.{keys_of}
-use Rattle.std.specs.Option.{option_or}
 use Rattle.std.specs.Ordering.{eq_by_cmp, is_lt, nat_cmp}
 use Rattle.odb_atoms.specs.FinMap as finite
 use Rattle.odb_atoms.proofs.Rising.{find-below}
 use Rattle.odb_chain.specs.Chains.{Mark}
-use Rattle.odb_sessions.specs.Held.{Kept, Sessions, marks_of}
+use Rattle.odb_sessions.specs.Held.{Kept, marks_of}
 use Rattle.odb_sessions.specs.Represented.Keyed.{key_of, session_under, sessions_under}
 use Rattle.odb_sessions.specs.Tied.{entry_marks}
 use Rattle.odb_sessions.proofs.Keyed.{get-under}
-use Rattle.odb_service.proofs.SessionMaps.{get-empty, get-insert, key-itself, same_key, same_map}
+use Rattle.odb_service.proofs.SessionMaps.{key-itself, same_key}
 
 -- ---- the index is in order
 
@@ -130,32 +129,3 @@ module _ (index : List (ℕ × ℕ)) (slots : List (Option Kept)) (h : IsStrictl
   pub len-under : ((q k : ℕ) → key_of index q ≡ Some k → IsSome (session_under slots k)) → finite.len (sessions_under index slots) ≡ length index
   unfolding finite.len
   len-under lie = ap length entries-under ∙ length-filled slots index (sorted index h) (λ q k at. lie q k (sym (find-is q index) ∙ at))
-
--- ---- one after the other
-
--- the map with these entries put in, one after the other
-abbrev pub with_all : Sessions → List (ℕ × Kept) → Sessions
-with_all m [] = m
-with_all m (e ∷ es) = with_all (finite.insert m e.0 e.1) es
-
-get-with_all : (m : Sessions) (es : List (ℕ × Kept)) → T (is_sorted nat_cmp es) → (q : ℕ) → finite.get (with_all m es) q ≡ option_or (find nat_cmp q es) (finite.get m q)
-get-with_all m [] h q = refl
-get-with_all m (e ∷ es) h q =
-    let parts : T (below_all nat_cmp e.0 es) × T (is_sorted nat_cmp es) = apart (below_all nat_cmp e.0 es) (is_sorted nat_cmp es) h in
-    get-with_all (finite.insert m e.0 e.1) es parts.1 q ∙ ap (option_or (find nat_cmp q es)) (get-insert m e.0 e.1 q) ∙ by (eq_by_cmp nat_cmp q e.0) refl (find-below nat_cmp_total e.0 es parts.0)
-  where
-    by : (b : Bool) → eq_by_cmp nat_cmp q e.0 ≡ b → find nat_cmp e.0 es ≡ None → option_or (find nat_cmp q es) (cond b (Some e.1) (finite.get m q)) ≡ option_or (cond b (Some e.1) (find nat_cmp q es)) (finite.get m q)
-    by true is none = ap (λ o. option_or o (Some e.1)) (ap (λ k. find nat_cmp k es) (same_key q e.0 is) ∙ none)
-    by false is none = refl
-
-option_or-none : (o : Option Kept) → option_or o None ≡ o
-option_or-none None = refl
-option_or-none (Some x) = refl
-
--- put into nothing, they are the map
-pub all_in : (index : List (ℕ × ℕ)) (slots : List (Option Kept)) → IsStrictlySortedBy nat_cmp (keys_of index) → with_all finite.empty (filled slots index) ≡ sessions_under index slots
-all_in index slots h =
-    same_map _ _
-    (λ q. get-with_all finite.empty (filled slots index) (sorted-filled slots index (sorted index h)) q ∙ ap (option_or (find nat_cmp q (filled slots index))) (get-empty q)
-    ∙ option_or-none (find nat_cmp q (filled slots index)) ∙ find-filled slots q index (sorted index h) ∙ ap (option_and_then (session_under slots)) (find-is q index)
-    ∙ sym (get-under index slots q))

@@ -1,8 +1,6 @@
 -- Those that may be owed something, along each change of the sessions.
 use Rattle.std.proofs.Common.{◌≡◌, ℕ, Bool, true, false, cond, ◌||◌, List, [], ◌∷◌, Some, None, refl, sym, ap, subst, ◌∙◌}
 use Rattle.std.specs.BTreeSet.{BTreeSet, Updates, contains}
-use Rattle.std.specs.BTreeMap.{is_at}
-use Rattle.std.specs.List.{AllZip, list_any}
 use Rattle.std.specs.Ordering.{eq_by_cmp, nat_cmp}
 use Rattle.std.proofs.lemmas.Option.{none-some, same_Some}
 use borrow.Author.Tests.{eq-eqb}
@@ -10,7 +8,7 @@ use mathlib.Core.Bool.{true≢false}
 use Rattle.odb_atoms.specs.FinMap.{get, insert, remove}
 use Rattle.odb_chain.specs.Chains.{Chains}
 use Rattle.odb_interest.specs.Keys.{Interests, asked_at}
-use Rattle.odb_interest.specs.Represented.Lists.{Asks, IsSame}
+use Rattle.odb_interest.specs.Represented.Lists.{Asks}
 use Rattle.odb_service.specs.Session.{Item, Session}
 use Rattle.odb_service.proofs.SessionMaps.{get-empty, get-insert, get-remove, other, same_key, turned_about}
 use Rattle.odb_sessions.specs.Book.{Book, book_of, fresh_session}
@@ -90,16 +88,6 @@ posted_rest o o' i b s f before changed q out =
 -- nothing changes but that one more is in the set
 pub grown_rest : (o o' : BTreeSet ℕ) (i : Interests) (b : Book) (s : ℕ) → AreAtRest o i b → Updates nat_cmp o o' s true → AreAtRest o' i b
 grown_rest o o' i b s before changed q out = before q (out_before o o' s q changed out).1
-
--- a copy of the set, and of the index
-equal_keys : (ks ls : List ℕ) → AllZip (λ k l. l ≡ k) ks ls → ls ≡ ks
-equal_keys [] [] h = refl
-equal_keys [] (l ∷ ls) h = absurd h
-equal_keys (k ∷ ks) [] h = absurd h
-equal_keys (k ∷ ks) (l ∷ ls) h = λ i. h.0 i ∷ equal_keys ks ls h.1 i
-
-pub copied_rest : (o o' : BTreeSet ℕ) (i j : Interests) (b : Book) → AllZip (λ k l. l ≡ k) o.keys o'.keys → IsSame i j → AreAtRest o i b → AreAtRest o' j b
-copied_rest o o' i j b same said before q out = same_rest i j b b q refl (said q) refl (before q (ap (λ ks. list_any (is_at (nat_cmp q)) ks) (sym (equal_keys o.keys o'.keys same)) ∙ out))
 
 -- one that rests leaves the set, once the index has what it asks
 pub resting_rest : (o o' : BTreeSet ℕ) (i j : Interests) (b : Book) (s : ℕ) → AreAtRest o i b → Updates nat_cmp o o' s false → KeepsOthers i j s → IsAtRest j b s → AreAtRest o' j b

@@ -1,5 +1,5 @@
 -- How the marks of sessions hang together with the chains: each is live, and the chains count these marks and no others; and how sessions hang together that ask the same.
-use Rattle.std.specs.Prelude.{◌≡◌, ℕ, ◌+◌, ◌<◌, ◌≤◌, List, [], ◌∷◌, ◌++◌, flat_map, length, Some}
+use Rattle.std.specs.Prelude.{◌≡◌, ℕ, ◌+◌, ◌<◌, ◌≤◌, List, [], ◌∷◌, flat_map, length, Some}
 use Rattle.odb_atoms.specs.FinMap.{entries_of, get}
 use Rattle.odb_chain.specs.Chains.{Chains, IsNow, Live, Mark, Standing, count, standing}
 pub use Rattle.odb_chain.specs.Marks.{AreLive, bit, is_at, uses}
@@ -22,7 +22,7 @@ used t p m = total (λ x. uses t p (marks_of x)) (entries_of m)
 abbrev pub IsTied : Chains → Sessions → Type 0
 IsTied k m = IsNow k × ((t p : ℕ) → count k t p ≡ used t p m) × AreAllLive k m × AreAlike m
 
--- ---- marks that are copied
+-- ---- marks that are lent
 
 abbrev pub entry_marks : ℕ × Kept → List Mark
 entry_marks e = marks_of e.1
@@ -30,10 +30,6 @@ entry_marks e = marks_of e.1
 -- those of all sessions, by the sessions' numbers
 abbrev pub all_marks : Sessions → List Mark
 all_marks m = flat_map entry_marks (entries_of m)
-
--- these marks come first
-abbrev pub Gives : List Mark → List Mark → Type 0
-Gives given ms = (rest : List Mark) × (given ≡ ms ++ rest)
 
 -- ---- marks that are released
 

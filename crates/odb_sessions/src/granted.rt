@@ -50,12 +50,4 @@ impl Granted {
         let Granted { reply } = self;
         reply
     }
-
-    /// Makes an equal one. O(bytes).
-    pub(crate) fn try_copy(&self) -> Result<Granted, AllocError>
-        ensures { IfOk result (λ copy. copy ≡ self.now) }
-    {
-        let reply = self.reply.clone()?;
-        Ok(Granted { reply })
-    }
 }

@@ -16,6 +16,7 @@ use crate::watch::Watch;
 use odb_queue::Finished;
 use odb_request::Change;
 use odb_schema::Schema;
+use std::alloc::AllocError;
 use std::sync::Arc;
 
 /// An item of a session's queue.
@@ -145,6 +146,20 @@ impl FirstReply {
     {
         let FirstReply { monitor, .. } = self;
         monitor.release(past);
+    }
+}
+
+impl Clone for Changes {
+    ghost use Rattle.std.specs.Prelude.{◌≡◌};
+    ghost use Rattle.odb_sessions.specs.Represented.Queued.{filters_of};
+
+    ghost is_clone = { λ x y. filters_of y ≡ filters_of x };
+
+    /// Makes equal filters.
+    fn clone(&self) -> Result<Changes, AllocError> {
+        let changes = self.changes.clone()?;
+        let schema = self.schema.clone()?;
+        Ok(Changes { schema, changes })
     }
 }
 

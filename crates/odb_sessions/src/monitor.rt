@@ -9,7 +9,7 @@ ghost use Rattle.odb_sessions.specs.Composed.{AreTheirs};
 ghost use Rattle.odb_sessions.specs.Held.{marks_in, monitor_of, table_marks, watch_of};
 ghost use Rattle.odb_sessions.specs.Represented.Digest.{request_digest};
 ghost use Rattle.odb_sessions.specs.Started.{AreOfTables};
-ghost use Rattle.odb_sessions.specs.Tied.{Adds, Frees, Gives, HasAll, counted_in};
+ghost use Rattle.odb_sessions.specs.Tied.{Adds, Frees, HasAll, counted_in};
 ghost use Rattle.std.specs.Bool.{OnTrue};
 ghost use Rattle.odb_service.specs.Service.{Service};
 ghost use Rattle.odb_service.specs.Session.{brought, changed, refilter};
@@ -17,10 +17,10 @@ ghost use Rattle.odb_sessions.specs.Moved.{Moves, all_now};
 ghost use Rattle.odb_sessions.specs.Represented.Queued.{filters_of};
 ghost use Rattle.odb_sessions.specs.Owed.{filter_asked};
 
-use crate::copying::{GivenMarks, copy_tables, filter_again, lend_tables};
 use crate::digest::request_digest;
 use crate::id::Id;
 use crate::item::Changes;
+use crate::lending::lend_tables;
 use crate::moving::{ask_all_under, bring_all, bring_all_under};
 use crate::past::Past;
 use odb_chain::{Chains, Mark};
@@ -123,22 +123,6 @@ impl Watching {
         ensures { OnTrue result (asked.now ≡ filter_asked self.now) }
     {
         asked.is(self.request.table(), self.request.filter())
-    }
-
-    /// Copies it, with the next mark.
-    pub(crate) fn copy(&self, given: &mut GivenMarks) -> Result<Watching, AllocError>
-        requires { Gives given.old (self.now.mark ∷ []) }
-        ensures copy { IfOk result (λ copy. copy ≡ self.now) }
-        ensures given { OnOk result (given.old ≡ self.now.mark ∷ given.new) }
-    {
-        let told = filter_again(&self.told)?;
-        let request = self.request.try_copy()?;
-        Ok(Watching {
-            request,
-            told,
-            mark: given.take(),
-            digest: self.digest,
-        })
     }
 }
 
@@ -243,22 +227,6 @@ impl Monitor {
     {
         ask_all_under(&mut self.tables, changes);
         self.id = id;
-    }
-
-    /// Copies it, with the next marks.
-    pub(crate) fn copy(&self, alloc: Global, given: &mut GivenMarks) -> Result<Monitor, AllocError>
-        requires { Gives given.old (marks_in self.now) }
-        ensures copy { IfOk result (λ copy. copy ≡ self.now) }
-        ensures given { OnOk result (given.old ≡ marks_in self.now ++ given.new) }
-    {
-        let id = self.id.clone()?;
-        let tables = copy_tables(alloc, self.tables.as_slice(), given)?;
-        Ok(Monitor {
-            id,
-            kind: self.kind,
-            tables,
-            since: self.since,
-        })
     }
 
     /// Adds its marks.

@@ -14,7 +14,6 @@ ghost use Rattle.odb_sessions.specs.Represented.Queued.{queued_of};
 ghost use Rattle.odb_sessions.specs.Tied.{IsTied, all_marks};
 ghost use Rattle.odb_sessions.specs.Watches.{AreAlike, IsWatchFor, Joins, with_watch};
 
-use crate::copying::GivenMarks;
 use crate::item::Item;
 use crate::past::Past;
 use crate::session::Session;
@@ -361,21 +360,6 @@ impl Numbered {
             }
         }
         Ok(marks)
-    }
-
-    /// Copies the sessions, with these marks in place of their own.
-    pub(crate) fn try_copy(&self, alloc: Global, marks: Vec<Mark>) -> Result<Numbered, AllocError>
-        requires { marks.items ≡ all_marks self.now }
-        ensures { IfOk result (λ copy. copy ≡ self.now) }
-    {
-        let mut given = GivenMarks::new(marks);
-        let mut copy = Numbered::new(alloc);
-        for (number, key) in self.keys.iter() {
-            if let Some(session) = self.sessions.get(*key) {
-                copy.insert(*number, session.copy(alloc, &mut given)?)?;
-            }
-        }
-        Ok(copy)
     }
 }
 

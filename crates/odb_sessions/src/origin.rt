@@ -72,15 +72,6 @@ impl Origin {
         let after = Vec::from_slice(alloc, after_updates())?;
         Ok(Envelope { before, job, after })
     }
-
-    /// Makes an equal one. O(bytes).
-    pub(crate) fn try_copy(&self) -> Result<Origin, AllocError>
-        ensures { IfOk result (λ copy. copy ≡ self.now) }
-    {
-        let request = self.request.try_copy()?;
-        let before = self.before.clone()?;
-        Ok(Origin { before, request })
-    }
 }
 
 // Written, and not derived, so that each end of a scope is one call to prove.

@@ -1,7 +1,6 @@
 //! The database with its past, in which there is room for each mark that is made. [P 10.3]
 ghost use Rattle.std.specs.Prelude.{◌≡◌, [], ◌∷◌, map, IfErr, IfOk, OnErr, OnOk};
 ghost use Rattle.odb_chain.specs.Chains.{IsLive, IsNow, absorbed, chains_of, released};
-ghost use Rattle.odb_chain.specs.Marks.{AreAllMarks};
 ghost use Rattle.odb_sessions.specs.Composed.{AreTheirs};
 ghost use Rattle.odb_sessions.specs.FirstTexts.{AreFirstTexts, IsFirstText};
 ghost use Rattle.odb_sessions.specs.Held.{table_marks};
@@ -134,24 +133,5 @@ impl Past {
             return;
         }
         self.chains.advance(mark);
-    }
-
-    /// Copies the database and its past, and the marks: these are all that are counted.
-    pub(crate) fn try_copy(
-        &self,
-        alloc: Global,
-        marks: &[&Mark],
-    ) -> Result<(Past, Vec<Mark>), AllocError>
-        requires { AreAllMarks self.now (map (λ m. m.now) marks.now) }
-        ensures past { IfOk result (λ copied. copied.0 ≡ self.now) }
-        ensures marks { IfOk result (λ copied. copied.1.items ≡ map (λ m. m.now) marks.now) }
-    {
-        let (chains, copies) = self.chains.try_copy(marks)?;
-        let past = Past {
-            chains,
-            made: self.made,
-            firsts: FirstTexts::new(alloc),
-        };
-        Ok((past, copies))
     }
 }

@@ -1,15 +1,14 @@
 //! A session's queue. [P 10.1]
-ghost use Rattle.std.specs.Prelude.{◌≡◌, ◌++◌, true, [], ◌∷◌, flat_map, map, IfErr, IfNone, IfOk, OnErr, OnOk, option_map, option_to_list};
+ghost use Rattle.std.specs.Prelude.{◌≡◌, ◌++◌, true, [], ◌∷◌, flat_map, map, IfErr, IfNone, OnErr, OnOk, option_map, option_to_list};
 ghost use Rattle.std.specs.Arc.{arc_value};
 ghost use Rattle.odb_service.specs.Session.{replies_in};
 ghost use Rattle.odb_sessions.specs.Asked.{ids_after};
 ghost use Rattle.odb_sessions.specs.Held.{item_seen, marks_due};
 ghost use Rattle.odb_sessions.specs.Named.{named_after};
 ghost use Rattle.odb_sessions.specs.Represented.Queued.{queued_of};
-ghost use Rattle.odb_sessions.specs.Tied.{Frees, Gives, HasAll};
+ghost use Rattle.odb_sessions.specs.Tied.{Frees, HasAll};
 
 use crate::asked::ask;
-use crate::copying::{GivenMarks, copy_item};
 use crate::id::Id;
 use crate::item::Item;
 use crate::named::{Named, ask_of};
@@ -124,22 +123,6 @@ impl Queue {
             ask_of(named, item)?;
         }
         Ok(())
-    }
-
-    /// Copies it, with the next marks.
-    pub(crate) fn copy(&self, alloc: Global, given: &mut GivenMarks) -> Result<Queue, AllocError>
-        requires { Gives given.old (flat_map marks_due self.now) }
-        ensures copy { IfOk result (λ copy. copy ≡ self.now) }
-        ensures given { OnOk result (given.old ≡ flat_map marks_due self.now ++ given.new) }
-    {
-        let mut items = VecDeque::new(alloc);
-        for item in self.items.iter() {
-            items.push_back(copy_item(alloc, item, given)?)?;
-        }
-        Ok(Queue {
-            items,
-            replies: self.replies,
-        })
     }
 
     /// Gives the marks of its items back.

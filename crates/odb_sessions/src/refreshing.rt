@@ -12,7 +12,7 @@ use std::collections::BTreeSet;
 const A_FEW: usize = 4;
 
 /// Which session is refreshed next, and for how many monitors there is time.
-#[derive(Clone, Copy)]
+#[derive(Drop)]
 pub(crate) struct Refreshing {
     next: SessionId,
     time: usize,

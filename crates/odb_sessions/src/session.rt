@@ -217,7 +217,7 @@ fn make_room_for(item: &Item, queue: &Queue, monitors: &mut Vec<Monitor>) -> Res
 }
 
 /// Makes room for one monitor more than begin with what is queued.
-pub(crate) fn make_room(queue: &Queue, monitors: &mut Vec<Monitor>) -> Result<(), AllocError>
+fn make_room(queue: &Queue, monitors: &mut Vec<Monitor>) -> Result<(), AllocError>
     ensures items { monitors.new.items ≡ monitors.old.items }
     ensures len { vec_len monitors.new ≡ vec_len monitors.old }
     ensures grown { vec_capacity monitors.old ≤ vec_capacity monitors.new }

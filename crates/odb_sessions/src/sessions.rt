@@ -32,7 +32,6 @@ ghost use Rattle.odb_wire.specs.Shown.{request_data};
 
 use crate::asked::{ending, has};
 use crate::changing::Changing;
-use crate::copying::copy_tied;
 use crate::ended::Ended;
 use crate::ending::stopping;
 use crate::ends::note_commits;
@@ -466,26 +465,6 @@ impl Sessions {
     {
         self.sessions
             .carry_out(session, items, monitors, &mut self.past)
-    }
-
-    /// Makes an equal book. O(rows), O(old rows), O(the rows that the last commits replaced), O(bytes queued),
-    /// O(marks), O(n log n) for n sessions, and what `odb_interest::Interest::try_copy` costs.
-    pub fn try_copy(&self) -> Result<Sessions, AllocError>
-        ensures { IfOk result (λ copy. copy ≡ self.now) }
-    {
-        let (past, sessions) = copy_tied(self.alloc, &self.past, &self.sessions)?;
-        let recent = self.recent.try_copy()?;
-        let owed = self.owed.clone()?;
-        let interest = self.interest.try_copy()?;
-        Ok(Sessions {
-            alloc: self.alloc,
-            past,
-            recent,
-            sessions,
-            owed,
-            interest,
-            refreshing: self.refreshing,
-        })
     }
 }
 

@@ -3,7 +3,7 @@ use Rattle.std.proofs.Common.{◌≡◌, ◌⊎◌, ℕ, zero, suc, ◌<◌, ◌
 use mathlib.Core.Logic.{inl, inr}
 use Rattle.std.proofs.lemmas.Option.{none-some, same_Some}
 use Rattle.std.specs.FinMap.Entries.{find}
-use Rattle.std.specs.List.{AllByRecursion, AllZip}
+use Rattle.std.specs.List.{AllByRecursion}
 use Rattle.std.specs.Ordering.{eq_by_cmp}
 use Rattle.odb_atoms.specs.FinMap as finite
 use Rattle.odb_atoms.specs.Row.{Row}
@@ -161,10 +161,3 @@ no-rows-kept n (k ∷ ks) h = (subst (LacksNothing k) (sym (none_at n k.table)) 
 pub all-push : {X : Type 0} (P : X → Type 0) (xs : List X) (x : X) → AllByRecursion P xs → P x → AllByRecursion P (xs ++ x ∷ [])
 all-push P [] x h p = (p, tt)
 all-push P (y ∷ xs) x h p = (h.0, all-push P xs x h.1 p)
-
--- what keeps a database is kept by its copies
-pub copies-kept : (db : Db) (ks ns : List Kept) → AllZip (λ k n. (d : Db) → IsKept d k → IsKept d n) ks ns → AreKept db ks → AreKept db ns
-copies-kept db [] [] h kept = tt
-copies-kept db [] (n ∷ ns) h kept = absurd h
-copies-kept db (k ∷ ks) [] h kept = absurd h
-copies-kept db (k ∷ ks) (n ∷ ns) h kept = (h.0 db kept.0, copies-kept db ks ns h.1 kept.1)

@@ -11,7 +11,7 @@ use Rattle.indexmap.specs.IndexMap.{IndexMap, IsUnique, Updates, get_by, index_m
 use Rattle.odb_atoms.specs.FinMap as finite
 use Rattle.odb_atoms.specs.Uuid.{Uuid, uuid_cmp}
 use Rattle.odb_atoms.proofs.Atoms.{uuid_cmp-IsAntisymmetric}
-use Rattle.odb_atoms.proofs.FinMaps.{entries-insert, get-empty, get-entries, get-insert, get-retain_keys, same_key, same_map}
+use Rattle.odb_atoms.proofs.FinMaps.{entries-insert, get-empty, get-entries, get-insert, get-retain_keys, same_map}
 use Rattle.odb_tables.specs.Represented.Key.{keys_equivalent, uuid_cmp_total}
 use Rattle.odb_tables.specs.Represented.Keyed.{keyed, shown}
 
@@ -42,36 +42,6 @@ len-from_entries (e ∷ es) h =
     let m = finite.from_entries {R = uuid_cmp} es in
     let absent : find uuid_cmp e.0 m.entries ≡ None = sym (get-entries m e.0) ∙ get-from_entries es e.0 ∙ none_behind e.0 es (IsDistinct-head (eq_by_cmp uuid_cmp) e.0 (keys_of es) h) in
     ap length (entries-insert uuid_cmp_total m e.0 e.1) ∙ length-put uuid_cmp uuid_cmp_total e.0 e.1 m.entries m.sorted ∙ ap (λ o. cond (is_some o) (length m.entries) (length m.entries + 1)) absent ∙ ap (λ n. n + 1) (len-from_entries es (IsDistinct-tail (eq_by_cmp uuid_cmp) e.0 (keys_of es) h)) ∙ one_more (length es)
-
--- ---- entries that are put into a map one after the other
-
-module _ {X : Type 0} where
-  abbrev pub filled : finite.FinMap uuid_cmp X → List (Uuid × X) → finite.FinMap uuid_cmp X
-  filled m [] = m
-  filled m (e ∷ es) = filled (finite.insert m e.0 e.1) es
-
-  abbrev or_else : Option X → Option X → Option X
-  or_else None r = r
-  or_else (Some x) r = Some x
-
-  get-filled : (m : finite.FinMap uuid_cmp X) (es : List (Uuid × X)) (q : Uuid) → IsDistinct (eq_by_cmp uuid_cmp) (keys_of es) → finite.get (filled m es) q ≡ or_else (find uuid_cmp q es) (finite.get m q)
-  get-filled m [] q h = refl
-  get-filled m (e ∷ es) q h =
-      get-filled (finite.insert m e.0 e.1) es q (IsDistinct-tail (eq_by_cmp uuid_cmp) e.0 (keys_of es) h)
-      ∙ ap (or_else (find uuid_cmp q es)) (get-insert uuid_cmp_total m e.0 e.1 q) ∙ by (eq_by_cmp uuid_cmp q e.0) refl
-    where
-      by : (b : Bool) → eq_by_cmp uuid_cmp q e.0 ≡ b → or_else (find uuid_cmp q es) (cond b (Some e.1) (finite.get m q)) ≡ or_else (cond b (Some e.1) (find uuid_cmp q es)) (finite.get m q)
-      by true is =
-          let absent : find uuid_cmp q es ≡ None = ap (λ u. find uuid_cmp u es) (same_key uuid_cmp-IsAntisymmetric q e.0 is) ∙ none_behind e.0 es (IsDistinct-head (eq_by_cmp uuid_cmp) e.0 (keys_of es) h) in
-          ap (λ o. or_else o (Some e.1)) absent
-      by false is = refl
-
-  pub filled-is : (es : List (Uuid × X)) → IsDistinct (eq_by_cmp uuid_cmp) (keys_of es) → filled finite.empty es ≡ finite.from_entries es
-  filled-is es h = same_map uuid_cmp_total uuid_cmp-IsAntisymmetric _ _ (λ q. get-filled finite.empty es q h ∙ ap (or_else (find uuid_cmp q es)) (get-empty uuid_cmp q) ∙ by (find uuid_cmp q es) ∙ sym (get-from_entries es q))
-    where
-      by : (o : Option X) → or_else o None ≡ o
-      by None = refl
-      by (Some x) = refl
 
 pub get-remove : {X : Type 0} (m : finite.FinMap uuid_cmp X) (k q : Uuid) → finite.get (finite.remove m k) q ≡ cond (eq_by_cmp uuid_cmp q k) None (finite.get m q)
 get-remove {X = X} m k q =

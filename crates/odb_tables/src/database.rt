@@ -167,22 +167,6 @@ impl Db {
         settle(&mut self.tables, change.into_tables());
         Ok(())
     }
-
-    /// Makes an equal database, which keeps the same beside its rows. These are shared with this one. O(rows, and
-    /// the pairs that are kept).
-    pub fn try_copy(&self, alloc: Global) -> Result<Db, AllocError>
-        ensures { IfOk result (λ copy. copy ≡ self.now) }
-    {
-        let mut tables = Vec::with_capacity(alloc, self.tables.len())?;
-        for table in &self.tables {
-            tables.push(table.try_copy(alloc, self.hashing)?)?;
-        }
-        Ok(Db {
-            hashing: self.hashing,
-            tables,
-            kept: self.kept.clone()?,
-        })
-    }
 }
 
 /// Makes so many tables, all of them without rows.

@@ -1,7 +1,6 @@
 //! Facets of rows: by what rows are kept, so that they are found without a walk.
 ghost use Rattle.std.specs.Prelude.{◌≡◌, ◌⊎◌, true, IsTrue, OnOk};
 ghost use Rattle.std.specs.Option.{option_copied};
-ghost use Rattle.odb_atoms.specs.Row as model_row;
 ghost use Rattle.odb_atoms.specs.Uuid as model_uuid;
 ghost use Rattle.odb_tables.specs.Represented.Entry.{mentions_now};
 ghost use Rattle.odb_tables.specs.Represented.Facet.{Cuts, is_tag, is_tag_now};
@@ -24,18 +23,6 @@ pub(crate) enum Facet {
     Values(RandomState, Vec<usize>),
     /// The identifiers that the value in the column at the place mentions. Each of them is a tag.
     Mentions(usize),
-}
-
-impl Clone for Facet {
-    ghost is_clone = { λ x y. (tag : model_uuid.Uuid) (r : model_row.Row) → is_tag y tag r ≡ is_tag x tag r };
-
-    /// Makes one that gives each row the same tags. O(places).
-    fn clone(&self) -> Result<Facet, AllocError> {
-        match self {
-            Facet::Values(hashing, places) => Ok(Facet::Values(*hashing, places.clone()?)),
-            Facet::Mentions(place) => Ok(Facet::Mentions(*place)),
-        }
-    }
 }
 
 impl Facet {

@@ -5,7 +5,7 @@ ghost use Rattle.odb_atoms.specs.FinMap as finite;
 ghost use Rattle.odb_tables.specs.Database as model;
 ghost use Rattle.odb_tables.specs.Represented.Facet.{Cuts, HasTagsNow};
 ghost use Rattle.odb_tables.specs.Represented.Keeping as spec;
-ghost use Rattle.odb_tables.specs.Represented.Keeping.{CutsAll, IsKept, IsOfSame, LacksNothing, Notes, NotesRow, Suffices};
+ghost use Rattle.odb_tables.specs.Represented.Keeping.{CutsAll, IsOfSame, LacksNothing, Notes, NotesRow, Suffices};
 ghost use Rattle.odb_tables.specs.Represented.Pairs.{Grows};
 ghost use Rattle.odb_tables.specs.declared.kept.Side.TheVariants.{Old};
 
@@ -41,20 +41,6 @@ pub(crate) struct Kept {
     pub(crate) pairs: BTreeSet<(Key, Key)>,
     /// The tags that rows lose by the change that is noted, till it is made or taken back.
     pub(crate) went: Went,
-}
-
-impl Clone for Kept {
-    ghost is_clone = { λ x y. (db : model.Db) → IsKept db x → IsKept db y };
-
-    /// Makes the same of the same table. O(pairs).
-    fn clone(&self) -> Result<Kept, AllocError> {
-        Ok(Kept {
-            table: self.table,
-            facet: self.facet.clone()?,
-            pairs: self.pairs.clone()?,
-            went: Went::new(self.went.alloc()),
-        })
-    }
 }
 
 impl Kept {

@@ -185,18 +185,6 @@ impl Table {
         Some(row)
     }
 
-    /// Makes an equal table, whose rows are shared with this one. O(rows).
-    pub(crate) fn try_copy(&self, alloc: Global, hashing: RandomState) -> Result<Table, AllocError>
-        ensures { IfOk result (λ copy. copy ≡ self.now) }
-    {
-        let rows = IndexMap::with_capacity_and_hasher(alloc, self.len(), hashing)?;
-        let mut copy = Table { rows };
-        for (key, row) in self.rows.iter() {
-            copy.insert(key.uuid(), row.clone()?)?;
-        }
-        Ok(copy)
-    }
-
     /// Puts in the rows that are new by the change. Where memory is refused some of them are in, and nothing
     /// else changed. O(rows changed).
     pub(crate) fn put_in(&mut self, change: &TableChange) -> Result<(), AllocError>

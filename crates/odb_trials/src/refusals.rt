@@ -38,8 +38,6 @@ enum PlayTarget {
     Core,
     /// To a core, by `jobs`, `compose`, `finish` and `accept`.
     Jobs,
-    /// To a core in whose place its copy stands after each line.
-    Copies,
     /// To a hub.
     Hub,
 }
@@ -150,14 +148,9 @@ fn each_request_for_memory_is_refused(rt: HostRuntime) -> Result<(), Fail> {
             matches!(are_sent(alloc, hashing, script), Ok(true)),
             "script {place}"
         );
-        for (number, way) in [
-            PlayTarget::Core,
-            PlayTarget::Jobs,
-            PlayTarget::Copies,
-            PlayTarget::Hub,
-        ]
-        .iter()
-        .enumerate()
+        for (number, way) in [PlayTarget::Core, PlayTarget::Jobs, PlayTarget::Hub]
+            .iter()
+            .enumerate()
         {
             let wrong = first_wrong(&rt, alloc, hashing, *way, script)?;
             assert_eq!(rt; wrong, None, "script {place}, way {number}");

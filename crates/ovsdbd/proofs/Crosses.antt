@@ -6,7 +6,6 @@ use Rattle.mio.specs.contracts.poll.Poll as Poll
 use Rattle.std.proofs.Crossing as heap
 use Rattle.std.specs.contracts.time.Instant as Instant
 use Rattle.std.specs.declared.sync.ledger.Ledger.{Ghosts}
-use Rattle.odb_core.proofs.Crossing.{Core-send}
 use Rattle.odb_front.proofs.answers.Answers.TheSendSync as answers
 use Rattle.odb_front.proofs.databases.Databases.TheSendSync as databases
 use Rattle.odb_front.proofs.ids.IdText.TheSendSync as id
@@ -72,7 +71,7 @@ IdText-sync : IsSync (IdText.the_field).row
 IdText-sync = id.the_sync
 
 ServerBegun-sync : IsSync ServerBegun.the_row
-ServerBegun-sync = search (Core-send, sendable, heap.crosses) depth 40
+ServerBegun-sync = search (sendable, heap.crosses) depth 40
 
 FrontEnd-sync : IsSync FrontEnd.the_row
 FrontEnd-sync = search (ServerBegun-sync, Databases-sync, Answers-sync, Ids-sync, sendable, heap.crosses) depth 40

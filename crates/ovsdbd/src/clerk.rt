@@ -67,7 +67,7 @@ pub(crate) fn serve_desk<L: Ledger, M: Ledger, R: Threads + Wait + Clock + Rando
             place: 0,
             piece,
             identifiers: RandomIdentifiers { rng: make_rng(rt)? },
-            server: start_server(rt, daemons.front.as_ref())?,
+            server: start_server(daemons.front.as_ref())?,
             moment: daemon.now(rt),
         },
         desk,
@@ -142,10 +142,7 @@ impl<'a, L: Ledger, M: Ledger, R: Threads + Wait + Clock + RandomSource + Sync> 
 }
 
 /// Makes the thread's database `_Server`, where that is asked for.
-fn start_server<R: Wait>(
-    rt: &R,
-    front: Option<&FrontEnd>,
-) -> Result<Option<ServerDatabase>, AllocError> {
+fn start_server(front: Option<&FrontEnd>) -> Result<Option<ServerDatabase>, AllocError> {
     match front {
         Some(
             FrontEnd {
@@ -154,7 +151,7 @@ fn start_server<R: Wait>(
                 nothing: _,
                 server: Some(begun),
             },
-        ) => Ok(Some(begun.start(rt)?)),
+        ) => Ok(Some(begun.start()?)),
         _ => Ok(None),
     }
 }

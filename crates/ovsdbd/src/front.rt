@@ -33,8 +33,8 @@ impl Schemas {
     }
 }
 
-/// By what it is found where a message of a connection goes, what no database answers, and what `_Server` begins with, where that
-/// is asked for.
+/// By what it is found where a message of a connection goes, what no database answers, and what each thread's `_Server` is made
+/// of, where that is asked for.
 pub(crate) struct FrontEnd {
     pub(crate) databases: Databases,
     pub(crate) answers: Answers,

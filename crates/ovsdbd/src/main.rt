@@ -30,7 +30,7 @@ mod tuning;
 use crate::daemon::{Begun, Patience};
 use crate::fault::{ProgramFault, Which};
 use crate::front::{FrontEnd, Schemas};
-use crate::serve::{Beginning, Memory, SecondBegun, StartOptions, Terms, begin, serve_all};
+use crate::serve::{Beginning, LastCommits, SecondBegun, StartOptions, Terms, begin, serve_all};
 use crate::tuning::HEAVY;
 use clap::builder::ValueParser;
 use clap::error::ErrorKind;
@@ -535,11 +535,11 @@ fn begin_one<R: RandomSource>(
     ensures { IfOk result (λ begun. IsNew begun.core) }
 {
     let hashing = RandomState::new(rt).map_err(|_| ProgramFault::Run(RunFault::Memory))?;
-    let memory = Memory {
+    let commits = LastCommits {
         run: run_word(rt)?,
         kept: words.get_one("kept").unwrap_or(KEPT) as usize,
     };
-    match begin(alloc, schema, hashing, memory, moment) {
+    match begin(alloc, schema, hashing, commits, moment) {
         Ok(begun) => Ok(begun.noting_failures(words.get_str("log").is_some())),
         Err(fault) => Err(ProgramFault::Run(fault)),
     }

@@ -82,9 +82,9 @@ struct Blanks {
     second: Blank,
 }
 
-/// By what clients that come back are known to have held the content that a commit made.
+/// The last commits, by which clients that come back are known to have held the content that one made.
 #[derive(Clone, Copy)]
-pub(crate) struct Memory {
+pub(crate) struct LastCommits {
     /// The word of this run, which stands in its commits' identifiers.
     pub(crate) run: u64,
     /// Of how many of the last commits the contents can be found.
@@ -96,12 +96,12 @@ pub(crate) fn begin(
     alloc: Global,
     schema: Schema,
     hashing: RandomState,
-    memory: Memory,
+    commits: LastCommits,
     start: Instant,
 ) -> Result<Begun, RunFault>
     ensures { IfOk result (λ begun. IsNew begun.core) }
 {
-    let Ok(core) = Core::with_run(alloc, schema, hashing, memory.run, memory.kept) else {
+    let Ok(core) = Core::with_run(alloc, schema, hashing, commits.run, commits.kept) else {
         return Err(RunFault::Memory);
     };
     Ok(Begun { alloc, core, start })

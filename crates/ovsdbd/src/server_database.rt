@@ -9,14 +9,14 @@ use odb_rpc::operations;
 use odb_schema::Schema;
 use odb_script::RunFault;
 use odb_wire::{Framer, Message, Request};
-use rand_core::Rng;
+use rand::rngs::StdRng;
+use rand_core::{Rng, SeedableRng};
 use serde_json::{Value, json};
 use std::alloc::{AllocError, Global};
 use std::collections::VecDeque;
 use std::hash::RandomState;
 use std::mem;
 use std::random::RandomSource;
-use std::sync::{Mutex, Wait};
 
 /// Its name.
 pub(crate) const NAME: &str = "_Server";
@@ -41,43 +41,78 @@ const FILLED: &[u8] = b"{\"error\":null,\"id\":0,\"result\":[{\"uuid\":";
 /// Of how many of its commits the contents can be found: of the one that fills it.
 const KEPT: usize = 1;
 
-/// `_Server` as it is filled, with which the threads that serve connections begin.
+/// What the `_Server` of each thread that serves connections is made of.
 pub(crate) struct ServerBegun {
-    core: Mutex<Core>,
+    alloc: Global,
+    hashing: RandomState,
+    run: u64,
+    /// The request that inserts the row of each database.
+    filling: Vec<u8>,
+    /// By what the identifiers of these rows are drawn.
+    seed: u64,
 }
 
 impl ServerBegun {
-    /// Makes and fills it: with a row for each database of these schemas.
+    /// Makes that of a server of the databases of these schemas.
     pub(crate) fn new<R: RandomSource>(
         rt: &R,
         alloc: Global,
         schemas: &[PrintedSchema],
         identifiers: &mut RandomIdentifiers,
     ) -> Result<ServerBegun, ProgramFault> {
-        let schema = own_schema(alloc)?;
         let hashing = RandomState::new(rt).map_err(|_| memory())?;
-        let run = identifiers.rng.next_u64();
-        let Ok(mut core) = Core::with_run(alloc, schema, hashing, run, KEPT) else {
-            return Err(memory());
-        };
-        fill(alloc, &mut core, schemas, identifiers)?;
+        let filling = filling_request(alloc, schemas)?;
         Ok(ServerBegun {
-            core: Mutex::new(core),
+            alloc,
+            hashing,
+            run: identifiers.rng.next_u64(),
+            filling,
+            seed: identifiers.rng.next_u64(),
         })
     }
 
     /// Makes the database of a thread, which has the same rows, identifiers and versions as that of each other.
-    pub(crate) fn start<R: Wait>(&self, rt: &R) -> Result<ServerDatabase, AllocError> {
-        Ok(ServerDatabase {
-            core: self.core.lock(rt).try_copy()?,
-        })
+    pub(crate) fn start(&self) -> Result<ServerDatabase, AllocError> {
+        let schema = own_schema(self.alloc)?;
+        let Ok(mut core) = Core::with_run(self.alloc, schema, self.hashing, self.run, KEPT) else {
+            return Err(AllocError);
+        };
+        self.fill(&mut core)?;
+        Ok(ServerDatabase { core })
+    }
+
+    /// Inserts the row of each database, by a session that ends then.
+    fn fill(&self, core: &mut Core) -> Result<(), AllocError> {
+        let mut identifiers = RandomIdentifiers {
+            rng: StdRng::seed_from_u64(self.seed),
+        };
+        let request = request_of(self.alloc, self.filling.as_slice())?;
+        let Submission { request, fresh } = submission_of(self.alloc, request, &mut identifiers)?;
+        let Ok(session) = core.open() else {
+            return Err(AllocError);
+        };
+        if core.submit(session, request, fresh.as_slice(), 0).is_err() {
+            return Err(AllocError);
+        }
+        for out in core.round(&[session])? {
+            if !out.before.as_slice().starts_with(FILLED) {
+                return Err(AllocError);
+            }
+        }
+        core.close(session).map_err(|_| AllocError)
     }
 }
 
 // Written, and not derived, so that each end of a scope is one call to prove.
 impl Drop for ServerBegun {
     fn drop(self) {
-        let ServerBegun { core: _ } = self;
+        let ServerBegun {
+            alloc: _,
+            hashing: _,
+            run: _,
+            filling: _,
+            seed: _,
+        } = self;
     }
 }
 
@@ -98,32 +133,11 @@ pub(crate) fn printed_schema(alloc: Global) -> Result<Vec<u8>, AllocError> {
     Ok(text)
 }
 
-/// Inserts the row of each database, by a session that ends then.
-fn fill(
-    alloc: Global,
-    core: &mut Core,
-    schemas: &[PrintedSchema],
-    identifiers: &mut RandomIdentifiers,
-) -> Result<(), ProgramFault> {
+/// Makes the request that inserts the row of each database.
+fn filling_request(alloc: Global, schemas: &[PrintedSchema]) -> Result<Vec<u8>, AllocError> {
     let params = inserts_of(alloc, schemas)?;
     let message = json!(in alloc; {"id": 0, "method": "transact", "params": params})?;
-    let request = request_of(alloc, &message)?;
-    let Submission { request, fresh } = submission_of(alloc, request, identifiers)?;
-    let Ok(session) = core.open() else {
-        return Err(memory());
-    };
-    if core.submit(session, request, fresh.as_slice(), 0).is_err() {
-        return Err(memory());
-    }
-    for out in core.round(&[session])? {
-        if !out.before.as_slice().starts_with(FILLED) {
-            return Err(memory());
-        }
-    }
-    match core.close(session) {
-        Ok(()) => Ok(()),
-        Err(_) => Err(memory()),
-    }
+    message.to_vec(alloc)
 }
 
 /// Makes the `params` that insert the row of each database.
@@ -149,11 +163,10 @@ fn insert_of(alloc: Global, schema: &PrintedSchema) -> Result<Value, AllocError>
     })
 }
 
-/// Returns the request that a message is.
-fn request_of(alloc: Global, message: &Value) -> Result<Request, AllocError> {
-    let text = message.to_vec(alloc)?;
+/// Returns the request that a text is.
+fn request_of(alloc: Global, text: &[u8]) -> Result<Request, AllocError> {
     let mut framer = Framer::new(alloc, usize::MAX);
-    let mut fed = framer.feed(text.as_slice())?;
+    let mut fed = framer.feed(text)?;
     match fed.messages.pop() {
         Some(Message::Request(request)) => Ok(request),
         _ => Err(AllocError),
@@ -269,7 +282,8 @@ fn renamed(alloc: Global, request: &Request) -> Result<Request, AllocError> {
         Some(id) => json!(in alloc; {"id": id, "method": method, "params": params})?,
         None => return Err(AllocError),
     };
-    request_of(alloc, &message)
+    let text = message.to_vec(alloc)?;
+    request_of(alloc, text.as_slice())
 }
 
 /// Returns these replies with `not allowed` where an operation that would have written ended the transaction.

@@ -111,10 +111,6 @@ StandsAsBefore t old new = (new.version ≡ old.version) × (new.live ≡ old.li
     × ((p : ℕ) → is_place p (places old) ≡ true → content_at p t new.rows ≡ content_at p t old.rows)
     × (IsChainOf t old → IsChainOf t new)
 
--- the same, but for the room
-abbrev pub IsCopyOf : Chain → Chain → Type 0
-IsCopyOf old new = (new.version ≡ old.version) × (new.live ≡ old.live) × (new.fresh ≡ old.fresh) × (new.rows ≡ old.rows)
-
 -- ---- all tables
 
 abbrev pub change_at : List Changes → ℕ → Changes

@@ -49,9 +49,6 @@ impl Play {
             [b'B', b' ', text @ ..] => self.submit(self.second, text)?,
             _ => return Err(AllocError),
         }
-        if self.way == PlayTarget::Copies {
-            self.core = copy(&self.core)?;
-        }
         self.give()
     }
 
@@ -137,13 +134,6 @@ fn tick(core: &mut Core) -> Result<(), AllocError> {
     match core.tick(MOMENT) {
         Ok(()) => Ok(()),
         Err(_) => core.tick(MOMENT),
-    }
-}
-
-fn copy(core: &Core) -> Result<Core, AllocError> {
-    match core.try_copy() {
-        Ok(copy) => Ok(copy),
-        Err(_) => core.try_copy(),
     }
 }
 

@@ -1,7 +1,7 @@
 use Rattle.std.proofs.Common.{drop}
 use Rattle.odb_sessions.specs.Held.{marks_in}
 use Rattle.odb_sessions.proofs.Lent.{Lends}
-use Rattle.odb_sessions.proofs.copying.lend_monitors.Given as goal
+use Rattle.odb_sessions.proofs.lending.lend_monitors.Given as goal
 
 abbrev pub invariant-loop-monitor : goal.invariant-loop-monitor
 invariant-loop-monitor l = Lends marks_in l.initial.marks.items l.monitors l.marks.items (drop l.monitor-index l.monitors)

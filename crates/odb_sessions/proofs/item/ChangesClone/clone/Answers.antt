@@ -3,7 +3,7 @@ use Rattle.std.specs.Arc.{arc_value}
 use Rattle.odb_request.specs.Represented.Change.{change_of}
 use Rattle.odb_schema.specs.Schema.{Schema}
 use Rattle.odb_sessions.proofs.Copies.{changes_again}
-use Rattle.odb_sessions.proofs.copying.ChangesClone.clone.Goals as goal
+use Rattle.odb_sessions.proofs.item.ChangesClone.clone.Goals as goal
 
 pub returns : goal.returns
 returns c =
