@@ -1,10 +1,13 @@
 //! Digests: numbers by which decisions are found. [P 10.1]
 ghost use Rattle.std.specs.Prelude.{◌≡◌, map};
 ghost use Rattle.odb_cond.specs.Represented.Filter.{member_of};
+ghost use Rattle.odb_service.specs.Session.{filter_of};
 ghost use Rattle.odb_sessions.specs.Represented.Alike.{filter_in, likeness_in, stand_in};
 ghost use Rattle.odb_sessions.specs.Represented.Digest as spec;
+ghost use Rattle.odb_sessions.specs.Represented.Under.{filters_in};
 
 use crate::monitor::{Monitor, Watching};
+use crate::under::{Under, filter_under, may_differ};
 use crate::way::Way;
 use odb_cond::{Filter, Member};
 use odb_request::Request;
@@ -17,8 +20,8 @@ use std::hash::{DefaultHasher, Hash, Hasher};
 const MULTIPLIER: u64 = 0x9e37_79b9_7f4a_7c15;
 
 /// Returns the digest of what is composed for the client of a monitor in this way: what is alike has the same, other
-/// seldom has. O(n) for n tables; under filters in place of those that the monitor asks also O(n) for their members and atoms,
-/// with their bytes.
+/// seldom has. O(n) for n tables; under filters in place of those that the monitor asks also O(n) for the members and atoms of
+/// these alone, with their bytes, and what a filter is looked up in for each table.
 pub fn digest_of<'a>(monitor: &'a Monitor, way: Way<'a>) -> u64
     ensures { result ≡ spec.digest (likeness_in monitor.now way.entry) }
 {
@@ -78,9 +81,19 @@ fn digest_in<'a>(table: &'a Watching, way: Way<'a>) -> u64
     ensures { result ≡ spec.asked_digest table.now.request.place (filter_in way.entry table.now.request) }
 {
     match way.under() {
-        Some(_) => asked_digest(table.request.table(), way.filter(&table.request)),
+        Some(under) => digest_under(table, under),
         None => table.digest(),
     }
+}
+
+/// Returns the digest of what is asked of the table under these filters: the one that is kept, where none of them is of it.
+fn digest_under(table: &Watching, under: Under<'_>) -> u64
+    ensures { result ≡ spec.asked_digest table.now.request.place (filter_of (filters_in under.entry) table.now.request.shape.name table.now.request.filter) }
+{
+    if may_differ(under, &table.request) {
+        return asked_digest(table.request.table(), filter_under(under, &table.request));
+    }
+    table.digest()
 }
 
 /// Returns the digest of what is asked. O(n) for the members and atoms of its filter, with their bytes.

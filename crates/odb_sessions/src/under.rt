@@ -1,6 +1,7 @@
 //! Filters under which clients are told. [P 9.5]
 ghost use Rattle.std.specs.Prelude.{◌≡◌, IfOk, map};
 ghost use Rattle.std.specs.Arc.{arc_value};
+ghost use Rattle.std.specs.Bool.{OnFalse};
 ghost use Rattle.odb_request.specs.Represented.Change.{change_of};
 ghost use Rattle.odb_request.specs.Represented.Shape.{table_name};
 ghost use Rattle.odb_service.specs.Session.{filter_of, refilter};
@@ -52,6 +53,34 @@ fn filter_among<'a>(
         }
     }
     old
+}
+
+/// Returns whether one of these filters is of the table with this name, and may be another than the old one. O(n) comparisons
+/// of names for n filters.
+fn is_among(schema: &Schema, changes: &[Change], name: &str, old: &Arc<Filter>) -> bool
+    ensures { OnFalse result (filter_of (map (change_of schema.now) changes.now) name.now (arc_value old.now) ≡ arc_value old.now) }
+{
+    for change in changes {
+        if table_name(schema, change.table) == name {
+            return true;
+        }
+    }
+    false
+}
+
+/// Returns whether the request may have another filter under these. What a filter is looked up in.
+pub(crate) fn may_differ(under: Under<'_>, request: &Request) -> bool
+    ensures { OnFalse result (filter_of (filters_in under.entry) request.now.shape.name request.now.filter ≡ request.now.filter) }
+{
+    match under {
+        Under::Asked => false,
+        Under::Changed(changes) => is_among(
+            &changes.schema,
+            changes.changes.as_slice(),
+            request.shape().table_schema().name(),
+            request.filter(),
+        ),
+    }
 }
 
 /// Returns the filter of the request, under these.

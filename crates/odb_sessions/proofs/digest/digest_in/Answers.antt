@@ -1,4 +1,4 @@
-use Rattle.std.proofs.Common.{◌≡◌, [], Option, None, option_map, unwrap_or, sym, ap, ◌∙◌}
+use Rattle.std.proofs.Common.{◌≡◌, [], Option, None, Some, option_map, unwrap_or, sym, ap, ◌∙◌}
 use Rattle.odb_service.specs.Session.{filter_of}
 use Rattle.odb_sessions.specs.Filtered.{Filters}
 use Rattle.odb_sessions.specs.Held.{Watched}
@@ -12,3 +12,9 @@ returns-in-None c =
     let w : Watched = c.args.table.now in
     let own : None ≡ filters_by c.args.way = ap (option_map filters_in) (sym c.in-None.is) ∙ c.under.ensures in
     c.digest.ensures ∙ ap (λ (o : Option Filters). asked_digest w.request.place (filter_of (unwrap_or o []) w.request.shape.name w.request.filter)) own
+
+pub returns-in-Some : goal.returns-in-Some
+returns-in-Some c =
+    let w : Watched = c.args.table.now in
+    let own : Some (filters_in c.in-Some.under) ≡ filters_by c.args.way = ap (option_map filters_in) (sym c.in-Some.is) ∙ c.under.ensures in
+    c.digest_under.ensures ∙ ap (λ (o : Option Filters). asked_digest w.request.place (filter_of (unwrap_or o []) w.request.shape.name w.request.filter)) own
